@@ -1,0 +1,59 @@
+-- A test at every number below a bound, or at every entry of a list: computed once, and read off at each.
+-- Assumes nothing.
+use mathlib.Core.Path.{_≡_, refl}
+use mathlib.Core.Logic.{⊎-elim}
+use mathlib.Core.Bool.{Bool, true, false, _&&_, and-eq-true-iff}
+use mathlib.Core.List.{List, [], _∷_}
+use Prim.Native.Nat.{ℕ, zero, suc, _+_, _<_}
+use native.Mathlib.Nat.{not-suc-le-zero, eq-or-lt-of-le, le-of-suc-le-suc, add-zero, zero-add, add-suc, suc-add}
+use lib.Dec.{eqb}
+use lib.ListN.{length, getD}
+use borrow.Author.Tests.{eqb-true}
+
+-- the test passes at every number below n
+abbrev pub every : ℕ → (ℕ → Bool) → Bool
+every zero f = true
+every (suc n) f = f n && every n f
+
+pub at : (n : ℕ) (f : ℕ → Bool) → every n f ≡ true → (k : ℕ) → k < n → f k ≡ true
+at zero f t k h = absurd (not-suc-le-zero h)
+at (suc n) f t k h =
+    let both = and-eq-true-iff (f n) (every n f) .0 t in
+    ⊎-elim (λ e. rw e (both .0)) (λ l. at n f (both .1) k l) (eq-or-lt-of-le (le-of-suc-le-suc h))
+
+-- at every pair of a number below n and one below m
+pub at₂ : (n m : ℕ) (f : ℕ → ℕ → Bool) → every n (λ i. every m (f i)) ≡ true → (i j : ℕ) → i < n → j < m → f i j ≡ true
+at₂ n m f t i j h l = at m (f i) (at n (λ i. every m (f i)) t i h) j l
+
+-- at every entry of a list, with its place counted from i
+abbrev pub everyEntry : (ℕ → ℕ → Bool) → ℕ → List ℕ → Bool
+everyEntry f i [] = true
+everyEntry f i (x ∷ xs) = f i x && everyEntry f (suc i) xs
+
+entry-from : (f : ℕ → ℕ → Bool) (xs : List ℕ) (i : ℕ) → everyEntry f i xs ≡ true → (k : ℕ) → k < length xs → f (i + k) (getD xs k 0) ≡ true
+entry-from f [] i t k h = absurd (not-suc-le-zero h)
+entry-from f (x ∷ xs) i t zero h = rw (add-zero i) (and-eq-true-iff (f i x) (everyEntry f (suc i) xs) .0 t .0)
+entry-from f (x ∷ xs) i t (suc k) h =
+    rw (add-suc i k, ← suc-add i k)
+    (entry-from f xs (suc i) (and-eq-true-iff (f i x) (everyEntry f (suc i) xs) .0 t .1) k (le-of-suc-le-suc h))
+
+pub entry : (f : ℕ → ℕ → Bool) (xs : List ℕ) → everyEntry f 0 xs ≡ true → (k : ℕ) → k < length xs → f k (getD xs k 0) ≡ true
+entry f xs t k h = rw zero-add at (entry-from f xs 0 t k h)
+
+-- two lists are equal where a test of them says so
+unfoldable pub sameList : List ℕ → List ℕ → Bool
+sameList [] [] = true
+sameList [] (y ∷ ys) = false
+sameList (x ∷ xs) [] = false
+sameList (x ∷ xs) (y ∷ ys) = eqb x y && sameList xs ys
+
+pub same-list : (xs ys : List ℕ) → sameList xs ys ≡ true → xs ≡ ys
+unfolding sameList
+same-list [] [] t = refl
+same-list [] (y ∷ ys) t = absurd (mathlib.Core.Bool.false≢true t)
+same-list (x ∷ xs) [] t = absurd (mathlib.Core.Bool.false≢true t)
+same-list (x ∷ xs) (y ∷ ys) t =
+    let both = and-eq-true-iff (eqb x y) (sameList xs ys) .0 t in
+    let head = eqb-true x y (both .0) in
+    let tail = same-list xs ys (both .1) in
+    cc

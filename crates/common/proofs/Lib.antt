@@ -1,0 +1,4 @@
+-- Laws that belong to no one layer.
+pub mod Tests
+pub mod Every
+pub mod Lists

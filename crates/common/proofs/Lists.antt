@@ -1,0 +1,139 @@
+-- Laws of `keep`, `from` and `Sorted`.
+-- Assumes nothing.
+use mathlib.Core.Path.{_≡_, refl, ap, ap₂, _∙_, sym}
+use mathlib.Core.Logic.{⊎-elim, _≢_}
+use mathlib.Core.Bool.{Bool, true, false, cond, _&&_, and-comm}
+use mathlib.Core.List.{List, [], _∷_, _++_, List·Memᴰ, List·Memᴰ·head, List·Memᴰ·tail, List·Memᴰ·not-nil, List·Memᴰ·append-cases, List·Memᴰ·cases-cons}
+use Prim.Native.Nat.{ℕ, zero, suc, _+_, _≤_, _<_}
+use native.Mathlib.Omega.{arith}
+use native.Mathlib.Nat.{eq-or-lt-of-le}
+use lib.ListN.{length}
+use Rattle.common.specs.Lists.{_∈_, keep, from, Sorted}
+
+module _ {A : Type 0} (f : A → Bool) where
+  -- the clauses of `keep`, by what the test says
+  pub keep-nil : keep f [] ≡ []
+  unfolding keep
+  keep-nil = refl
+
+  pub keep-yes : (x : A) (xs : List A) → f x ≡ true → keep f (x ∷ xs) ≡ x ∷ keep f xs
+  unfolding keep
+  keep-yes x xs e = rw e
+
+  pub keep-no : (x : A) (xs : List A) → f x ≡ false → keep f (x ∷ xs) ≡ keep f xs
+  unfolding keep
+  keep-no x xs e = rw e
+
+  -- what is kept was there, and passes the test
+  pub keep-mem : (xs : List A) {y : A} → y ∈ keep f xs → (y ∈ xs) × (f y ≡ true)
+  keep-mem [] m = absurd (List·Memᴰ·not-nil (rw keep-nil at m))
+  keep-mem (x ∷ xs) {y} m = go (f x) refl (keep-mem xs)
+    where
+      later : (y ∈ xs) × (f y ≡ true) → (y ∈ (x ∷ xs)) × (f y ≡ true)
+      later r = (List·Memᴰ·tail (r .0), r .1)
+
+      go : (b : Bool) → f x ≡ b → (y ∈ keep f xs → (y ∈ xs) × (f y ≡ true)) → (y ∈ (x ∷ xs)) × (f y ≡ true)
+      go true e ih = ⊎-elim (λ h. (List·Memᴰ·head h, ap f h ∙ e)) (λ h. later (ih h)) (List·Memᴰ·cases-cons (rw (keep-yes x xs e) at m))
+      go false e ih = later (ih (rw (keep-no x xs e) at m))
+
+  -- what was there and passes is kept
+  pub mem-keep : (xs : List A) {y : A} → y ∈ xs → f y ≡ true → y ∈ keep f xs
+  mem-keep (x ∷ xs) {y} (List·Memᴰ·head h) t = rw (keep-yes x xs (sym (ap f h) ∙ t)) (List·Memᴰ·head h)
+  mem-keep (x ∷ xs) {y} (List·Memᴰ·tail m) t = go (f x) refl (mem-keep xs m t)
+    where
+      go : (b : Bool) → f x ≡ b → y ∈ keep f xs → y ∈ keep f (x ∷ xs)
+      go true e k = rw (keep-yes x xs e) (List·Memᴰ·tail k)
+      go false e k = rw (keep-no x xs e) k
+
+  pub keep-append : (xs ys : List A) → keep f (xs ++ ys) ≡ keep f xs ++ keep f ys
+  keep-append [] ys = rw keep-nil
+  keep-append (x ∷ xs) ys = go (f x) refl (keep-append xs ys)
+    where
+      go : (b : Bool) → f x ≡ b → keep f (xs ++ ys) ≡ keep f xs ++ keep f ys → keep f (x ∷ (xs ++ ys)) ≡ keep f (x ∷ xs) ++ keep f ys
+      go true e ih = rw (keep-yes x (xs ++ ys) e, keep-yes x xs e, ih)
+      go false e ih = rw (keep-no x (xs ++ ys) e, keep-no x xs e, ih)
+
+  -- a test that every member passes keeps the list, one that none passes keeps nothing
+  pub keep-all : (xs : List A) → ((y : A) → y ∈ xs → f y ≡ true) → keep f xs ≡ xs
+  keep-all [] h = keep-nil
+  keep-all (x ∷ xs) h = keep-yes x xs (h x (List·Memᴰ·head refl)) ∙ ap (x ∷_) (keep-all xs (λ y m. h y (List·Memᴰ·tail m)))
+
+  pub keep-none : (xs : List A) → ((y : A) → y ∈ xs → f y ≡ false) → keep f xs ≡ []
+  keep-none [] h = keep-nil
+  keep-none (x ∷ xs) h = keep-no x xs (h x (List·Memᴰ·head refl)) ∙ keep-none xs (λ y m. h y (List·Memᴰ·tail m))
+
+  -- two tests one after the other are one
+  pub keep-keep : (g : A → Bool) (xs : List A) → keep f (keep g xs) ≡ keep (λ x. g x && f x) xs
+  unfolding keep
+  keep-keep g [] = refl
+  keep-keep g (x ∷ xs) = go (g x) refl (keep-keep g xs)
+    where
+      go : (b : Bool) → g x ≡ b → keep f (keep g xs) ≡ keep (λ y. g y && f y) xs → keep f (keep g (x ∷ xs)) ≡ keep (λ y. g y && f y) (x ∷ xs)
+      go true e ih = rw (e, ih)
+      go false e ih = rw (e, ih)
+
+  -- what is kept of a sorted list is sorted
+  pub keep-sorted : (R : A → A → Type 0) (xs : List A) → Sorted R xs → Sorted R (keep f xs)
+  unfolding Sorted
+  keep-sorted R [] s = rw keep-nil tt
+  keep-sorted R (x ∷ xs) s = go (f x) refl (keep-sorted R xs (s .1))
+    where
+      go : (b : Bool) → f x ≡ b → Sorted R (keep f xs) → Sorted R (keep f (x ∷ xs))
+      go true e ih = rw (keep-yes x xs e) ((λ y m. s .0 y (keep-mem xs m .0)), ih)
+      go false e ih = rw (keep-no x xs e) ih
+
+-- two tests that agree on a list keep the same
+pub keep-same : {A : Type 0} (f g : A → Bool) (xs : List A) → ((y : A) → y ∈ xs → f y ≡ g y) → keep f xs ≡ keep g xs
+unfolding keep
+keep-same f g [] h = refl
+keep-same f g (x ∷ xs) h = rw (h x (List·Memᴰ·head refl), keep-same f g xs (λ y m. h y (List·Memᴰ·tail m)))
+
+-- two tests may be made in either order
+pub keep-swap : {A : Type 0} (f g : A → Bool) (xs : List A) → keep f (keep g xs) ≡ keep g (keep f xs)
+keep-swap f g xs = keep-keep f g xs ∙ keep-same _ _ xs (λ y m. and-comm (g y) (f y)) ∙ sym (keep-keep g f xs)
+
+-- a sorted list behind another, each member of the one in the relation to each of the other
+pub sorted-append : {A : Type 0} {R : A → A → Type 0} (xs ys : List A) → Sorted R xs → Sorted R ys → ((x y : A) → x ∈ xs → y ∈ ys → R x y) → Sorted R (xs ++ ys)
+unfolding Sorted
+sorted-append [] ys s t h = t
+sorted-append (x ∷ xs) ys s t h = (
+  (λ y m. ⊎-elim (s .0 y) (h x y (List·Memᴰ·head refl)) (List·Memᴰ·append-cases xs m)),
+  sorted-append xs ys (s .1) t (λ z y m. h z y (List·Memᴰ·tail m)),
+)
+
+pub sorted-weaken : {A : Type 0} (R S : A → A → Type 0) → ((x y : A) → R x y → S x y) → (xs : List A) → Sorted R xs → Sorted S xs
+unfolding Sorted
+sorted-weaken R S h [] s = tt
+sorted-weaken R S h (x ∷ xs) s = ((λ y m. h x y (s .0 y m)), sorted-weaken R S h xs (s .1))
+
+-- lengths: of what is kept, and of the two parts that a test makes
+pub length-keep : {A : Type 0} (f : A → Bool) (xs : List A) → length (keep f xs) ≤ length xs
+unfolding keep
+length-keep f [] = omega arith
+length-keep f (x ∷ xs) = go (f x) (length-keep f xs)
+  where
+    go : (b : Bool) → length (keep f xs) ≤ length xs → length (cond b (x ∷ keep f xs) (keep f xs)) ≤ suc (length xs)
+    go true h = omega arith
+    go false h = omega arith
+
+-- the numbers from s, k of them: which they are, that they rise, how many
+pub from-mem : (s k : ℕ) {n : ℕ} → n ∈ from s k → (s ≤ n) × (n < s + k)
+unfolding from
+from-mem s zero m = absurd (List·Memᴰ·not-nil m)
+from-mem s (suc k) {n} m = ⊎-elim (λ e. omega arith) (λ l. let r = from-mem (suc s) k l in omega arith) (List·Memᴰ·cases-cons m)
+
+pub mem-from : (s k n : ℕ) → s ≤ n → n < s + k → n ∈ from s k
+unfolding from
+mem-from s zero n h l = absurd (omega arith)
+mem-from s (suc k) n h l =
+    ⊎-elim (λ e. List·Memᴰ·head (sym e)) (λ g. List·Memᴰ·tail (mem-from (suc s) k n g (omega arith))) (eq-or-lt-of-le h)
+
+pub from-sorted : (s k : ℕ) → Sorted _<_ (from s k)
+unfolding from Sorted
+from-sorted s zero = tt
+from-sorted s (suc k) = ((λ n m. from-mem (suc s) k m .0), from-sorted (suc s) k)
+
+pub length-from : (s k : ℕ) → length (from s k) ≡ k
+unfolding from
+length-from s zero = refl
+length-from s (suc k) = ap suc (length-from (suc s) k)

@@ -1,0 +1,3 @@
+-- Definitions that belong to no one layer.
+pub mod Tests
+pub mod Lists

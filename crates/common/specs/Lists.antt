@@ -1,0 +1,25 @@
+-- Lists of numbers, as the definitions of the other crates use them.
+-- Assumes nothing.
+use mathlib.Core.Bool.{Bool, cond}
+use mathlib.Core.List.{List, [], _∷_, List·Memᴰ}
+use Prim.Native.Nat.{ℕ, zero, suc}
+
+infix 40 _∈_
+-- x is a member of xs
+abbrev pub _∈_ : {A : Type 0} → A → List A → Type 0
+x ∈ xs = List·Memᴰ x xs
+
+-- the members that pass a test, in their order
+unfoldable pub keep : {A : Type 0} → (A → Bool) → List A → List A
+keep f [] = []
+keep f (x ∷ xs) = cond (f x) (x ∷ keep f xs) (keep f xs)
+
+-- k numbers from s upward: s, s + 1, ..
+unfoldable pub from : ℕ → ℕ → List ℕ
+from s zero = []
+from s (suc k) = s ∷ from (suc s) k
+
+-- each member stands in the relation R to every later one
+unfoldable pub Sorted : {A : Type 0} → (A → A → Type 0) → List A → Type 0
+Sorted R [] = Unit
+Sorted R (x ∷ xs) = ((y : _) → y ∈ xs → R x y) × Sorted R xs
