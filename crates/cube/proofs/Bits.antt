@@ -1,0 +1,136 @@
+-- Bits by arithmetic: of a power of two, of `^` of two numbers, and of a number with one bit changed. All hold at every width.
+-- Assumes nothing.
+use mathlib.Core.Path.{_≡_, refl, ap, sym, _∙_}
+use mathlib.Core.Logic.{⊎-elim, _≢_}
+use mathlib.Core.Bool.{Bool, true, false, cond, not, _&&_}
+use Prim.Native.Nat.{ℕ, zero, suc, _+_, _-_, _*_, _/_, _%_, _^_, _≤_, _<_}
+use native.Mathlib.Omega.{arith}
+use native.Mathlib.Nat.{div-eq-of-lt, div-self, lt-of-lt-of-le, pow-succ', div-div-eq-div-mul, div-one}
+use lib.Arith.{lt-of-le-ne}
+use lib.Dec.{eqb, ltb}
+use lib.Pow.{pow-pos, pow-mono, pow-lt, pow-add, shl-shr}
+use lib.Bits.{bitXor, bitAnd, and-high, xor-add-and, xor-shr, xor-mod, xor-lt, xor-zero-r, and-le-l}
+use borrow.Author.Tests.{ltb-true, ltb-false, eqb-true, eqb-false, eq-eqb, ne-eqb}
+use Rattle.cube.specs.Bits.{bitAt, has, flip}
+
+pub bit-lt : (n p : ℕ) → bitAt n p < 2
+unfolding bitAt
+bit-lt n p = omega arith
+
+-- no bit stands at D or above in a number below 2 ^ D
+pub bit-high : (D n p : ℕ) → n < 2 ^ D → D ≤ p → bitAt n p ≡ 0
+unfolding bitAt
+bit-high D n p h l = ap (_% 2) (div-eq-of-lt (lt-of-lt-of-le h (pow-mono l)))
+
+-- the bits of a power of two
+pub bit-power : (p : ℕ) → bitAt (2 ^ p) p ≡ 1
+unfolding bitAt
+bit-power p = ap (_% 2) (div-self (pow-pos p))
+
+pub bit-power-other : (p q : ℕ) → q ≢ p → bitAt (2 ^ p) q ≡ 0
+unfolding bitAt
+bit-power-other p q h = go (ltb q p) refl
+  where
+    go : (b : Bool) → ltb q p ≡ b → 2 ^ p / 2 ^ q % 2 ≡ 0
+    go true e =
+        let l = ltb-true q p e in
+        let d : ℕ = p - suc q in
+        let split : p ≡ suc d + q = omega arith in
+        rw (split, pow-add 2 (suc d) q, shl-shr (2 ^ suc d) q, pow-succ' 2 d) (omega arith)
+    go false e = ap (_% 2) (div-eq-of-lt (pow-lt (lt-of-le-ne (ltb-false q p e) (λ i. h (sym i)))))
+
+-- the bits of `^`
+pub bit-xor : (n m p : ℕ) → bitAt (bitXor n m) p ≡ bitXor (bitAt n p) (bitAt m p)
+unfolding bitAt
+bit-xor n m p = rw (xor-shr n m p) (xor-mod (n / 2 ^ p) (m / 2 ^ p) 1)
+
+-- to change a bit is `^` with a power of two
+and-power : (n p : ℕ) → bitAnd n (2 ^ p) ≡ bitAt n p * 2 ^ p
+unfolding bitAt
+and-power n p =
+    let one : 2 ^ (1 + p) - 2 ^ p ≡ 2 ^ p = rw (pow-add 2 1 p) (omega arith) in
+    rw one at (and-high n 1 p)
+
+pub flip-xor : (n p : ℕ) → bitXor n (2 ^ p) ≡ flip n p
+unfolding flip has
+flip-xor n p = go (eqb (bitAt n p) 1) refl
+  where
+    go : (b : Bool) → eqb (bitAt n p) 1 ≡ b → bitXor n (2 ^ p) ≡ cond b (n - 2 ^ p) (n + 2 ^ p)
+    go true e = omega (arith, xor-add-and n (2 ^ p), and-power n p ∙ ap (_* 2 ^ p) (eqb-true (bitAt n p) 1 e))
+    go false e =
+        let z : bitAt n p ≡ 0 = omega (arith, bit-lt n p, eqb-false (bitAt n p) 1 e) in
+        omega (arith, xor-add-and n (2 ^ p), and-power n p ∙ ap (_* 2 ^ p) z)
+
+-- the bits of a number with bit p changed: the one changed, and every other
+pub bit-flipped : (n p : ℕ) → bitAt (flip n p) p ≡ 1 - bitAt n p
+bit-flipped n p = rw (← flip-xor n p, bit-xor n (2 ^ p) p, bit-power p) (one (bitAt n p) (bit-lt n p))
+  where
+    one : (x : ℕ) → x < 2 → bitXor x 1 ≡ 1 - x
+    one zero h = refl
+    one (suc zero) h = refl
+    one (suc (suc x)) h = absurd (omega arith)
+
+pub bit-kept : (n p q : ℕ) → q ≢ p → bitAt (flip n p) q ≡ bitAt n q
+bit-kept n p q h = rw (← flip-xor n p, bit-xor n (2 ^ p) q, bit-power-other p q h) (xor-zero-r (bitAt n q))
+
+-- a number with bit p has room to lose it, and loses it
+pub has-bit : (n p : ℕ) → has n p ≡ true → bitAt n p ≡ 1
+unfolding has
+has-bit n p e = eqb-true (bitAt n p) 1 e
+
+pub has-no-bit : (n p : ℕ) → has n p ≡ false → bitAt n p ≡ 0
+unfolding has
+has-no-bit n p e = omega (arith, bit-lt n p, eqb-false (bitAt n p) 1 e)
+
+pub has-room : (n p : ℕ) → has n p ≡ true → 2 ^ p ≤ n
+has-room n p e = omega (arith, and-le-l n (2 ^ p), and-power n p ∙ ap (_* 2 ^ p) (has-bit n p e))
+
+pub flip-drops : (n p : ℕ) → has n p ≡ true → flip n p + 2 ^ p ≡ n
+unfolding flip
+flip-drops n p e = rw e (omega (arith, has-room n p e))
+
+-- changed twice, a bit is as it was; and inside 2 ^ D a number stays there
+pub flip-back : (n p : ℕ) → flip (flip n p) p ≡ n
+flip-back n p = go (has n p) refl
+  where
+    set : (m : ℕ) → bitAt m p ≡ 1 → flip m p ≡ m - 2 ^ p
+    set m e = unfold flip has in rw e
+
+    clear : (m : ℕ) → bitAt m p ≡ 0 → flip m p ≡ m + 2 ^ p
+    clear m e = unfold flip has in rw e
+
+    go : (b : Bool) → has n p ≡ b → flip (flip n p) p ≡ n
+    go true e =
+        let one = has-bit n p e in
+        clear (flip n p) (bit-flipped n p ∙ ap (1 -_) one) ∙ flip-drops n p e
+    go false e =
+        let zero′ = has-no-bit n p e in
+        set (flip n p) (bit-flipped n p ∙ ap (1 -_) zero′) ∙ rw (clear n zero′) (omega arith)
+
+pub flip-inside : (D n p : ℕ) → n < 2 ^ D → p < D → flip n p < 2 ^ D
+flip-inside D n p h l = rw (← flip-xor n p) (xor-lt D n (2 ^ p) h (pow-lt l))
+
+-- two numbers below 2 ^ w with the same w bits are the same
+bit-zero : (n : ℕ) → bitAt n 0 ≡ n % 2
+unfolding bitAt
+bit-zero n = ap (_% 2) (div-one n)
+
+bit-suc : (n p : ℕ) → bitAt n (suc p) ≡ bitAt (n / 2) p
+unfolding bitAt
+bit-suc n p = ap (_% 2) (ap (n /_) (pow-succ' 2 p) ∙ sym (div-div-eq-div-mul n 2 (2 ^ p)))
+
+pub same-bits : (w n m : ℕ) → n < 2 ^ w → m < 2 ^ w → ((p : ℕ) → p < w → bitAt n p ≡ bitAt m p) → n ≡ m
+same-bits zero n m h l e = omega arith
+same-bits (suc w) n m h l e =
+    let halves : n / 2 ≡ m / 2 = same-bits w (n / 2) (m / 2) (omega (arith, pow-succ' 2 w)) (omega (arith, pow-succ' 2 w)) (λ p k. sym (bit-suc n p) ∙ e (suc p) (omega arith) ∙ bit-suc m p) in
+    let low : n % 2 ≡ m % 2 = sym (bit-zero n) ∙ e 0 (omega arith) ∙ bit-zero m in
+    omega arith
+
+-- zero has no bit, and a number below 2 ^ w that has none of w bits is zero
+pub zero-has : (p : ℕ) → has 0 p ≡ false
+unfolding has
+zero-has p = ne-eqb (bitAt 0 p) 1 (λ e. omega (arith, bit-high 0 0 p (pow-pos 0) (omega arith)))
+
+pub no-ports : (w n : ℕ) → n < 2 ^ w → ((p : ℕ) → p < w → has n p ≡ false) → n ≡ 0
+no-ports w n h z =
+    same-bits w n 0 h (pow-pos w) (λ p l. has-no-bit n p (z p l) ∙ sym (bit-high 0 0 p (pow-pos 0) (omega arith)))

@@ -1,0 +1,172 @@
+-- The helical order: what it holds, and that following first ports, each dropped in its turn, walks the whole of it.
+-- Assumes nothing.
+use mathlib.Core.Path.{_≡_, refl, ap, sym, _∙_, subst}
+use mathlib.Core.Logic.{⊎-elim, _≢_}
+use mathlib.Core.Bool.{Bool, true, false, cond, not, _&&_}
+use mathlib.Core.List.{List, [], _∷_, _++_, List·Memᴰ·head, List·Memᴰ·not-nil, List·Memᴰ·append-cases, Memᴰ·append-left, Memᴰ·append-right}
+use Prim.Native.Nat.{ℕ, zero, suc, _+_, _-_, _*_, _/_, _%_, _^_, _≤_, _<_}
+use native.Mathlib.Omega.{arith}
+use lib.Dec.{eqb, leb, ltb}
+use lib.ListN.{length, getD, length-append}
+use borrow.Author.Tests.{ltb-true, ltb-false, lt-leb, le-leb, leb-true, leb-false, lt-ltb, ne-eqb, eq-eqb, eqb-true, eqb-false}
+use Rattle.common.specs.Lists.{_∈_, keep, from, Sorted}
+use Rattle.common.proofs.Lists.{keep-yes, keep-no, keep-mem, mem-keep, keep-append, keep-all, keep-keep, keep-same, keep-swap, keep-sorted, sorted-append, sorted-weaken, length-keep, length-from, keep-none, from-sorted, from-mem, mem-from}
+use Rattle.common.proofs.Every.{everyEntry, entry}
+use Rattle.cube.specs.Bits.{has}
+use Rattle.cube.specs.Cube.{Without}
+use Rattle.cube.specs.Helical.{portsOf, helical, firstOr, firstPort, FirstPorts, FirstTried, walk}
+use Rattle.cube.proofs.Bits.{no-ports, zero-has}
+use Rattle.cube.proofs.Ports.{without-power}
+
+-- the helical order has the same members
+pub helical-mem : (a : ℕ) (ps : List ℕ) {q : ℕ} → q ∈ helical a ps → q ∈ ps
+unfolding helical
+helical-mem a ps m = ⊎-elim (λ h. keep-mem _ ps h .0) (λ h. keep-mem _ ps h .0) (List·Memᴰ·append-cases (keep (λ p. ltb a p) ps) m)
+
+pub mem-helical : (a : ℕ) (ps : List ℕ) {q : ℕ} → q ∈ ps → q ∈ helical a ps
+unfolding helical
+mem-helical a ps {q} m = go (leb q a) refl
+  where
+    go : (b : Bool) → leb q a ≡ b → q ∈ (keep (λ p. ltb a p) ps ++ keep (λ p. leb p a) ps)
+    go true e = Memᴰ·append-right (keep (λ p. ltb a p) ps) (mem-keep _ ps m e)
+    go false e = Memᴰ·append-left _ (mem-keep _ ps m (lt-ltb a q (leb-false q a e)))
+
+-- a test may be made before or after
+pub helical-keep : (a : ℕ) (f : ℕ → Bool) (ps : List ℕ) → helical a (keep f ps) ≡ keep f (helical a ps)
+unfolding helical
+helical-keep a f ps =
+    rw (keep-append f (keep (λ p. ltb a p) ps) (keep (λ p. leb p a) ps), keep-swap f (λ p. ltb a p) ps, keep-swap f (λ p. leb p a) ps)
+
+-- no port stands in it twice
+pub helical-distinct : (a : ℕ) (ps : List ℕ) → Sorted _<_ ps → Sorted _≢_ (helical a ps)
+unfolding helical
+helical-distinct a ps s =
+    sorted-append (keep (λ p. ltb a p) ps) (keep (λ p. leb p a) ps) (apart (λ p. ltb a p)) (apart (λ p. leb p a))
+    (λ x y m k e. let l = ltb-true a x (keep-mem _ ps m .1) in let g = leb-true y a (keep-mem _ ps k .1) in omega arith)
+  where
+    apart : (f : ℕ → Bool) → Sorted _≢_ (keep f ps)
+    apart f = sorted-weaken _<_ _≢_ (λ x y l e. omega arith) (keep f ps) (keep-sorted f _<_ ps s)
+
+-- the ports of a vector: those below w that it has, rising
+pub ports-mem : (w v : ℕ) {q : ℕ} → q ∈ portsOf w v → (q < w) × (has v q ≡ true)
+unfolding portsOf
+ports-mem w v m = let k = keep-mem (has v) (from 0 w) m in ((let r = from-mem 0 w (k .0) in omega arith), k .1)
+
+pub mem-ports : (w v q : ℕ) → q < w → has v q ≡ true → q ∈ portsOf w v
+unfolding portsOf
+mem-ports w v q h e = mem-keep (has v) (from 0 w) (mem-from 0 w q (omega arith) (omega arith)) e
+
+pub ports-sorted : (w v : ℕ) → Sorted _<_ (portsOf w v)
+unfolding portsOf
+ports-sorted w v = keep-sorted (has v) _<_ (from 0 w) (from-sorted 0 w)
+
+-- the vector without a port has the other ports
+other : ℕ → ℕ → Bool
+other p q = not (eqb q p)
+
+ports-without : (w v p r : ℕ) → Without v p r → portsOf w r ≡ keep (other p) (portsOf w v)
+unfolding portsOf other
+ports-without w v p r h =
+    keep-same (has r) (λ q. has v q && not (eqb q p)) (from 0 w) (λ q m. h .bits q) ∙ sym (keep-keep (λ q. not (eqb q p)) (has v) (from 0 w))
+
+-- what is left of the order behind its first port is the order of the vector without that port
+pub behind-first : (w v a p r : ℕ) (ps : List ℕ) → Without v p r → helical a (portsOf w v) ≡ p ∷ ps → helical a (portsOf w r) ≡ ps
+unfolding other Sorted
+behind-first w v a p r ps h e =
+    let apart : Sorted _≢_ (p ∷ ps) = rw e at (helical-distinct a (portsOf w v) (ports-sorted w v)) in
+    rw (ports-without w v p r h, helical-keep a (other p) (portsOf w v), e, keep-no (other p) p ps (ap not (eq-eqb p p refl)))
+    (keep-all (other p) ps (λ q m. ap not (ne-eqb q p (λ i. apart .0 q m (sym i)))))
+
+-- vector zero offers none, and any other offers one
+pub helical-zero : (w a : ℕ) → helical a (portsOf w 0) ≡ []
+unfolding helical keep portsOf
+helical-zero w a = rw (keep-none (has 0) (from 0 w) (λ p m. zero-has p))
+
+no-first : (w v a : ℕ) → v < 2 ^ w → helical a (portsOf w v) ≡ [] → v ≡ 0
+no-first w v a h e = no-ports w v h (λ p l. go p l (has v p) refl)
+  where
+    go : (p : ℕ) → p < w → (b : Bool) → has v p ≡ b → b ≡ false
+    go p l true i = absurd (List·Memᴰ·not-nil (rw e at (mem-helical a (portsOf w v) (mem-ports w v p l i))))
+    go p l false i = refl
+
+pub first-tried : (none w v a : ℕ) → v < 2 ^ w → v ≢ 0 → FirstTried w v a (firstOr none (helical a (portsOf w v)))
+unfolding firstOr
+first-tried none w v a h z = go (helical a (portsOf w v)) refl
+  where
+    go : (ps : List ℕ) → helical a (portsOf w v) ≡ ps → FirstTried w v a (firstOr none ps)
+    go [] e = absurd (z (no-first w v a h e))
+    go (p ∷ ps) e =
+        let h₀ : p ∈ helical a (portsOf w v) = rw e (List·Memᴰ·head refl) in
+        let m = ports-mem w v (helical-mem a (portsOf w v) h₀) in
+        record { small = m .0; offered = m .1; rest = e ∙ ap (p ∷_) (sym (behind-first w v a p (v - 2 ^ p) ps (without-power v p (m .1)) e)) }
+
+-- the order is as long as the list
+halves : (a : ℕ) (ps : List ℕ) → length (keep (λ p. ltb a p) ps) + length (keep (λ p. leb p a) ps) ≡ length ps
+unfolding keep
+halves a [] = refl
+halves a (p ∷ ps) = go (ltb a p) refl (halves a ps)
+  where
+    above : ℕ → Bool
+    above q = ltb a q
+
+    upTo : ℕ → Bool
+    upTo q = leb q a
+
+    go : (b : Bool) → ltb a p ≡ b → length (keep above ps) + length (keep upTo ps) ≡ length ps → length (keep above (p ∷ ps)) + length (keep upTo (p ∷ ps)) ≡ suc (length ps)
+    go true e h = rw (keep-yes above p ps e, keep-no upTo p ps (lt-leb p a (ltb-true a p e))) (omega arith)
+    go false e h = rw (keep-no above p ps e, keep-yes upTo p ps (le-leb p a (ltb-false a p e))) (omega arith)
+
+pub length-helical : (a : ℕ) (ps : List ℕ) → length (helical a ps) ≡ length ps
+unfolding helical
+length-helical a ps = length-append (keep (λ p. ltb a p) ps) (keep (λ p. leb p a) ps) ∙ halves a ps
+
+pub length-ports : (w v : ℕ) → length (portsOf w v) ≤ w
+unfolding portsOf
+length-ports w v = omega (arith, length-keep (has v) (from 0 w), length-from 0 w)
+
+-- Following first ports and dropping each in turn walks the whole helical order, for whatever tells the first port.
+module _ (w : ℕ) (first : ℕ → ℕ → ℕ) (a : ℕ) (tells : (v : ℕ) → v < 2 ^ w → v ≢ 0 → FirstTried w v a (first v a)) where
+  walks : (k v : ℕ) → v < 2 ^ w → length (helical a (portsOf w v)) ≤ k → walk first k v a ≡ helical a (portsOf w v)
+  unfolding walk
+  walks zero v h l = sym (empty (helical a (portsOf w v)) l)
+    where
+      empty : (xs : List ℕ) → length xs ≤ 0 → xs ≡ []
+      empty [] g = refl
+      empty (x ∷ xs) g = absurd (omega arith)
+  walks (suc k) v h l = go (eqb v 0) refl (λ l′. walks k (v - 2 ^ first v a) (omega arith) l′)
+    where
+      go : (b : Bool) → eqb v 0 ≡ b → (length (helical a (portsOf w (v - 2 ^ first v a))) ≤ k → walk first k (v - 2 ^ first v a) a ≡ helical a (portsOf w (v - 2 ^ first v a)))
+          → cond b [] (first v a ∷ walk first k (v - 2 ^ first v a) a) ≡ helical a (portsOf w v)
+      go true e ih = rw (eqb-true v 0 e) (sym (helical-zero w a))
+      go false e ih =
+          let t = tells v h (eqb-false v 0 e) in
+          let shorter = ap length (t .rest) in
+          ap (first v a ∷_) (ih (omega arith)) ∙ sym (t .rest)
+
+  pub walk-helical : (v : ℕ) → v < 2 ^ w → walk first w v a ≡ helical a (portsOf w v)
+  walk-helical v h = walks w v h (omega (arith, length-helical a (portsOf w v), length-ports w v))
+
+-- The table of first ports: its rule by one computed test, read off at a vector and an arrival port.
+unfoldable pub rightEntry : ℕ → ℕ → Bool
+rightEntry k x = eqb x (firstPort (k / 8) (k % 8))
+
+pub table-of : (xs : List ℕ) → length xs ≡ 2048 → everyEntry rightEntry 0 xs ≡ true → FirstPorts xs
+unfolding rightEntry FirstPorts
+table-of xs l t v a h k =
+    let i : ℕ = 8 * v + a in
+    let row : i / 8 ≡ v = omega arith in
+    let place : i % 8 ≡ a = omega arith in
+    eqb-true _ _ (entry rightEntry xs t i (rw l (omega arith))) ∙ rw (row, place)
+
+pub table-at : (xs : List ℕ) → FirstPorts xs → (v a : ℕ) → v < 256 → a < 8 → getD xs (8 * v + a) 0 ≡ firstPort v a
+unfolding FirstPorts
+table-at xs t = t
+
+-- The entry at a vector that is not zero is a port of it, and the vector without it has the rest of the helical order.
+pub entry-tried : (xs : List ℕ) → FirstPorts xs → (v a : ℕ) → v < 256 → a < 8 → v ≢ 0 → FirstTried 8 v a (getD xs (8 * v + a) 0)
+unfolding firstPort
+entry-tried xs t v a h l z = rw (table-at xs t v a h l) (first-tried 8 8 v a h z)
+
+-- Following the table's entries, each port dropped in its turn, walks the whole helical order.
+pub table-walk : (xs : List ℕ) → FirstPorts xs → (v a : ℕ) → v < 256 → a < 8 → walk (λ v a. getD xs (8 * v + a) 0) 8 v a ≡ helical a (portsOf 8 v)
+table-walk xs t v a h l = walk-helical 8 (λ v a. getD xs (8 * v + a) 0) a (λ u k z. entry-tried xs t u a k l z) v h

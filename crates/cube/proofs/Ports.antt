@@ -1,0 +1,46 @@
+-- Vectors of ports: the uphill vector, a vector without one of its ports, and the shift by which the code names a port.
+-- Assumes nothing.
+use mathlib.Core.Path.{_≡_, refl, ap, sym, _∙_}
+use mathlib.Core.Logic.{_≢_}
+use mathlib.Core.Bool.{Bool, true, false, not, _&&_, and-true}
+use Prim.Native.Nat.{ℕ, zero, suc, _+_, _-_, _*_, _%_, _^_, _<_, _≤_}
+use native.Mathlib.Omega.{arith}
+use native.Mathlib.Nat.{one-mul}
+use lib.Dec.{eqb, lit<}
+use lib.Bits.{bitXor}
+use lib.Pow.{shl-exact}
+use borrow.Author.Tests.{eqb-true, eqb-false, eq-eqb, ne-eqb}
+use Rattle.cube.specs.Bits.{bitAt, has, flip}
+use Rattle.cube.specs.Cube.{uphill, UphillVector, Without}
+use Rattle.cube.proofs.Bits.{bit-lt, bit-xor, flip-xor, bit-flipped, bit-kept, has-bit, flip-drops}
+
+-- `1 << p` of 16 bits
+pub port-bit : (p : ℕ) → p < 16 → 1 * 2 ^ p % 65536 ≡ 2 ^ p
+port-bit p h = shl-exact 1 p 16 (lit< tt) (omega arith) ∙ one-mul (2 ^ p)
+
+-- the ports in which two nodes differ are the uphill ones
+digits : (x y : ℕ) → x < 2 → y < 2 → eqb (bitXor x y) 1 ≡ not (eqb x y)
+digits zero zero h l = refl
+digits zero (suc zero) h l = refl
+digits (suc zero) zero h l = refl
+digits (suc zero) (suc zero) h l = refl
+digits zero (suc (suc y)) h l = absurd (omega arith)
+digits (suc zero) (suc (suc y)) h l = absurd (omega arith)
+digits (suc (suc x)) y h l = absurd (omega arith)
+
+pub uphill-of : (n t : ℕ) → UphillVector n t (bitXor n t)
+unfolding has uphill
+uphill-of n t = record { bits = λ p. rw (bit-xor n t p) (digits (bitAt n p) (bitAt t p) (bit-lt n p) (bit-lt t p)); value = refl }
+
+-- a vector that loses a port has the others
+pub without-of : (v p : ℕ) → has v p ≡ true → Without v p (flip v p)
+without-of v p e = record { value = flip-drops v p e; bits = λ q. go q (eqb q p) refl }
+  where
+    go : (q : ℕ) (b : Bool) → eqb q p ≡ b → has (flip v p) q ≡ (has v q && not b)
+    go q true i = rw (eqb-true q p i, e) (unfold has in rw (bit-flipped v p, has-bit v p e))
+    go q false i = rw (and-true (has v q)) (unfold has in ap (λ x. eqb x 1) (bit-kept v p q (eqb-false q p i)))
+
+pub without-power : (v p : ℕ) → has v p ≡ true → Without v p (v - 2 ^ p)
+without-power v p e =
+    let same : flip v p ≡ v - 2 ^ p = omega (arith, flip-drops v p e) in
+    rw same at (without-of v p e)

@@ -1,0 +1,44 @@
+-- Document 01, "The cube and its table": nodes, where a port leads, circuits; and which ports lead towards a target.
+-- Assumes nothing.
+use mathlib.Core.Path.{_≡_}
+use mathlib.Core.Bool.{Bool, not, _&&_}
+use mathlib.Core.List.{List}
+use Prim.Native.Nat.{ℕ, _+_, _-_, _*_, _/_, _%_, _^_}
+use lib.Dec.{eqb}
+use lib.Bits.{bitXor}
+use Rattle.common.specs.Lists.{keep, from}
+use Rattle.cube.specs.Bits.{bitAt, has, flip}
+
+-- "Port p, below D, of a node leads to the node whose number differs in bit p alone"
+abbrev pub next : ℕ → ℕ → ℕ
+next n p = flip n p
+
+-- the ports of a cube of dimension D, rising
+abbrev pub ports : ℕ → List ℕ
+ports D = from 0 D
+
+-- "The circuit of send channel c at node s has the number 8·s + c + 1; zero means no circuit."
+abbrev pub circuitOf : ℕ → ℕ → ℕ
+circuitOf s c = 8 * s + c + 1
+
+-- the source and the send channel of a circuit
+abbrev pub sourceOf : ℕ → ℕ
+sourceOf k = (k - 1) / 8
+
+abbrev pub channelOf : ℕ → ℕ
+channelOf k = (k - 1) % 8
+
+-- "A port is uphill at a node if the node and the target differ in that bit."
+unfoldable pub uphill : ℕ → ℕ → ℕ → Bool
+unfolding bitAt
+uphill t n p = not (eqb (bitAt n p) (bitAt t p))
+
+-- a vector that has exactly the uphill ports of n towards t
+pub record UphillVector (n t vector : ℕ) : Type 0 where
+  pub bits : (p : ℕ) → has vector p ≡ uphill t n p
+  pub value : vector ≡ bitXor n t
+
+-- what a vector is without one of its ports
+pub record Without (vector p rest : ℕ) : Type 0 where
+  pub value : rest + 2 ^ p ≡ vector
+  pub bits : (q : ℕ) → has rest q ≡ (has vector q && not (eqb q p))

@@ -1,0 +1,22 @@
+-- Document 01's entries of the table of first ports: any table that keeps the rule has them.
+-- Assumes nothing.
+use mathlib.Core.Path.{_≡_}
+use mathlib.Core.List.{List}
+use Prim.Native.Nat.{ℕ}
+use lib.Dec.{lit<}
+use lib.ListN.{getD}
+use Rattle.cube.specs.Helical.{firstPort, FirstPorts}
+
+-- "Entry 40 is 2 (vector 5, arrival 0), entry 42 is 0, entry 8 is 0."
+module _ (table : List ℕ) (rule : FirstPorts table) where
+  entry-40 : getD table 40 0 ≡ 2
+  unfolding FirstPorts firstPort
+  entry-40 = rule 5 0 (lit< tt) (lit< tt)
+
+  entry-42 : getD table 42 0 ≡ 0
+  unfolding FirstPorts firstPort
+  entry-42 = rule 5 2 (lit< tt) (lit< tt)
+
+  entry-8 : getD table 8 0 ≡ 0
+  unfolding FirstPorts firstPort
+  entry-8 = rule 1 0 (lit< tt) (lit< tt)

@@ -1,0 +1,47 @@
+-- Document 01, "Which paths a scout may walk": the order in which ports are tried, and the table of first ports.
+-- Assumes nothing.
+use mathlib.Core.Path.{_≡_}
+use mathlib.Core.Bool.{true, cond}
+use mathlib.Core.List.{List, [], _∷_, _++_}
+use Prim.Native.Nat.{ℕ, zero, suc, _+_, _-_, _*_, _^_, _<_}
+use lib.Dec.{eqb, leb, ltb}
+use lib.ListN.{getD}
+use Rattle.common.specs.Lists.{keep, from}
+use Rattle.cube.specs.Bits.{has}
+
+-- the ports that a vector offers among w positions, rising
+unfoldable pub portsOf : ℕ → ℕ → List ℕ
+unfolding keep from has
+portsOf w vector = keep (has vector) (from 0 w)
+
+-- "A scout that came in on port a tries a + 1, a + 2 and on to D - 1, then 0 up to a itself": that order among the ports offered, which rise
+unfoldable pub helical : ℕ → List ℕ → List ℕ
+unfolding keep
+helical a ps = keep (λ p. ltb a p) ps ++ keep (λ p. leb p a) ps
+
+-- the first of a list, or `none` where it is empty
+unfoldable pub firstOr : ℕ → List ℕ → ℕ
+firstOr none [] = none
+firstOr none (p ∷ ps) = p
+
+-- "An entry is the port tried first, or 8 for vector zero."
+unfoldable pub firstPort : ℕ → ℕ → ℕ
+unfolding portsOf helical firstOr
+firstPort vector arrival = firstOr 8 (helical arrival (portsOf 8 vector))
+
+-- "a constant table of 2,048 entries, at 8·vector + arrival port"
+unfoldable pub FirstPorts : List ℕ → Type 0
+FirstPorts table = (vector arrival : ℕ) → vector < 256 → arrival < 8 → getD table (8 * vector + arrival) 0 ≡ firstPort vector arrival
+
+-- what is known of the port p that is tried first of a vector's ports among w positions: it is one of them, and the vector without it
+-- has the rest of the order
+pub record FirstTried (w vector arrival p : ℕ) : Type 0 where
+  pub small : p < w
+  pub offered : has vector p ≡ true
+  pub rest : helical arrival (portsOf w vector) ≡ p ∷ helical arrival (portsOf w (vector - 2 ^ p))
+
+-- the ports met by taking the first, dropping it from the vector, and so on, k times at most
+unfoldable pub walk : (ℕ → ℕ → ℕ) → ℕ → ℕ → ℕ → List ℕ
+walk first zero vector arrival = []
+walk first (suc k) vector arrival =
+    cond (eqb vector 0) [] (first vector arrival ∷ walk first k (vector - 2 ^ first vector arrival) arrival)

@@ -1,0 +1,29 @@
+// The choice of port: the entry of the table of first ports at a vector and an arrival port.
+ghost use mathlib.Core.Path.{_≡_};
+ghost use Prim.Native.Nat.{_<_};
+ghost use Rattle.cube.specs.Helical.{firstPort, FirstPorts};
+use crate::first_port_table::FIRST_PORTS;
+use crate::kinds::Port;
+
+fn wide(x: u8) -> u16
+    ensures { λ r. ⌜ r ≡ x ⌝ }
+{
+    x as u16
+}
+
+// The whole table. The compiler builds a constant array anew wherever it is indexed, so a search takes it once and lends it on.
+pub fn first_ports() -> [u8; 2048]
+    ensures { λ r. ⌜ FirstPorts r ⌝ }
+{
+    FIRST_PORTS
+}
+
+// The port of a vector that is tried first after an arrival, or 8 for vector zero. A send arrives on port 7.
+pub fn first_port(table: &[u8; 2048], vector: u16, arrival: Port) -> Port
+    requires { ⌜ (vector < 256) × (arrival .0 < 8) × FirstPorts (now table) ⌝ }
+    ensures { λ r. ⌜ r .0 ≡ firstPort vector (arrival .0) ⌝ }
+{
+    let a = arrival.0;
+    let at = (8 * vector + a) as usize;
+    Port(wide(table[at]))
+}

@@ -1,0 +1,36 @@
+// Node numbers, port numbers and circuit numbers: three kinds, none of which is taken for another. The public calls take any
+// 16-bit number as one of them and test it; the functions below say in their `requires` what has been tested by then.
+ghost use mathlib.Core.Path.{_≡_};
+ghost use Prim.Native.Nat.{_<_};
+ghost use Rattle.cube.specs.Cube.{circuitOf, sourceOf, channelOf};
+
+pub struct Node(pub u16);
+
+pub struct Port(pub u16);
+
+// 0 is no circuit.
+pub struct Circuit(pub u16);
+
+// The circuit of a send channel.
+pub fn circuit_of(source: Node, channel: u16) -> Circuit
+    requires { ⌜ (source .0 < 256) × (channel < 8) ⌝ }
+    ensures { λ r. ⌜ r .0 ≡ circuitOf (source .0) channel ⌝ }
+{
+    Circuit(8 * source.0 + channel + 1)
+}
+
+// The node at which a circuit starts.
+pub fn source_of(circuit: Circuit) -> Node
+    requires { ⌜ 0 < circuit .0 ⌝ }
+    ensures { λ r. ⌜ r .0 ≡ sourceOf (circuit .0) ⌝ }
+{
+    Node((circuit.0 - 1) / 8)
+}
+
+// The send channel that a circuit belongs to.
+pub fn channel_of(circuit: Circuit) -> u16
+    requires { ⌜ 0 < circuit .0 ⌝ }
+    ensures { λ r. ⌜ r ≡ channelOf (circuit .0) ⌝ }
+{
+    (circuit.0 - 1) % 8
+}

@@ -1,0 +1,17 @@
+// The cube: its three kinds of number, the ports that lead towards a target, and the order in which they are tried.
+mod first_port_table;
+mod helical;
+mod kinds;
+mod vectors;
+
+pub use helical::first_port;
+pub use helical::first_ports;
+pub use kinds::Circuit;
+pub use kinds::Node;
+pub use kinds::Port;
+pub use kinds::channel_of;
+pub use kinds::circuit_of;
+pub use kinds::source_of;
+pub use vectors::neighbour;
+pub use vectors::uphill_vector;
+pub use vectors::without;
