@@ -1,0 +1,9 @@
+// Runs document 01's examples through the library and prints what it gets; the gate compares that with the stored answers.
+mod print;
+mod words;
+
+fn main() {
+    words::names();
+    words::carried();
+    words::examples();
+}

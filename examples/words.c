@@ -1,0 +1,47 @@
+/* Says what command words mean: each argument is a word, as a board stored it. */
+#include <maze.h>
+#include <stdio.h>
+#include <stdlib.h>
+
+static const char *command_name(unsigned command) {
+    switch (command) {
+    case MAZE_PACKET_ACKNOWLEDGE: return "packet acknowledge";
+    case MAZE_ROUTE_ACKNOWLEDGE: return "route acknowledge";
+    case MAZE_ROUTE_REJECTED_COMMAND: return "route rejected";
+    case MAZE_RECEIVE_REJECTED_COMMAND: return "receive rejected";
+    case MAZE_FORWARDED_ROUTE_REJECTED: return "forwarded route rejected";
+    case MAZE_END_TO_END_ACKNOWLEDGE: return "end-to-end acknowledge";
+    case MAZE_END_TO_END_NOT_ACKNOWLEDGED: return "end-to-end not acknowledged";
+    case MAZE_END_OF_MESSAGE: return "end of message";
+    case MAZE_END_OF_TRANSMISSION: return "end of transmission";
+    case MAZE_RESET_CPU: return "reset CPU";
+    case MAZE_RESET_NODE: return "reset node";
+    default: return "flush path";
+    }
+}
+
+static const char *refusal_name(unsigned number) {
+    switch (number) {
+    case MAZE_WORD_TOO_LARGE: return "above 4,095";
+    case MAZE_NOT_A_COMMAND: return "packet type 0 or 1";
+    case MAZE_WRONG_TYPE: return "type does not go with the command";
+    default: return "reserved command";
+    }
+}
+
+int main(int count, char **words) {
+    for (int i = 1; i < count; i++) {
+        char *end;
+        unsigned long word = strtoul(words[i], &end, 10);
+        if (*end || end == words[i] || word > 65535) {
+            printf("%s: not a number from 0 to 65535\n", words[i]);
+            continue;
+        }
+        maze_word_read_answer read = maze_word_read((uint16_t)word);
+        if (read.number == MAZE_ACCEPTED)
+            printf("%lu: %s, carrying %u\n", word, command_name(read.command), (unsigned)read.carried);
+        else
+            printf("%lu: refused as %u, %s\n", word, (unsigned)read.number, refusal_name(read.number));
+    }
+    return 0;
+}
