@@ -1,0 +1,97 @@
+/* Command words from C: every one of the 65,536 words read, and every command written with every carried number, beside a
+ * check written separately from document 01's list and from the patent's patterns of status bits. */
+#include <maze.h>
+#include <stdio.h>
+
+static unsigned passed, failed;
+
+static void expect(int ok, const char *what, unsigned a, unsigned b) {
+    if (ok) {
+        passed++;
+        return;
+    }
+    if (failed++ < 20) printf("words: %s %u %u\n", what, a, b);
+}
+
+/* The patent's command list, a row for each command: the pattern of its six status bits, where x is ignored, and NULL where the
+ * command is reserved. A 0, 1 or s marks a bit that says something. */
+static const char *const pattern[16] = {
+    "xxxxxx", "xxxxxx", "xxxxxx", NULL, "xxxxxs", "xxxxxx", "ssssss", "ssssss",
+    "xxxxxx", "xxxxxs", NULL, NULL, "xxxxxx", "xxxxxx", "xxxxxs", NULL,
+};
+
+/* The status bits that a command carries, as a mask. */
+static unsigned carried_mask(unsigned command) {
+    unsigned mask = 0;
+    for (int i = 0; i < 6; i++) mask = mask << 1 | (pattern[command][i] == 's');
+    return mask;
+}
+
+static unsigned read_number(unsigned word) {
+    if (word >= 1u << 12) return 15;
+    unsigned type = word >> 10, command = word >> 6 & 15;
+    if (!(type & 2)) return 16;
+    if ((type & 1) != command >> 3) return 17;
+    if (!pattern[command]) return 18;
+    return 0;
+}
+
+/* The 64 words that differ in their status alone. */
+static void read_statuses(unsigned first) {
+    int good = 1;
+    for (unsigned word = first; word < first + 64; word++) {
+        maze_word_read_answer got = maze_word_read((uint16_t)word);
+        unsigned number = read_number(word), command = 0, carried = 0;
+        if (number == 0) {
+            command = word >> 6 & 15;
+            carried = word & carried_mask(command);
+        }
+        good &= got.number == number && got.command == command && got.carried == carried;
+        if (number == 0) {
+            maze_word_written back = maze_word_write(got.command, got.carried);
+            good &= back.number == 0 && back.word == ((word & ~63u) | carried);
+        }
+    }
+    expect(good, "read words from", first, 0);
+}
+
+static void write_every_pair(unsigned command) {
+    int good = 1;
+    for (unsigned carried = 0; carried < 65536; carried++) {
+        maze_word_written got = maze_word_write((uint16_t)command, (uint16_t)carried);
+        unsigned number = 0, word = 0;
+        if (command > 15 || !pattern[command]) number = 18;
+        else if (carried & ~carried_mask(command)) number = 19;
+        else word = (command < 8 ? 2u : 3u) << 10 | command << 6 | carried;
+        good &= got.number == number && got.word == word;
+        if (number == 0) {
+            maze_word_read_answer back = maze_word_read(got.word);
+            good &= back.number == 0 && back.command == command && back.carried == carried;
+        }
+    }
+    expect(good, "write command", command, 0);
+}
+
+/* The vectors of document 01's example 8. */
+static void examples(void) {
+    static const struct { uint16_t word, number, command, carried; } read[] = {
+        {2175, 0, 1, 0}, {2437, 0, 6, 5}, {3649, 0, 9, 1}, {3136, 17, 0, 0}, {2240, 18, 0, 0},
+    };
+    for (unsigned i = 0; i < sizeof read / sizeof *read; i++) {
+        maze_word_read_answer got = maze_word_read(read[i].word);
+        expect(got.number == read[i].number && got.command == read[i].command && got.carried == read[i].carried, "example", read[i].word, got.number);
+    }
+    maze_word_written got = maze_word_write(1, 0);
+    expect(got.number == 0 && got.word == 2112, "example", 2112, got.word);
+}
+
+int main(void) {
+    for (unsigned first = 0; first < 65536; first += 64) read_statuses(first);
+    for (unsigned command = 0; command < 64; command++) write_every_pair(command);
+    for (unsigned command = 64; command < 65536; command += 4091) write_every_pair(command);
+    write_every_pair(256);
+    write_every_pair(65535);
+    examples();
+    printf("%u passed, %u failed\n", passed, failed);
+    return failed != 0;
+}
