@@ -28,15 +28,24 @@ extern "C" {
 #define MAZE_PACKET_ACKNOWLEDGE 0
 #define MAZE_ROUTE_ACKNOWLEDGE 1
 #define MAZE_ROUTE_REJECTED_COMMAND 2
-#define MAZE_RECEIVE_REJECTED_COMMAND 4 /* 0: receive rejected; 1: parity error flushed back */
+#define MAZE_RECEIVE_REJECTED_COMMAND 4    /* 0 or 1 */
 #define MAZE_FORWARDED_ROUTE_REJECTED 5
 #define MAZE_END_TO_END_ACKNOWLEDGE 6      /* a receive code of 0 to 63 */
 #define MAZE_END_TO_END_NOT_ACKNOWLEDGED 7 /* code * 16 + error: a code of 0 to 3, an error of 0 to 15 */
 #define MAZE_END_OF_MESSAGE 8
-#define MAZE_END_OF_TRANSMISSION 9 /* 1: end-to-end requested */
+#define MAZE_END_OF_TRANSMISSION 9         /* 0 or 1 */
 #define MAZE_RESET_CPU 12
 #define MAZE_RESET_NODE 13
-#define MAZE_FLUSH_PATH 14 /* 0: flush path; 1: parity error flushed forward */
+#define MAZE_FLUSH_PATH 14                 /* 0 or 1 */
+
+/* What those that carry something carry. */
+#define MAZE_STATUS_RECEIVE_REJECTED 0    /* of MAZE_RECEIVE_REJECTED_COMMAND */
+#define MAZE_STATUS_PARITY_ERROR_BACK 1   /* of MAZE_RECEIVE_REJECTED_COMMAND */
+#define MAZE_STATUS_NO_END_TO_END 0       /* of MAZE_END_OF_TRANSMISSION */
+#define MAZE_STATUS_END_TO_END 1          /* of MAZE_END_OF_TRANSMISSION */
+#define MAZE_STATUS_FLUSH_PATH 0          /* of MAZE_FLUSH_PATH */
+#define MAZE_STATUS_PARITY_ERROR_FORWARD 1 /* of MAZE_FLUSH_PATH */
+#define MAZE_STATUS_CODE_PLACE 16         /* of MAZE_END_TO_END_NOT_ACKNOWLEDGED: code * 16 + error */
 
 typedef struct {
     uint16_t number;

@@ -13,8 +13,8 @@ static void expect(int ok, const char *what, unsigned a, unsigned b) {
     if (failed++ < 20) printf("words: %s %u %u\n", what, a, b);
 }
 
-/* The patent's command list, a row for each command: the pattern of its six status bits, where x is ignored, and NULL where the
- * command is reserved. A 0, 1 or s marks a bit that says something. */
+/* The patent's command list, a row for each command: the pattern of its six status bits, where x is ignored and s says something;
+ * NULL where the command is reserved. */
 static const char *const pattern[16] = {
     "xxxxxx", "xxxxxx", "xxxxxx", NULL, "xxxxxs", "xxxxxx", "ssssss", "ssssss",
     "xxxxxx", "xxxxxs", NULL, NULL, "xxxxxx", "xxxxxx", "xxxxxs", NULL,
@@ -72,6 +72,18 @@ static void write_every_pair(unsigned command) {
     expect(good, "write command", command, 0);
 }
 
+/* Every command above 15, with a few carried numbers: reserved, each of them. */
+static void write_high_commands(void) {
+    static const uint16_t carried[] = {0, 1, 7, 63, 64, 65535};
+    int good = 1;
+    for (unsigned command = 16; command < 65536; command++)
+        for (unsigned i = 0; i < sizeof carried / sizeof *carried; i++) {
+            maze_word_written got = maze_word_write((uint16_t)command, carried[i]);
+            good &= got.number == 18 && got.word == 0;
+        }
+    expect(good, "write high commands", 16, 65535);
+}
+
 /* The vectors of document 01's example 8. */
 static void examples(void) {
     static const struct { uint16_t word, number, command, carried; } read[] = {
@@ -89,8 +101,7 @@ int main(void) {
     for (unsigned first = 0; first < 65536; first += 64) read_statuses(first);
     for (unsigned command = 0; command < 64; command++) write_every_pair(command);
     for (unsigned command = 64; command < 65536; command += 4091) write_every_pair(command);
-    write_every_pair(256);
-    write_every_pair(65535);
+    write_high_commands();
     examples();
     printf("%u passed, %u failed\n", passed, failed);
     return failed != 0;

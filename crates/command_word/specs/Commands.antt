@@ -5,7 +5,7 @@ use mathlib.Core.Bool.{Bool, true, false, cond}
 use mathlib.Core.List.{List, [], _∷_}
 use Prim.Native.Nat.{ℕ, suc, _+_, _*_, _/_, _%_, _<_}
 use lib.Dec.{eqb, leb}
-use lib.ListN.{getD}
+use lib.ListN.{length, getD}
 
 -- "Here a word is type·1024 + command·64 + status."
 abbrev pub wordOf : ℕ → ℕ → ℕ → ℕ
@@ -25,6 +25,43 @@ statusOf word = word % 64
 abbrev pub typeFor : ℕ → ℕ
 typeFor command = cond (leb command 7) 2 3
 
+-- the commands by name
+abbrev pub packetAcknowledge : ℕ
+packetAcknowledge = 0
+
+abbrev pub routeAcknowledge : ℕ
+routeAcknowledge = 1
+
+abbrev pub routeRejected : ℕ
+routeRejected = 2
+
+abbrev pub receiveRejected : ℕ
+receiveRejected = 4
+
+abbrev pub forwardedRouteRejected : ℕ
+forwardedRouteRejected = 5
+
+abbrev pub endToEndAcknowledge : ℕ
+endToEndAcknowledge = 6
+
+abbrev pub endToEndNotAcknowledged : ℕ
+endToEndNotAcknowledged = 7
+
+abbrev pub endOfMessage : ℕ
+endOfMessage = 8
+
+abbrev pub endOfTransmission : ℕ
+endOfTransmission = 9
+
+abbrev pub resetCPU : ℕ
+resetCPU = 12
+
+abbrev pub resetNode : ℕ
+resetNode = 13
+
+abbrev pub flushPath : ℕ
+flushPath = 14
+
 -- a command that exists: its number, and the largest number that it carries
 pub record Command : Type 0 where
   pub number : ℕ
@@ -37,18 +74,23 @@ carrying c l = record { number = c; largest = l }
 -- "Reserved: 3, 10, 11, 15": those are not in the list.
 unfoldable pub commands : List Command
 commands =
-    carrying 0 0  -- packet acknowledge
-    ∷ carrying 1 0  -- route acknowledge
-    ∷ carrying 2 0  -- route rejected
-    ∷ carrying 4 1  -- receive rejected (0) or parity error flushed back (1)
-    ∷ carrying 5 0  -- forwarded route rejected
-    ∷ carrying 6 63  -- end-to-end acknowledge: six-bit receive code
-    ∷ carrying 7 63  -- end-to-end not acknowledged: upper two bits code, lower four error
-    ∷ carrying 8 0  -- end of message
-    ∷ carrying 9 1  -- end of transmission: 1 if end-to-end is requested
-    ∷ carrying 12 0  -- reset CPU
-    ∷ carrying 13 0  -- reset node
-    ∷ carrying 14 1  -- flush path (0) or parity error flushed forward (1)
+    carrying packetAcknowledge 0
+    ∷ carrying routeAcknowledge 0
+    ∷ carrying routeRejected 0
+    -- 0: receive rejected; 1: parity error flushed back
+    ∷ carrying receiveRejected 1
+    ∷ carrying forwardedRouteRejected 0
+    -- a six-bit receive code
+    ∷ carrying endToEndAcknowledge 63
+    -- upper two bits a code, lower four an error
+    ∷ carrying endToEndNotAcknowledged 63
+    ∷ carrying endOfMessage 0
+    -- 1: end-to-end is requested
+    ∷ carrying endOfTransmission 1
+    ∷ carrying resetCPU 0
+    ∷ carrying resetNode 0
+    -- 0: flush path; 1: parity error flushed forward
+    ∷ carrying flushPath 1
     ∷ []
 
 -- how many numbers, from 0 upward, a command of a list carries; none where the list does not have it
@@ -61,8 +103,9 @@ unfolding commands valuesIn
 values c = valuesIn commands c
 
 -- a table of 16 entries that holds, at each command, how many numbers it carries
-unfoldable pub ValuesTable : List ℕ → Type 0
-ValuesTable xs = (c : ℕ) → c < 16 → getD xs c 0 ≡ values c
+pub record ValuesTable (table : List ℕ) : Type 0 where
+  pub entries : length table ≡ 16
+  pub entry : (c : ℕ) → c < 16 → getD table c 0 ≡ values c
 
 -- a command that is not in the list
 unfoldable pub reserved : ℕ → Bool

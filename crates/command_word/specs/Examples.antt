@@ -5,7 +5,7 @@ use mathlib.Core.Bool.{not}
 use mathlib.Core.List.{List, [], _∷_, map}
 use Prim.Native.Nat.{ℕ}
 use Rattle.common.specs.Lists.{keep, from}
-use Rattle.common.specs.Tests.{refusal}
+use Rattle.common.specs.Tests.{Test, refusal}
 use Rattle.command_word.specs.declared.WordRead.{WordRead}
 use Rattle.command_word.specs.declared.WordWritten.{WordWritten}
 use Rattle.command_word.specs.Commands.{commands, valuesIn, values, reserved}
@@ -26,6 +26,15 @@ example-8-read = refl
 example-8-written : writeWord 1 0 ≡ written 0 2112
 unfolding refusal commands valuesIn values reserved writeTests writing writeWord
 example-8-written = refl
+
+-- the numbers of the tests, "in rising order"
+read-numbers : (word : ℕ) → map (λ (t : Test). t .number) (readTests word) ≡ 15 ∷ 16 ∷ 17 ∷ 18 ∷ []
+unfolding readTests
+read-numbers word = refl
+
+write-numbers : (command carried : ℕ) → map (λ (t : Test). t .number) (writeTests command carried) ≡ 18 ∷ 19 ∷ []
+unfolding writeTests
+write-numbers command carried = refl
 
 -- "Reserved: 3, 10, 11, 15."
 reserved-commands : keep reserved (from 0 16) ≡ 3 ∷ 10 ∷ 11 ∷ 15 ∷ []

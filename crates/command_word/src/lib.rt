@@ -1,11 +1,11 @@
-// Command words: the 18-bit command packets of source document 001 as a 16-bit number, read and written.
+// Command words: packet type, command and status of source document 001's command packets, stored in one number.
 ghost use mathlib.Core.Path.{_≡_};
 ghost use Prim.Native.Nat.{_<_};
 ghost use Rattle.command_word.specs.Commands.{wordOf, typeOf, commandOf, statusOf, typeFor, values, ValuesTable};
 ghost use Rattle.command_word.specs.Word.{readWord, writeWord, noReading, noWriting};
 use common::refusal;
 
-// A word below 4,096, with its packet type above its command above its status.
+// A stored word: its packet type stands above its command, and that above its status.
 pub struct CommandWord(pub u16);
 
 // The answer of a reading: a refusal has zeros beside its number.
@@ -37,7 +37,7 @@ impl CommandWord {
 
     pub const STATUSES: u16 = 64;
 
-    pub const LARGEST: u16 = 4095;
+    pub const LARGEST: u16 = CommandWord::TYPES * CommandWord::TYPE_PLACE - 1;
 
     // The packet types of source document 001. Only the last two carry commands.
     pub const ADDRESS: u16 = 0;
@@ -76,17 +76,17 @@ impl CommandWord {
     pub const FLUSH_PATH: u16 = 14;
 
     // What RECEIVE_REJECTED carries.
-    pub const RECEIVE_REJECTION: u16 = 0;
+    pub const STATUS_RECEIVE_REJECTED: u16 = 0;
 
-    pub const PARITY_ERROR_FLUSHED_BACK: u16 = 1;
+    pub const STATUS_PARITY_ERROR_BACK: u16 = 1;
     // What END_OF_TRANSMISSION carries.
-    pub const END_TO_END_NOT_REQUESTED: u16 = 0;
+    pub const STATUS_NO_END_TO_END: u16 = 0;
 
-    pub const END_TO_END_REQUESTED: u16 = 1;
+    pub const STATUS_END_TO_END: u16 = 1;
     // What FLUSH_PATH carries.
-    pub const PATH_FLUSH: u16 = 0;
+    pub const STATUS_FLUSH_PATH: u16 = 0;
 
-    pub const PARITY_ERROR_FLUSHED_FORWARD: u16 = 1;
+    pub const STATUS_PARITY_ERROR_FORWARD: u16 = 1;
     // What END_TO_END_NOT_ACKNOWLEDGED carries: a code above an error.
     pub const CODE_PLACE: u16 = 16;
 

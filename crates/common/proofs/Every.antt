@@ -40,20 +40,6 @@ entry-from f (x ∷ xs) i t (suc k) h =
 pub entry : (f : ℕ → ℕ → Bool) (xs : List ℕ) → everyEntry f 0 xs ≡ true → (k : ℕ) → k < length xs → f k (getD xs k 0) ≡ true
 entry f xs t k h = rw zero-add at (entry-from f xs 0 t k h)
 
--- two lists are equal where a test of them says so
-unfoldable pub sameList : List ℕ → List ℕ → Bool
-sameList [] [] = true
-sameList [] (y ∷ ys) = false
-sameList (x ∷ xs) [] = false
-sameList (x ∷ xs) (y ∷ ys) = eqb x y && sameList xs ys
-
-pub same-list : (xs ys : List ℕ) → sameList xs ys ≡ true → xs ≡ ys
-unfolding sameList
-same-list [] [] t = refl
-same-list [] (y ∷ ys) t = absurd (mathlib.Core.Bool.false≢true t)
-same-list (x ∷ xs) [] t = absurd (mathlib.Core.Bool.false≢true t)
-same-list (x ∷ xs) (y ∷ ys) t =
-    let both = and-eq-true-iff (eqb x y) (sameList xs ys) .0 t in
-    let head = eqb-true x y (both .0) in
-    let tail = same-list xs ys (both .1) in
-    cc
+-- a table whose every entry is what f says at its place: one computed test, and the rule at each
+pub table-rule : (f : ℕ → ℕ) (n : ℕ) (xs : List ℕ) → length xs ≡ n → everyEntry (λ k x. eqb x (f k)) 0 xs ≡ true → (k : ℕ) → k < n → getD xs k 0 ≡ f k
+table-rule f n xs l t k h = eqb-true (getD xs k 0) (f k) (entry (λ k x. eqb x (f k)) xs t k (rw l h))

@@ -1,9 +1,9 @@
 -- Laws of `keep`, `from` and `Sorted`.
 -- Assumes nothing.
-use mathlib.Core.Path.{_≡_, refl, ap, ap₂, _∙_, sym}
+use mathlib.Core.Path.{_≡_, refl, ap, _∙_, sym, subst}
 use mathlib.Core.Logic.{⊎-elim, _≢_}
 use mathlib.Core.Bool.{Bool, true, false, cond, _&&_, and-comm}
-use mathlib.Core.List.{List, [], _∷_, _++_, List·Memᴰ, List·Memᴰ·head, List·Memᴰ·tail, List·Memᴰ·not-nil, List·Memᴰ·append-cases, List·Memᴰ·cases-cons}
+use mathlib.Core.List.{List, [], _∷_, _++_, map, Memᴰ·of-map, Memᴰ·append-left, Memᴰ·append-right, List·Memᴰ, List·Memᴰ·head, List·Memᴰ·tail, List·Memᴰ·not-nil, List·Memᴰ·append-cases, List·Memᴰ·cases-cons}
 use Prim.Native.Nat.{ℕ, zero, suc, _+_, _≤_, _<_}
 use native.Mathlib.Omega.{arith}
 use native.Mathlib.Nat.{eq-or-lt-of-le}
@@ -101,10 +101,31 @@ sorted-append (x ∷ xs) ys s t h = (
   sorted-append xs ys (s .1) t (λ z y m. h z y (List·Memᴰ·tail m)),
 )
 
-pub sorted-weaken : {A : Type 0} (R S : A → A → Type 0) → ((x y : A) → R x y → S x y) → (xs : List A) → Sorted R xs → Sorted S xs
+-- a relation that implies another among the members
+pub sorted-imp : {A : Type 0} (R S : A → A → Type 0) (xs : List A) → ((x y : A) → x ∈ xs → y ∈ xs → R x y → S x y) → Sorted R xs → Sorted S xs
 unfolding Sorted
-sorted-weaken R S h [] s = tt
-sorted-weaken R S h (x ∷ xs) s = ((λ y m. h x y (s .0 y m)), sorted-weaken R S h xs (s .1))
+sorted-imp R S [] h s = tt
+sorted-imp R S (x ∷ xs) h s =
+    ((λ y m. h x y (List·Memᴰ·head refl) (List·Memᴰ·tail m) (s .0 y m)), sorted-imp R S xs (λ z y m k. h z y (List·Memᴰ·tail m) (List·Memᴰ·tail k)) (s .1))
+
+-- a sorted list under a function that carries the one relation over into the other
+pub sorted-map : {A B : Type 0} (R : A → A → Type 0) (S : B → B → Type 0) (f : A → B) (xs : List A) → ((x y : A) → R x y → S (f x) (f y)) → Sorted R xs → Sorted S (map f xs)
+unfolding Sorted
+sorted-map R S f [] h s = tt
+sorted-map R S f (x ∷ xs) h s =
+    ((λ y m. let r = Memᴰ·of-map f xs m in subst (S (f x)) (r .2) (h x (r .0) (s .0 (r .0) (r .1)))), sorted-map R S f xs h (s .1))
+
+-- a sorted list taken apart at a member: its beginning, what stands before the member, and what stands behind it
+pub sorted-at : {A : Type 0} (R : A → A → Type 0) (xs : List A) (w : A) (ys : List A) → Sorted R (xs ++ w ∷ ys)
+    → Sorted R xs × ((x : A) → x ∈ xs → R x w) × ((y : A) → y ∈ ys → R w y)
+unfolding Sorted
+sorted-at R [] w ys s = (tt, (λ x m. absurd (List·Memᴰ·not-nil m)), s .0)
+sorted-at R (x ∷ xs) w ys s =
+    let r = sorted-at R xs w ys (s .1) in (
+      ((λ y m. s .0 y (Memᴰ·append-left (w ∷ ys) m)), r .0),
+      (λ z m. ⊎-elim (λ e. rw e (s .0 w (Memᴰ·append-right xs (List·Memᴰ·head refl)))) (λ k. r .1 z k) (List·Memᴰ·cases-cons m)),
+      r .2,
+    )
 
 -- lengths: of what is kept, and of the two parts that a test makes
 pub length-keep : {A : Type 0} (f : A → Bool) (xs : List A) → length (keep f xs) ≤ length xs
@@ -137,3 +158,14 @@ pub length-from : (s k : ℕ) → length (from s k) ≡ k
 unfolding from
 length-from s zero = refl
 length-from s (suc k) = ap suc (length-from (suc s) k)
+
+-- numbers that do not pass the test may be left out at the end
+pub keep-wider : (f : ℕ → Bool) (s k l : ℕ) → k ≤ l → ((n : ℕ) → s + k ≤ n → f n ≡ false) → keep f (from s l) ≡ keep f (from s k)
+unfolding from
+keep-wider f s zero l h z = keep-none f (from s l) (λ n m. let r = from-mem s l m in z n (omega arith)) ∙ sym (keep-nil f)
+keep-wider f s (suc k) zero h z = absurd (omega arith)
+keep-wider f s (suc k) (suc l) h z = go (f s) refl (keep-wider f (suc s) k l (omega arith) (λ n i. z n (omega arith)))
+  where
+    go : (b : Bool) → f s ≡ b → keep f (from (suc s) l) ≡ keep f (from (suc s) k) → keep f (s ∷ from (suc s) l) ≡ keep f (s ∷ from (suc s) k)
+    go true e ih = rw (keep-yes f s (from (suc s) l) e, keep-yes f s (from (suc s) k) e, ih)
+    go false e ih = rw (keep-no f s (from (suc s) l) e, keep-no f s (from (suc s) k) e, ih)

@@ -126,10 +126,13 @@ same-bits (suc w) n m h l e =
     let low : n % 2 ≡ m % 2 = sym (bit-zero n) ∙ e 0 (omega arith) ∙ bit-zero m in
     omega arith
 
--- zero has no bit, and a number below 2 ^ w that has none of w bits is zero
-pub zero-has : (p : ℕ) → has 0 p ≡ false
+-- a number below 2 ^ D has no bit at D or above, zero has none, and a number below 2 ^ w that has none of w bits is zero
+pub high-has : (D n p : ℕ) → n < 2 ^ D → D ≤ p → has n p ≡ false
 unfolding has
-zero-has p = ne-eqb (bitAt 0 p) 1 (λ e. omega (arith, bit-high 0 0 p (pow-pos 0) (omega arith)))
+high-has D n p h l = ne-eqb (bitAt n p) 1 (λ e. omega (arith, bit-high D n p h l))
+
+pub zero-has : (p : ℕ) → has 0 p ≡ false
+zero-has p = high-has 0 0 p (pow-pos 0) (omega arith)
 
 pub no-ports : (w n : ℕ) → n < 2 ^ w → ((p : ℕ) → p < w → has n p ≡ false) → n ≡ 0
 no-ports w n h z =

@@ -8,14 +8,14 @@ use Prim.Native.Nat.{ℕ, zero, suc, _+_, _-_, _*_, _/_, _%_, _^_, _≤_, _<_}
 use native.Mathlib.Omega.{arith}
 use lib.Dec.{eqb, leb, ltb}
 use lib.ListN.{length, getD, length-append}
-use borrow.Author.Tests.{ltb-true, ltb-false, lt-leb, le-leb, leb-true, leb-false, lt-ltb, ne-eqb, eq-eqb, eqb-true, eqb-false}
+use borrow.Author.Tests.{ltb-true, ltb-false, lt-leb, le-leb, le-ltb, leb-true, leb-false, lt-ltb, ne-eqb, eq-eqb, eqb-true, eqb-false}
 use Rattle.common.specs.Lists.{_∈_, keep, from, Sorted}
-use Rattle.common.proofs.Lists.{keep-yes, keep-no, keep-mem, mem-keep, keep-append, keep-all, keep-keep, keep-same, keep-swap, keep-sorted, sorted-append, sorted-weaken, length-keep, length-from, keep-none, from-sorted, from-mem, mem-from}
-use Rattle.common.proofs.Every.{everyEntry, entry}
+use Rattle.common.proofs.Lists.{keep-yes, keep-no, keep-mem, mem-keep, keep-append, keep-all, keep-keep, keep-same, keep-swap, keep-sorted, sorted-append, sorted-imp, length-keep, length-from, keep-none, keep-wider, from-sorted, from-mem, mem-from}
+use Rattle.common.proofs.Every.{everyEntry, table-rule}
 use Rattle.cube.specs.Bits.{has}
 use Rattle.cube.specs.Cube.{Without}
 use Rattle.cube.specs.Helical.{portsOf, helical, firstOr, firstPort, FirstPorts, FirstTried, walk}
-use Rattle.cube.proofs.Bits.{no-ports, zero-has}
+use Rattle.cube.proofs.Bits.{no-ports, zero-has, high-has}
 use Rattle.cube.proofs.Ports.{without-power}
 
 -- the helical order has the same members
@@ -37,6 +37,12 @@ unfolding helical
 helical-keep a f ps =
     rw (keep-append f (keep (λ p. ltb a p) ps) (keep (λ p. leb p a) ps), keep-swap f (λ p. ltb a p) ps, keep-swap f (λ p. leb p a) ps)
 
+-- after an arrival on the last port or above, ports are tried as they stand: "Sends use arrival port 7"
+pub helical-last : (a : ℕ) (ps : List ℕ) → ((p : ℕ) → p ∈ ps → p ≤ a) → helical a ps ≡ ps
+unfolding helical
+helical-last a ps h =
+    rw (keep-none (λ p. ltb a p) ps (λ p m. le-ltb a p (h p m)), keep-all (λ p. leb p a) ps (λ p m. le-leb p a (h p m)))
+
 -- no port stands in it twice
 pub helical-distinct : (a : ℕ) (ps : List ℕ) → Sorted _<_ ps → Sorted _≢_ (helical a ps)
 unfolding helical
@@ -45,7 +51,7 @@ helical-distinct a ps s =
     (λ x y m k e. let l = ltb-true a x (keep-mem _ ps m .1) in let g = leb-true y a (keep-mem _ ps k .1) in omega arith)
   where
     apart : (f : ℕ → Bool) → Sorted _≢_ (keep f ps)
-    apart f = sorted-weaken _<_ _≢_ (λ x y l e. omega arith) (keep f ps) (keep-sorted f _<_ ps s)
+    apart f = sorted-imp _<_ _≢_ (keep f ps) (λ x y m k l e. omega arith) (keep-sorted f _<_ ps s)
 
 -- the ports of a vector: those below w that it has, rising
 pub ports-mem : (w v : ℕ) {q : ℕ} → q ∈ portsOf w v → (q < w) × (has v q ≡ true)
@@ -59,6 +65,11 @@ mem-ports w v q h e = mem-keep (has v) (from 0 w) (mem-from 0 w q (omega arith) 
 pub ports-sorted : (w v : ℕ) → Sorted _<_ (portsOf w v)
 unfolding portsOf
 ports-sorted w v = keep-sorted (has v) _<_ (from 0 w) (from-sorted 0 w)
+
+-- positions above the last port that a vector has add nothing
+pub ports-wider : (D w v : ℕ) → D ≤ w → v < 2 ^ D → portsOf w v ≡ portsOf D v
+unfolding portsOf
+ports-wider D w v h l = keep-wider (has v) 0 D w h (λ p k. high-has D v p l (omega arith))
 
 -- the vector without a port has the other ports
 other : ℕ → ℕ → Bool
@@ -147,25 +158,20 @@ module _ (w : ℕ) (first : ℕ → ℕ → ℕ) (a : ℕ) (tells : (v : ℕ) �
   walk-helical v h = walks w v h (omega (arith, length-helical a (portsOf w v), length-ports w v))
 
 -- The table of first ports: its rule by one computed test, read off at a vector and an arrival port.
-unfoldable pub rightEntry : ℕ → ℕ → Bool
-rightEntry k x = eqb x (firstPort (k / 8) (k % 8))
-
-pub table-of : (xs : List ℕ) → length xs ≡ 2048 → everyEntry rightEntry 0 xs ≡ true → FirstPorts xs
-unfolding rightEntry FirstPorts
-table-of xs l t v a h k =
-    let i : ℕ = 8 * v + a in
-    let row : i / 8 ≡ v = omega arith in
-    let place : i % 8 ≡ a = omega arith in
-    eqb-true _ _ (entry rightEntry xs t i (rw l (omega arith))) ∙ rw (row, place)
-
-pub table-at : (xs : List ℕ) → FirstPorts xs → (v a : ℕ) → v < 256 → a < 8 → getD xs (8 * v + a) 0 ≡ firstPort v a
-unfolding FirstPorts
-table-at xs t = t
+pub table-of : (xs : List ℕ) → length xs ≡ 2048 → everyEntry (λ k x. eqb x (firstPort (k / 8) (k % 8))) 0 xs ≡ true → FirstPorts xs
+table-of xs l t = record { entries = l; entry = λ v a h k. at v a h k }
+  where
+    at : (v a : ℕ) → v < 256 → a < 8 → getD xs (8 * v + a) 0 ≡ firstPort v a
+    at v a h k =
+        let i : ℕ = 8 * v + a in
+        let row : i / 8 ≡ v = omega arith in
+        let place : i % 8 ≡ a = omega arith in
+        table-rule (λ k. firstPort (k / 8) (k % 8)) 2048 xs l t i (omega arith) ∙ rw (row, place)
 
 -- The entry at a vector that is not zero is a port of it, and the vector without it has the rest of the helical order.
 pub entry-tried : (xs : List ℕ) → FirstPorts xs → (v a : ℕ) → v < 256 → a < 8 → v ≢ 0 → FirstTried 8 v a (getD xs (8 * v + a) 0)
 unfolding firstPort
-entry-tried xs t v a h l z = rw (table-at xs t v a h l) (first-tried 8 8 v a h z)
+entry-tried xs t v a h l z = rw (t .entry v a h l) (first-tried 8 8 v a h z)
 
 -- Following the table's entries, each port dropped in its turn, walks the whole helical order.
 pub table-walk : (xs : List ℕ) → FirstPorts xs → (v a : ℕ) → v < 256 → a < 8 → walk (λ v a. getD xs (8 * v + a) 0) 8 v a ≡ helical a (portsOf 8 v)

@@ -7,16 +7,16 @@ use Prim.Native.Nat.{ℕ, zero, suc, _+_, _-_, _*_, _%_, _^_, _<_, _≤_}
 use native.Mathlib.Omega.{arith}
 use native.Mathlib.Nat.{one-mul}
 use lib.Dec.{eqb, lit<}
-use lib.Bits.{bitXor}
+use lib.Bits.{bitXor, xor-lt}
 use lib.Pow.{shl-exact}
 use borrow.Author.Tests.{eqb-true, eqb-false, eq-eqb, ne-eqb}
 use Rattle.cube.specs.Bits.{bitAt, has, flip}
 use Rattle.cube.specs.Cube.{uphill, UphillVector, Without}
 use Rattle.cube.proofs.Bits.{bit-lt, bit-xor, flip-xor, bit-flipped, bit-kept, has-bit, flip-drops}
 
--- `1 << p` of 16 bits
-pub port-bit : (p : ℕ) → p < 16 → 1 * 2 ^ p % 65536 ≡ 2 ^ p
-port-bit p h = shl-exact 1 p 16 (lit< tt) (omega arith) ∙ one-mul (2 ^ p)
+-- `1 << p` of w bits
+pub port-bit : (w p : ℕ) → p < w → 1 * 2 ^ p % 2 ^ w ≡ 2 ^ p
+port-bit w p h = shl-exact 1 p w (lit< tt) (omega arith) ∙ one-mul (2 ^ p)
 
 -- the ports in which two nodes differ are the uphill ones
 digits : (x y : ℕ) → x < 2 → y < 2 → eqb (bitXor x y) 1 ≡ not (eqb x y)
@@ -31,6 +31,10 @@ digits (suc (suc x)) y h l = absurd (omega arith)
 pub uphill-of : (n t : ℕ) → UphillVector n t (bitXor n t)
 unfolding has uphill
 uphill-of n t = record { bits = λ p. rw (bit-xor n t p) (digits (bitAt n p) (bitAt t p) (bit-lt n p) (bit-lt t p)); value = refl }
+
+-- the uphill vector of two nodes of a cube has no port outside it
+pub uphill-inside : (D n t v : ℕ) → UphillVector n t v → n < 2 ^ D → t < 2 ^ D → v < 2 ^ D
+uphill-inside D n t v u h l = rw (u .value) (xor-lt D n t h l)
 
 -- a vector that loses a port has the others
 pub without-of : (v p : ℕ) → has v p ≡ true → Without v p (flip v p)

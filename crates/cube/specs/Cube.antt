@@ -2,20 +2,14 @@
 -- Assumes nothing.
 use mathlib.Core.Path.{_≡_}
 use mathlib.Core.Bool.{Bool, not, _&&_}
-use mathlib.Core.List.{List}
 use Prim.Native.Nat.{ℕ, _+_, _-_, _*_, _/_, _%_, _^_}
 use lib.Dec.{eqb}
 use lib.Bits.{bitXor}
-use Rattle.common.specs.Lists.{keep, from}
 use Rattle.cube.specs.Bits.{bitAt, has, flip}
 
 -- "Port p, below D, of a node leads to the node whose number differs in bit p alone"
 abbrev pub next : ℕ → ℕ → ℕ
 next n p = flip n p
-
--- the ports of a cube of dimension D, rising
-abbrev pub ports : ℕ → List ℕ
-ports D = from 0 D
 
 -- "The circuit of send channel c at node s has the number 8·s + c + 1; zero means no circuit."
 abbrev pub circuitOf : ℕ → ℕ → ℕ

@@ -10,13 +10,13 @@ use Rattle.cube.specs.Helical.{firstPort, FirstPorts}
 -- "Entry 40 is 2 (vector 5, arrival 0), entry 42 is 0, entry 8 is 0."
 module _ (table : List ℕ) (rule : FirstPorts table) where
   entry-40 : getD table 40 0 ≡ 2
-  unfolding FirstPorts firstPort
-  entry-40 = rule 5 0 (lit< tt) (lit< tt)
+  unfolding firstPort
+  entry-40 = rule .entry 5 0 (lit< tt) (lit< tt)
 
   entry-42 : getD table 42 0 ≡ 0
-  unfolding FirstPorts firstPort
-  entry-42 = rule 5 2 (lit< tt) (lit< tt)
+  unfolding firstPort
+  entry-42 = rule .entry 5 2 (lit< tt) (lit< tt)
 
   entry-8 : getD table 8 0 ≡ 0
-  unfolding FirstPorts firstPort
-  entry-8 = rule 1 0 (lit< tt) (lit< tt)
+  unfolding firstPort
+  entry-8 = rule .entry 1 0 (lit< tt) (lit< tt)

@@ -5,7 +5,7 @@ use mathlib.Core.Bool.{true, cond}
 use mathlib.Core.List.{List, [], _∷_, _++_}
 use Prim.Native.Nat.{ℕ, zero, suc, _+_, _-_, _*_, _^_, _<_}
 use lib.Dec.{eqb, leb, ltb}
-use lib.ListN.{getD}
+use lib.ListN.{length, getD}
 use Rattle.common.specs.Lists.{keep, from}
 use Rattle.cube.specs.Bits.{has}
 
@@ -30,8 +30,9 @@ unfolding portsOf helical firstOr
 firstPort vector arrival = firstOr 8 (helical arrival (portsOf 8 vector))
 
 -- "a constant table of 2,048 entries, at 8·vector + arrival port"
-unfoldable pub FirstPorts : List ℕ → Type 0
-FirstPorts table = (vector arrival : ℕ) → vector < 256 → arrival < 8 → getD table (8 * vector + arrival) 0 ≡ firstPort vector arrival
+pub record FirstPorts (table : List ℕ) : Type 0 where
+  pub entries : length table ≡ 2048
+  pub entry : (vector arrival : ℕ) → vector < 256 → arrival < 8 → getD table (8 * vector + arrival) 0 ≡ firstPort vector arrival
 
 -- what is known of the port p that is tried first of a vector's ports among w positions: it is one of them, and the vector without it
 -- has the rest of the order

@@ -18,7 +18,7 @@ pub fn first_ports() -> [u8; 2048]
     FIRST_PORTS
 }
 
-// The port of a vector that is tried first after an arrival, or 8 for vector zero. A send arrives on port 7.
+// The port of a vector that is tried first after an arrival, or 8 for vector zero. A send uses arrival port 7.
 pub fn first_port(table: &[u8; 2048], vector: u16, arrival: Port) -> Port
     requires { ⌜ (vector < 256) × (arrival .0 < 8) × FirstPorts (now table) ⌝ }
     ensures { λ r. ⌜ r .0 ≡ firstPort vector (arrival .0) ⌝ }

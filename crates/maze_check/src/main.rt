@@ -1,8 +1,10 @@
 // Runs document 01's examples through the library and prints what it gets; the gate compares that with the stored answers.
 mod print;
+mod refusals;
 mod words;
 
 fn main() {
+    refusals::names();
     words::names();
     words::carried();
     words::examples();

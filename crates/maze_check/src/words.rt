@@ -27,25 +27,38 @@ pub fn names() {
     print::named(b"flush path", CommandWord::FLUSH_PATH);
 }
 
-// What the carried numbers mean.
+// The packet types, and what the carried numbers mean.
 pub fn carried() {
-    print::named(b"4 receive rejected", CommandWord::RECEIVE_REJECTION);
+    print::named(b"type address", CommandWord::ADDRESS);
+    print::named(b"type data", CommandWord::DATA);
+    print::named(b"type back-track", CommandWord::BACK_TRACK);
+    print::named(b"type forward", CommandWord::FORWARD);
     print::named(
-        b"4 parity error flushed back",
-        CommandWord::PARITY_ERROR_FLUSHED_BACK,
+        b"receive rejected: receive rejected",
+        CommandWord::STATUS_RECEIVE_REJECTED,
     );
-    print::named(b"7 code above error, in steps of", CommandWord::CODE_PLACE);
-    print::named(b"7 codes", CommandWord::CODES);
-    print::named(b"7 errors", CommandWord::ERRORS);
     print::named(
-        b"9 end-to-end not requested",
-        CommandWord::END_TO_END_NOT_REQUESTED,
+        b"receive rejected: parity error flushed back",
+        CommandWord::STATUS_PARITY_ERROR_BACK,
     );
-    print::named(b"9 end-to-end requested", CommandWord::END_TO_END_REQUESTED);
-    print::named(b"14 flush path", CommandWord::PATH_FLUSH);
     print::named(
-        b"14 parity error flushed forward",
-        CommandWord::PARITY_ERROR_FLUSHED_FORWARD,
+        b"end-to-end not acknowledged: code above error, in steps of",
+        CommandWord::CODE_PLACE,
+    );
+    print::named(b"end-to-end not acknowledged: codes", CommandWord::CODES);
+    print::named(b"end-to-end not acknowledged: errors", CommandWord::ERRORS);
+    print::named(
+        b"end of transmission: end-to-end not requested",
+        CommandWord::STATUS_NO_END_TO_END,
+    );
+    print::named(
+        b"end of transmission: end-to-end requested",
+        CommandWord::STATUS_END_TO_END,
+    );
+    print::named(b"flush path: flush path", CommandWord::STATUS_FLUSH_PATH);
+    print::named(
+        b"flush path: parity error flushed forward",
+        CommandWord::STATUS_PARITY_ERROR_FORWARD,
     );
 }
 
@@ -74,19 +87,22 @@ fn write(command: u16, carried: u16) {
 // Example 8 of "Examples at the edges", then a word or a command for each refusal from 15 to 19.
 pub fn examples() {
     read(2175);
-    write(1, 0);
+    write(CommandWord::ROUTE_ACKNOWLEDGE, 0);
     read(2437);
     read(3649);
     read(3136);
     read(2240);
-    read(4095);
-    read(4096);
+    read(CommandWord::LARGEST);
+    read(CommandWord::LARGEST + 1);
     read(2047);
     read(2048);
     write(15, 0);
-    write(16, 0);
-    write(14, 1);
-    write(14, 2);
-    write(7, 63);
-    write(7, 64);
+    write(CommandWord::COMMANDS, 0);
+    write(
+        CommandWord::FLUSH_PATH,
+        CommandWord::STATUS_PARITY_ERROR_FORWARD,
+    );
+    write(CommandWord::FLUSH_PATH, 2);
+    write(CommandWord::END_TO_END_NOT_ACKNOWLEDGED, 63);
+    write(CommandWord::END_TO_END_NOT_ACKNOWLEDGED, 64);
 }

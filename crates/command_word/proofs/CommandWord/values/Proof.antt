@@ -1,7 +1,6 @@
 -- `command_word::CommandWord::values` meets its contract: the table's rule, at the command.
 -- Assumes nothing.
 use borrow.Author.Needs.{needs}
-use Rattle.command_word.proofs.Values.{table-at}
 use Rattle.command_word.proofs.CommandWord.values.Statement.{statement}
 use Rattle.command_word.proofs.CommandWord.values.Tie as tie
 
@@ -15,7 +14,7 @@ array-read-result : tie.Need-array-read-result
 array-read-result c = search needs
 
 returns : tie.Need-returns
-returns c = table-at _ (c .values-table .ensures) (c .before .args .command) (c .before .pre)
+returns c = c .values-table .ensures .entry (c .before .args .command) (c .before .pre)
 
 pub values-spec : {M : Type 1} → statement M
 values-spec = tie.close (tie.spec values-table-requires mul-result array-read-result returns)

@@ -2,12 +2,12 @@
 -- Assumes nothing.
 use mathlib.Core.Path.{refl}
 use Rattle.command_word.specs.Commands.{commands, valuesIn, values}
-use Rattle.command_word.proofs.Values.{right, table-of}
+use Rattle.command_word.proofs.Values.{table-of}
 use Rattle.command_word.proofs.CommandWord.values_table.Statement.{statement}
 use Rattle.command_word.proofs.CommandWord.values_table.Tie as tie
 
 returns : tie.Need-returns
-unfolding right commands valuesIn values
+unfolding commands valuesIn values
 returns c = table-of _ refl refl
 
 pub values-table-spec : {M : Type 1} → statement M

@@ -1,7 +1,6 @@
 -- `cube::helical::first_port` meets its contract: the table's rule, at the vector and the arrival port.
 -- Assumes nothing.
 use mathlib.Core.Path.{_∙_}
-use Rattle.cube.proofs.Order.{table-at}
 use borrow.Author.Needs.{needs}
 use Rattle.cube.proofs.helical.first_port.Statement.{statement}
 use Rattle.cube.proofs.helical.first_port.Tie as tie
@@ -24,7 +23,7 @@ wide-requires c κs = search needs
 returns : tie.Need-returns
 returns c =
     let s = c .before .before in
-    c .wide .ensures ∙ table-at _ (s .pre .2) (s .args .vector) (s .args .arrival .0) (s .pre .0) (s .pre .1)
+    c .wide .ensures ∙ s .pre .2 .entry (s .args .vector) (s .args .arrival .0) (s .pre .0) (s .pre .1)
 
 pub first-port-spec : {M : Type 1} → statement M
 first-port-spec =

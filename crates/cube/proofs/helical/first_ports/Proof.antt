@@ -2,12 +2,12 @@
 -- Assumes nothing.
 use mathlib.Core.Path.{refl}
 use Rattle.cube.specs.Helical.{firstPort}
-use Rattle.cube.proofs.Order.{rightEntry, table-of}
+use Rattle.cube.proofs.Order.{table-of}
 use Rattle.cube.proofs.helical.first_ports.Statement.{statement}
 use Rattle.cube.proofs.helical.first_ports.Tie as tie
 
 returns : tie.Need-returns
-unfolding rightEntry firstPort
+unfolding firstPort
 returns c = table-of _ refl refl
 
 pub first-ports-spec : {M : Type 1} → statement M

@@ -12,7 +12,7 @@ shl-t5 : tie.Need-shl-t5
 shl-t5 c = search needs
 
 returns : tie.Need-returns
-returns c = ap (bitXor (c .args .node .0)) (port-bit (c .args .port .0) (c .pre)) ∙ flip-xor (c .args .node .0) (c .args .port .0)
+returns c = ap (bitXor (c .args .node .0)) (port-bit 16 (c .args .port .0) (c .pre)) ∙ flip-xor (c .args .node .0) (c .args .port .0)
 
 pub neighbour-spec : {M : Type 1} → statement M
 neighbour-spec = tie.close (tie.spec shl-t5 returns)

@@ -15,7 +15,7 @@ returns : tie.Need-returns
 returns c =
     let v = c .args .vector in
     let p = c .args .port .0 in
-    rw (port-bit p (c .pre .0), flip-xor v p) (without-of v p (c .pre .1))
+    rw (port-bit 16 p (c .pre .0), flip-xor v p) (without-of v p (c .pre .1))
 
 pub without-spec : {M : Type 1} → statement M
 without-spec = tie.close (tie.spec shl-result returns)

@@ -1,0 +1,142 @@
+-- The cube of every dimension is a network of which the theorems hold.
+-- Assumes nothing.
+use mathlib.Core.Path.{_≡_, refl, ap, sym, _∙_, subst}
+use mathlib.Core.Logic.{⊎-elim, _≢_, _↔_}
+use mathlib.Core.Bool.{Bool, true, false, cond, not}
+use mathlib.Core.List.{List, [], _∷_, List·Memᴰ·head, List·Memᴰ·tail}
+use Prim.Native.Nat.{ℕ, zero, suc, _+_, _-_, _^_, _≤_, _<_}
+use native.Mathlib.Omega.{arith}
+use lib.Dec.{eqb}
+use lib.ListN.{length}
+use borrow.Author.Tests.{eqb-true, eqb-false, eq-eqb, ne-eqb, not-false}
+use Rattle.common.specs.Lists.{_∈_, keep, from, Sorted}
+use Rattle.common.proofs.Lists.{keep-yes, keep-no, keep-mem, mem-keep, keep-same, keep-none, keep-sorted, length-keep, from-mem, mem-from, from-sorted, length-from}
+use Rattle.cube.specs.Bits.{bitAt, has, flip}
+use Rattle.cube.specs.Cube.{next, uphill}
+use Rattle.cube.proofs.Bits.{bit-lt, bit-flipped, bit-kept, flip-inside, same-bits}
+use Rattle.paths.specs.Network.{Network, Path, offered, Nearing, Leading}
+use Rattle.paths.specs.Permitted.{Permitted}
+use Rattle.paths.specs.Pass.{pass, scouts}
+use Rattle.paths.specs.Bound.{Cubical}
+use Rattle.paths.specs.CubeNetwork.{Shape, network, sendPorts, otherPorts}
+use Rattle.paths.proofs.Links.{permitted-length}
+use Rattle.paths.proofs.Bound.{two-passes-bound}
+
+-- a port that is changed is uphill just if it was not, and no other port changes
+uphill-flipped : (t n p : ℕ) → uphill t (flip n p) p ≡ not (uphill t n p)
+unfolding uphill
+uphill-flipped t n p = go (eqb (bitAt n p) (bitAt t p)) refl
+  where
+    go : (b : Bool) → eqb (bitAt n p) (bitAt t p) ≡ b → not (eqb (bitAt (flip n p) p) (bitAt t p)) ≡ not (not b)
+    go true e =
+        let h = eqb-true (bitAt n p) (bitAt t p) e in
+        ap not (ne-eqb (bitAt (flip n p) p) (bitAt t p) (λ i. omega (arith, bit-flipped n p, bit-lt n p)))
+    go false e =
+        let h = eqb-false (bitAt n p) (bitAt t p) e in
+        ap not (eq-eqb (bitAt (flip n p) p) (bitAt t p) (omega (arith, bit-flipped n p, bit-lt n p, bit-lt t p)))
+
+uphill-kept : (t n p q : ℕ) → q ≢ p → uphill t n q ≡ uphill t (flip n p) q
+unfolding uphill
+uphill-kept t n p q h = ap (λ x. not (eqb x (bitAt t q))) (sym (bit-kept n p q h))
+
+uphill-there : (t p : ℕ) → uphill t t p ≡ false
+unfolding uphill
+uphill-there t p = ap not (eq-eqb (bitAt t p) (bitAt t p) refl)
+
+same-bit : (t n p : ℕ) → uphill t n p ≡ false → bitAt n p ≡ bitAt t p
+unfolding uphill
+same-bit t n p e = eqb-true _ _ (not-false _ e)
+
+-- of two tests that differ at one member of a rising list alone, one keeps one member more
+one-more : (f g : ℕ → Bool) (p : ℕ) → f p ≡ true → g p ≡ false → ((q : ℕ) → q ≢ p → f q ≡ g q) → (ps : List ℕ) → Sorted _<_ ps → p ∈ ps → length (keep f ps) ≡ suc (length (keep g ps))
+unfolding Sorted
+one-more f g p on off h (x ∷ ps) s (List·Memᴰ·head e) =
+    rw (keep-yes f x ps (rw e at on), keep-no g x ps (rw e at off), keep-same f g ps (λ q m. h q (λ i. let l = s .0 q m in omega arith)))
+one-more f g p on off h (x ∷ ps) s (List·Memᴰ·tail m) = go (f x) refl (one-more f g p on off h ps (s .1) m)
+  where
+    same : f x ≡ g x
+    same = h x (λ e. let l = s .0 p m in omega arith)
+
+    go : (b : Bool) → f x ≡ b → length (keep f ps) ≡ suc (length (keep g ps)) → length (keep f (x ∷ ps)) ≡ suc (length (keep g (x ∷ ps)))
+    go true e ih = rw (keep-yes f x ps e, keep-yes g x ps (sym same ∙ e)) (ap suc ih)
+    go false e ih = rw (keep-no f x ps e, keep-no g x ps (sym same ∙ e)) ih
+
+module _ (S : Shape) where
+  -- the nodes of the cube
+  abbrev pub Node : ℕ → Type 0
+  Node n = n < 2 ^ S .dimension
+
+  offered-port : (t n p : ℕ) → p ∈ offered (network S) t n → (p < S .dimension) × (uphill t n p ≡ true)
+  unfolding offered network
+  offered-port t n p m = let k = keep-mem (uphill t n) (from 0 (S .dimension)) m in ((let r = from-mem 0 (S .dimension) (k .0) in omega arith), k .1)
+
+  port-offered : (t n p : ℕ) → p < S .dimension → uphill t n p ≡ true → p ∈ offered (network S) t n
+  unfolding offered network
+  port-offered t n p h e = mem-keep (uphill t n) (from 0 (S .dimension)) (mem-from 0 (S .dimension) p (omega arith) (omega arith)) e
+
+  -- Offered hops come one nearer,
+  pub cube-nearing : (t : ℕ) → Nearing (network S) t
+  unfolding offered network
+  cube-nearing t =
+      record {
+        nearer = λ n p m.
+            let k = keep-mem (uphill t n) (from 0 (S .dimension)) m in
+            one-more (uphill t n) (uphill t (flip n p)) p (k .1) (uphill-flipped t n p ∙ ap not (k .1)) (λ q h. uphill-kept t n p q h) (from 0 (S .dimension)) (from-sorted 0 (S .dimension)) (k .0);
+      }
+
+  -- and off the target something is offered.
+  pub cube-leading : (t : ℕ) → Node t → Leading (network S) t Node
+  cube-leading t l =
+      record {
+        inside = λ n p i m. unfold network in flip-inside (S .dimension) n p i (offered-port t n p m .0);
+        leads = λ n i ne. some n i ne (offered (network S) t n) refl;
+      }
+    where
+      none-uphill : (n : ℕ) → offered (network S) t n ≡ [] → (p : ℕ) → p < S .dimension → uphill t n p ≡ false
+      none-uphill n e p h = go (uphill t n p) refl
+        where
+          go : (b : Bool) → uphill t n p ≡ b → b ≡ false
+          go true u = let m : p ∈ [] = rw e at (port-offered t n p h u) in elim m [ ]
+          go false u = refl
+
+      some : (n : ℕ) → Node n → n ≢ t → (ps : List ℕ) → offered (network S) t n ≡ ps → (p : ℕ) × (p ∈ offered (network S) t n)
+      some n i ne [] e = absurd (ne (same-bits (S .dimension) n t i l (λ p h. same-bit t n p (none-uphill n e p h))))
+      some n i ne (p ∷ ps) e = (p, rw e (List·Memᴰ·head refl))
+
+  -- It offers as many ports as the target is far, and any other port leads one farther.
+  pub cube-cubical : (t : ℕ) → Cubical (network S) t
+  unfolding offered network
+  cube-cubical t =
+      record {
+        there = ap length (keep-none (uphill t t) (from 0 (S .dimension)) (λ p m. uphill-there t p));
+        degree = λ n. refl;
+        away = λ n p h e.
+            one-more (uphill t (flip n p)) (uphill t n) p (uphill-flipped t n p ∙ ap not e) e (λ q k. sym (uphill-kept t n p q k)) (from 0 (S .dimension)) (from-sorted 0 (S .dimension)) (mem-from 0 (S .dimension) p (omega arith) (omega arith));
+      }
+
+  -- "So it has 1 to D + 1 hops, 9 at most."
+  pub path-hops : (s : ℕ) (vector : List ℕ) (t : ℕ) (w : Path) → Permitted (network S) s vector t w → (1 ≤ length w) × (length w ≤ suc (S .dimension))
+  unfolding Permitted network
+  path-hops s vector t (p ∷ w) o = (omega arith, omega (arith, permitted-length (cube-nearing t) s vector p w o, short (next s p)))
+    where
+      short : (n : ℕ) → length (keep (uphill t n) (from 0 (S .dimension))) ≤ S .dimension
+      short n = omega (arith, length-keep (uphill t n) (from 0 (S .dimension)), length-from 0 (S .dimension))
+
+  -- the ports of a send vector, and those not in it: rising, below D, and each leads to a node
+  pub send-ports-rise : (v : ℕ) → Sorted _<_ (sendPorts S v) × Sorted _<_ (otherPorts S v)
+  unfolding sendPorts otherPorts
+  send-ports-rise v = (keep-sorted _ _<_ _ (from-sorted 0 (S .dimension)), keep-sorted _ _<_ _ (from-sorted 0 (S .dimension)))
+
+  pub send-starts : (s v p : ℕ) → Node s → p ∈ sendPorts S v → Node (next s p)
+  unfolding sendPorts
+  send-starts s v p i m = flip-inside (S .dimension) s p i (let r = from-mem 0 (S .dimension) (keep-mem _ _ m .0) in omega arith)
+
+  pub other-starts : (s v p : ℕ) → Node s → p ∈ otherPorts S v → Node (next s p)
+  unfolding otherPorts
+  other-starts s v p i m = flip-inside (S .dimension) s p i (let r = from-mem 0 (S .dimension) (keep-mem _ _ m .0) in omega arith)
+
+  -- "Both passes together never send more than 123,300", for every dimension up to 8, source, target, vector and test of free links.
+  pub scouts-bound : S .dimension ≤ 8 → (s t v : ℕ) (f g : ℕ → ℕ → Bool)
+      → scouts (pass (network S) f s (sendPorts S v) t) + scouts (pass (network S) g s (otherPorts S v) t) ≤ 123300
+  unfolding sendPorts otherPorts network
+  scouts-bound h s t v f g = two-passes-bound (cube-nearing t) (cube-cubical t) h s (has v) f g

@@ -1,0 +1,96 @@
+-- Depth first: the search that tries ports and arrives, node by node, gives exactly the pass.
+-- Assumes nothing.
+use mathlib.Core.Path.{_≡_, refl, ap, sym, _∙_, fun-ext}
+use mathlib.Core.Bool.{Bool, true, false, cond, _&&_}
+use mathlib.Core.List.{List, [], _∷_, _++_, map}
+use Prim.Native.Nat.{ℕ, zero, suc}
+use lib.Dec.{eqb}
+use Rattle.cube.specs.Helical.{helical}
+use Rattle.paths.specs.Network.{Network, Path, offered, end, freePath}
+use Rattle.paths.specs.Pass.{Pass, none, found, over, ways, beginnings, scan, whole, attempt, pass}
+use Rattle.paths.specs.Search.{front, orElse, trying, arriving, sending}
+
+-- the clauses as equations: a proof that opens a definition no longer sees the calls that a clause leaves
+pub trying-cons : (f : ℕ → Bool) (on : ℕ → ℕ → Pass) (p : ℕ) (ps : List ℕ) (c : ℕ)
+    → trying f on (p ∷ ps) c ≡ cond (f p) (orElse (front p (on p (suc c))) (trying f on ps)) (trying f on ps c)
+unfolding trying
+trying-cons f on p ps c = refl
+
+pub over-cons : (on : ℕ → List Path) (p : ℕ) (ps : List ℕ) → over on (p ∷ ps) ≡ ((p ∷ []) ∷ map (λ (w : Path). p ∷ w) (on p)) ++ over on ps
+unfolding over
+over-cons on p ps = refl
+
+scan-cons : (f g : Path → Bool) (w : Path) (ws : List Path) (c : ℕ)
+    → scan f g c (w ∷ ws) ≡ cond (f w) (cond (g w) (found w (suc c)) (scan f g (suc c) ws)) (scan f g c ws)
+unfolding scan
+scan-cons f g w ws c = refl
+
+-- a function of a choice is a choice of its values
+orElse-cond : (b : Bool) (x y : Pass) (k : ℕ → Pass) → orElse (cond b x y) k ≡ cond b (orElse x k) (orElse y k)
+orElse-cond true x y k = refl
+orElse-cond false x y k = refl
+
+front-cond : (p : ℕ) (b : Bool) (x y : Pass) → front p (cond b x y) ≡ cond b (front p x) (front p y)
+front-cond p true x y = refl
+front-cond p false x y = refl
+
+-- a scan of two lists goes to the second where the first has no path
+pub scan-append : (f g : Path → Bool) (xs ys : List Path) (c : ℕ) → scan f g c (xs ++ ys) ≡ orElse (scan f g c xs) (λ d. scan f g d ys)
+unfolding scan orElse
+scan-append f g [] ys c = refl
+scan-append f g (x ∷ xs) ys c = simp (orElse-cond, scan-append f g xs ys)
+
+-- a hop in front of every member
+scan-front : (p : ℕ) (f g : Path → Bool) (ws : List Path) (c : ℕ)
+    → scan f g c (map (λ (w : Path). p ∷ w) ws) ≡ front p (scan (λ w. f (p ∷ w)) (λ w. g (p ∷ w)) c ws)
+unfolding scan front
+scan-front p f g [] c = refl
+scan-front p f g (w ∷ ws) c = simp (front-cond, scan-front p f g ws)
+
+-- a first test that nothing passes finds nothing
+scan-never : (g : Path → Bool) (ws : List Path) (c : ℕ) → scan (λ w. false) g c ws ≡ none c
+unfolding scan
+scan-never g [] c = refl
+scan-never g (w ∷ ws) c = scan-never g ws c
+
+-- one port: b says whether its link is free, e whether it leads to the target, k is what comes after it
+hop : (b e : Bool) (p : ℕ) (f g : Path → Bool) (ws : List Path) (c : ℕ) (k : ℕ → Pass)
+    → cond b (orElse (front p (cond e (found [] (suc c)) (scan f g (suc c) ws))) k) (k c)
+    ≡ orElse (cond (b && true) (cond e (found (p ∷ []) (suc c)) (front p (scan (λ w. b && f w) g (suc c) ws))) (front p (scan (λ w. b && f w) g c ws))) k
+unfolding front orElse
+hop true true p f g ws c k = refl
+hop true false p f g ws c k = refl
+hop false e p f g ws c k = rw scan-never
+
+-- what an arrival at m comes to where ws are the ways on from it
+abbrev arrival : Network → (ℕ → ℕ → Bool) → ℕ → ℕ → List Path → ℕ → Pass
+arrival N free t m ws c = cond (eqb m t) (found [] c) (scan (freePath N free m) (whole N t m) c ws)
+
+-- to try ports in turn is to scan their beginnings, where that holds of the arrival behind each
+trying-scan : (N : Network) (free : ℕ → ℕ → Bool) (t n : ℕ) (on : ℕ → List Path) (go : ℕ → ℕ → Pass)
+    → ((p c : ℕ) → go p c ≡ arrival N free t (N .next n p) (on p) c)
+    → (ps : List ℕ) (c : ℕ) → trying (free n) go ps c ≡ scan (freePath N free n) (whole N t n) c (over on ps)
+unfolding freePath whole end
+trying-scan N free t n on go h [] c = unfold trying over scan in refl
+trying-scan N free t n on go h (p ∷ ps) c =
+    rw (trying-cons, fun-ext (trying-scan N free t n on go h ps))
+    (simp (over-cons, scan-append, scan-cons, scan-front, h)
+    (hop (free n p) (whole N t (N .next n p) []) p (freePath N free (N .next n p)) (whole N t (N .next n p)) (on p) c _))
+
+-- at the target no way goes on, and an arrival there asks for none
+at-target : (b : Bool) (f g : Path → Bool) (ws : List Path) (c : ℕ) → cond b (found [] c) (scan f g c ws) ≡ cond b (found [] c) (scan f g c (cond b [] ws))
+at-target true f g ws c = refl
+at-target false f g ws c = refl
+
+arriving-scan : (k : ℕ) (N : Network) (free : ℕ → ℕ → Bool) (t n a c : ℕ) → arriving k N free t n a c ≡ arrival N free t n (ways k N t n a) c
+unfolding arriving ways
+arriving-scan zero N free t n a c = unfold scan in refl
+arriving-scan (suc k) N free t n a c =
+    rw (trying-scan N free t n (λ p. ways k N t (N .next n p) p) _ (λ p. arriving-scan k N free t (N .next n p) p) (helical a (offered N t n)) c)
+    (at-target (eqb n t) _ _ _ c)
+
+-- The search is the pass, for every network and every test of free links.
+pub search-is-pass : (N : Network) (free : ℕ → ℕ → Bool) (s : ℕ) (vector : List ℕ) (t : ℕ) → sending N free s vector t 0 ≡ pass N free s vector t
+unfolding sending pass attempt beginnings
+search-is-pass N free s vector t =
+    trying-scan N free t s _ _ (λ p. arriving-scan (N .far t (N .next s p)) N free t (N .next s p) p) vector 0

@@ -1,0 +1,13 @@
+-- The theorems about what a send means.
+pub mod Scan
+pub mod Depth
+pub mod Beginnings
+pub mod Order
+pub mod Sentences
+pub mod Words
+pub mod Links
+pub mod Cone
+pub mod Bound
+pub mod CubeNetwork
+pub mod FirstPorts
+pub mod Send

@@ -1,0 +1,71 @@
+-- The recursive definitions say what document 01's sentences say of places in a path and of its links.
+-- Assumes nothing.
+use mathlib.Core.Path.{_≡_, refl, ap, sym, _∙_, subst}
+use mathlib.Core.Logic.{⊎-elim, _≢_, _↔_}
+use mathlib.Core.Bool.{Bool, true, false, cond, _&&_, and-eq-true-iff, false≢true}
+use mathlib.Core.List.{List, [], _∷_, _++_, nil≢cons, cons≢nil, List·Memᴰ·head, List·Memᴰ·tail, List·Memᴰ·not-nil, List·Memᴰ·cases-cons, head-eq-of-cons-eq, tail-eq-of-cons-eq, Memᴰ·cast}
+use Prim.Native.Nat.{ℕ}
+use lib.Dec.{eqb}
+use borrow.Author.Tests.{eq-eqb, eqb-true}
+use Rattle.common.specs.Lists.{_∈_}
+use Rattle.paths.specs.Network.{Network, Path, Link, LinkState, link-free, link-held, link-blocked, linkState, isFree, offered, end, links, freePath}
+use Rattle.paths.specs.Permitted.{Onward, Permitted, InWords}
+use Rattle.paths.proofs.Sentences.{onward-end}
+
+-- each hop of a way on starts off the target and is offered there, and a path of such hops to the target is a way on
+hops : (N : Network) (t n : ℕ) (w : Path) → Onward N t n w → (u : Path) (q : ℕ) (v : Path) → w ≡ u ++ q ∷ v → (end N n u ≢ t) × (q ∈ offered N t (end N n u))
+unfolding Onward end
+hops N t n [] o [] q v e = absurd (nil≢cons e)
+hops N t n [] o (x ∷ u) q v e = absurd (nil≢cons e)
+hops N t n (p ∷ w) o [] q v e = (o .0, Memᴰ·cast (sym (head-eq-of-cons-eq e)) (o .1))
+hops N t n (p ∷ w) o (x ∷ u) q v e = rw (← head-eq-of-cons-eq e) (hops N t (N .next n p) w (o .2) u q v (tail-eq-of-cons-eq e))
+
+of-hops : (N : Network) (t n : ℕ) (w : Path) → ((u : Path) (q : ℕ) (v : Path) → w ≡ u ++ q ∷ v → (end N n u ≢ t) × (q ∈ offered N t (end N n u))) → end N n w ≡ t → Onward N t n w
+unfolding Onward end
+of-hops N t n [] h e = e
+of-hops N t n (p ∷ w) h e = (h [] p w refl .0, h [] p w refl .1, of-hops N t (N .next n p) w (λ u q v i. h (p ∷ u) q v (ap (p ∷_) i)) e)
+
+-- A permitted path is one of which document 01's sentences hold.
+pub permitted-in-words : (N : Network) (s : ℕ) (vector : List ℕ) (t : ℕ) (w : Path) → Permitted N s vector t w ↔ InWords N s vector t w
+unfolding Permitted end
+permitted-in-words N s vector t w = (there w, back w)
+  where
+    there : (w : Path) → Permitted N s vector t w → InWords N s vector t w
+    there (p ∷ w) o =
+        record {
+          first = (p, (w, refl, o .0));
+          later = λ u q v h e. hop u q v h e .1;
+          not-before = λ u q v h e. hop u q v h e .0;
+          arrives = onward-end N t (N .next s p) w (o .1);
+        }
+      where
+        hop : (u : Path) (q : ℕ) (v : Path) → u ≢ [] → p ∷ w ≡ u ++ q ∷ v → (end N s u ≢ t) × (q ∈ offered N t (end N s u))
+        hop [] q v h e = absurd (h refl)
+        hop (x ∷ u) q v h e = rw (← head-eq-of-cons-eq e) (hops N t (N .next s p) w (o .1) u q v (tail-eq-of-cons-eq e))
+
+    back : (w : Path) → InWords N s vector t w → Permitted N s vector t w
+    back [] r = nil≢cons (r .first .1 .1)
+    back (p ∷ w) r = (
+      Memᴰ·cast (head-eq-of-cons-eq (r .first .1 .1)) (r .first .1 .2),
+      of-hops N t (N .next s p) w (λ u q v e. (r .not-before (p ∷ u) q v cons≢nil (ap (p ∷_) e), r .later (p ∷ u) q v cons≢nil (ap (p ∷_) e))) (r .arrives),
+    )
+
+-- "A path is free if all its links are."
+pub free-links : (N : Network) (free : ℕ → ℕ → Bool) (n : ℕ) (w : Path) → (freePath N free n w ≡ true) ↔ ((l : Link) → l ∈ links N n w → free (l .0) (l .1) ≡ true)
+unfolding freePath links
+free-links N free n [] = ((λ e l m. absurd (List·Memᴰ·not-nil m)), (λ h. refl))
+free-links N free n (p ∷ w) =
+    let ih = free-links N free (N .next n p) w in (
+      (λ e l m. let b = and-eq-true-iff (free n p) (freePath N free (N .next n p) w) .0 e in ⊎-elim (λ i. rw i (b .0)) (λ k. ih .0 (b .1) l k) (List·Memᴰ·cases-cons m)),
+      (λ h. and-eq-true-iff (free n p) (freePath N free (N .next n p) w) .1 (h (n, p) (List·Memᴰ·head refl), ih .1 (λ l m. h l (List·Memᴰ·tail m)))),
+    )
+
+-- "A link is free if enabled and held by nobody."
+pub free-link : (enabled : Bool) (owner : ℕ) → (isFree (linkState enabled owner) ≡ true) ↔ ((enabled ≡ true) × (owner ≡ 0))
+unfolding isFree linkState
+free-link false owner = ((λ e. absurd (false≢true e)), (λ h. absurd (false≢true (h .0))))
+free-link true owner = ((λ e. (refl, zero-owner (eqb owner 0) refl e)), (λ h. rw (eq-eqb owner 0 (h .1))))
+  where
+    zero-owner : (b : Bool) → eqb owner 0 ≡ b → isFree (cond b link-free link-held) ≡ true → owner ≡ 0
+    zero-owner true e h = eqb-true owner 0 e
+    zero-owner false e h = absurd (false≢true h)

@@ -1,0 +1,43 @@
+-- The cube as a network, the ports of a send vector, and the routing types of document 01.
+-- Assumes nothing.
+use mathlib.Core.Bool.{Bool, not}
+use mathlib.Core.List.{List, [], _∷_}
+use Prim.Native.Nat.{ℕ}
+use lib.ListN.{length}
+use Rattle.common.specs.Lists.{keep, from}
+use Rattle.cube.specs.Bits.{has}
+use Rattle.cube.specs.Cube.{next, uphill}
+use Rattle.paths.specs.Network.{Network, Path}
+use Rattle.paths.specs.Pass.{Pass, pass}
+use Rattle.paths.specs.Send.{Receive, Sent, runs}
+
+-- what a network is read from: the dimension of the cube
+pub record Shape : Type 0 where
+  pub dimension : ℕ
+
+-- "A cube of dimension D": ports below D, each leading to the node that differs in its bit; uphill ports are offered, and the target is
+-- as many hops away as there are uphill ports
+unfoldable pub network : Shape → Network
+network S =
+    record {
+      width = S .dimension;
+      next = next;
+      offers = uphill;
+      far = λ t n. length (keep (uphill t n) (from 0 (S .dimension)));
+    }
+
+-- the ports of a send vector, and "every port below D that was not in the given vector (perhaps none)", both rising
+unfoldable pub sendPorts : Shape → ℕ → List ℕ
+sendPorts S vector = keep (has vector) (from 0 (S .dimension))
+
+unfoldable pub otherPorts : Shape → ℕ → List ℕ
+otherPorts S vector = keep (λ p. not (has vector p)) (from 0 (S .dimension))
+
+-- "Routing type 0, maze: one pass, with the send vector given."
+unfoldable pub maze : Shape → (ℕ → ℕ → Bool) → Receive → ℕ → ℕ → ℕ → Sent
+maze S free r s vector t = runs r (pass (network S) free s (sendPorts S vector) t) []
+
+-- "Routing type 4, alternate maze: a pass with the given vector. If it does not end in an acknowledgement, a second .."
+unfoldable pub alternateMaze : Shape → (ℕ → ℕ → Bool) → Receive → ℕ → ℕ → ℕ → Sent
+alternateMaze S free r s vector t =
+    runs r (pass (network S) free s (sendPorts S vector) t) (pass (network S) free s (otherPorts S vector) t ∷ [])

@@ -1,0 +1,10 @@
+-- What a send means: document 01, "Which paths a scout may walk", over any network; then the cube as one.
+pub mod Network
+pub mod Permitted
+pub mod Pass
+pub mod Sentences
+pub mod Send
+pub mod CubeNetwork
+pub mod Search
+pub mod Bound
+pub mod Examples

@@ -1,0 +1,67 @@
+-- A network of nodes and ports, and paths in it. Nothing here knows a cube: where a port leads and which ports are offered is all there is.
+-- Assumes nothing.
+use mathlib.Core.Path.{_≡_}
+use mathlib.Core.Logic.{_≢_}
+use mathlib.Core.Bool.{Bool, true, false, cond, _&&_}
+use mathlib.Core.List.{List, [], _∷_}
+use Prim.Native.Nat.{ℕ, suc}
+use lib.Dec.{eqb}
+use Rattle.common.specs.Lists.{_∈_, keep, from}
+
+pub record Network : Type 0 where
+  -- ports are numbered below this
+  pub width : ℕ
+  -- the node to which the link out of a port of a node leads
+  pub next : ℕ → ℕ → ℕ
+  -- whether, towards a target, a node offers a port (in the cube: whether the port is uphill)
+  pub offers : ℕ → ℕ → ℕ → Bool
+  -- how many hops a target is from a node
+  pub far : ℕ → ℕ → ℕ
+
+-- the ports that node n offers towards target t, rising
+unfoldable pub offered : Network → ℕ → ℕ → List ℕ
+offered N t n = keep (N .offers t n) (from 0 (N .width))
+
+-- a path is the ports taken, in order; a link is a node and a port of it ("Each direction is a link of its own")
+abbrev pub Path : Type 0
+Path = List ℕ
+
+abbrev pub Link : Type 0
+Link = ℕ × ℕ
+
+-- where a path from n leads
+unfoldable pub end : Network → ℕ → Path → ℕ
+end N n [] = n
+end N n (p ∷ w) = end N (N .next n p) w
+
+-- its links, in order
+unfoldable pub links : Network → ℕ → Path → List Link
+links N n [] = []
+links N n (p ∷ w) = (n, p) ∷ links N (N .next n p) w
+
+-- The state of a link, from whether it is enabled and which circuit holds it (0: none). "A link is free if enabled and held by nobody."
+pub data LinkState : Type 0 where
+  link-free link-held link-blocked : LinkState
+
+unfoldable pub linkState : Bool → ℕ → LinkState
+linkState false owner = link-blocked
+linkState true owner = cond (eqb owner 0) link-free link-held
+
+unfoldable pub isFree : LinkState → Bool
+isFree link-free = true
+isFree link-held = false
+isFree link-blocked = false
+
+-- "A path is free if all its links are": `free n p` says whether the link out of port p of node n is
+unfoldable pub freePath : Network → (ℕ → ℕ → Bool) → ℕ → Path → Bool
+freePath N free n [] = true
+freePath N free n (p ∷ w) = free n p && freePath N free (N .next n p) w
+
+-- What the theorems ask of a network, towards a target t. An offered hop comes one nearer;
+pub record Nearing (N : Network) (t : ℕ) : Type 0 where
+  pub nearer : (n p : ℕ) → p ∈ offered N t n → N .far t n ≡ suc (N .far t (N .next n p))
+
+-- and among its nodes, which an offered hop does not leave, something is offered off the target.
+pub record Leading (N : Network) (t : ℕ) (Node : ℕ → Type 0) : Type 0 where
+  pub inside : (n p : ℕ) → Node n → p ∈ offered N t n → Node (N .next n p)
+  pub leads : (n : ℕ) → Node n → n ≢ t → (p : ℕ) × (p ∈ offered N t n)

@@ -1,0 +1,61 @@
+-- The search as a node makes it: it tries its ports one after another, and a free one hands on to an arrival at the next node. The scouts
+-- sent so far, c, go in, and those sent by the end come out. That this is the pass is proved (Depth).
+-- Assumes nothing.
+use mathlib.Core.Bool.{Bool, cond, _&&_, not}
+use mathlib.Core.List.{List, [], _∷_}
+use Prim.Native.Nat.{ℕ, zero, suc, _-_, _^_}
+use lib.Dec.{eqb}
+use lib.Bits.{bitXor}
+use Rattle.cube.specs.Helical.{helical}
+use Rattle.cube.specs.Cube.{next}
+use Rattle.paths.specs.Network.{Network, Path, offered}
+use Rattle.paths.specs.Pass.{Pass, none, found}
+
+-- a path found further on, with the hop before it
+unfoldable pub front : ℕ → Pass → Pass
+front p (none c) = none c
+front p (found w c) = found (p ∷ w) c
+
+-- what was found, or else what comes of going on with the scouts sent by then
+unfoldable pub orElse : Pass → (ℕ → Pass) → Pass
+orElse (none c) more = more c
+orElse (found w c) more = found w c
+
+-- the ports of a list in turn: `free p` says whether the link is free, `on p c` is the arrival behind it
+unfoldable pub trying : (ℕ → Bool) → (ℕ → ℕ → Pass) → List ℕ → ℕ → Pass
+trying free on [] c = none c
+trying free on (p ∷ ps) c = cond (free p) (orElse (front p (on p (suc c))) (trying free on ps)) (trying free on ps c)
+
+-- an arrival at n on port a: at the target, or on by the ports offered there, in the helical order
+unfoldable pub arriving : ℕ → Network → (ℕ → ℕ → Bool) → ℕ → ℕ → ℕ → ℕ → Pass
+arriving zero N free t n a c = cond (eqb n t) (found [] c) (none c)
+arriving (suc k) N free t n a c =
+    cond (eqb n t) (found [] c) (trying (free n) (λ p. arriving k N free t (N .next n p) p) (helical a (offered N t n)) c)
+
+-- a send: the ports of a vector in turn, then the arrival behind each
+unfoldable pub sending : Network → (ℕ → ℕ → Bool) → ℕ → List ℕ → ℕ → ℕ → Pass
+sending N free s vector t c = trying (free s) (λ p. arriving (N .far t (N .next s p)) N free t (N .next s p) p) vector c
+
+-- The same over first ports, as the code makes it in the cube: a vector of ports is a number, `first v a` names the port tried first, and
+-- each port tried is dropped from the vector; w is the number of port positions.
+unfoldable pub tryingFirst : (ℕ → ℕ → ℕ) → ℕ → (ℕ → Bool) → (ℕ → ℕ → Pass) → ℕ → ℕ → ℕ → Pass
+tryingFirst first zero free on v a c = none c
+tryingFirst first (suc w) free on v a c =
+    cond (eqb v 0) (none c)
+    (let p = first v a in
+    let rest = tryingFirst first w free on (v - 2 ^ p) a in
+    cond (free p) (orElse (front p (on p (suc c))) rest) (rest c))
+
+unfoldable pub arrivingFirst : (ℕ → ℕ → ℕ) → ℕ → ℕ → (ℕ → ℕ → Bool) → ℕ → ℕ → ℕ → ℕ → Pass
+arrivingFirst first w zero free t n a c = cond (eqb n t) (found [] c) (none c)
+arrivingFirst first w (suc k) free t n a c =
+    cond (eqb n t) (found [] c) (tryingFirst first w (free n) (λ p. arrivingFirst first w k free t (next n p) p) (bitXor n t) a c)
+
+-- a send over first ports: it uses the last arrival port, so that its ports are tried from 0 upward
+unfoldable pub sendingFirst : (ℕ → ℕ → ℕ) → ℕ → Network → (ℕ → ℕ → Bool) → ℕ → ℕ → ℕ → ℕ → Pass
+sendingFirst first w N free s v t c =
+    tryingFirst first w (free s) (λ p. arrivingFirst first w (N .far t (next s p)) free t (next s p) p) v (w - 1) c
+
+-- the test of free links once the link out of port q of node m is held
+unfoldable pub holding : (ℕ → ℕ → Bool) → ℕ → ℕ → ℕ → ℕ → Bool
+holding free m q n p = free n p && not (eqb n m && eqb p q)

@@ -1,0 +1,43 @@
+-- What document 01 says of a pass, word for word, over the plain predicates. That the computed pass says it is proved (Sentences).
+-- Assumes nothing.
+use mathlib.Core.Path.{_≡_}
+use mathlib.Core.Logic.{_⊎_, _≢_, _↔_}
+use mathlib.Core.Bool.{Bool, true}
+use mathlib.Core.List.{List, _++_}
+use Prim.Native.Nat.{ℕ}
+use lib.ListN.{length}
+use Rattle.common.specs.Lists.{_∈_, Sorted}
+use Rattle.paths.specs.Network.{Network, Path, freePath}
+use Rattle.paths.specs.Permitted.{Permitted, Beginning, ComesBefore}
+use Rattle.paths.specs.Pass.{Pass, none, found}
+
+-- c is the number of paths with P: a list holds exactly those, each once, and is c long
+pub record Number (P : Path → Type 0) (c : ℕ) : Type 0 where
+  pub list : List Path
+  pub holds : (b : Path) → (b ∈ list) ↔ P b
+  pub once : Sorted _≢_ list
+  pub long : length list ≡ c
+
+-- "that come before the found path or are a beginning of it (itself counted)"
+abbrev pub UpTo : Path → Path → Type 0
+UpTo b w = ComesBefore b w ⊎ ((v : Path) × (b ++ v ≡ w))
+
+abbrev pub Free : Network → (ℕ → ℕ → Bool) → ℕ → Path → Type 0
+Free N free s w = freePath N free s w ≡ true
+
+module _ (N : Network) (free : ℕ → ℕ → Bool) (s : ℕ) (vector : List ℕ) (t : ℕ) where
+  -- "the first free permitted path", and "the number of free beginnings .. that come before the found path or are a beginning of it"
+  pub record FoundSays (w : Path) (c : ℕ) : Type 0 where
+    pub permitted : Permitted N s vector t w
+    pub is-free : Free N free s w
+    pub first : (v : Path) → Permitted N s vector t v → Free N free s v → (v ≡ w) ⊎ ComesBefore w v
+    pub scouts : Number (λ b. Beginning N s vector t b × Free N free s b × UpTo b w) c
+
+  -- no free permitted path exists; "with no path found, all of them"
+  pub record NoneSays (c : ℕ) : Type 0 where
+    pub nothing : (v : Path) → Permitted N s vector t v → Free N free s v → ⊥
+    pub scouts : Number (λ b. Beginning N s vector t b × Free N free s b) c
+
+  abbrev pub Says : Pass → Type 0
+  Says (none c) = NoneSays c
+  Says (found w c) = FoundSays w c
