@@ -2,7 +2,7 @@
 -- Assumes nothing.
 use mathlib.Core.Path.{_≡_, refl, ap, sym, _∙_}
 use mathlib.Core.Logic.{⊎-elim, _≢_}
-use mathlib.Core.Bool.{Bool, true, false, cond, not, _&&_}
+use mathlib.Core.Bool.{Bool, true, false, cond, not, Bool·beq}
 use Prim.Native.Nat.{ℕ, zero, suc, _+_, _-_, _*_, _/_, _%_, _^_, _≤_, _<_}
 use native.Mathlib.Omega.{arith}
 use native.Mathlib.Nat.{div-eq-of-lt, div-self, lt-of-lt-of-le, pow-succ', div-div-eq-div-mul, div-one}
@@ -11,7 +11,7 @@ use lib.Dec.{eqb, ltb}
 use lib.Pow.{pow-pos, pow-mono, pow-lt, pow-add, shl-shr}
 use lib.Bits.{bitXor, bitAnd, and-high, xor-add-and, xor-shr, xor-mod, xor-lt, xor-zero-r, and-le-l}
 use borrow.Author.Tests.{ltb-true, ltb-false, eqb-true, eqb-false, eq-eqb, ne-eqb}
-use Rattle.cube.specs.Bits.{bitAt, has, flip}
+use Rattle.cube.specs.Bits.{bitAt, has, flip, withBit}
 
 pub bit-lt : (n p : ℕ) → bitAt n p < 2
 unfolding bitAt
@@ -109,6 +109,29 @@ flip-back n p = go (has n p) refl
 
 pub flip-inside : (D n p : ℕ) → n < 2 ^ D → p < D → flip n p < 2 ^ D
 flip-inside D n p h l = rw (← flip-xor n p) (xor-lt D n (2 ^ p) h (pow-lt l))
+
+-- a bit set or cleared is as wanted, and every other as it was
+pub with-bit-same : (n p : ℕ) (on : Bool) → has (withBit n p on) p ≡ on
+unfolding withBit
+with-bit-same n p on = go (has n p) on refl
+  where
+    flipped : (b : Bool) → has n p ≡ b → has (flip n p) p ≡ not b
+    flipped true e = unfold has in rw (bit-flipped n p, has-bit n p e)
+    flipped false e = unfold has in rw (bit-flipped n p, has-no-bit n p e)
+
+    go : (b on : Bool) → has n p ≡ b → has (cond (Bool·beq b on) n (flip n p)) p ≡ on
+    go true true e = e
+    go true false e = flipped true e
+    go false true e = flipped false e
+    go false false e = e
+
+pub with-bit-other : (n p : ℕ) (on : Bool) (q : ℕ) → q ≢ p → has (withBit n p on) q ≡ has n q
+unfolding withBit
+with-bit-other n p on q h = go (Bool·beq (has n p) on)
+  where
+    go : (b : Bool) → has (cond b n (flip n p)) q ≡ has n q
+    go true = refl
+    go false = unfold has in ap (λ x. eqb x 1) (bit-kept n p q h)
 
 -- two numbers below 2 ^ w with the same w bits are the same
 bit-zero : (n : ℕ) → bitAt n 0 ≡ n % 2

@@ -8,15 +8,18 @@ use native.Mathlib.Omega.{arith}
 use native.Mathlib.Nat.{one-mul}
 use lib.Dec.{eqb, lit<}
 use lib.Bits.{bitXor, xor-lt}
-use lib.Pow.{shl-exact}
+use lib.Pow.{shl-exact, pow-pos, pow-mono}
 use borrow.Author.Tests.{eqb-true, eqb-false, eq-eqb, ne-eqb}
 use Rattle.cube.specs.Bits.{bitAt, has, flip}
-use Rattle.cube.specs.Cube.{uphill, UphillVector, Without}
+use Rattle.cube.specs.Cube.{NodeCount, uphill, UphillVector, Without}
 use Rattle.cube.proofs.Bits.{bit-lt, bit-xor, flip-xor, bit-flipped, bit-kept, has-bit, flip-drops}
 
 -- `1 << p` of w bits
 pub port-bit : (w p : ℕ) → p < w → 1 * 2 ^ p % 2 ^ w ≡ 2 ^ p
 port-bit w p h = shl-exact 1 p w (lit< tt) (omega arith) ∙ one-mul (2 ^ p)
+
+pub node-count : (D : ℕ) → D < 9 → NodeCount D (1 * 2 ^ D % 65536)
+node-count D h = rw (port-bit 16 D (omega arith)) (record { value = refl; some = pow-pos D; most = pow-mono {i = D} {j = 8} (omega arith) })
 
 -- the ports in which two nodes differ are the uphill ones
 digits : (x y : ℕ) → x < 2 → y < 2 → eqb (bitXor x y) 1 ≡ not (eqb x y)

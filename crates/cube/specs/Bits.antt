@@ -1,6 +1,6 @@
 -- Bits of a number, by arithmetic.
 -- Assumes nothing.
-use mathlib.Core.Bool.{Bool, cond}
+use mathlib.Core.Bool.{Bool, cond, Bool·beq}
 use Prim.Native.Nat.{ℕ, _+_, _-_, _/_, _%_, _^_}
 use lib.Dec.{eqb}
 
@@ -17,3 +17,7 @@ has n p = eqb (bitAt n p) 1
 unfoldable pub flip : ℕ → ℕ → ℕ
 unfolding has
 flip n p = cond (has n p) (n - 2 ^ p) (n + 2 ^ p)
+
+-- n with bit p set or cleared, as `on` says
+unfoldable pub withBit : ℕ → ℕ → Bool → ℕ
+withBit n p on = cond (Bool·beq (has n p) on) n (flip n p)

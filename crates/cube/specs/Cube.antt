@@ -2,10 +2,16 @@
 -- Assumes nothing.
 use mathlib.Core.Path.{_≡_}
 use mathlib.Core.Bool.{Bool, not, _&&_}
-use Prim.Native.Nat.{ℕ, _+_, _-_, _*_, _/_, _%_, _^_}
+use Prim.Native.Nat.{ℕ, _+_, _-_, _*_, _/_, _%_, _^_, _≤_, _<_}
 use lib.Dec.{eqb}
 use lib.Bits.{bitXor}
 use Rattle.cube.specs.Bits.{bitAt, has, flip}
+
+-- "A cube of dimension D has nodes 0 to 2^D - 1": how many, for a dimension up to 8
+pub record NodeCount (D count : ℕ) : Type 0 where
+  pub value : count ≡ 2 ^ D
+  pub some : 0 < count
+  pub most : count ≤ 256
 
 -- "Port p, below D, of a node leads to the node whose number differs in bit p alone"
 abbrev pub next : ℕ → ℕ → ℕ

@@ -13,5 +13,6 @@ pub use kinds::channel_of;
 pub use kinds::circuit_of;
 pub use kinds::source_of;
 pub use vectors::neighbour;
+pub use vectors::node_count;
 pub use vectors::uphill_vector;
 pub use vectors::without;

@@ -3,9 +3,17 @@ ghost use mathlib.Core.Path.{_≡_};
 ghost use mathlib.Core.Bool.{true};
 ghost use Prim.Native.Nat.{_<_};
 ghost use Rattle.cube.specs.Bits.{has};
-ghost use Rattle.cube.specs.Cube.{next, UphillVector, Without};
+ghost use Rattle.cube.specs.Cube.{NodeCount, next, UphillVector, Without};
 use crate::kinds::Node;
 use crate::kinds::Port;
+
+// How many nodes a cube has: 0 up to this are its node numbers, and a vector of its ports is below it.
+pub fn node_count(dimension: u16) -> u16
+    requires { ⌜ dimension < 9 ⌝ }
+    ensures { λ r. ⌜ NodeCount dimension r ⌝ }
+{
+    1 << dimension
+}
 
 // The node that a port leads to.
 pub fn neighbour(node: Node, port: Port) -> Node

@@ -2,12 +2,12 @@
 -- that it meets.
 -- Assumes nothing.
 use mathlib.Core.Path.{_≡_, refl, ap, sym, _∙_, fun-ext}
-use mathlib.Core.Bool.{Bool, true, false, cond, _&&_, not, and-true}
+use mathlib.Core.Bool.{Bool, true, false, _&&_, not, and-true, and-comm}
 use mathlib.Core.List.{List, [], _∷_, List·Memᴰ·head, List·Memᴰ·tail}
 use Prim.Native.Nat.{ℕ, zero, suc, _≤_, _<_}
 use native.Mathlib.Omega.{arith}
 use native.Mathlib.Nat.{le-refl}
-use borrow.Author.Tests.{eqb-true}
+use borrow.Author.Tests.{eqb-true, eq-eqb}
 use lib.Dec.{eqb}
 use Rattle.common.specs.Lists.{_∈_}
 use Rattle.cube.specs.Helical.{helical}
@@ -33,6 +33,20 @@ unfolding arriving
 cone N t In on f g e zero n a c i = refl
 cone N t In on f g e (suc k) n a c i =
     rw (trying-same (helical a (offered N t n)) (λ p m. e n p i (helical-mem a _ m)) (λ p m d. cone N t In on f g e k (N .next n p) p d (on n p i (helical-mem a _ m))) c)
+
+-- A pass depends only on the first hops of its vector and, behind each, on the links offered at nodes with `In`.
+pub pass-within : (N : Network) (t : ℕ) (In : ℕ → Type 0) → ((n p : ℕ) → In n → p ∈ offered N t n → In (N .next n p))
+    → (f g : ℕ → ℕ → Bool) → ((n p : ℕ) → In n → p ∈ offered N t n → f n p ≡ g n p)
+    → (s : ℕ) (vector : List ℕ) → ((p : ℕ) → p ∈ vector → (f s p ≡ g s p) × In (N .next s p)) → pass N f s vector t ≡ pass N g s vector t
+pass-within N t In on f g e s vector h = sym (search-is-pass N f s vector t) ∙ same ∙ search-is-pass N g s vector t
+  where
+    same : sending N f s vector t 0 ≡ sending N g s vector t 0
+    same = unfold sending in trying-same vector (λ p m. h p m .0) (λ p m c. cone N t In on f g e _ (N .next s p) p c (h p m .1)) 0
+
+-- a link that is held is not free, and no other link changes
+pub holding-it : (f : ℕ → ℕ → Bool) (m q : ℕ) → holding f m q m q ≡ false
+unfolding holding
+holding-it f m q = rw (eq-eqb m m refl, eq-eqb q q refl) (and-comm (f m q) false)
 
 module _ {N : Network} {t : ℕ} (near : Nearing N t) where
   -- by distance: only links offered at nodes no farther than n count

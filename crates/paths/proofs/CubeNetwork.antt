@@ -8,18 +8,20 @@ use Prim.Native.Nat.{ℕ, zero, suc, _+_, _-_, _^_, _≤_, _<_}
 use native.Mathlib.Omega.{arith}
 use lib.Dec.{eqb}
 use lib.ListN.{length}
-use borrow.Author.Tests.{eqb-true, eqb-false, eq-eqb, ne-eqb, not-false}
+use borrow.Author.Tests.{eqb-true, eqb-false, eq-eqb, ne-eqb, not-true, not-false}
 use Rattle.common.specs.Lists.{_∈_, keep, from, Sorted}
 use Rattle.common.proofs.Lists.{keep-yes, keep-no, keep-mem, mem-keep, keep-same, keep-none, keep-sorted, length-keep, from-mem, mem-from, from-sorted, length-from}
 use Rattle.cube.specs.Bits.{bitAt, has, flip}
 use Rattle.cube.specs.Cube.{next, uphill}
 use Rattle.cube.proofs.Bits.{bit-lt, bit-flipped, bit-kept, flip-inside, same-bits}
 use Rattle.paths.specs.Network.{Network, Path, offered, Nearing, Leading}
-use Rattle.paths.specs.Permitted.{Permitted}
+use Rattle.paths.specs.Permitted.{Permitted, SameLinks}
+use Rattle.paths.specs.Sentences.{Says}
 use Rattle.paths.specs.Pass.{pass, scouts}
 use Rattle.paths.specs.Bound.{Cubical}
-use Rattle.paths.specs.CubeNetwork.{Shape, network, sendPorts, otherPorts}
-use Rattle.paths.proofs.Links.{permitted-length}
+use Rattle.paths.specs.CubeNetwork.{Shape, Node, network, sendPorts, otherPorts}
+use Rattle.paths.proofs.Links.{permitted-length, permitted-determined}
+use Rattle.paths.proofs.Sentences.{pass-says}
 use Rattle.paths.proofs.Bound.{two-passes-bound}
 
 -- a port that is changed is uphill just if it was not, and no other port changes
@@ -62,10 +64,6 @@ one-more f g p on off h (x ∷ ps) s (List·Memᴰ·tail m) = go (f x) refl (one
     go false e ih = rw (keep-no f x ps e, keep-no g x ps (sym same ∙ e)) ih
 
 module _ (S : Shape) where
-  -- the nodes of the cube
-  abbrev pub Node : ℕ → Type 0
-  Node n = n < 2 ^ S .dimension
-
   offered-port : (t n p : ℕ) → p ∈ offered (network S) t n → (p < S .dimension) × (uphill t n p ≡ true)
   unfolding offered network
   offered-port t n p m = let k = keep-mem (uphill t n) (from 0 (S .dimension)) m in ((let r = from-mem 0 (S .dimension) (k .0) in omega arith), k .1)
@@ -85,7 +83,7 @@ module _ (S : Shape) where
       }
 
   -- and off the target something is offered.
-  pub cube-leading : (t : ℕ) → Node t → Leading (network S) t Node
+  pub cube-leading : (t : ℕ) → Node S t → Leading (network S) t (Node S)
   cube-leading t l =
       record {
         inside = λ n p i m. unfold network in flip-inside (S .dimension) n p i (offered-port t n p m .0);
@@ -99,7 +97,7 @@ module _ (S : Shape) where
           go true u = let m : p ∈ [] = rw e at (port-offered t n p h u) in elim m [ ]
           go false u = refl
 
-      some : (n : ℕ) → Node n → n ≢ t → (ps : List ℕ) → offered (network S) t n ≡ ps → (p : ℕ) × (p ∈ offered (network S) t n)
+      some : (n : ℕ) → Node S n → n ≢ t → (ps : List ℕ) → offered (network S) t n ≡ ps → (p : ℕ) × (p ∈ offered (network S) t n)
       some n i ne [] e = absurd (ne (same-bits (S .dimension) n t i l (λ p h. same-bit t n p (none-uphill n e p h))))
       some n i ne (p ∷ ps) e = (p, rw e (List·Memᴰ·head refl))
 
@@ -122,18 +120,42 @@ module _ (S : Shape) where
       short : (n : ℕ) → length (keep (uphill t n) (from 0 (S .dimension))) ≤ S .dimension
       short n = omega (arith, length-keep (uphill t n) (from 0 (S .dimension)), length-from 0 (S .dimension))
 
-  -- the ports of a send vector, and those not in it: rising, below D, and each leads to a node
+  -- a send's ports are those below D that its vector has, the other ports those below D that it has not
+  pub send-port : (v p : ℕ) → (p ∈ sendPorts S v) ↔ ((p < S .dimension) × (has v p ≡ true))
+  unfolding sendPorts
+  send-port v p = (
+    (λ m. let k = keep-mem (has v) (from 0 (S .dimension)) m in ((let r = from-mem 0 (S .dimension) (k .0) in omega arith), k .1)),
+    (λ h. mem-keep (has v) (from 0 (S .dimension)) (mem-from 0 (S .dimension) p (omega arith) (omega (arith, h .0))) (h .1)),
+  )
+
+  pub other-port : (v p : ℕ) → (p ∈ otherPorts S v) ↔ ((p < S .dimension) × (has v p ≡ false))
+  unfolding otherPorts
+  other-port v p = (
+    (λ m. let k = keep-mem (λ p. not (has v p)) (from 0 (S .dimension)) m in ((let r = from-mem 0 (S .dimension) (k .0) in omega arith), not-true (has v p) (k .1))),
+    (λ h. mem-keep (λ p. not (has v p)) (from 0 (S .dimension)) (mem-from 0 (S .dimension) p (omega arith) (omega (arith, h .0))) (ap not (h .1))),
+  )
+
+  -- both rise, and each port of them leads to a node
   pub send-ports-rise : (v : ℕ) → Sorted _<_ (sendPorts S v) × Sorted _<_ (otherPorts S v)
   unfolding sendPorts otherPorts
   send-ports-rise v = (keep-sorted _ _<_ _ (from-sorted 0 (S .dimension)), keep-sorted _ _<_ _ (from-sorted 0 (S .dimension)))
 
-  pub send-starts : (s v p : ℕ) → Node s → p ∈ sendPorts S v → Node (next s p)
-  unfolding sendPorts
-  send-starts s v p i m = flip-inside (S .dimension) s p i (let r = from-mem 0 (S .dimension) (keep-mem _ _ m .0) in omega arith)
+  pub send-starts : (s v p : ℕ) → Node S s → p ∈ sendPorts S v → Node S (next s p)
+  send-starts s v p i m = flip-inside (S .dimension) s p i (send-port v p .0 m .0)
 
-  pub other-starts : (s v p : ℕ) → Node s → p ∈ otherPorts S v → Node (next s p)
-  unfolding otherPorts
-  other-starts s v p i m = flip-inside (S .dimension) s p i (let r = from-mem 0 (S .dimension) (keep-mem _ _ m .0) in omega arith)
+  pub other-starts : (s v p : ℕ) → Node S s → p ∈ otherPorts S v → Node S (next s p)
+  other-starts s v p i m = flip-inside (S .dimension) s p i (other-port v p .0 m .0)
+
+  -- A permitted path of the cube is determined by its source and its links.
+  pub path-determined : (s : ℕ) (vector vector′ : List ℕ) (t u : ℕ) (w v : Path) → Permitted (network S) s vector t w → Permitted (network S) s vector′ u v → SameLinks (network S) s w v → w ≡ v
+  path-determined = permitted-determined cube-nearing
+
+  -- What document 01 says of a pass holds in the cube, of the pass with the given vector and of the one with the other ports.
+  pub cube-says : (free : ℕ → ℕ → Bool) (s v t : ℕ) → Node S s → Node S t → Says (network S) free s (sendPorts S v) t (pass (network S) free s (sendPorts S v) t)
+  cube-says free s v t i l = pass-says (cube-nearing t) (cube-leading t l) s (sendPorts S v) (send-ports-rise v .0) (λ p m. unfold network in send-starts s v p i m) free _ refl
+
+  pub cube-says-other : (free : ℕ → ℕ → Bool) (s v t : ℕ) → Node S s → Node S t → Says (network S) free s (otherPorts S v) t (pass (network S) free s (otherPorts S v) t)
+  cube-says-other free s v t i l = pass-says (cube-nearing t) (cube-leading t l) s (otherPorts S v) (send-ports-rise v .1) (λ p m. unfold network in other-starts s v p i m) free _ refl
 
   -- "Both passes together never send more than 123,300", for every dimension up to 8, source, target, vector and test of free links.
   pub scouts-bound : S .dimension ≤ 8 → (s t v : ℕ) (f g : ℕ → ℕ → Bool)

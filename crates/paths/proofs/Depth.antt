@@ -63,7 +63,7 @@ hop true false p f g ws c k = refl
 hop false e p f g ws c k = rw scan-never
 
 -- what an arrival at m comes to where ws are the ways on from it
-abbrev arrival : Network → (ℕ → ℕ → Bool) → ℕ → ℕ → List Path → ℕ → Pass
+abbrev pub arrival : Network → (ℕ → ℕ → Bool) → ℕ → ℕ → List Path → ℕ → Pass
 arrival N free t m ws c = cond (eqb m t) (found [] c) (scan (freePath N free m) (whole N t m) c ws)
 
 -- to try ports in turn is to scan their beginnings, where that holds of the arrival behind each
@@ -82,15 +82,20 @@ at-target : (b : Bool) (f g : Path → Bool) (ws : List Path) (c : ℕ) → cond
 at-target true f g ws c = refl
 at-target false f g ws c = refl
 
-arriving-scan : (k : ℕ) (N : Network) (free : ℕ → ℕ → Bool) (t n a c : ℕ) → arriving k N free t n a c ≡ arrival N free t n (ways k N t n a) c
+pub arriving-scan : (k : ℕ) (N : Network) (free : ℕ → ℕ → Bool) (t n a c : ℕ) → arriving k N free t n a c ≡ arrival N free t n (ways k N t n a) c
 unfolding arriving ways
 arriving-scan zero N free t n a c = unfold scan in refl
 arriving-scan (suc k) N free t n a c =
     rw (trying-scan N free t n (λ p. ways k N t (N .next n p) p) _ (λ p. arriving-scan k N free t (N .next n p) p) (helical a (offered N t n)) c)
     (at-target (eqb n t) _ _ _ c)
 
--- The search is the pass, for every network and every test of free links.
+-- The search is the scan of the beginnings, from any number of scouts sent before it; from none it is the pass.
+pub search-is-scan : (N : Network) (free : ℕ → ℕ → Bool) (s : ℕ) (vector : List ℕ) (t c : ℕ)
+    → sending N free s vector t c ≡ scan (freePath N free s) (whole N t s) c (beginnings N s vector t)
+unfolding sending beginnings
+search-is-scan N free s vector t c =
+    trying-scan N free t s _ _ (λ p. arriving-scan (N .far t (N .next s p)) N free t (N .next s p) p) vector c
+
 pub search-is-pass : (N : Network) (free : ℕ → ℕ → Bool) (s : ℕ) (vector : List ℕ) (t : ℕ) → sending N free s vector t 0 ≡ pass N free s vector t
-unfolding sending pass attempt beginnings
-search-is-pass N free s vector t =
-    trying-scan N free t s _ _ (λ p. arriving-scan (N .far t (N .next s p)) N free t (N .next s p) p) vector 0
+unfolding pass attempt
+search-is-pass N free s vector t = search-is-scan N free s vector t 0

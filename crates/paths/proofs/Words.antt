@@ -6,10 +6,10 @@ use mathlib.Core.Bool.{Bool, true, false, cond, _&&_, and-eq-true-iff, false≢t
 use mathlib.Core.List.{List, [], _∷_, _++_, nil≢cons, cons≢nil, List·Memᴰ·head, List·Memᴰ·tail, List·Memᴰ·not-nil, List·Memᴰ·cases-cons, head-eq-of-cons-eq, tail-eq-of-cons-eq, Memᴰ·cast}
 use Prim.Native.Nat.{ℕ}
 use lib.Dec.{eqb}
-use borrow.Author.Tests.{eq-eqb, eqb-true}
+use borrow.Author.Tests.{eq-eqb, ne-eqb, eqb-true}
 use Rattle.common.specs.Lists.{_∈_}
 use Rattle.paths.specs.Network.{Network, Path, Link, LinkState, link-free, link-held, link-blocked, linkState, isFree, offered, end, links, freePath}
-use Rattle.paths.specs.Permitted.{Onward, Permitted, InWords}
+use Rattle.paths.specs.Permitted.{Onward, Permitted, InWords, SameLinks}
 use Rattle.paths.proofs.Sentences.{onward-end}
 
 -- each hop of a way on starts off the target and is offered there, and a path of such hops to the target is a way on
@@ -69,3 +69,21 @@ free-link true owner = ((λ e. (refl, zero-owner (eqb owner 0) refl e)), (λ h. 
     zero-owner : (b : Bool) → eqb owner 0 ≡ b → isFree (cond b link-free link-held) ≡ true → owner ≡ 0
     zero-owner true e h = eqb-true owner 0 e
     zero-owner false e h = absurd (false≢true h)
+
+-- A link that is not free is blocked where it is not enabled, and held where it is and a circuit has it.
+pub blocked-link : (enabled : Bool) (owner : ℕ) → enabled ≡ false → linkState enabled owner ≡ link-blocked
+unfolding linkState
+blocked-link enabled owner e = rw e
+
+pub held-link : (enabled : Bool) (owner : ℕ) → enabled ≡ true → owner ≢ 0 → linkState enabled owner ≡ link-held
+unfolding linkState
+held-link enabled owner e h = rw (e, ne-eqb owner 0 h)
+
+-- A path has the links that it passes, however often: in the cube of dimension 1, to and fro, and to again.
+pub to-and-fro : (N : Network) → N .next 0 0 ≡ 1 → N .next 1 0 ≡ 0 → SameLinks N 0 (0 ∷ 0 ∷ []) (0 ∷ 0 ∷ 0 ∷ [])
+unfolding SameLinks links
+to-and-fro N e h =
+    rw (e, h) (
+      (λ l m. ⊎-elim (λ a. List·Memᴰ·head a) (λ k. ⊎-elim (λ a. List·Memᴰ·tail (List·Memᴰ·head a)) (λ j. absurd (List·Memᴰ·not-nil j)) (List·Memᴰ·cases-cons k)) (List·Memᴰ·cases-cons m)),
+      (λ l m. ⊎-elim (λ a. List·Memᴰ·head a) (λ k. ⊎-elim (λ a. List·Memᴰ·tail (List·Memᴰ·head a)) (λ j. ⊎-elim (λ a. List·Memᴰ·head a) (λ i. absurd (List·Memᴰ·not-nil i)) (List·Memᴰ·cases-cons j)) (List·Memᴰ·cases-cons k)) (List·Memᴰ·cases-cons m)),
+    )

@@ -2,7 +2,7 @@
 -- Assumes nothing.
 use mathlib.Core.Bool.{Bool, not}
 use mathlib.Core.List.{List, [], _∷_}
-use Prim.Native.Nat.{ℕ}
+use Prim.Native.Nat.{ℕ, _^_, _<_}
 use lib.ListN.{length}
 use Rattle.common.specs.Lists.{keep, from}
 use Rattle.cube.specs.Bits.{has}
@@ -15,7 +15,11 @@ use Rattle.paths.specs.Send.{Receive, Sent, runs}
 pub record Shape : Type 0 where
   pub dimension : ℕ
 
--- "A cube of dimension D": ports below D, each leading to the node that differs in its bit; uphill ports are offered, and the target is
+-- "A cube of dimension D has nodes 0 to 2^D - 1."
+abbrev pub Node : Shape → ℕ → Type 0
+Node S n = n < 2 ^ S .dimension
+
+-- Its ports are those below D, each leading to the node that differs in its bit; uphill ports are offered, and the target is
 -- as many hops away as there are uphill ports
 unfoldable pub network : Shape → Network
 network S =

@@ -71,3 +71,8 @@ receive-rejected-once = refl
 receive-rejected-twice : alternateMaze (cube 1) (blocked []) all-held 0 1 1 ≡ answer route-rejected 1
 unfolding alternateMaze network sendPorts otherPorts keep from has flip uphill helical offered end freePath over ways beginnings scan whole attempt pass scouts received outcome goesOn runs
 receive-rejected-twice = refl
+
+-- A type 4 send that is acknowledged at once makes no second pass.
+acknowledged-at-once : alternateMaze (cube 2) (blocked []) (channel 6) 0 1 1 ≡ answer (acknowledged (0 ∷ []) 6) 1
+unfolding alternateMaze network sendPorts otherPorts keep from has flip uphill helical offered end freePath over ways beginnings scan whole attempt pass scouts received outcome goesOn runs
+acknowledged-at-once = refl

@@ -2,8 +2,8 @@
 pub mod Network
 pub mod Permitted
 pub mod Pass
-pub mod Sentences
 pub mod Send
+pub mod Sentences
 pub mod CubeNetwork
 pub mod Search
 pub mod Bound

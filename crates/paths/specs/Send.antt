@@ -17,6 +17,12 @@ pub data Outcome : Type 0 where
   route-rejected : Outcome
   receive-rejected : Outcome
 
+-- the outcomes that are acknowledgements
+unfoldable pub Acknowledged : Outcome → Type 0
+Acknowledged (acknowledged w c) = Unit
+Acknowledged route-rejected = ⊥
+Acknowledged receive-rejected = ⊥
+
 unfoldable pub received : Path → Receive → Outcome
 received w (channel c) = acknowledged w c
 received w all-held = receive-rejected

@@ -1,0 +1,6 @@
+-- The laws of the table.
+pub mod Entries
+pub mod Views
+pub mod Lowest
+pub mod Fills
+pub mod Made

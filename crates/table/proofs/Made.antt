@@ -1,0 +1,97 @@
+-- What a made table shows.
+-- Assumes nothing.
+use mathlib.Core.Path.{_≡_, refl, ap, sym, _∙_}
+use mathlib.Core.Bool.{Bool, true, false, cond, _&&_, Bool·beq, true≢false}
+use mathlib.Core.List.{List, [], _∷_, _++_}
+use Prim.Native.Nat.{ℕ, zero, suc, _+_, _-_, _*_, _^_, _≤_, _<_}
+use native.Mathlib.Omega.{arith}
+use native.Mathlib.Numerals.{one-add}
+use lib.Dec.{eqb, ltb, lit≤}
+use lib.ListN.{length, getD, replicate, length-replicate, getD-replicate, List·getD-append, List·getD-eq-default}
+use lib.Seq.{getD-append-add}
+use lib.Pow.{pow-mono, pow-pos}
+use borrow.Author.Tests.{ltb-true, ltb-false, lt-ltb, le-ltb}
+use Rattle.common.proofs.Every.{at₂}
+use Rattle.cube.specs.Bits.{has}
+use Rattle.cube.proofs.Bits.{zero-has}
+use Rattle.table.specs.Layout.{inTable, dimensionAt, enablePlace, entryPlace, linkPart, receivePart, wordAt, enabledAt, entryAt, ownerAt, receiverAt, made}
+use Rattle.table.specs.View.{View, view, fresh}
+use Rattle.table.proofs.Entries.{within}
+use Rattle.table.proofs.Views.{inside}
+
+-- a value k times and then zeros
+run-front : (k m x j : ℕ) → j < k → getD (replicate k x ++ replicate m 0) j 0 ≡ x
+run-front k m x j h = List·getD-append (replicate k x) (replicate m 0) 0 j (rw (length-replicate k x) h) ∙ getD-replicate k j x 0 h
+
+zeros : (m j : ℕ) → getD {A = ℕ} (replicate m 0) j 0 ≡ 0
+zeros zero j = refl
+zeros (suc m) zero = refl
+zeros (suc m) (suc j) = zeros m j
+
+run-back : (k m x j : ℕ) → k ≤ j → getD (replicate k x ++ replicate m 0) j 0 ≡ 0
+run-back zero m x j h = zeros m j
+run-back (suc k) m x zero h = absurd (omega arith)
+run-back (suc k) m x (suc j) h = run-back k m x j (omega arith)
+
+same-test : (a b : Bool) → Bool·beq a b ≡ true → a ≡ b
+same-test true true e = refl
+same-test true false e = sym e
+same-test false true e = e
+same-test false false e = refl
+
+-- all D bits, and no other
+ones : (D p : ℕ) → D < 9 → p < 8 → has (2 ^ D - 1) p ≡ ltb p D
+unfolding has
+ones D p h l = same-test _ _ (at₂ 9 8 (λ D p. Bool·beq (has (2 ^ D - 1) p) (ltb p D)) refl D p h l)
+
+module _ (D : ℕ) (h : D < 9) where
+  nodes : 2 ^ D ≤ 256
+  nodes = pow-mono {i = D} {j = 8} (omega arith)
+
+  byte-of : (j : ℕ) → getD (made D) (suc j) 0 ≡ cond (ltb j (2 ^ D)) (2 ^ D - 1) 0
+  unfolding made
+  byte-of j = go (ltb j (2 ^ D)) refl
+    where
+      go : (b : Bool) → ltb j (2 ^ D) ≡ b → getD (replicate (2 ^ D) (2 ^ D - 1) ++ replicate (8448 - 2 ^ D) 0) j 0 ≡ cond b (2 ^ D - 1) 0
+      go true e = run-front (2 ^ D) (8448 - 2 ^ D) (2 ^ D - 1) j (ltb-true j (2 ^ D) e)
+      go false e = run-back (2 ^ D) (8448 - 2 ^ D) (2 ^ D - 1) j (ltb-false j (2 ^ D) e)
+
+  byte-zero : (j : ℕ) → 257 ≤ j → getD (made D) j 0 ≡ 0
+  byte-zero zero l = absurd (omega arith)
+  byte-zero (suc j) l = byte-of j ∙ rw (le-ltb j (2 ^ D) (omega (arith, nodes)))
+
+  made-enabled : (n p : ℕ) → enabledAt (made D) n p ≡ ltb n (2 ^ D) && ltb p D
+  unfolding enabledAt
+  made-enabled n p = rw (one-add n, byte-of n) (go (inTable n p) refl (ltb n (2 ^ D)) refl)
+    where
+      go : (x : Bool) → inTable n p ≡ x → (y : Bool) → ltb n (2 ^ D) ≡ y → x && has (cond y (2 ^ D - 1) 0) p ≡ y && ltb p D
+      go true e true f = ones D p h (inside n p e .1)
+      go true e false f = zero-has p
+      go false e true f = sym (outside (ltb p D) refl)
+        where
+          outside : (z : Bool) → ltb p D ≡ z → z ≡ false
+          outside true g = absurd (true≢false (sym (within n p (omega (arith, ltb-true n (2 ^ D) f, nodes)) (omega (arith, ltb-true p D g))) ∙ e))
+          outside false g = refl
+      go false e false f = refl
+
+  made-entry : (part : ℕ) → 257 ≤ part → (n k : ℕ) → entryAt part (made D) n k ≡ 0
+  unfolding entryAt
+  made-entry part l n k = go (inTable n k)
+    where
+      word : wordAt (made D) (entryPlace part n k) ≡ 0
+      word = rw (byte-zero (entryPlace part n k) (omega arith), byte-zero (entryPlace part n k + 1) (omega arith))
+
+      go : (x : Bool) → cond x (wordAt (made D) (entryPlace part n k)) 0 ≡ 0
+      go true = word
+      go false = refl
+
+-- A made table shows its dimension, every link of its cube enabled, and nothing held.
+pub view-made : (D : ℕ) → D < 9 → view (made D) ≡ fresh D
+unfolding view fresh ownerAt receiverAt dimensionAt made
+view-made D h = λ i.
+    record {
+      dimension = D;
+      enabled = λ n p. made-enabled D h n p i;
+      owner = λ n p. made-entry D h linkPart (lit≤ tt) n p i;
+      receiver = λ n k. made-entry D h receivePart (lit≤ tt) n k i;
+    }

@@ -1,0 +1,167 @@
+-- What a table shows after one value is written: the new value at its place, and everything else as it was.
+-- Assumes nothing.
+use mathlib.Core.Path.{_≡_, refl, ap, sym, _∙_, fun-ext}
+use mathlib.Core.Logic.{_⊎_, inl, inr, ⊎-elim, _≢_}
+use mathlib.Core.Bool.{Bool, true, false, cond, _&&_, Bool·beq, and-eq-true-iff}
+use mathlib.Core.List.{List}
+use Prim.Native.Nat.{ℕ, _+_, _*_, _/_, _%_, _≤_, _<_}
+use native.Mathlib.Omega.{arith}
+use lib.Dec.{eqb, ltb, lit<, lit≤}
+use lib.ListN.{length, getD, set, length-set}
+use lib.Seq.{getD-set-same, getD-set-other}
+use borrow.Author.Tests.{ltb-true, ltb-false, eqb-true, eqb-false}
+use Rattle.cube.specs.Bits.{has, withBit}
+use Rattle.cube.proofs.Bits.{with-bit-same, with-bit-other}
+use Rattle.table.specs.Layout.{inTable, dimensionAt, enablePlace, entryPlace, linkPart, receivePart, wordAt, putWord, enabledAt, entryAt, ownerAt, receiverAt, putEntry, putOwner, putReceiver, putEnabled, Within}
+use Rattle.table.specs.View.{View, view, setAt, setOwner, setReceiver, setEnabled}
+use Rattle.table.proofs.Entries.{within}
+
+-- a word written: the word there, and every byte and word apart from it
+module _ (b : List ℕ) (i c : ℕ) where
+  byte-apart : (j : ℕ) → j ≢ i → j ≢ i + 1 → getD (putWord b i c) j 0 ≡ getD b j 0
+  byte-apart j h k = getD-set-other (set b i (c % 256)) (i + 1) j (c / 256) 0 k ∙ getD-set-other b i j (c % 256) 0 h
+
+  word-same : i + 1 < length b → c < 65536 → wordAt (putWord b i c) i ≡ c
+  word-same h l =
+      let low : getD (putWord b i c) i 0 ≡ c % 256 = getD-set-other (set b i (c % 256)) (i + 1) i (c / 256) 0 (λ e. omega arith) ∙ getD-set-same b i (c % 256) 0 (omega arith) in
+      let high : getD (putWord b i c) (i + 1) 0 ≡ c / 256 = getD-set-same (set b i (c % 256)) (i + 1) (c / 256) 0 (rw (length-set b i (c % 256)) h) in
+      rw (low, high) (omega arith)
+
+  word-apart : (j : ℕ) → (j + 1 < i) ⊎ (i + 1 < j) → wordAt (putWord b i c) j ≡ wordAt b j
+  word-apart j h =
+      let low = byte-apart j (λ e. off h e) (λ e. off′ h e) in
+      let high = byte-apart (j + 1) (λ e. off″ h e) (λ e. off‴ h e) in
+      rw (low, high)
+    where
+      off : (j + 1 < i) ⊎ (i + 1 < j) → j ≢ i
+      off g e = ⊎-elim (λ x. omega arith) (λ x. omega arith) g
+
+      off′ : (j + 1 < i) ⊎ (i + 1 < j) → j ≢ i + 1
+      off′ g e = ⊎-elim (λ x. omega arith) (λ x. omega arith) g
+
+      off″ : (j + 1 < i) ⊎ (i + 1 < j) → j + 1 ≢ i
+      off″ g e = ⊎-elim (λ x. omega arith) (λ x. omega arith) g
+
+      off‴ : (j + 1 < i) ⊎ (i + 1 < j) → j + 1 ≢ i + 1
+      off‴ g e = ⊎-elim (λ x. omega arith) (λ x. omega arith) g
+
+pub inside : (n k : ℕ) → inTable n k ≡ true → (n < 256) × (k < 8)
+inside n k e = let r = and-eq-true-iff (ltb n 256) (ltb k 8) .0 e in (ltb-true n 256 (r .0), ltb-true k 8 (r .1))
+
+-- two entries of one part lie at one place only if they are one
+place-one : (part m q n k : ℕ) → q < 8 → k < 8 → entryPlace part m q ≡ entryPlace part n k → (m ≡ n) × (q ≡ k)
+place-one part m q n k h l e =
+    let row : (8 * m + q) / 8 ≡ m = omega arith in
+    let row′ : (8 * n + k) / 8 ≡ n = omega arith in
+    let same : 8 * m + q ≡ 8 * n + k = omega arith in
+    let node : m ≡ n = sym row ∙ ap (_/ 8) same ∙ row′ in
+    (node, omega arith)
+
+-- an entry written: that entry, and every other of the same part and of the other
+module _ (part : ℕ) (b : List ℕ) (n k c : ℕ) (i : n < 256) (l : k < 8) where
+  off-entry : (m q : ℕ) → (m ≡ n → q ≡ k → ⊥) → entryAt part (putEntry part b n k c) m q ≡ entryAt part b m q
+  unfolding entryAt putEntry
+  off-entry m q ne = go (inTable m q) refl
+    where
+      apart : q < 8 → (x : Bool) → ltb (entryPlace part m q) (entryPlace part n k) ≡ x → (entryPlace part m q + 1 < entryPlace part n k) ⊎ (entryPlace part n k + 1 < entryPlace part m q)
+      apart h true e = let g = ltb-true (entryPlace part m q) (entryPlace part n k) e in inl (omega arith)
+      apart h false e =
+          let g = ltb-false (entryPlace part m q) (entryPlace part n k) e in
+          let d : entryPlace part m q ≢ entryPlace part n k = λ z. let one = place-one part m q n k h l z in ne (one .0) (one .1) in
+          inr (omega arith)
+
+      go : (x : Bool) → inTable m q ≡ x → cond x (wordAt (putWord b (entryPlace part n k) c) (entryPlace part m q)) 0 ≡ cond x (wordAt b (entryPlace part m q)) 0
+      go true e = word-apart b (entryPlace part n k) c (entryPlace part m q) (apart (inside m q e .1) _ refl)
+      go false e = refl
+
+  on-entry : part + 4096 ≤ length b → c < 65536 → entryAt part (putEntry part b n k c) n k ≡ c
+  unfolding entryAt putEntry
+  on-entry room small = rw (within n k i l) (word-same b (entryPlace part n k) c (omega arith) small)
+
+  pub entry-put : part + 4096 ≤ length b → c < 65536 → (m q : ℕ) → entryAt part (putEntry part b n k c) m q ≡ setAt (entryAt part b) n k c m q
+  unfolding setAt
+  entry-put room small m q = go (eqb m n) (eqb q k) refl refl
+    where
+      go : (x y : Bool) → eqb m n ≡ x → eqb q k ≡ y → entryAt part (putEntry part b n k c) m q ≡ cond (x && y) c (entryAt part b m q)
+      go true true e f = rw (eqb-true m n e, eqb-true q k f) (on-entry room small)
+      go true false e f = off-entry m q (λ a z. eqb-false q k f z)
+      go false y e f = off-entry m q (λ a z. eqb-false m n e a)
+
+  pub entry-other : (part′ : ℕ) → (part + 4096 ≤ part′) ⊎ (part′ + 4096 ≤ part) → (m q : ℕ) → entryAt part′ (putEntry part b n k c) m q ≡ entryAt part′ b m q
+  unfolding entryAt putEntry
+  entry-other part′ h m q = go (inTable m q) refl
+    where
+      go : (x : Bool) → inTable m q ≡ x → cond x (wordAt (putWord b (entryPlace part n k) c) (entryPlace part′ m q)) 0 ≡ cond x (wordAt b (entryPlace part′ m q)) 0
+      go true e =
+          let r = inside m q e in
+          word-apart b (entryPlace part n k) c (entryPlace part′ m q) (⊎-elim (λ g. inr (omega arith)) (λ g. inl (omega arith)) h)
+      go false e = refl
+
+  -- the bytes before the part stand as they were
+  pub entry-before : (j : ℕ) → j < part → getD (putEntry part b n k c) j 0 ≡ getD b j 0
+  unfolding putEntry
+  entry-before j h = byte-apart b (entryPlace part n k) c j (λ e. omega arith) (λ e. omega arith)
+
+  entry-enabled : 257 ≤ part → (m q : ℕ) → enabledAt (putEntry part b n k c) m q ≡ enabledAt b m q
+  unfolding enabledAt
+  entry-enabled h m q = go (inTable m q) refl
+    where
+      go : (x : Bool) → inTable m q ≡ x → x && has (getD (putEntry part b n k c) (enablePlace m) 0) q ≡ x && has (getD b (enablePlace m) 0) q
+      go true e = ap (λ y. has y q) (entry-before (enablePlace m) (let r = inside m q e in omega arith))
+      go false e = refl
+
+-- What the table shows after a link or a receive channel is given to a circuit.
+pub view-put-owner : (b : List ℕ) (n p c : ℕ) → Within b n p → c < 65536 → view (putOwner b n p c) ≡ setOwner (view b) n p c
+unfolding view setOwner putOwner ownerAt receiverAt dimensionAt
+view-put-owner b n p c w small = λ i.
+    record {
+      dimension = entry-before linkPart b n p c (w .node) (w .port) 0 (lit< tt) i;
+      enabled = λ m q. entry-enabled linkPart b n p c (w .node) (w .port) (lit≤ tt) m q i;
+      owner = λ m q. entry-put linkPart b n p c (w .node) (w .port) (omega (arith, w .bytes)) small m q i;
+      receiver = λ m q. entry-other linkPart b n p c (w .node) (w .port) receivePart (inl (lit≤ tt)) m q i;
+    }
+
+pub view-put-receiver : (b : List ℕ) (n k c : ℕ) → Within b n k → c < 65536 → view (putReceiver b n k c) ≡ setReceiver (view b) n k c
+unfolding view setReceiver putReceiver ownerAt receiverAt dimensionAt
+view-put-receiver b n k c w small = λ i.
+    record {
+      dimension = entry-before receivePart b n k c (w .node) (w .port) 0 (lit< tt) i;
+      enabled = λ m q. entry-enabled receivePart b n k c (w .node) (w .port) (lit≤ tt) m q i;
+      owner = λ m q. entry-other receivePart b n k c (w .node) (w .port) linkPart (inr (lit≤ tt)) m q i;
+      receiver = λ m q. entry-put receivePart b n k c (w .node) (w .port) (omega (arith, w .bytes)) small m q i;
+    }
+
+-- What it shows after an enable bit is set or cleared.
+module _ (b : List ℕ) (n p : ℕ) (on : Bool) (w : Within b n p) where
+  byte-on : getD (putEnabled b n p on) (enablePlace n) 0 ≡ withBit (getD b (enablePlace n) 0) p on
+  unfolding putEnabled
+  byte-on = getD-set-same b (enablePlace n) (withBit (getD b (enablePlace n) 0) p on) 0 (omega (arith, w .bytes, w .node))
+
+  byte-off : (j : ℕ) → j ≢ enablePlace n → getD (putEnabled b n p on) j 0 ≡ getD b j 0
+  unfolding putEnabled
+  byte-off j h = getD-set-other b (enablePlace n) j (withBit (getD b (enablePlace n) 0) p on) 0 h
+
+  enabled-put : (m q : ℕ) → enabledAt (putEnabled b n p on) m q ≡ setAt (enabledAt b) n p on m q
+  unfolding enabledAt setAt
+  enabled-put m q = go (eqb m n) refl (eqb q p) refl
+    where
+      go : (x : Bool) → eqb m n ≡ x → (y : Bool) → eqb q p ≡ y
+          → inTable m q && has (getD (putEnabled b n p on) (enablePlace m) 0) q ≡ cond (x && y) on (inTable m q && has (getD b (enablePlace m) 0) q)
+      go true e true f = rw (eqb-true m n e, eqb-true q p f, within n p (w .node) (w .port), byte-on) (with-bit-same _ p on)
+      go true e false f = rw (eqb-true m n e, byte-on, with-bit-other (getD b (enablePlace n) 0) p on q (eqb-false q p f))
+      go false e y f = rw (byte-off (enablePlace m) (λ z. eqb-false m n e (omega arith)))
+
+  enabled-entry : (part : ℕ) → 257 ≤ part → (m q : ℕ) → entryAt part (putEnabled b n p on) m q ≡ entryAt part b m q
+  unfolding entryAt
+  enabled-entry part h m q =
+      rw (byte-off (entryPlace part m q) (λ z. omega (arith, w .node)), byte-off (entryPlace part m q + 1) (λ z. omega (arith, w .node)))
+
+  pub view-put-enabled : view (putEnabled b n p on) ≡ setEnabled (view b) n p on
+  unfolding view setEnabled ownerAt receiverAt dimensionAt
+  view-put-enabled = λ i.
+      record {
+        dimension = byte-off 0 (λ z. omega arith) i;
+        enabled = λ m q. enabled-put m q i;
+        owner = λ m q. enabled-entry linkPart (lit≤ tt) m q i;
+        receiver = λ m q. enabled-entry receivePart (lit≤ tt) m q i;
+      }

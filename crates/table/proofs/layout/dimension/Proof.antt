@@ -1,0 +1,19 @@
+-- `table::layout::dimension` meets its contract: the first byte.
+-- Assumes nothing.
+use Rattle.table.specs.Layout.{dimensionAt}
+use borrow.Author.Needs.{needs}
+use Rattle.table.proofs.layout.dimension.Statement.{statement}
+use Rattle.table.proofs.layout.dimension.Tie as tie
+
+shared-slice-read-wide : tie.Need-shared-slice-read-wide
+shared-slice-read-wide c = search needs
+
+wide-requires : tie.Need-wide-requires
+wide-requires c κs = search needs
+
+returns : tie.Need-returns
+unfolding dimensionAt
+returns c = c .wide .ensures .0
+
+pub dimension-spec : {M : Type 1} → statement M
+dimension-spec = tie.close (tie.spec shared-slice-read-wide wide-requires returns)

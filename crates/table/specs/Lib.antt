@@ -1,0 +1,3 @@
+-- The table of document 01: where each value lies in its bytes, and what they show.
+pub mod Layout
+pub mod View

@@ -1,0 +1,51 @@
+-- What a table shows, whatever the layout of its bytes: its dimension, which links are enabled, and who holds links and receive channels.
+-- It is changed only through the setters below.
+-- Assumes nothing.
+use mathlib.Core.Bool.{Bool, true, false, cond, _&&_}
+use mathlib.Core.List.{List}
+use Prim.Native.Nat.{ℕ, zero, suc, _+_, _^_}
+use lib.Dec.{eqb, ltb}
+use Rattle.paths.specs.Send.{Receive, channel, all-held}
+use Rattle.table.specs.Layout.{dimensionAt, enabledAt, ownerAt, receiverAt}
+
+pub record View : Type 0 where
+  pub dimension : ℕ
+  pub enabled : ℕ → ℕ → Bool
+  pub owner : ℕ → ℕ → ℕ
+  pub receiver : ℕ → ℕ → ℕ
+
+unfoldable pub view : List ℕ → View
+view b = record { dimension = dimensionAt b; enabled = enabledAt b; owner = ownerAt b; receiver = receiverAt b }
+
+-- a function of a node and a port or channel, changed at one place
+unfoldable pub setAt : {A : Type 0} → (ℕ → ℕ → A) → ℕ → ℕ → A → ℕ → ℕ → A
+setAt f n p a m q = cond (eqb m n && eqb q p) a (f m q)
+
+unfoldable pub setOwner : View → ℕ → ℕ → ℕ → View
+setOwner v n p c = record { dimension = v .dimension; enabled = v .enabled; owner = setAt (v .owner) n p c; receiver = v .receiver }
+
+unfoldable pub setReceiver : View → ℕ → ℕ → ℕ → View
+setReceiver v n k c = record { dimension = v .dimension; enabled = v .enabled; owner = v .owner; receiver = setAt (v .receiver) n k c }
+
+unfoldable pub setEnabled : View → ℕ → ℕ → Bool → View
+setEnabled v n p on = record { dimension = v .dimension; enabled = setAt (v .enabled) n p on; owner = v .owner; receiver = v .receiver }
+
+-- "a receive channel is available": no circuit holds it
+unfoldable pub available : View → ℕ → ℕ → Bool
+available v n k = eqb (v .receiver n k) 0
+
+-- the first number from i on that passes a test, of k tried; i + k where none does
+unfoldable pub lowest : (ℕ → Bool) → ℕ → ℕ → ℕ
+lowest f zero i = i
+lowest f (suc k) i = cond (f i) i (lowest f k (i + 1))
+
+-- "its lowest receive channel that no circuit holds", 8 where all are held
+unfoldable pub lowestChannel : View → ℕ → ℕ
+lowestChannel v n = lowest (available v n) 8 0
+
+unfoldable pub receive : View → ℕ → Receive
+receive v n = let k = lowestChannel v n in cond (eqb k 8) all-held (channel k)
+
+-- what a made table shows: all links of its cube enabled, nothing held
+unfoldable pub fresh : ℕ → View
+fresh D = record { dimension = D; enabled = λ n p. ltb n (2 ^ D) && ltb p D; owner = λ n p. 0; receiver = λ n k. 0 }

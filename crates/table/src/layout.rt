@@ -1,0 +1,179 @@
+// Where each value lies in the 8,449 bytes of a table, and the only code that reads and writes there.
+ghost use mathlib.Core.Path.{_≡_};
+ghost use mathlib.Core.Bool.{true, false};
+ghost use Prim.Native.Nat.{_+_, _<_, _≤_};
+ghost use lib.ListN.{length};
+ghost use Rattle.table.specs.Layout.{Within, wordAt, putWord, enablePlace, linkPlace, receivePlace, dimensionAt, enabledAt, ownerAt, receiverAt, putOwner, putReceiver, putEnabled, changed, filled, made};
+ghost use Rattle.table.specs.View.{view, lowestChannel};
+use cube::Circuit;
+use cube::Node;
+use cube::Port;
+
+// The first byte is the dimension. Then come the enable bits, a byte for each node; the circuits that hold links and those that hold
+// receive channels, a row for each node.
+const BYTES: usize = 8449;
+
+const ENABLE: usize = 1;
+
+const LINKS: usize = 257;
+
+const RECEIVES: usize = 4353;
+
+const ROW: usize = 16;
+
+const ENTRY: usize = 2;
+
+fn wide(x: u8) -> u16
+    ensures { λ r. ⌜ (r ≡ x) × (r < 256) ⌝ }
+{
+    x as u16
+}
+
+// Two bytes, low byte first.
+fn word(t: &[u8], at: usize) -> u16
+    requires { ⌜ at + 1 < length (now t) ⌝ }
+    ensures { λ r. ⌜ r ≡ wordAt (now (t .entry)) at ⌝ }
+{
+    wide(t[at]) + 256 * wide(t[at + 1])
+}
+
+fn put_word(t: &mut [u8], at: usize, c: u16)
+    requires { ⌜ at + 1 < length (now t) ⌝ }
+    ensures { λ _. ⌜ now (t .exit) ≡ putWord (now (t .entry)) at c ⌝ }
+{
+    t[at] = (c % 256) as u8;
+    t[at + 1] = (c / 256) as u8;
+}
+
+fn enable_place(n: Node) -> usize
+    requires { ⌜ n .0 < 256 ⌝ }
+    ensures { λ r. ⌜ (r ≡ enablePlace (n .0)) × (r < 257) ⌝ }
+{
+    ENABLE + n.0 as usize
+}
+
+fn link_place(n: Node, p: Port) -> usize
+    requires { ⌜ (n .0 < 256) × (p .0 < 8) ⌝ }
+    ensures { λ r. ⌜ (r ≡ linkPlace (n .0) (p .0)) × (r + 1 < 8449) ⌝ }
+{
+    LINKS + ROW * (n.0 as usize) + ENTRY * (p.0 as usize)
+}
+
+fn receive_place(n: Node, channel: u16) -> usize
+    requires { ⌜ (n .0 < 256) × (channel < 8) ⌝ }
+    ensures { λ r. ⌜ (r ≡ receivePlace (n .0) channel) × (r + 1 < 8449) ⌝ }
+{
+    RECEIVES + ROW * (n.0 as usize) + ENTRY * (channel as usize)
+}
+
+pub fn dimension(t: &[u8]) -> u16
+    requires { ⌜ length (now t) ≡ 8449 ⌝ }
+    ensures { λ r. ⌜ r ≡ dimensionAt (now (t .entry)) ⌝ }
+{
+    wide(t[0])
+}
+
+// Whether the link out of a port is enabled.
+pub fn enabled(t: &[u8], n: Node, p: Port) -> bool
+    requires { ⌜ Within (now t) (n .0) (p .0) ⌝ }
+    ensures { λ r. ⌜ r ≡ enabledAt (now (t .entry)) (n .0) (p .0) ⌝ }
+{
+    let q = p.0;
+    (wide(t[enable_place(n)]) >> q) % 2 == 1
+}
+
+// Changes one enable bit.
+fn change(t: &mut [u8], n: Node, p: Port)
+    requires { ⌜ Within (now t) (n .0) (p .0) ⌝ }
+    ensures { λ _. ⌜ now (t .exit) ≡ changed (now (t .entry)) (n .0) (p .0) ⌝ }
+{
+    let at = enable_place(n);
+    let q = p.0;
+    t[at] = ((wide(t[at]) ^ (1 << q)) % 256) as u8;
+}
+
+pub fn enable(t: &mut [u8], n: Node, p: Port)
+    requires { ⌜ Within (now t) (n .0) (p .0) ⌝ }
+    ensures { λ _. ⌜ now (t .exit) ≡ putEnabled (now (t .entry)) (n .0) (p .0) true ⌝ }
+{
+    if !enabled(t, n, p) {
+        change(t, n, p);
+    }
+}
+
+pub fn disable(t: &mut [u8], n: Node, p: Port)
+    requires { ⌜ Within (now t) (n .0) (p .0) ⌝ }
+    ensures { λ _. ⌜ now (t .exit) ≡ putEnabled (now (t .entry)) (n .0) (p .0) false ⌝ }
+{
+    if enabled(t, n, p) {
+        change(t, n, p);
+    }
+}
+
+// The circuit that holds the link out of a port: 0 where nobody does.
+pub fn owner(t: &[u8], n: Node, p: Port) -> Circuit
+    requires { ⌜ Within (now t) (n .0) (p .0) ⌝ }
+    ensures { λ r. ⌜ r .0 ≡ ownerAt (now (t .entry)) (n .0) (p .0) ⌝ }
+{
+    Circuit(word(t, link_place(n, p)))
+}
+
+pub fn set_owner(t: &mut [u8], n: Node, p: Port, c: Circuit)
+    requires { ⌜ Within (now t) (n .0) (p .0) ⌝ }
+    ensures { λ _. ⌜ now (t .exit) ≡ putOwner (now (t .entry)) (n .0) (p .0) (c .0) ⌝ }
+{
+    put_word(t, link_place(n, p), c.0);
+}
+
+// The circuit that holds a receive channel: 0 where nobody does.
+pub fn receiver(t: &[u8], n: Node, channel: u16) -> Circuit
+    requires { ⌜ Within (now t) (n .0) channel ⌝ }
+    ensures { λ r. ⌜ r .0 ≡ receiverAt (now (t .entry)) (n .0) channel ⌝ }
+{
+    Circuit(word(t, receive_place(n, channel)))
+}
+
+pub fn set_receiver(t: &mut [u8], n: Node, channel: u16, c: Circuit)
+    requires { ⌜ Within (now t) (n .0) channel ⌝ }
+    ensures { λ _. ⌜ now (t .exit) ≡ putReceiver (now (t .entry)) (n .0) channel (c .0) ⌝ }
+{
+    put_word(t, receive_place(n, channel), c.0);
+}
+
+// The lowest receive channel of a node that nobody holds: 8 where all are held.
+pub fn free_channel(t: &[u8], n: Node) -> u16
+    requires { ⌜ Within (now t) (n .0) 0 ⌝ }
+    ensures { λ r. ⌜ r ≡ lowestChannel (view (now (t .entry))) (n .0) ⌝ }
+{
+    let mut k: u16 = 0;
+    while k < 8 {
+        if receiver(t, n, k).0 == 0 {
+            return k;
+        }
+        k += 1;
+    }
+    k
+}
+
+fn fill(t: &mut [u8], from: usize, to: usize, value: u8)
+    requires { ⌜ (from ≤ to) × (to ≤ length (now t)) ⌝ }
+    ensures { λ _. ⌜ now (t .exit) ≡ filled (now (t .entry)) from to value ⌝ }
+{
+    let mut i = from;
+    while i < to {
+        t[i] = value;
+        i += 1;
+    }
+}
+
+// Writes a table of a dimension: all its links enabled, nothing held.
+pub fn make(t: &mut [u8], dimension: u8)
+    requires { ⌜ (length (now t) ≡ 8449) × (dimension < 9) ⌝ }
+    ensures { λ _. ⌜ now (t .exit) ≡ made dimension ⌝ }
+{
+    let nodes = cube::node_count(wide(dimension));
+    let end = ENABLE + nodes as usize;
+    fill(t, end, BYTES, 0);
+    fill(t, ENABLE, end, ((nodes - 1) % 256) as u8);
+    t[0] = dimension;
+}

@@ -1,0 +1,13 @@
+// The table that the caller lends: its layout, and what is read and written there.
+mod layout;
+
+pub use layout::dimension;
+pub use layout::disable;
+pub use layout::enable;
+pub use layout::enabled;
+pub use layout::free_channel;
+pub use layout::make;
+pub use layout::owner;
+pub use layout::receiver;
+pub use layout::set_owner;
+pub use layout::set_receiver;
