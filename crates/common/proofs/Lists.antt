@@ -169,3 +169,9 @@ keep-wider f s (suc k) (suc l) h z = go (f s) refl (keep-wider f (suc s) k l (om
     go : (b : Bool) → f s ≡ b → keep f (from (suc s) l) ≡ keep f (from (suc s) k) → keep f (s ∷ from (suc s) l) ≡ keep f (s ∷ from (suc s) k)
     go true e ih = rw (keep-yes f s (from (suc s) l) e, keep-yes f s (from (suc s) k) e, ih)
     go false e ih = rw (keep-no f s (from (suc s) l) e, keep-no f s (from (suc s) k) e, ih)
+
+-- one number more stands at the end
+pub from-last : (s k : ℕ) → from s (suc k) ≡ from s k ++ ((s + k) ∷ [])
+unfolding from
+from-last s zero = ap (_∷ []) (omega arith)
+from-last s (suc k) = ap (s ∷_) (from-last (suc s) k ∙ ap (λ n. from (suc s) k ++ (n ∷ [])) (omega arith))

@@ -1,10 +1,33 @@
 -- The first test that applies is the answer: the two steps of `refusal`, as the code's branches meet them.
 -- Assumes nothing.
-use mathlib.Core.Path.{_≡_}
-use mathlib.Core.Bool.{Bool, true, false}
+use mathlib.Core.Path.{_≡_, refl, sym, _∙_}
+use mathlib.Core.Logic.{_⊎_, inl, inr, _≢_}
+use mathlib.Core.Bool.{Bool, true, false, true≢false}
 use mathlib.Core.List.{List, [], _∷_}
 use Prim.Native.Nat.{ℕ}
+use lib.Dec.{eqb}
+use borrow.Author.Tests.{eqb-true, eqb-false}
+use Rattle.common.specs.Decides.{Decides}
 use Rattle.common.specs.Tests.{Test, test, refusal}
+
+-- two numbers are the same or not
+pub same? : (a b : ℕ) → (a ≡ b) ⊎ (a ≢ b)
+same? a b = go (eqb a b) refl
+  where
+    go : (x : Bool) → eqb a b ≡ x → (a ≡ b) ⊎ (a ≢ b)
+    go true e = inl (eqb-true a b e)
+    go false e = inr (eqb-false a b e)
+
+-- a test is not both
+pub clash : {b : Bool} → b ≡ true → b ≡ false → ⊥
+clash e f = true≢false (sym e ∙ f)
+
+-- an answer that is known decides
+pub decided-yes : {P : Type 0} → P → Decides P true
+decided-yes p = record { yes′ = λ e. p; no′ = λ e. absurd (true≢false e) }
+
+pub decided-no : {P : Type 0} → (P → ⊥) → Decides P false
+decided-no h = record { yes′ = λ e. absurd (true≢false (sym e)); no′ = λ e. h }
 
 pub refused : {b : Bool} (n : ℕ) (ts : List Test) → b ≡ true → refusal (test b n ∷ ts) ≡ n
 unfolding refusal

@@ -1,3 +1,4 @@
 -- Definitions that belong to no one layer.
 pub mod Tests
 pub mod Lists
+pub mod Decides

@@ -72,18 +72,16 @@ unfolding portsOf
 ports-wider D w v h l = keep-wider (has v) 0 D w h (λ p k. high-has D v p l (omega arith))
 
 -- the vector without a port has the other ports
-other : ℕ → ℕ → Bool
-other p q = not (eqb q p)
-
-ports-without : (w v p r : ℕ) → Without v p r → portsOf w r ≡ keep (other p) (portsOf w v)
-unfolding portsOf other
+pub ports-without : (w v p r : ℕ) → Without v p r → portsOf w r ≡ keep (λ q. not (eqb q p)) (portsOf w v)
+unfolding portsOf
 ports-without w v p r h =
     keep-same (has r) (λ q. has v q && not (eqb q p)) (from 0 w) (λ q m. h .bits q) ∙ sym (keep-keep (λ q. not (eqb q p)) (has v) (from 0 w))
 
 -- what is left of the order behind its first port is the order of the vector without that port
 pub behind-first : (w v a p r : ℕ) (ps : List ℕ) → Without v p r → helical a (portsOf w v) ≡ p ∷ ps → helical a (portsOf w r) ≡ ps
-unfolding other Sorted
+unfolding Sorted
 behind-first w v a p r ps h e =
+    let other : ℕ → ℕ → Bool = λ p q. not (eqb q p) in
     let apart : Sorted _≢_ (p ∷ ps) = rw e at (helical-distinct a (portsOf w v) (ports-sorted w v)) in
     rw (ports-without w v p r h, helical-keep a (other p) (portsOf w v), e, keep-no (other p) p ps (ap not (eq-eqb p p refl)))
     (keep-all (other p) ps (λ q m. ap not (ne-eqb q p (λ i. apart .0 q m (sym i)))))
