@@ -25,7 +25,7 @@ use Rattle.paths.proofs.Sentences.{pass-says}
 use Rattle.paths.proofs.Bound.{two-passes-bound}
 
 -- a port that is changed is uphill just if it was not, and no other port changes
-uphill-flipped : (t n p : ℕ) → uphill t (flip n p) p ≡ not (uphill t n p)
+pub uphill-flipped : (t n p : ℕ) → uphill t (flip n p) p ≡ not (uphill t n p)
 unfolding uphill
 uphill-flipped t n p = go (eqb (bitAt n p) (bitAt t p)) refl
   where
@@ -37,11 +37,11 @@ uphill-flipped t n p = go (eqb (bitAt n p) (bitAt t p)) refl
         let h = eqb-false (bitAt n p) (bitAt t p) e in
         ap not (eq-eqb (bitAt (flip n p) p) (bitAt t p) (omega (arith, bit-flipped n p, bit-lt n p, bit-lt t p)))
 
-uphill-kept : (t n p q : ℕ) → q ≢ p → uphill t n q ≡ uphill t (flip n p) q
+pub uphill-kept : (t n p q : ℕ) → q ≢ p → uphill t n q ≡ uphill t (flip n p) q
 unfolding uphill
 uphill-kept t n p q h = ap (λ x. not (eqb x (bitAt t q))) (sym (bit-kept n p q h))
 
-uphill-there : (t p : ℕ) → uphill t t p ≡ false
+pub uphill-there : (t p : ℕ) → uphill t t p ≡ false
 unfolding uphill
 uphill-there t p = ap not (eq-eqb (bitAt t p) (bitAt t p) refl)
 
@@ -64,11 +64,11 @@ one-more f g p on off h (x ∷ ps) s (List·Memᴰ·tail m) = go (f x) refl (one
     go false e ih = rw (keep-no f x ps e, keep-no g x ps (sym same ∙ e)) ih
 
 module _ (S : Shape) where
-  offered-port : (t n p : ℕ) → p ∈ offered (network S) t n → (p < S .dimension) × (uphill t n p ≡ true)
+  pub offered-port : (t n p : ℕ) → p ∈ offered (network S) t n → (p < S .dimension) × (uphill t n p ≡ true)
   unfolding offered network
   offered-port t n p m = let k = keep-mem (uphill t n) (from 0 (S .dimension)) m in ((let r = from-mem 0 (S .dimension) (k .0) in omega arith), k .1)
 
-  port-offered : (t n p : ℕ) → p < S .dimension → uphill t n p ≡ true → p ∈ offered (network S) t n
+  pub port-offered : (t n p : ℕ) → p < S .dimension → uphill t n p ≡ true → p ∈ offered (network S) t n
   unfolding offered network
   port-offered t n p h e = mem-keep (uphill t n) (from 0 (S .dimension)) (mem-from 0 (S .dimension) p (omega arith) (omega arith)) e
 

@@ -11,3 +11,5 @@ pub mod Bound
 pub mod CubeNetwork
 pub mod FirstPorts
 pub mod Send
+pub mod Apart
+pub mod Trail

@@ -16,19 +16,19 @@ unfoldable pub On : Network → ℕ → Path → ℕ → ℕ → Type 0
 On N n w m q = (m, q) ∈ links N n w
 
 -- it is the first hop's, or one of the rest
-on-cases : (N : Network) (n p : ℕ) (w : Path) (m q : ℕ) → On N n (p ∷ w) m q → ((m ≡ n) × (q ≡ p)) ⊎ On N (N .next n p) w m q
+pub on-cases : (N : Network) (n p : ℕ) (w : Path) (m q : ℕ) → On N n (p ∷ w) m q → ((m ≡ n) × (q ≡ p)) ⊎ On N (N .next n p) w m q
 unfolding On links
 on-cases N n p w m q o = ⊎-elim (λ e. inl (ap (λ (l : Link). l .0) e, ap (λ (l : Link). l .1) e)) inr (List·Memᴰ·cases-cons o)
 
-on-first : (N : Network) (n p : ℕ) (w : Path) → On N n (p ∷ w) n p
+pub on-first : (N : Network) (n p : ℕ) (w : Path) → On N n (p ∷ w) n p
 unfolding On links
 on-first N n p w = List·Memᴰ·head refl
 
-on-later : (N : Network) (n p : ℕ) (w : Path) (m q : ℕ) → On N (N .next n p) w m q → On N n (p ∷ w) m q
+pub on-later : (N : Network) (n p : ℕ) (w : Path) (m q : ℕ) → On N (N .next n p) w m q → On N n (p ∷ w) m q
 unfolding On links
 on-later N n p w m q o = List·Memᴰ·tail o
 
-on-none : (N : Network) (n m q : ℕ) → On N n [] m q → ⊥
+pub on-none : (N : Network) (n m q : ℕ) → On N n [] m q → ⊥
 unfolding On links
 on-none N n m q o = List·Memᴰ·not-nil o
 
@@ -62,17 +62,17 @@ module _ {N : Network} {t : ℕ} (near : Nearing N t) where
       (λ k. let r = onward-near (N .next n p) w (o .2) m q k in (omega (arith, near .nearer n p (o .1)), r .1)) (on-cases N n p w m q i)
 
   -- it never leaves the target, nor, after its first hop, its start
-  onward-left : (n : ℕ) (w : Path) → Onward N t n w → (m q : ℕ) → On N n w m q → m ≢ t
+  pub onward-left : (n : ℕ) (w : Path) → Onward N t n w → (m q : ℕ) → On N n w m q → m ≢ t
   unfolding Onward
   onward-left n [] o m q i = absurd (on-none N n m q i)
   onward-left n (p ∷ w) o m q i = ⊎-elim (λ e. rw (e .0) (o .0)) (λ k. onward-left (N .next n p) w (o .2) m q k) (on-cases N n p w m q i)
 
-  onward-past : (n p : ℕ) (w : Path) → Onward N t n (p ∷ w) → (q : ℕ) → On N (N .next n p) w n q → ⊥
+  pub onward-past : (n p : ℕ) (w : Path) → Onward N t n (p ∷ w) → (q : ℕ) → On N (N .next n p) w n q → ⊥
   unfolding Onward
   onward-past n p w o q i = omega (arith, near .nearer n p (o .1), onward-near (N .next n p) w (o .2) n q i .0)
 
   -- it leaves a node by one port only
-  onward-once : (n : ℕ) (w : Path) → Onward N t n w → (m q r : ℕ) → On N n w m q → On N n w m r → q ≡ r
+  pub onward-once : (n : ℕ) (w : Path) → Onward N t n w → (m q r : ℕ) → On N n w m q → On N n w m r → q ≡ r
   unfolding Onward
   onward-once n [] o m q r i j = absurd (on-none N n m q i)
   onward-once n (p ∷ w) o m q r i j = go (on-cases N n p w m q i) (on-cases N n p w m r j) (onward-once (N .next n p) w (o .2) m q r)
@@ -84,7 +84,7 @@ module _ {N : Network} {t : ℕ} (near : Nearing N t) where
       go (inr k) (inr l) ih = ih k l
 
   -- a way on behind a hop does not take that hop
-  hop-fresh : (s p : ℕ) (w : Path) → Onward N t (N .next s p) w → On N (N .next s p) w s p → ⊥
+  pub hop-fresh : (s p : ℕ) (w : Path) → Onward N t (N .next s p) w → On N (N .next s p) w s p → ⊥
   hop-fresh s p w o i = let r = onward-near (N .next s p) w o s p i in omega arith
 
   onward-distinct : (n : ℕ) (w : Path) → Onward N t n w → Sorted _≢_ (links N n w)
