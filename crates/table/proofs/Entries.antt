@@ -51,3 +51,24 @@ module _ (b : List ℕ) (n p : ℕ) (h : n < 256) (l : p < 8) where
   pub put-is : (on off : Bool) → enabledAt b n p ≡ off → Bool·beq off on ≡ false → changed b n p ≡ putEnabled b n p on
   unfolding putEnabled withBit changed
   put-is on off e d = rw (sym enabled-has ∙ e, d)
+
+-- a row whose bytes are zero holds nothing
+pub row-zero : (b : List ℕ) (part n : ℕ) → ((i : ℕ) → i < 16 → getD b (entryPlace part n 0 + i) 0 ≡ 0) → (k : ℕ) → k < 8 → entryAt part b n k ≡ 0
+unfolding entryAt
+row-zero b part n z k h = go (inTable n k)
+  where
+    place : entryPlace part n 0 + 2 * k ≡ entryPlace part n k
+    place = omega arith
+
+    after : entryPlace part n 0 + (2 * k + 1) ≡ entryPlace part n k + 1
+    after = omega arith
+
+    low : getD b (entryPlace part n k) 0 ≡ 0
+    low = rw place at (z (2 * k) (omega arith))
+
+    high : getD b (entryPlace part n k + 1) 0 ≡ 0
+    high = rw after at (z (2 * k + 1) (omega arith))
+
+    go : (x : Bool) → cond x (wordAt b (entryPlace part n k)) 0 ≡ 0
+    go true = rw (low, high)
+    go false = refl

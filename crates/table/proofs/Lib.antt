@@ -4,3 +4,7 @@ pub mod Views
 pub mod Lowest
 pub mod Fills
 pub mod Made
+pub mod Soundness
+pub mod Follow
+pub mod Examine
+pub mod Passing

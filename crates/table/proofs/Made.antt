@@ -40,7 +40,7 @@ same-test false true e = e
 same-test false false e = refl
 
 -- all D bits, and no other
-ones : (D p : ℕ) → D < 9 → p < 8 → has (2 ^ D - 1) p ≡ ltb p D
+pub ones : (D p : ℕ) → D < 9 → p < 8 → has (2 ^ D - 1) p ≡ ltb p D
 unfolding has
 ones D p h l = same-test _ _ (at₂ 9 8 (λ D p. Bool·beq (has (2 ^ D - 1) p) (ltb p D)) refl D p h l)
 

@@ -50,6 +50,10 @@ wordAt b i = getD b i 0 + 256 * getD b (i + 1) 0
 abbrev pub putWord : List ℕ → ℕ → ℕ → List ℕ
 putWord b i c = set (set b i (c % 256)) (i + 1) (c / 256)
 
+-- the byte of a node's enable bits
+unfoldable pub enableBits : List ℕ → ℕ → ℕ
+enableBits b n = getD b (enablePlace n) 0
+
 -- the values at a node and a port or channel; nothing lies outside 256 nodes and 8 ports or channels
 unfoldable pub enabledAt : List ℕ → ℕ → ℕ → Bool
 enabledAt b n p = inTable n p && has (getD b (enablePlace n) 0) p

@@ -1,9 +1,9 @@
 // Where each value lies in the 8,449 bytes of a table, and the only code that reads and writes there.
 ghost use mathlib.Core.Path.{_≡_};
 ghost use mathlib.Core.Bool.{true, false};
-ghost use Prim.Native.Nat.{_+_, _<_, _≤_};
-ghost use lib.ListN.{length};
-ghost use Rattle.table.specs.Layout.{Within, wordAt, putWord, enablePlace, linkPlace, receivePlace, dimensionAt, enabledAt, ownerAt, receiverAt, putOwner, putReceiver, putEnabled, changed, filled, made};
+ghost use Prim.Native.Nat.{ℕ, _+_, _<_, _≤_};
+ghost use lib.ListN.{length, getD};
+ghost use Rattle.table.specs.Layout.{Within, enableBits, wordAt, putWord, enablePlace, linkPlace, receivePlace, dimensionAt, enabledAt, ownerAt, receiverAt, putOwner, putReceiver, putEnabled, changed, filled, made};
 ghost use Rattle.table.specs.View.{view, lowestChannel};
 use cube::Circuit;
 use cube::Node;
@@ -11,7 +11,7 @@ use cube::Port;
 
 // The first byte is the dimension. Then come the enable bits, a byte for each node; the circuits that hold links and those that hold
 // receive channels, a row for each node.
-const BYTES: usize = 8449;
+pub const BYTES: usize = 8449;
 
 const ENABLE: usize = 1;
 
@@ -80,6 +80,43 @@ pub fn enabled(t: &[u8], n: Node, p: Port) -> bool
 {
     let q = p.0;
     (wide(t[enable_place(n)]) >> q) % 2 == 1
+}
+
+// All enable bits of a node.
+pub fn enable_bits(t: &[u8], n: Node) -> u16
+    requires { ⌜ Within (now t) (n .0) 0 ⌝ }
+    ensures { λ r. ⌜ (r ≡ enableBits (now (t .entry)) (n .0)) × (r < 256) ⌝ }
+{
+    wide(t[enable_place(n)])
+}
+
+// The sum of the bytes of a row: 0 where nobody holds anything of it. It has no early exit, so that it can be added up in one go.
+fn row_sum(t: &[u8], from: usize) -> u16
+    requires { ⌜ from + 16 ≤ length (now t) ⌝ }
+    ensures { λ r. ⌜ (r ≡ 0 → (i : ℕ) → i < 16 → getD (now (t .entry)) (from + i) 0 ≡ 0) ⌝ }
+{
+    let mut sum: u16 = 0;
+    let mut i = 0;
+    while i < 16 {
+        sum += wide(t[from + i]);
+        i += 1;
+    }
+    sum
+}
+
+// Whether a node's links, or its receive channels, are all held by nobody. Where it says no, look at each.
+pub fn links_clear(t: &[u8], n: Node) -> bool
+    requires { ⌜ Within (now t) (n .0) 0 ⌝ }
+    ensures { λ r. ⌜ (r ≡ true → (p : ℕ) → p < 8 → ownerAt (now (t .entry)) (n .0) p ≡ 0) ⌝ }
+{
+    row_sum(t, link_place(n, Port(0))) == 0
+}
+
+pub fn receives_clear(t: &[u8], n: Node) -> bool
+    requires { ⌜ Within (now t) (n .0) 0 ⌝ }
+    ensures { λ r. ⌜ (r ≡ true → (k : ℕ) → k < 8 → receiverAt (now (t .entry)) (n .0) k ≡ 0) ⌝ }
+{
+    row_sum(t, receive_place(n, 0)) == 0
 }
 
 // Changes one enable bit.

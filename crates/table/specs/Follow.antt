@@ -1,0 +1,34 @@
+-- Following the links that a circuit holds, as the code does it: a vector of ports is a number, and 8 stands for no port.
+-- Assumes nothing.
+use mathlib.Core.Path.{_≡_}
+use mathlib.Core.Bool.{Bool, _&&_}
+use Prim.Native.Nat.{ℕ, _<_}
+use Rattle.cube.specs.Bits.{has}
+use Rattle.cube.specs.Cube.{next}
+use Rattle.cube.specs.Helical.{portsOf, firstOr}
+use Rattle.paths.specs.Network.{Path, end, links}
+use Rattle.paths.specs.Trail.{course, firstHops}
+use Rattle.table.specs.View.{View, lowest}
+use Rattle.table.specs.Sound.{net, heldBy, hasLink}
+
+-- port p is in the vector, and circuit c holds the link out of it
+unfoldable pub takes : View → ℕ → ℕ → ℕ → ℕ → Bool
+takes v c n vector p = has vector p && heldBy v c n p
+
+-- and holds the way back too
+unfoldable pub comesBack : View → ℕ → ℕ → ℕ → ℕ → Bool
+comesBack v c n vector p = takes v c n vector p && heldBy v c (next n p) p
+
+-- the way that the code follows from a node, over the ports of a vector
+unfoldable pub followed : View → ℕ → ℕ → ℕ → Path
+followed v c n vector = course 8 (net v) (portsOf 8 vector) (heldBy v c) n
+
+-- the first hop from the source, 8 where there is none
+unfoldable pub firstHop : View → ℕ → ℕ → ℕ → ℕ
+firstHop v c s vector = firstOr 8 (firstHops (net v) (portsOf 8 vector) (heldBy v c) s)
+
+-- what following gives: where it ends, and whether it passes the link out of port p of node n
+pub record Follows (v : View) (c start vector n p : ℕ) (at : ℕ) (passes : Bool) : Type 0 where
+  pub ends : at ≡ end (net v) start (followed v c start vector)
+  pub link : passes ≡ hasLink (links (net v) start (followed v c start vector)) n p
+  pub small : at < 256
