@@ -18,16 +18,16 @@ use Rattle.table.proofs.Entries.{within}
 
 -- a word written: the word there, and every byte and word apart from it
 module _ (b : List ℕ) (i c : ℕ) where
-  byte-apart : (j : ℕ) → j ≢ i → j ≢ i + 1 → getD (putWord b i c) j 0 ≡ getD b j 0
+  pub byte-apart : (j : ℕ) → j ≢ i → j ≢ i + 1 → getD (putWord b i c) j 0 ≡ getD b j 0
   byte-apart j h k = getD-set-other (set b i (c % 256)) (i + 1) j (c / 256) 0 k ∙ getD-set-other b i j (c % 256) 0 h
 
-  word-same : i + 1 < length b → c < 65536 → wordAt (putWord b i c) i ≡ c
+  pub word-same : i + 1 < length b → c < 65536 → wordAt (putWord b i c) i ≡ c
   word-same h l =
       let low : getD (putWord b i c) i 0 ≡ c % 256 = getD-set-other (set b i (c % 256)) (i + 1) i (c / 256) 0 (λ e. omega arith) ∙ getD-set-same b i (c % 256) 0 (omega arith) in
       let high : getD (putWord b i c) (i + 1) 0 ≡ c / 256 = getD-set-same (set b i (c % 256)) (i + 1) (c / 256) 0 (rw (length-set b i (c % 256)) h) in
       rw (low, high) (omega arith)
 
-  word-apart : (j : ℕ) → (j + 1 < i) ⊎ (i + 1 < j) → wordAt (putWord b i c) j ≡ wordAt b j
+  pub word-apart : (j : ℕ) → (j + 1 < i) ⊎ (i + 1 < j) → wordAt (putWord b i c) j ≡ wordAt b j
   word-apart j h =
       let low = byte-apart j (λ e. off h e) (λ e. off′ h e) in
       let high = byte-apart (j + 1) (λ e. off″ h e) (λ e. off‴ h e) in

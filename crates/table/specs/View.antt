@@ -30,6 +30,16 @@ setReceiver v n k c = record { dimension = v .dimension; enabled = v .enabled; o
 unfoldable pub setEnabled : View → ℕ → ℕ → Bool → View
 setEnabled v n p on = record { dimension = v .dimension; enabled = setAt (v .enabled) n p on; owner = v .owner; receiver = v .receiver }
 
+-- every entry of a circuit freed
+unfoldable pub freeing : View → ℕ → View
+freeing v c =
+    record {
+      dimension = v .dimension;
+      enabled = v .enabled;
+      owner = λ n p. cond (eqb (v .owner n p) c) 0 (v .owner n p);
+      receiver = λ n k. cond (eqb (v .receiver n k) c) 0 (v .receiver n k);
+    }
+
 -- "a receive channel is available": no circuit holds it
 unfoldable pub available : View → ℕ → ℕ → Bool
 available v n k = eqb (v .receiver n k) 0

@@ -3,7 +3,7 @@ ghost use mathlib.Core.Path.{_≡_};
 ghost use mathlib.Core.Bool.{true, false};
 ghost use Prim.Native.Nat.{ℕ, _+_, _<_, _≤_};
 ghost use lib.ListN.{length, getD};
-ghost use Rattle.table.specs.Layout.{Within, enableBits, wordAt, putWord, enablePlace, linkPlace, receivePlace, dimensionAt, enabledAt, ownerAt, receiverAt, putOwner, putReceiver, putEnabled, changed, filled, made};
+ghost use Rattle.table.specs.Layout.{Within, enableBits, wordAt, putWord, enablePlace, linkPlace, receivePlace, dimensionAt, enabledAt, ownerAt, receiverAt, putOwner, putReceiver, putEnabled, changed, freeWord, freed, filled, made};
 ghost use Rattle.table.specs.View.{view, lowestChannel};
 use cube::Circuit;
 use cube::Node;
@@ -22,6 +22,9 @@ const RECEIVES: usize = 4353;
 const ROW: usize = 16;
 
 const ENTRY: usize = 2;
+
+// Links and receive channels together.
+const ENTRIES: usize = 4096;
 
 fn wide(x: u8) -> u16
     ensures { λ r. ⌜ (r ≡ x) × (r < 256) ⌝ }
@@ -190,6 +193,27 @@ pub fn free_channel(t: &[u8], n: Node) -> u16
         k += 1;
     }
     k
+}
+
+fn free_entry(t: &mut [u8], at: usize, c: Circuit)
+    requires { ⌜ at + 1 < length (now t) ⌝ }
+    ensures { λ _. ⌜ now (t .exit) ≡ freeWord (c .0) (now (t .entry)) at ⌝ }
+{
+    if word(t, at) == c.0 {
+        put_word(t, at, 0);
+    }
+}
+
+// Frees every link and receive channel that a circuit holds.
+pub fn release(t: &mut [u8], c: Circuit)
+    requires { ⌜ length (now t) ≡ 8449 ⌝ }
+    ensures { λ _. ⌜ now (t .exit) ≡ freed (now (t .entry)) (c .0) ⌝ }
+{
+    let mut i: usize = 0;
+    while i < ENTRIES {
+        free_entry(t, LINKS + ENTRY * i, c);
+        i += 1;
+    }
 }
 
 fn fill(t: &mut [u8], from: usize, to: usize, value: u8)

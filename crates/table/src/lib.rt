@@ -14,6 +14,7 @@ pub use layout::make;
 pub use layout::owner;
 pub use layout::receiver;
 pub use layout::receives_clear;
+pub use layout::release;
 pub use layout::set_owner;
 pub use layout::set_receiver;
 pub use sound::check;
