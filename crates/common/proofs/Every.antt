@@ -11,11 +11,7 @@ use native.Mathlib.Numerals.{add-one}
 use lib.Dec.{eqb}
 use lib.ListN.{length, getD}
 use borrow.Author.Tests.{eqb-true}
-
--- the test passes at every number below n
-abbrev pub every : ℕ → (ℕ → Bool) → Bool
-every zero f = true
-every (suc n) f = f n && every n f
+use Rattle.common.specs.Lists.{every}
 
 pub at : (n : ℕ) (f : ℕ → Bool) → every n f ≡ true → (k : ℕ) → k < n → f k ≡ true
 at zero f t k h = absurd (not-suc-le-zero h)

@@ -24,10 +24,10 @@ clash e f = true≢false (sym e ∙ f)
 
 -- an answer that is known decides
 pub decided-yes : {P : Type 0} → P → Decides P true
-decided-yes p = record { yes′ = λ e. p; no′ = λ e. absurd (true≢false e) }
+decided-yes p = record { holds = λ e. p; fails = λ e. absurd (true≢false e) }
 
 pub decided-no : {P : Type 0} → (P → ⊥) → Decides P false
-decided-no h = record { yes′ = λ e. absurd (true≢false (sym e)); no′ = λ e. h }
+decided-no h = record { holds = λ e. absurd (true≢false (sym e)); fails = λ e. h }
 
 pub refused : {b : Bool} (n : ℕ) (ts : List Test) → b ≡ true → refusal (test b n ∷ ts) ≡ n
 unfolding refusal

@@ -4,5 +4,5 @@ use mathlib.Core.Path.{_≡_}
 use mathlib.Core.Bool.{Bool, true, false}
 
 pub record Decides (P : Type 0) (answer : Bool) : Type 0 where
-  pub yes′ : answer ≡ true → P
-  pub no′ : answer ≡ false → P → ⊥
+  pub holds : answer ≡ true → P
+  pub fails : answer ≡ false → P → ⊥

@@ -1,6 +1,6 @@
 -- Lists of numbers, as the definitions of the other crates use them.
 -- Assumes nothing.
-use mathlib.Core.Bool.{Bool, cond}
+use mathlib.Core.Bool.{Bool, cond, true, _&&_}
 use mathlib.Core.List.{List, [], _∷_, List·Memᴰ}
 use Prim.Native.Nat.{ℕ, zero, suc}
 
@@ -23,3 +23,8 @@ from s (suc k) = s ∷ from (suc s) k
 unfoldable pub Sorted : {A : Type 0} → (A → A → Type 0) → List A → Type 0
 Sorted R [] = Unit
 Sorted R (x ∷ xs) = ((y : _) → y ∈ xs → R x y) × Sorted R xs
+
+-- the test passes at every number below n
+abbrev pub every : ℕ → (ℕ → Bool) → Bool
+every zero f = true
+every (suc n) f = f n && every n f

@@ -15,11 +15,11 @@ use Rattle.common.proofs.Tests.{same?, clash}
 use Rattle.common.proofs.Lists.{keep-nil, keep-yes, keep-no, keep-mem, mem-keep, length-keep}
 use Rattle.cube.specs.Bits.{bitAt, flip}
 use Rattle.cube.proofs.Bits.{bit-flipped, bit-kept, bit-lt}
-use Rattle.paths.specs.Network.{Network, Path, Link, offered, links, Nearing}
+use Rattle.paths.specs.Network.{Network, Path, Link, offered, links, Nearing, Exactly}
 use Rattle.paths.specs.Permitted.{Onward, Permitted}
 use Rattle.paths.specs.CubeNetwork.{Shape, network}
 use Rattle.paths.specs.Bound.{Cubical}
-use Rattle.paths.specs.Trail.{Exactly, hop, dropPort, course, firstHops, trail, Apart, LaterApart}
+use Rattle.paths.specs.Trail.{hop, dropPort, course, firstHops, trail, Apart, LaterApart}
 use Rattle.paths.proofs.Links.{On, on-cases, on-first, on-later, on-none, onward-near, onward-once}
 use Rattle.paths.proofs.Bound.{far-width}
 use Rattle.paths.proofs.CubeNetwork.{cube-nearing, cube-cubical}

@@ -39,6 +39,11 @@ unfoldable pub links : Network → ℕ → Path → List Link
 links N n [] = []
 links N n (p ∷ w) = (n, p) ∷ links N (N .next n p) w
 
+-- the links that pass a test are exactly those of the path w from s
+pub record Exactly (N : Network) (s : ℕ) (w : Path) (own : ℕ → ℕ → Bool) : Type 0 where
+  pub all : (m q : ℕ) → (m, q) ∈ links N s w → own m q ≡ true
+  pub only : (m q : ℕ) → own m q ≡ true → (m, q) ∈ links N s w
+
 -- The state of a link, from whether it is enabled and which circuit holds it (0: none). "A link is free if enabled and held by nobody."
 pub data LinkState : Type 0 where
   link-free link-held link-blocked : LinkState

@@ -19,7 +19,8 @@ use Rattle.paths.specs.CubeNetwork.{network}
 use Rattle.paths.specs.Trail.{hop, course, firstHops, trail}
 use Rattle.paths.proofs.Trail.{course-fuel}
 use Rattle.table.specs.View.{View}
-use Rattle.table.specs.Sound.{shapeOf, net, heldBy, endFor, pathOf, isEmpty, hasLink, channelsHeld, standing, Examined, linkTest, receiveTest}
+use Rattle.table.specs.Sound.{shapeOf, net, heldBy, endFor}
+use Rattle.table.specs.SoundTest.{pathOf, isEmpty, hasLink, channelsHeld, reaches, Examined, linkTest, receiveTest}
 use Rattle.table.specs.Follow.{followed, firstHop, Follows}
 use Rattle.table.proofs.Made.{ones}
 use Rattle.table.proofs.Follow.{first-none, first-is, hop-port}
@@ -61,17 +62,17 @@ module _ (v : View) (h : v .dimension < 9) (c : ℕ) where
 
   -- the three ends of looking at it
   pub examined-large : (n p : ℕ) → 8 * 2 ^ v .dimension < c → Examined v c n p false 0 false
-  examined-large n p l = record { is-standing = unfold standing in rw (lt-leb c (8 * 2 ^ v .dimension) l); ends = λ e. absurd (mathlib.Core.Bool.false≢true e); link = λ e. absurd (mathlib.Core.Bool.false≢true e) }
+  examined-large n p l = record { does-reach = unfold reaches in rw (lt-leb c (8 * 2 ^ v .dimension) l); ends = λ e. absurd (mathlib.Core.Bool.false≢true e); link = λ e. absurd (mathlib.Core.Bool.false≢true e) }
 
   pub examined-none : (n p a : ℕ) → c ≤ 8 * 2 ^ v .dimension → a ≡ firstHop v c (sourceOf c) (allPorts v) → 8 ≤ a → Examined v c n p false 0 false
   examined-none n p a l e g =
-      record { is-standing = unfold standing isEmpty in rw (le-leb c (8 * 2 ^ v .dimension) l, path-none a e g); ends = λ e. absurd (mathlib.Core.Bool.false≢true e); link = λ e. absurd (mathlib.Core.Bool.false≢true e) }
+      record { does-reach = unfold reaches isEmpty in rw (le-leb c (8 * 2 ^ v .dimension) l, path-none a e g); ends = λ e. absurd (mathlib.Core.Bool.false≢true e); link = λ e. absurd (mathlib.Core.Bool.false≢true e) }
 
   pub examined : (n p a at count : ℕ) (first passes : Bool) → c ≤ 8 * 2 ^ v .dimension → a ≡ firstHop v c (sourceOf c) (allPorts v) → a < 8
       → Follows v c (next (sourceOf c) a) (allPorts v) n p at passes → count ≡ channelsHeld v c at → first ≡ (eqb n (sourceOf c) && eqb p a) → Examined v c n p (eqb count 1) at (first || passes)
   examined n p a at count first passes l e g f k q =
       record {
-        is-standing = unfold standing in rw (le-leb c (8 * 2 ^ v .dimension) l, not-empty) (ap (λ x. eqb x 1) (k ∙ ap (channelsHeld v c) ends-at));
+        does-reach = unfold reaches in rw (le-leb c (8 * 2 ^ v .dimension) l, not-empty) (ap (λ x. eqb x 1) (k ∙ ap (channelsHeld v c) ends-at));
         ends = λ z. ends-at;
         link = λ z. unfold links hasLink network in rw (path-first a e g, q, f .link);
       }
@@ -112,7 +113,7 @@ module _ (v : View) (n p D c : ℕ) (b : Bool) (d : D ≡ v .dimension) (held : 
   unfolding linkTest
   outside e = rw (sym (ap (λ x. ltb n (2 ^ x) && ltb p x) d) ∙ sym q ∙ e, held)
 
-  within : b ≡ true → (eqb c 0 || (v .enabled n p && (standing v c && hasLink (links (net v) (sourceOf c) (pathOf v c)) n p))) ≡ linkTest v n p
+  within : b ≡ true → (eqb c 0 || (v .enabled n p && (reaches v c && hasLink (links (net v) (sourceOf c) (pathOf v c)) n p))) ≡ linkTest v n p
   unfolding linkTest
   within e = rw (sym (ap (λ x. ltb n (2 ^ x) && ltb p x) d) ∙ sym q ∙ e, held)
 
@@ -129,10 +130,10 @@ module _ (v : View) (n p D c : ℕ) (b : Bool) (d : D ≡ v .dimension) (held : 
   link-disabled e z a = rw (← within e, ne-eqb c 0 z, a)
 
   pub link-stands : {stands passes : Bool} {at : ℕ} → b ≡ true → c ≢ 0 → v .enabled n p ≡ true → Examined v c n p stands at passes → stands ≡ true → passes ≡ linkTest v n p
-  link-stands e z a x s = x .link s ∙ rw (← within e, ne-eqb c 0 z, a, ← x .is-standing, s)
+  link-stands e z a x s = x .link s ∙ rw (← within e, ne-eqb c 0 z, a, ← x .does-reach, s)
 
   pub link-falls : {stands passes : Bool} {at : ℕ} → b ≡ true → c ≢ 0 → v .enabled n p ≡ true → Examined v c n p stands at passes → stands ≡ false → false ≡ linkTest v n p
-  link-falls e z a x s = rw (← within e, ne-eqb c 0 z, a, ← x .is-standing, s)
+  link-falls e z a x s = rw (← within e, ne-eqb c 0 z, a, ← x .does-reach, s)
 
 -- the test of one receive channel, branch by branch
 module _ (v : View) (n k D c nodes : ℕ) (d : D ≡ v .dimension) (held : c ≡ v .receiver n k) (m : nodes ≡ 2 ^ D) where
@@ -140,7 +141,7 @@ module _ (v : View) (n k D c nodes : ℕ) (d : D ≡ v .dimension) (held : c ≡
   unfolding receiveTest
   receive-absent l = rw (sym (ap (λ x. ltb n (2 ^ x)) d) ∙ ap (ltb n) (sym m) ∙ le-ltb n nodes l, held)
 
-  present : n < nodes → (eqb c 0 || (standing v c && eqb n (endFor v c (pathOf v c)))) ≡ receiveTest v n k
+  present : n < nodes → (eqb c 0 || (reaches v c && eqb n (endFor v c (pathOf v c)))) ≡ receiveTest v n k
   unfolding receiveTest
   present l = rw (sym (ap (λ x. ltb n (2 ^ x)) d) ∙ ap (ltb n) (sym m) ∙ lt-ltb n nodes l, held)
 
@@ -148,7 +149,7 @@ module _ (v : View) (n k D c nodes : ℕ) (d : D ≡ v .dimension) (held : c ≡
   receive-free l z = rw (← present l, eq-eqb c 0 z)
 
   pub receive-stands : {stands passes : Bool} {at q : ℕ} → n < nodes → c ≢ 0 → Examined v c n q stands at passes → stands ≡ true → eqb n at ≡ receiveTest v n k
-  receive-stands l z x s = rw (← present l, ne-eqb c 0 z, ← x .is-standing, s) (ap (eqb n) (x .ends s))
+  receive-stands l z x s = rw (← present l, ne-eqb c 0 z, ← x .does-reach, s) (ap (eqb n) (x .ends s))
 
   pub receive-falls : {stands passes : Bool} {at q : ℕ} → n < nodes → c ≢ 0 → Examined v c n q stands at passes → stands ≡ false → false ≡ receiveTest v n k
-  receive-falls l z x s = rw (← present l, ne-eqb c 0 z, ← x .is-standing, s)
+  receive-falls l z x s = rw (← present l, ne-eqb c 0 z, ← x .does-reach, s)

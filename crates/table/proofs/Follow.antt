@@ -21,7 +21,8 @@ use Rattle.paths.specs.CubeNetwork.{network}
 use Rattle.paths.specs.Trail.{dropPort, course, firstHops}
 use Rattle.paths.proofs.Trail.{course-fuel, course-none, course-some, drop-shorter}
 use Rattle.table.specs.View.{View, lowest}
-use Rattle.table.specs.Sound.{net, heldBy, hasLink}
+use Rattle.table.specs.Sound.{net, heldBy}
+use Rattle.table.specs.SoundTest.{hasLink}
 use Rattle.table.specs.Follow.{takes, comesBack, followed, firstHop}
 
 module _ (v : View) (c n vector p : ℕ) where

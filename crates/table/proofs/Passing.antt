@@ -2,7 +2,7 @@
 -- Assumes nothing.
 use mathlib.Core.Path.{_≡_, refl, sym, _∙_, ap}
 use mathlib.Core.Bool.{Bool, true, false, cond, _&&_, not, and-eq-true-iff}
-use mathlib.Core.List.{List}
+use mathlib.Core.List.{List, [], _∷_}
 use mathlib.Core.Logic.{_≢_}
 use Prim.Native.Nat.{ℕ, _^_, _≤_, _<_}
 use native.Mathlib.Omega.{arith}
@@ -11,14 +11,17 @@ use lib.ListN.{length}
 use lib.Pow.{pow-pos}
 use borrow.Author.Tests.{lt-ltb, le-ltb, ltb-true, ltb-false, eq-eqb, ne-eqb, le-leb, lt-leb}
 use Rattle.common.specs.Decides.{Decides}
-use Rattle.common.specs.Tests.{refusal}
+use Rattle.common.specs.Tests.{refusal, test}
 use Rattle.common.proofs.Tests.{clash, refused, passed, accepted}
-use Rattle.common.proofs.Every.{every, at, all}
+use Rattle.common.specs.Lists.{every}
+use Rattle.common.proofs.Every.{at, all}
 use Rattle.cube.specs.Bits.{has}
 use Rattle.cube.proofs.Bits.{high-has}
 use Rattle.table.specs.Layout.{dimensionAt, enabledAt, enableBits, enablePlace, ownerAt, receiverAt, entryAt, inTable, tableLength}
 use Rattle.table.specs.View.{View, view}
-use Rattle.table.specs.Sound.{linkTest, receiveTest, Framed, Sound, EntriesPass, soundTest, LinksPass, ReceivesPass, NodePasses, tableTests, TableAnswer}
+use Rattle.table.specs.Sound.{Sound}
+use Rattle.table.specs.SoundTest.{linkTest, receiveTest, soundTest, LinksPass, ReceivesPass, NodePasses, tableTests, TableAnswer}
+use Rattle.table.proofs.Soundness.{Framed, EntriesPass}
 use Rattle.table.proofs.Soundness.{sound-entries, entries-sound}
 use Rattle.table.proofs.Examine.{link-free, link-held-outside, receive-free, receive-absent}
 
@@ -80,8 +83,8 @@ module _ (v : View) where
   unfolding LinksPass ReceivesPass
   tested fits framed =
       record {
-        yes′ = λ t. entries-sound v fits framed record { links-pass = λ n p l. pass-nodes t n l .of-links p; receives-pass = λ n k l. pass-nodes t n l .of-receives k };
-        no′ = λ t s.
+        holds = λ t. entries-sound v fits framed record { links-pass = λ n p l. pass-nodes t n l .of-links p; receives-pass = λ n k l. pass-nodes t n l .of-receives k };
+        fails = λ t s.
             let e = sound-entries v s in
             clash (sym (nodes-pass (λ n l. record { of-links = λ p. e .links-pass n p l; of-receives = λ k. e .receives-pass n k l }))) t;
       }
@@ -100,26 +103,39 @@ view-framed b = record { no-link = λ n p h. (rw (outside n p h), rw (outside n 
 
 -- the answers of checking a table
 module _ (b : List ℕ) where
-  answers : (r : ℕ) → r ≡ refusal (tableTests b) → TableAnswer b r
-  unfolding view
-  answers r e = record { tests = e; of-sound = λ l. tested (view b) l (view-framed b) }
+  pub wrong-length : length b ≢ tableLength → TableAnswer b 1
+  wrong-length h =
+      record {
+        tests = unfold tableTests in sym (refused 1 _ (rw (ne-eqb (length b) tableLength h)));
+        sound = λ e. absurd (omega arith);
+        not-sound = λ e. absurd (omega arith);
+      }
 
-  pub wrong-length : length b ≢ 8449 → TableAnswer b 1
-  wrong-length h = answers 1 (unfold tableTests in sym (refused 1 _ (rw (ne-eqb (length b) tableLength h))))
+  second : length b ≡ tableLength → not (leb 1 (dimensionAt b) && leb (dimensionAt b) 8) ≡ true → TableAnswer b 2
+  second l e =
+      record {
+        tests = unfold tableTests in sym (passed 1 _ (rw (eq-eqb (length b) tableLength l)) ∙ refused 2 _ e);
+        sound = λ e. absurd (omega arith);
+        not-sound = λ e. absurd (omega arith);
+      }
 
-  pub no-dimension : length b ≡ 8449 → dimensionAt b < 1 → TableAnswer b 2
-  no-dimension l h = answers 2 (unfold tableTests in sym (passed 1 _ (rw (eq-eqb (length b) tableLength l)) ∙ refused 2 _ (rw (lt-leb 1 (dimensionAt b) h))))
+  pub no-dimension : length b ≡ tableLength → dimensionAt b < 1 → TableAnswer b 2
+  no-dimension l h = second l (rw (lt-leb 1 (dimensionAt b) h))
 
-  pub large-dimension : length b ≡ 8449 → 1 ≤ dimensionAt b → 8 < dimensionAt b → TableAnswer b 2
-  large-dimension l k h = answers 2 (unfold tableTests in sym (passed 1 _ (rw (eq-eqb (length b) tableLength l)) ∙ refused 2 _ (rw (le-leb 1 (dimensionAt b) k, lt-leb (dimensionAt b) 8 h))))
+  pub large-dimension : length b ≡ tableLength → 1 ≤ dimensionAt b → 8 < dimensionAt b → TableAnswer b 2
+  large-dimension l k h = second l (rw (le-leb 1 (dimensionAt b) k, lt-leb (dimensionAt b) 8 h))
 
-  module _ (l : length b ≡ 8449) (k : 1 ≤ dimensionAt b) (h : dimensionAt b ≤ 8) where
-    third : refusal (tableTests b) ≡ refusal (mathlib.Core.List._∷_ (Rattle.common.specs.Tests.test (not (soundTest (view b))) 3) mathlib.Core.List.[])
+  module _ (l : length b ≡ tableLength) (k : 1 ≤ dimensionAt b) (h : dimensionAt b ≤ 8) where
+    third : refusal (tableTests b) ≡ refusal (test (not (soundTest (view b))) 3 ∷ [])
     unfolding tableTests
     third = passed 1 _ (rw (eq-eqb (length b) tableLength l)) ∙ passed 2 _ (rw (le-leb 1 (dimensionAt b) k, le-leb (dimensionAt b) 8 h))
 
+    decided : Decides (Sound (view b)) (soundTest (view b))
+    unfolding view
+    decided = tested (view b) h (view-framed b)
+
     pub not-sound : soundTest (view b) ≡ false → TableAnswer b 3
-    not-sound e = answers 3 (sym (third ∙ refused 3 _ (rw e)))
+    not-sound e = record { tests = sym (third ∙ refused 3 _ (rw e)); sound = λ e. absurd (omega arith); not-sound = λ z. decided .fails e }
 
     pub usable : soundTest (view b) ≡ true → TableAnswer b 0
-    usable e = answers 0 (sym (third ∙ passed 3 _ (rw e) ∙ accepted))
+    usable e = record { tests = sym (third ∙ passed 3 _ (rw e) ∙ accepted); sound = λ z. decided .holds e; not-sound = λ z. absurd (omega arith) }

@@ -15,15 +15,26 @@ use Rattle.common.proofs.Tests.{same?, clash}
 use Rattle.common.proofs.Every.{decide₂}
 use Rattle.common.proofs.Lists.{keep-mem, mem-keep, keep-sorted, from-mem, mem-from, from-sorted}
 use Rattle.cube.specs.Cube.{sourceOf}
-use Rattle.paths.specs.Network.{Network, Path, Link, end, links}
+use Rattle.paths.specs.Network.{Network, Path, Link, Exactly, end, links}
 use Rattle.paths.specs.Permitted.{Permitted}
 use Rattle.paths.specs.CubeNetwork.{Shape, network}
-use Rattle.paths.specs.Trail.{Exactly, trail}
+use Rattle.paths.specs.Trail.{trail}
 use Rattle.paths.proofs.Links.{On}
 use Rattle.paths.proofs.Apart.{apart-permitted}
 use Rattle.paths.proofs.Trail.{trail-finds, trail-owned, trail-apart}
-use Rattle.table.specs.View.{View}
-use Rattle.table.specs.Sound.{shapeOf, net, heldBy, endFor, Stands, Nowhere, Sound, pathOf, isEmpty, hasLink, channelsHeld, standing, linkTest, receiveTest, Framed, EntriesPass}
+use Rattle.table.specs.View.{View, fresh}
+use Rattle.table.specs.Sound.{shapeOf, net, heldBy, endFor, Stands, Nowhere, Sound}
+use Rattle.table.specs.SoundTest.{pathOf, isEmpty, hasLink, channelsHeld, reaches, linkTest, receiveTest}
+
+-- what lies in a table: nothing outside 256 nodes and 8 ports or channels
+pub record Framed (v : View) : Type 0 where
+  pub no-link : (n p : ℕ) → ((n < 256) × (p < 8) → ⊥) → (v .enabled n p ≡ false) × (v .owner n p ≡ 0)
+  pub no-receive : (n k : ℕ) → ((n < 256) × (k < 8) → ⊥) → v .receiver n k ≡ 0
+
+-- the test passes at every entry
+pub record EntriesPass (v : View) : Type 0 where
+  pub links-pass : (n p : ℕ) → n < 256 → p < 8 → linkTest v n p ≡ true
+  pub receives-pass : (n k : ℕ) → n < 256 → k < 8 → receiveTest v n k ≡ true
 
 -- tests joined
 both : (a b : Bool) → a && b ≡ true → (a ≡ true) × (b ≡ true)
@@ -114,9 +125,9 @@ module _ (v : View) where
   unfolding pathOf
   path-is c s = trail-finds (shapeOf v) (heldBy v c) (sourceOf c) (endFor v c (s .path)) (s .path) (s .permitted) (s .exactly)
 
-  standing-passes : (c : ℕ) → c ≤ 8 * 2 ^ v .dimension → Stands v c → standing v c ≡ true
-  unfolding standing channelsHeld
-  standing-passes c h s =
+  reaches-passes : (c : ℕ) → c ≤ 8 * 2 ^ v .dimension → Stands v c → reaches v c ≡ true
+  unfolding reaches channelsHeld
+  reaches-passes c h s =
       and (le-leb c _ h)
       (rw (path-is c s)
       (and (some-hop (net v) (sourceOf c) (from 0 (v .dimension)) (endFor v c (s .path)) (s .path) (s .permitted))
@@ -147,7 +158,7 @@ module _ (v : View) where
       go true e (inr h) =
           let s = link-stands sound n p h in
           rw e
-          (or-right (eqb (v .owner n p) 0) (and (sound .held-enabled n p h) (and (standing-passes _ (sound .link-number n p) s)
+          (or-right (eqb (v .owner n p) 0) (and (sound .held-enabled n p h) (and (reaches-passes _ (sound .link-number n p) s)
           (rw (path-is _ s) (link-true _ n p (s .exactly .only n p (eq-eqb (v .owner n p) _ refl)))))))
       go false e z = let h = beyond e in absent-passes n p h (sound .absent-link n p h)
 
@@ -159,7 +170,7 @@ module _ (v : View) where
       go true e (inl z) = rw e (or-left _ (eq-eqb _ 0 z))
       go true e (inr h) =
           let s = receive-stands sound n k h in
-          rw e (or-right (eqb (v .receiver n k) 0) (and (standing-passes _ (sound .receive-number n k) s) (rw (path-is _ s) (eq-eqb n _ (s .once n k refl .0)))))
+          rw e (or-right (eqb (v .receiver n k) 0) (and (reaches-passes _ (sound .receive-number n k) s) (rw (path-is _ s) (eq-eqb n _ (s .once n k refl .0)))))
       go false e z = let h : n < 2 ^ v .dimension → ⊥ = λ l. clash (lt-ltb n _ l) e in absent-receives n k h (sound .absent-receive n k h)
 
   pub sound-entries : Sound v → EntriesPass v
@@ -169,7 +180,7 @@ module _ (v : View) where
   record LinkFacts (n p : ℕ) : Type 0 where
     there : (n < 2 ^ v .dimension) × (p < v .dimension)
     on : v .enabled n p ≡ true
-    stands : standing v (v .owner n p) ≡ true
+    stands : reaches v (v .owner n p) ≡ true
     passed : (n, p) ∈ links (net v) (sourceOf (v .owner n p)) (pathOf v (v .owner n p))
 
   link-facts : (n p : ℕ) → linkTest v n p ≡ true → v .owner n p ≢ 0 → LinkFacts n p
@@ -179,7 +190,7 @@ module _ (v : View) where
       go : (b : Bool) → ltb n (2 ^ v .dimension) && ltb p (v .dimension) ≡ b → LinkFacts n p
       go true e =
           ⊎-elim (λ z. absurd (h (eqb-true _ 0 z)))
-          (λ r. let a = both (v .enabled n p) _ r in let b = both (standing v (v .owner n p)) _ (a .1) in
+          (λ r. let a = both (v .enabled n p) _ r in let b = both (reaches v (v .owner n p)) _ (a .1) in
           record { there = within e; on = a .0; stands = b .0; passed = true-link _ n p (b .1) })
           (either (eqb (v .owner n p) 0) _ (rw e at t))
       go false e = absurd (h (eqb-true _ 0 (both (not (v .enabled n p)) _ (rw e at t) .1)))
@@ -192,7 +203,7 @@ module _ (v : View) where
       (not-true _ (r .0), eqb-true _ 0 (r .1))
 
   record ReceiveFacts (n k : ℕ) : Type 0 where
-    stands : standing v (v .receiver n k) ≡ true
+    stands : reaches v (v .receiver n k) ≡ true
     ends : n ≡ endFor v (v .receiver n k) (pathOf v (v .receiver n k))
 
   receive-facts : (n k : ℕ) → receiveTest v n k ≡ true → v .receiver n k ≢ 0 → ReceiveFacts n k
@@ -201,7 +212,7 @@ module _ (v : View) where
     where
       go : (b : Bool) → ltb n (2 ^ v .dimension) ≡ b → ReceiveFacts n k
       go true e =
-          ⊎-elim (λ z. absurd (h (eqb-true _ 0 z))) (λ r. let a = both (standing v (v .receiver n k)) _ r in record { stands = a .0; ends = eqb-true n _ (a .1) })
+          ⊎-elim (λ z. absurd (h (eqb-true _ 0 z))) (λ r. let a = both (reaches v (v .receiver n k)) _ r in record { stands = a .0; ends = eqb-true n _ (a .1) })
           (either (eqb (v .receiver n k) 0) _ (rw e at t))
       go false e = absurd (h (eqb-true _ 0 (rw e at t)))
 
@@ -211,8 +222,8 @@ module _ (v : View) where
 
   module _ (links-pass : (n p : ℕ) → linkTest v n p ≡ true) (receives-pass : (n k : ℕ) → receiveTest v n k ≡ true) (framed : Framed v) where
     -- a number that passes the test stands
-    passes-stands : (c : ℕ) → c ≢ 0 → standing v c ≡ true → Stands v c
-    unfolding standing channelsHeld
+    passes-stands : (c : ℕ) → c ≢ 0 → reaches v c ≡ true → Stands v c
+    unfolding reaches channelsHeld
     passes-stands c h e =
         let w = pathOf v c in
         let a = both (leb c (8 * 2 ^ v .dimension)) _ e in
@@ -240,8 +251,8 @@ module _ (v : View) where
             let at : n ≡ endFor v c (pathOf v c) = subst (λ (d : ℕ). n ≡ endFor v d (pathOf v d)) x (f .ends) in
             (at, one k (⊎-elim (λ i. i .1) (λ i. absurd (h (sym x ∙ framed .no-receive n k i))) (placed n k)) (eq-eqb _ c (subst (λ (m : ℕ). v .receiver m k ≡ c) at x)))
 
-    number-small : (c : ℕ) → standing v c ≡ true → c ≤ 8 * 2 ^ v .dimension
-    unfolding standing
+    number-small : (c : ℕ) → reaches v c ≡ true → c ≤ 8 * 2 ^ v .dimension
+    unfolding reaches
     number-small c e = leb-true c _ (both (leb c (8 * 2 ^ v .dimension)) _ e .0)
 
     numbers-stand : (c : ℕ) → c ≢ 0 → Nowhere v c ⊎ Stands v c
@@ -294,3 +305,16 @@ module _ (v : View) where
   -- In a sound table a circuit that occurs has exactly one path and one receive channel.
   pub stands-once : (c : ℕ) (s r : Stands v c) → (s .path ≡ r .path) × (s .channel ≡ r .channel)
   stands-once c s r = (sym (path-is c s) ∙ path-is c r, r .once (endFor v c (s .path)) (s .channel) (s .receives) .1)
+
+-- A made table is sound.
+pub fresh-sound : (D : ℕ) → Sound (fresh D)
+unfolding fresh
+fresh-sound D =
+    record {
+      absent-link = λ n p h. (is-false (ltb n (2 ^ D) && ltb p D) (λ e. h (within e)), refl);
+      absent-receive = λ n k h. refl;
+      held-enabled = λ n p h. absurd (h refl);
+      link-number = λ n p. omega arith;
+      receive-number = λ n k. omega arith;
+      numbers = λ c h. inl (λ n p e. h (sym e), λ n k e. h (sym e));
+    }

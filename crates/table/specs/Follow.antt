@@ -9,7 +9,8 @@ use Rattle.cube.specs.Helical.{portsOf, firstOr}
 use Rattle.paths.specs.Network.{Path, end, links}
 use Rattle.paths.specs.Trail.{course, firstHops}
 use Rattle.table.specs.View.{View, lowest}
-use Rattle.table.specs.Sound.{net, heldBy, hasLink}
+use Rattle.table.specs.Sound.{net, heldBy}
+use Rattle.table.specs.SoundTest.{hasLink}
 
 -- port p is in the vector, and circuit c holds the link out of it
 unfoldable pub takes : View → ℕ → ℕ → ℕ → ℕ → Bool

@@ -1,4 +1,4 @@
--- Document 01, "The cube and its table": where each value lies in the 8,449 bytes. No other file knows an offset.
+-- Document 01, "The cube and its table": where each value lies in the 8,449 bytes. No other definition knows an offset, and no code but layout.rt.
 -- Assumes nothing.
 use mathlib.Core.Bool.{Bool, true, false, cond, _&&_}
 use mathlib.Core.Path.{_≡_}
@@ -12,7 +12,7 @@ use Rattle.cube.specs.Bits.{has, flip, withBit}
 abbrev pub tableLength : ℕ
 tableLength = 8449
 
--- a table has room for 256 nodes, each with 8 ports, 8 send channels and 8 receive channels
+-- a table has room for 256 nodes, each with 8 ports and 8 receive channels
 abbrev pub inTable : ℕ → ℕ → Bool
 inTable n p = ltb n 256 && ltb p 8
 
@@ -106,6 +106,6 @@ freed b c = freeFrom c b linkPart 4096
 
 -- what the functions over one entry ask: a table's bytes, a node and a port or channel within them
 pub record Within (b : List ℕ) (n p : ℕ) : Type 0 where
-  pub bytes : length b ≡ 8449
+  pub bytes : length b ≡ tableLength
   pub node : n < 256
   pub port : p < 8

@@ -2,4 +2,5 @@
 pub mod Layout
 pub mod View
 pub mod Sound
+pub mod SoundTest
 pub mod Follow

@@ -1,5 +1,5 @@
 -- What a table shows, whatever the layout of its bytes: its dimension, which links are enabled, and who holds links and receive channels.
--- It is changed only through the setters below.
+-- It is changed only through the functions below.
 -- Assumes nothing.
 use mathlib.Core.Bool.{Bool, true, false, cond, _&&_}
 use mathlib.Core.List.{List}
@@ -40,11 +40,11 @@ freeing v c =
       receiver = λ n k. cond (eqb (v .receiver n k) c) 0 (v .receiver n k);
     }
 
--- "a receive channel is available": no circuit holds it
+-- a receive channel "that no circuit holds"
 unfoldable pub available : View → ℕ → ℕ → Bool
 available v n k = eqb (v .receiver n k) 0
 
--- the first number from i on that passes a test, of k tried; i + k where none does
+-- of k numbers from i on, the first that passes a test; i + k where none does
 unfoldable pub lowest : (ℕ → Bool) → ℕ → ℕ → ℕ
 lowest f zero i = i
 lowest f (suc k) i = cond (f i) i (lowest f k (i + 1))

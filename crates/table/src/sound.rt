@@ -6,7 +6,7 @@ ghost use lib.Dec.{ltb};
 ghost use Rattle.common.specs.Decides.{Decides};
 ghost use Rattle.table.specs.Layout.{Within};
 ghost use Rattle.table.specs.View.{view};
-ghost use Rattle.table.specs.Sound.{Examined, linkTest, receiveTest, LinksPass, ReceivesPass, NodePasses, soundTest, TableAnswer, Usable};
+ghost use Rattle.table.specs.SoundTest.{Examined, linkTest, receiveTest, LinksPass, ReceivesPass, NodePasses, soundTest, TableAnswer, Usable};
 use crate::layout;
 use crate::trail;
 use common::refusal;
@@ -14,21 +14,21 @@ use cube::Circuit;
 use cube::Node;
 use cube::Port;
 
-// What looking at a circuit comes to: whether it stands, where its path ends, and whether that passes one link.
+// What looking at a circuit comes to: whether it reaches the end of its path, where that is, and whether it passes one link.
 struct Examination {
-    stands: bool,
+    reached: bool,
     end: u16,
     passes: bool,
 }
 
 fn examine(t: &[u8], dimension: u16, c: Circuit, n: Node, p: Port) -> Examination
     requires { ⌜ (0 < c .0) × Usable (now t) dimension ⌝ }
-    ensures { λ r. ⌜ Examined (view (now (t .entry))) (c .0) (n .0) (p .0) (r .stands) (r .end) (r .passes) ⌝ }
+    ensures { λ r. ⌜ Examined (view (now (t .entry))) (c .0) (n .0) (p .0) (r .reached) (r .end) (r .passes) ⌝ }
 {
     let nodes = cube::node_count(dimension);
     if c.0 > 8 * nodes {
         return Examination {
-            stands: false,
+            reached: false,
             end: 0,
             passes: false,
         };
@@ -37,7 +37,7 @@ fn examine(t: &[u8], dimension: u16, c: Circuit, n: Node, p: Port) -> Examinatio
     let first = trail::first_hop(t, c, source, nodes - 1);
     if first >= 8 {
         return Examination {
-            stands: false,
+            reached: false,
             end: 0,
             passes: false,
         };
@@ -45,7 +45,7 @@ fn examine(t: &[u8], dimension: u16, c: Circuit, n: Node, p: Port) -> Examinatio
     let w = trail::follow(t, c, cube::neighbour(source, Port(first)), nodes - 1, n, p);
     let end = w.end;
     Examination {
-        stands: trail::channels_held(t, c, Node(end)) == 1,
+        reached: trail::channels_held(t, c, Node(end)) == 1,
         end,
         passes: trail::same_link(source, Port(first), n, p) | w.passes,
     }
@@ -76,7 +76,7 @@ fn link_sound(t: &[u8], dimension: u16, n: Node, p: Port) -> bool
         }
         if on {
             let e = examine(t, dimension, c, n, p);
-            if e.stands { e.passes } else { false }
+            if e.reached { e.passes } else { false }
         } else {
             false
         }
@@ -98,7 +98,7 @@ fn receive_sound(t: &[u8], dimension: u16, n: Node, channel: u16) -> bool
         return true;
     }
     let e = examine(t, dimension, c, n, Port(0));
-    if e.stands { n.0 == e.end } else { false }
+    if e.reached { n.0 == e.end } else { false }
 }
 
 // The tests of a node's links, and of its receive channels.

@@ -7,7 +7,7 @@ use native.Mathlib.Nat.{not-suc-le-zero}
 use lib.Dec.{lit<}
 use Rattle.common.proofs.Every.{one-more}
 use Rattle.table.specs.View.{view}
-use Rattle.table.specs.Sound.{NodePasses}
+use Rattle.table.specs.SoundTest.{NodePasses}
 use Rattle.table.proofs.Passing.{nodes-pass, node-fails}
 use Rattle.table.proofs.sound.entries_sound.Statement.{statement}
 use Rattle.table.proofs.sound.entries_sound.Tie as tie
@@ -36,13 +36,13 @@ loop-again : tie.Need-loop-again Inv-loop μ-loop
 loop-again c =
     let l = c .before .before .before in
     let s = l .before .before in
-    (omega arith, one-more {P = NodePasses (view (s .args .t .now))} (l .loop .n) (l .loop .inv .1) (c .before .node-sound .ensures .yes′ (c .if1 .taken)))
+    (omega arith, one-more {P = NodePasses (view (s .args .t .now))} (l .loop .n) (l .loop .inv .1) (c .before .node-sound .ensures .holds (c .if1 .taken)))
 
 returns : tie.Need-returns Inv-loop μ-loop
 returns c =
     let l = c .before .before .before in
     let s = l .before .before in
-    node-fails (view (s .args .t .now)) (l .loop .n) (c .before .before .loop-test .taken) (c .before .node-sound .ensures .no′ (c .if1 .left))
+    node-fails (view (s .args .t .now)) (l .loop .n) (c .before .before .loop-test .taken) (c .before .node-sound .ensures .fails (c .if1 .left))
 
 returns-2 : tie.Need-returns-2 Inv-loop μ-loop
 returns-2 c =

@@ -8,7 +8,7 @@ use native.Mathlib.Nat.{not-suc-le-zero}
 use Rattle.common.proofs.Every.{one-more}
 use Rattle.common.proofs.Tests.{clash, decided-yes, decided-no}
 use Rattle.table.specs.View.{view}
-use Rattle.table.specs.Sound.{linkTest, LinksPass}
+use Rattle.table.specs.SoundTest.{linkTest, LinksPass}
 use Rattle.table.proofs.sound.links_sound.Statement.{statement}
 use Rattle.table.proofs.sound.links_sound.Tie as tie
 

@@ -3,7 +3,7 @@
 use mathlib.Core.Path.{_≡_}
 use Rattle.common.proofs.Tests.{decided-yes, decided-no}
 use Rattle.table.specs.View.{view}
-use Rattle.table.specs.Sound.{NodePasses}
+use Rattle.table.specs.SoundTest.{NodePasses}
 use borrow.Author.Needs.{needs}
 use Rattle.table.proofs.sound.node_sound.Statement.{statement}
 use Rattle.table.proofs.sound.node_sound.Tie as tie
@@ -24,15 +24,15 @@ returns-2 : tie.Need-returns-2
 returns-2 c =
     let k = c .before .before in
     record {
-      yes′ = λ e. record { of-links = k .links-sound .ensures .yes′ (c .before .if2 .taken); of-receives = c .receives-sound .ensures .yes′ e };
-      no′ = λ e h. c .receives-sound .ensures .no′ e (h .of-receives);
+      holds = λ e. record { of-links = k .links-sound .ensures .holds (c .before .if2 .taken); of-receives = c .receives-sound .ensures .holds e };
+      fails = λ e h. c .receives-sound .ensures .fails e (h .of-receives);
     }
 
 returns-3 : tie.Need-returns-3
 returns-3 c =
     let k = c .before in
     let s = k .before .before .before .before in
-    decided-no {P = NodePasses (view (s .args .t .now)) (s .args .n .0)} (λ h. k .links-sound .ensures .no′ (c .if2 .left) (h .of-links))
+    decided-no {P = NodePasses (view (s .args .t .now)) (s .args .n .0)} (λ h. k .links-sound .ensures .fails (c .if2 .left) (h .of-links))
 
 pub node-sound-spec : {M : Type 1} → statement M
 node-sound-spec =

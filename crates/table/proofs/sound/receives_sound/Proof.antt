@@ -8,7 +8,7 @@ use native.Mathlib.Nat.{not-suc-le-zero}
 use Rattle.common.proofs.Every.{one-more}
 use Rattle.common.proofs.Tests.{clash, decided-yes, decided-no}
 use Rattle.table.specs.View.{view}
-use Rattle.table.specs.Sound.{receiveTest, ReceivesPass}
+use Rattle.table.specs.SoundTest.{receiveTest, ReceivesPass}
 use Rattle.table.proofs.sound.receives_sound.Statement.{statement}
 use Rattle.table.proofs.sound.receives_sound.Tie as tie
 

@@ -10,7 +10,7 @@ use borrow.Author.Needs.{needs}
 use borrow.Author.Tests.{eq-eqb, ne-eqb}
 use Rattle.common.specs.Lists.{keep, from}
 use Rattle.table.specs.View.{view}
-use Rattle.table.specs.Sound.{receivesFor, channelsHeld}
+use Rattle.table.specs.SoundTest.{receivesFor, channelsHeld}
 use Rattle.table.proofs.Follow.{count-none, count-yes, count-no}
 use Rattle.table.proofs.trail.channels_held.Statement.{statement}
 use Rattle.table.proofs.trail.channels_held.Tie as tie

@@ -1,0 +1,54 @@
+-- `table_check::sweep::every_bit` meets its contract: it stays within its bound.
+-- Assumes nothing.
+use mathlib.Core.Path.{_≡_, refl, _∙_, sym}
+use Prim.Native.Nat.{_-_, _≤_}
+use native.Mathlib.Omega.{arith}
+use borrow.Author.Needs.{needs}
+use lib.ListN.{length}
+use Rattle.table_check.proofs.sweep.every_bit.Statement.{statement}
+use Rattle.table_check.proofs.sweep.every_bit.Tie as tie
+
+abbrev Inv-loop : tie.InvT-loop
+Inv-loop t₀ tally₀ bit₀ t tally bit = (bit ≤ 8) × (length t ≡ length t₀) × (length tally ≡ length tally₀)
+
+abbrev μ-loop : tie.MeasureT-loop
+μ-loop t₀ tally₀ bit₀ t tally bit = 8 - bit
+
+loop-holds : tie.Need-loop-holds Inv-loop μ-loop
+loop-holds c = (omega arith, refl, refl)
+
+every-offset-requires : tie.Need-every-offset-requires Inv-loop μ-loop
+every-offset-requires c κs = search needs
+
+add-bit : tie.Need-add-bit Inv-loop μ-loop
+add-bit c = omega arith
+
+loop-less : tie.Need-loop-less Inv-loop μ-loop
+loop-less c = omega arith
+
+loop-again : tie.Need-loop-again Inv-loop μ-loop
+loop-again c = (omega arith, search needs, search needs)
+
+same-length : tie.Need-same-length Inv-loop μ-loop
+same-length c = c .before .loop .inv .1
+
+same-length-2 : tie.Need-same-length-2 Inv-loop μ-loop
+same-length-2 c = c .before .loop .inv .2
+
+returns : tie.Need-returns Inv-loop μ-loop
+returns c = search needs
+
+pub every-bit-spec : {M : Type 1} → statement M
+every-bit-spec =
+    tie.close
+    (tie.spec
+    Inv-loop
+    μ-loop
+    loop-holds
+    every-offset-requires
+    add-bit
+    loop-less
+    loop-again
+    same-length
+    same-length-2
+    returns)

@@ -1,0 +1,82 @@
+-- `table_check::sweep::lengths` meets its contract: it stays within the length.
+-- Assumes nothing.
+use mathlib.Core.Path.{_≡_, refl, _∙_, sym}
+use Prim.Native.Nat.{_-_, _≤_}
+use native.Mathlib.Omega.{arith}
+use borrow.Author.Needs.{needs}
+use lib.ListN.{length}
+use Rattle.table_check.proofs.sweep.lengths.Statement.{statement}
+use Rattle.table_check.proofs.sweep.lengths.Tie as tie
+
+abbrev Inv-loop : tie.InvT-loop
+Inv-loop t refused₀ n₀ t4 t5 refused n = n ≤ length t
+
+abbrev μ-loop : tie.MeasureT-loop
+μ-loop t refused₀ n₀ t4 t5 refused n = length t - n
+
+loop-holds : tie.Need-loop-holds Inv-loop μ-loop
+loop-holds c = omega arith
+
+sub-check : tie.Need-sub-check Inv-loop μ-loop
+sub-check c = omega arith
+
+part-check-start : tie.Need-part-check-start Inv-loop μ-loop
+part-check-start c = omega arith
+
+part-check-end : tie.Need-part-check-end Inv-loop μ-loop
+part-check-end c = omega arith
+
+check-requires : tie.Need-check-requires Inv-loop μ-loop
+check-requires c κs = search needs
+
+wrapping-add-u64-requires : tie.Need-wrapping-add-u64-requires Inv-loop μ-loop
+wrapping-add-u64-requires c κs = search needs
+
+add-n : tie.Need-add-n Inv-loop μ-loop
+add-n c = omega arith
+
+loop-less : tie.Need-loop-less Inv-loop μ-loop
+loop-less c = omega arith
+
+loop-again : tie.Need-loop-again Inv-loop μ-loop
+loop-again c = omega arith
+
+slice-aggregate-text : tie.Need-slice-aggregate-text Inv-loop μ-loop
+slice-aggregate-text c = search needs
+
+text-requires : tie.Need-text-requires Inv-loop μ-loop
+text-requires c κs = search needs
+
+number-requires : tie.Need-number-requires Inv-loop μ-loop
+number-requires c κs = search needs
+
+slice-aggregate-text-2 : tie.Need-slice-aggregate-text-2 Inv-loop μ-loop
+slice-aggregate-text-2 c = search needs
+
+text-requires-2 : tie.Need-text-requires-2 Inv-loop μ-loop
+text-requires-2 c κs = search needs
+
+returns : tie.Need-returns Inv-loop μ-loop
+returns c = search needs
+
+pub lengths-spec : {M : Type 1} → statement M
+lengths-spec =
+    tie.close
+    (tie.spec
+    Inv-loop
+    μ-loop
+    loop-holds
+    sub-check
+    part-check-start
+    part-check-end
+    check-requires
+    wrapping-add-u64-requires
+    add-n
+    loop-less
+    loop-again
+    slice-aggregate-text
+    text-requires
+    number-requires
+    slice-aggregate-text-2
+    text-requires-2
+    returns)

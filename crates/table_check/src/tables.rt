@@ -1,0 +1,135 @@
+// Tables that hold circuits, laid hop by hop.
+use cube::Circuit;
+use cube::Node;
+use cube::Port;
+
+const UP: [u8; 9] = [0, 0, 1, 2, 3, 4, 5, 6, 7];
+
+const DOWN: [u8; 8] = [7, 6, 5, 4, 3, 2, 1, 0];
+
+fn empty(t: &mut [u8], dimension: u8) {
+    if t.len() == 8449 {
+        if dimension < 9 {
+            table::make(t, dimension);
+        }
+    }
+}
+
+// Gives a circuit one link: the node that it leads to.
+fn hop(t: &mut [u8], c: u16, n: u16, port: u8) -> u16 {
+    let p = port as u16;
+    if t.len() == 8449 {
+        if n < 256 {
+            if p < 8 {
+                table::set_owner(t, Node(n), Port(p), Circuit(c));
+                return cube::neighbour(Node(n), Port(p)).0;
+            }
+        }
+    }
+    n
+}
+
+// The hops of a circuit from its source: the node that they lead to.
+fn lay(t: &mut [u8], c: u16, source: u16, ports: &[u8]) -> u16 {
+    let mut n = source;
+    let mut i: usize = 0;
+    while i < ports.len() {
+        n = hop(t, c, n, ports[i]);
+        i += 1;
+    }
+    n
+}
+
+fn receive(t: &mut [u8], c: u16, n: u16, channel: u16) {
+    if t.len() == 8449 {
+        if n < 256 {
+            if channel < 8 {
+                table::set_receiver(t, Node(n), channel, Circuit(c));
+            }
+        }
+    }
+}
+
+// One hop from node 0, and all ports downwards from the last node's last send channel.
+pub fn two_ways(t: &mut [u8], dimension: u8) {
+    if dimension < 9 {
+        empty(t, dimension);
+        let n = lay(t, 1, 0, b"\x00");
+        receive(t, 1, n, 0);
+        let nodes = cube::node_count(dimension as u16);
+        let skip = 8 - dimension as usize;
+        let m = lay(t, 8 * nodes, nodes - 1, &DOWN[skip..]);
+        receive(t, 8 * nodes, m, 3);
+    }
+}
+
+// Out of node 1 and back, and on by all ports upwards; and two hops from node 0.
+pub fn through_the_source(t: &mut [u8], dimension: u8) {
+    if dimension < 9 {
+        empty(t, dimension);
+        let hops = 1 + dimension as usize;
+        let n = lay(t, 14, 1, &UP[0..hops]);
+        receive(t, 14, n, 6);
+        if dimension > 1 {
+            let m = lay(t, 2, 0, b"\x01\x00");
+            receive(t, 2, m, 0);
+        }
+    }
+}
+
+// Circuit 1 in a cube of dimension 3: its hops, and the node at which it has a receive channel.
+fn one(t: &mut [u8], source: u16, ports: &[u8], n: u16, channel: u16) {
+    empty(t, 3);
+    lay(t, 1, source, ports);
+    receive(t, 1, n, channel);
+}
+
+// The ways that a table may have it. The first two are sound.
+pub fn single(t: &mut [u8], which: u16) {
+    if which == 0 {
+        // ports in an order that goes round
+        one(t, 0, b"\x00\x01\x00", 2, 0);
+        return;
+    }
+    if which == 1 {
+        // a send to the node itself
+        one(t, 0, b"\x02\x02", 0, 7);
+        return;
+    }
+    if which == 2 {
+        // the receive channel is not at the path's end
+        one(t, 0, b"\x00\x01", 1, 0);
+        return;
+    }
+    if which == 3 {
+        // a later hop is not uphill
+        one(t, 0, b"\x00\x01\x02\x01", 5, 0);
+        return;
+    }
+    if which == 4 {
+        // links off the path
+        one(t, 0, b"\x00", 1, 0);
+        lay(t, 1, 6, b"\x00\x00");
+        return;
+    }
+    if which == 5 {
+        // links alone
+        empty(t, 3);
+        lay(t, 1, 0, b"\x00\x01");
+        return;
+    }
+    if which == 6 {
+        // a receive channel alone
+        empty(t, 3);
+        receive(t, 1, 1, 0);
+        return;
+    }
+    if which == 7 {
+        // two receive channels
+        one(t, 0, b"\x00", 1, 0);
+        receive(t, 1, 1, 1);
+        return;
+    }
+    // a path that does not begin at the source
+    one(t, 2, b"\x00", 3, 0);
+}
