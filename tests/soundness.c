@@ -291,8 +291,8 @@ static void print_cleared(unsigned char *b, unsigned dimension, int which)
 }
 
 /*
- * Circuit 1 in a cube of dimension 3, in nine ways: its ports from a node, and
- * up to two receive entries. Only the first two are sound.
+ * Circuit 1 in a cube of dimension 3, in ten ways: its ports from a node, and
+ * up to two receive entries. The sound ones are 0, 1 and 8.
  */
 struct single {
     unsigned from;
@@ -311,6 +311,7 @@ static const struct single singles[] = {
     { 0, "01", { { 0, 0 } }, 0, 0 },           /* links alone */
     { 0, "", { { 1, 0 } }, 1, 0 },             /* a receive channel alone */
     { 0, "0", { { 1, 0 }, { 1, 1 } }, 2, 0 },  /* two receive channels */
+    { 0, "220", { { 1, 0 } }, 1, 0 },          /* out and back, and on */
     { 2, "0", { { 3, 0 } }, 1, 0 },            /* not from its source */
 };
 

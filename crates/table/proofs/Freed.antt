@@ -70,7 +70,7 @@ free-words c b i (suc k) zero h l =
 free-words c b i (suc k) (suc j) h l =
     let on : i + 2 * suc j ≡ i + 2 + 2 * j = omega arith in
     let same : wordAt (freeWord c b i) (i + 2 + 2 * j) ≡ wordAt b (i + 2 + 2 * j) =
-            ap2 (free-byte c b i (i + 2 + 2 * j) (λ e. omega arith) (λ e. omega arith)) (free-byte c b i (i + 2 + 2 * j + 1) (λ e. omega arith) (λ e. omega arith)) in
+    ap2 (free-byte c b i (i + 2 + 2 * j) (λ e. omega arith) (λ e. omega arith)) (free-byte c b i (i + 2 + 2 * j + 1) (λ e. omega arith) (λ e. omega arith)) in
     rw on (free-words c (freeWord c b i) (i + 2) k j (omega arith) (omega (arith, free-length c b i)) ∙ ap (λ w. cond (eqb w c) 0 w) same)
   where
     ap2 : {a x y z : ℕ} → a ≡ x → y ≡ z → a + 256 * y ≡ x + 256 * z

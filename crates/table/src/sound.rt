@@ -17,37 +17,37 @@ use cube::Port;
 // What looking at a circuit comes to: whether it reaches the end of its path, where that is, and whether it passes one link.
 struct Examination {
     reached: bool,
-    end: u16,
+    end: Node,
     passes: bool,
 }
 
 fn examine(t: &[u8], dimension: u16, c: Circuit, n: Node, p: Port) -> Examination
     requires { ⌜ (0 < c .0) × Usable (now t) dimension ⌝ }
-    ensures { λ r. ⌜ Examined (view (now (t .entry))) (c .0) (n .0) (p .0) (r .reached) (r .end) (r .passes) ⌝ }
+    ensures { λ r. ⌜ Examined (view (now (t .entry))) (c .0) (n .0) (p .0) (r .reached) (r .end .0) (r .passes) ⌝ }
 {
     let nodes = cube::node_count(dimension);
     if c.0 > 8 * nodes {
         return Examination {
             reached: false,
-            end: 0,
+            end: Node(0),
             passes: false,
         };
     }
     let source = cube::source_of(c);
     let first = trail::first_hop(t, c, source, nodes - 1);
-    if first >= 8 {
+    if first.0 >= 8 {
         return Examination {
             reached: false,
-            end: 0,
+            end: Node(0),
             passes: false,
         };
     }
-    let w = trail::follow(t, c, cube::neighbour(source, Port(first)), nodes - 1, n, p);
+    let w = trail::follow(t, c, cube::neighbour(source, first), nodes - 1, n, p);
     let end = w.end;
     Examination {
-        reached: trail::channels_held(t, c, Node(end)) == 1,
+        reached: trail::channels_held(t, c, end) == 1,
         end,
-        passes: trail::same_link(source, Port(first), n, p) | w.passes,
+        passes: trail::same_link(source, first, n, p) | w.passes,
     }
 }
 
@@ -98,7 +98,7 @@ fn receive_sound(t: &[u8], dimension: u16, n: Node, channel: u16) -> bool
         return true;
     }
     let e = examine(t, dimension, c, n, Port(0));
-    if e.reached { n.0 == e.end } else { false }
+    if e.reached { n.0 == e.end.0 } else { false }
 }
 
 // The tests of a node's links, and of its receive channels.
@@ -202,7 +202,7 @@ pub fn check(t: &[u8]) -> u16
         return refusal::DIMENSION;
     }
     if entries_sound(t, d) {
-        0
+        refusal::ACCEPTED
     } else {
         refusal::NOT_SOUND
     }

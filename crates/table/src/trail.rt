@@ -54,66 +54,73 @@ fn comes_back(t: &[u8], c: Circuit, n: Node, vector: u16, p: Port) -> bool
 }
 
 // The lowest port of a vector whose link a circuit holds at a node: 8 where there is none.
-pub fn held_port(t: &[u8], c: Circuit, n: Node, vector: u16) -> u16
+pub fn held_port(t: &[u8], c: Circuit, n: Node, vector: u16) -> Port
     requires { ⌜ Within (now t) (n .0) 0 ⌝ }
-    ensures { λ r. ⌜ r ≡ lowest (takes (view (now (t .entry))) (c .0) (n .0) vector) 8 0 ⌝ }
+    ensures { λ r. ⌜ r .0 ≡ lowest (takes (view (now (t .entry))) (c .0) (n .0) vector) 8 0 ⌝ }
 {
     let mut p: u16 = 0;
     while p < 8 {
         if takes(t, c, n, vector, Port(p)) {
-            return p;
+            return Port(p);
         }
         p += 1;
     }
-    p
+    Port(p)
 }
 
 // The same among those whose way back it holds too.
-pub fn returning_port(t: &[u8], c: Circuit, n: Node, vector: u16) -> u16
+pub fn returning_port(t: &[u8], c: Circuit, n: Node, vector: u16) -> Port
     requires { ⌜ Within (now t) (n .0) 0 ⌝ }
-    ensures { λ r. ⌜ r ≡ lowest (comesBack (view (now (t .entry))) (c .0) (n .0) vector) 8 0 ⌝ }
+    ensures { λ r. ⌜ r .0 ≡ lowest (comesBack (view (now (t .entry))) (c .0) (n .0) vector) 8 0 ⌝ }
 {
     let mut p: u16 = 0;
     while p < 8 {
         if comes_back(t, c, n, vector, Port(p)) {
-            return p;
+            return Port(p);
         }
         p += 1;
     }
-    p
+    Port(p)
 }
 
 // The first hop of a circuit's path from its source: one whose way back it holds too, or else the lowest. 8 where it holds none.
-pub fn first_hop(t: &[u8], c: Circuit, s: Node, vector: u16) -> u16
+pub fn first_hop(t: &[u8], c: Circuit, s: Node, vector: u16) -> Port
     requires { ⌜ Within (now t) (s .0) 0 ⌝ }
-    ensures { λ r. ⌜ r ≡ firstHop (view (now (t .entry))) (c .0) (s .0) vector ⌝ }
+    ensures { λ r. ⌜ r .0 ≡ firstHop (view (now (t .entry))) (c .0) (s .0) vector ⌝ }
 {
     let p = returning_port(t, c, s, vector);
-    if p < 8 { p } else { held_port(t, c, s, vector) }
+    if p.0 < 8 {
+        p
+    } else {
+        held_port(t, c, s, vector)
+    }
 }
 
 // Where following a circuit's links ends, and whether it passes one link.
 pub struct Walk {
-    pub end: u16,
+    pub end: Node,
     pub passes: bool,
 }
 
 // Follows the links of a circuit from a node over the ports of a vector, each once.
 pub fn follow(t: &[u8], c: Circuit, start: Node, vector: u16, n: Node, p: Port) -> Walk
     requires { ⌜ (vector < 256) × Within (now t) (start .0) 0 ⌝ }
-    ensures { λ r. ⌜ Follows (view (now (t .entry))) (c .0) (start .0) vector (n .0) (p .0) (r .end) (r .passes) ⌝ }
+    ensures { λ r. ⌜ Follows (view (now (t .entry))) (c .0) (start .0) vector (n .0) (p .0) (r .end .0) (r .passes) ⌝ }
 {
     let mut at = start.0;
     let mut left = vector;
     let mut passes = false;
-    let mut q = held_port(t, c, Node(at), left);
+    let mut q = held_port(t, c, Node(at), left).0;
     while q < 8 {
         passes = passes | same_link(Node(at), Port(q), n, p);
         left = cube::without(left, Port(q));
         at = cube::neighbour(Node(at), Port(q)).0;
-        q = held_port(t, c, Node(at), left);
+        q = held_port(t, c, Node(at), left).0;
     }
-    Walk { end: at, passes }
+    Walk {
+        end: Node(at),
+        passes,
+    }
 }
 
 // How many receive channels of a node a circuit holds.

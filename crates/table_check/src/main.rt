@@ -17,7 +17,7 @@ fn every_dimension(t: &mut [u8]) {
 
 fn every_single(t: &mut [u8]) {
     let mut which: u16 = 0;
-    while which < 9 {
+    while which < 10 {
         tables::single(t, which);
         sweep::answer(t, which);
         which += 1;

@@ -84,7 +84,7 @@ fn one(t: &mut [u8], source: u16, ports: &[u8], n: u16, channel: u16) {
     receive(t, 1, n, channel);
 }
 
-// The ways that a table may have it. The first two are sound.
+// The ways that a table may have it. 0, 1 and 8 are sound.
 pub fn single(t: &mut [u8], which: u16) {
     if which == 0 {
         // ports in an order that goes round
@@ -128,6 +128,11 @@ pub fn single(t: &mut [u8], which: u16) {
         // two receive channels
         one(t, 0, b"\x00", 1, 0);
         receive(t, 1, 1, 1);
+        return;
+    }
+    if which == 8 {
+        // out by a port that is not the lowest, back, and on
+        one(t, 0, b"\x02\x02\x00", 1, 0);
         return;
     }
     // a path that does not begin at the source

@@ -34,11 +34,12 @@ first-hop-requires c κs = search needs
 
 returns-2 : tie.Need-returns-2
 returns-2 c =
-    let g = c .before .before in
+    let h = c .before .before in
+    let g = h .before in
     let m = g .before .before .before in
     let s = m .before .before in
     unfold view in looked-none (view (s .args .t .now)) (s .args .c .0) (s .args .dimension) (m .node-count .result) (s .pre .1 .stored) (s .pre .1 .most) (m .node-count .ensures .value) (s .args .n .0) (s .args .p .0)
-    (g .source-of .result .0) (c .before .first-hop .result) (g .source-of .ensures) (g .before .if1 .left) (c .before .first-hop .ensures) (c .if2 .taken)
+    (g .source-of .result .0) (h .first-hop .result .0) (g .source-of .ensures) (g .before .if1 .left) (h .first-hop .ensures) (c .if2 .taken)
 
 neighbour-requires : tie.Need-neighbour-requires
 neighbour-requires c κs = search needs
@@ -48,13 +49,13 @@ sub-follow c = search needs
 
 follow-requires : tie.Need-follow-requires
 follow-requires c κs =
-    let h = c .before .before in
+    let h = c .before .before .before in
     let g = h .before in
     let m = g .before .before .before in
     let s = m .before .before in
     let small : g .source-of .result .0 < 256 = omega (arith, m .node-count .ensures .most, g .source-of .ensures, s .pre .0, g .before .if1 .left) in (
       omega (arith, m .node-count .ensures .most),
-      record { bytes = s .pre .1 .bytes; node = rw (c .neighbour .ensures) (flip-inside 8 (g .source-of .result .0) (h .first-hop .result) small (c .before .if2 .left)); port = lit< tt },
+      record { bytes = s .pre .1 .bytes; node = rw (c .neighbour .ensures) (flip-inside 8 (g .source-of .result .0) (h .first-hop .result .0) small (c .before .if2 .left)); port = lit< tt },
     )
 
 channels-held-requires : tie.Need-channels-held-requires
@@ -65,13 +66,13 @@ same-link-requires c κs = search needs
 
 returns-3 : tie.Need-returns-3
 returns-3 c =
-    let f = c .before .before .before in
-    let h = f .before .before .before in
+    let f = c .before .before .before .before in
+    let h = f .before .before .before .before in
     let g = h .before in
     let m = g .before .before .before in
     let s = m .before .before in
     unfold view in looked (view (s .args .t .now)) (s .args .c .0) (s .args .dimension) (m .node-count .result) (s .pre .1 .stored) (s .pre .1 .most) (m .node-count .ensures .value) (s .args .n .0) (s .args .p .0)
-    (g .source-of .result .0) (h .first-hop .result) (f .before .neighbour .result .0) (f .follow .result .end) (c .before .before .channels-held .result) (c .before .same-link .result) (f .follow .result .passes)
+    (g .source-of .result .0) (h .first-hop .result .0) (f .before .neighbour .result .0) (f .follow .result .end .0) (c .before .before .channels-held .result) (c .before .same-link .result) (f .follow .result .passes)
     (g .source-of .ensures) (g .before .if1 .left) (h .first-hop .ensures) (f .before .before .if2 .left) (f .before .neighbour .ensures) (f .follow .ensures) (c .before .before .channels-held .ensures) (c .before .same-link .ensures)
 
 pub examine-spec : {M : Type 1} → statement M

@@ -15,15 +15,15 @@ held-port-requires c κs = search needs
 
 returns : tie.Need-returns
 returns c =
-    let r = c .before in
+    let r = c .before .before in
     let s = r .before .before in
-    first-back (view (s .args .t .now)) (s .args .c .0) (s .args .s .0) (s .args .vector) (r .returning-port .result) (r .returning-port .ensures) (c .if1 .taken)
+    first-back (view (s .args .t .now)) (s .args .c .0) (s .args .s .0) (s .args .vector) (r .returning-port .result .0) (r .returning-port .ensures) (c .if1 .taken)
 
 returns-2 : tie.Need-returns-2
 returns-2 c =
-    let r = c .before .before in
+    let r = c .before .before .before in
     let s = r .before .before in
-    first-taken (view (s .args .t .now)) (s .args .c .0) (s .args .s .0) (s .args .vector) (r .returning-port .result) (c .held-port .result) (r .returning-port .ensures) (c .before .if1 .left) (c .held-port .ensures)
+    first-taken (view (s .args .t .now)) (s .args .c .0) (s .args .s .0) (s .args .vector) (r .returning-port .result .0) (c .held-port .result .0) (r .returning-port .ensures) (c .before .if1 .left) (c .held-port .ensures)
 
 pub first-hop-spec : {M : Type 1} → statement M
 first-hop-spec = tie.close (tie.spec returning-port-requires held-port-requires returns returns-2)
