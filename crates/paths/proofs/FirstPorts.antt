@@ -42,7 +42,7 @@ trying-walk first (suc k) free on v a c = go (eqb v 0) (λ d. trying-walk first 
     go false ih = rw (trying-cons free on p (walk first k (v - 2 ^ p) a) c, fun-ext ih)
 
 -- the ports offered in the cube are those of the uphill vector
-offered-vector : (S : Shape) (w n t : ℕ) → S .dimension ≤ w → n < 2 ^ S .dimension → t < 2 ^ S .dimension → offered (network S) t n ≡ portsOf w (bitXor n t)
+pub offered-vector : (S : Shape) (w n t : ℕ) → S .dimension ≤ w → n < 2 ^ S .dimension → t < 2 ^ S .dimension → offered (network S) t n ≡ portsOf w (bitXor n t)
 offered-vector S w n t h i l = offered-is ∙ sym (ports-wider (S .dimension) w (bitXor n t) h (xor-lt (S .dimension) n t i l))
   where
     offered-is : offered (network S) t n ≡ portsOf (S .dimension) (bitXor n t)

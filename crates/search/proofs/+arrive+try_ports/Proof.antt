@@ -1,0 +1,340 @@
+-- The search meets its two contracts: each hop is held, handed on, and given back where it is rejected.
+-- Assumes nothing.
+use borrow.Author.Needs.{needs}
+use native.Mathlib.Omega.{arith}
+use mathlib.Core.Path.{_≡_, refl, sym, _∙_, ap}
+use Prim.Native.Nat.{ℕ, _+_, _-_, _*_, _^_, _<_}
+use lib.Dec.{lit<}
+use lib.ListN.{length}
+use lib.Pow.{pow-pos}
+use Rattle.table.specs.Layout.{putOwner}
+use Rattle.table.specs.View.{view}
+use Rattle.search.specs.Settle.{freeIn, settled}
+use Rattle.search.specs.Turns.{distance, reach, arrived, tries, Turn}
+use Rattle.search.proofs.Turns.{turned, first-turn, byte-vector, owner-length, here-tried, here-within, here-room, here-arrives, here-falls, here-answer, turn-busy, turn-acknowledged, turn-full, turn-next, turn-over, arrive-receives, arrive-full, arrive-tries, arrive-may, arrive-falls}
+use borrow.Fn.Kinds.{In, Out}
+use borrow.Fn.PlainCycle.{Measures, is, falls, and}
+use Rattle.search.proofs.arrive.Reads as arrive
+use Rattle.search.proofs.arrive.Kinds as arrive-kinds
+use Rattle.search.proofs.+arrive+try_ports.Lts-arrive as arrive-lts
+use Rattle.search.proofs.try_ports.Reads as try-ports
+use Rattle.search.proofs.try_ports.Kinds as try-ports-kinds
+use Rattle.search.proofs.+arrive+try_ports.Lts-try_ports as try-ports-lts
+use Rattle.cube.proofs.first_port.Reads as first-port-reads
+use Rattle.cube.proofs.neighbour.Reads as neighbour-reads
+use Rattle.cube.proofs.uphill_vector.Reads as uphill-vector-reads
+use Rattle.cube.proofs.without.Reads as without-reads
+use Rattle.search.proofs.is_free.Reads as is-free-reads
+use Rattle.table.proofs.free_channel.Reads as free-channel-reads
+use Rattle.table.proofs.set_owner.Reads as set-owner-reads
+use Rattle.search.proofs.+arrive+try_ports.{statement}
+use Rattle.search.proofs.+arrive+try_ports.Tie.{close}
+
+abbrev μ-arrive : Measures 2 arrive-kinds.ps ℕ
+μ-arrive κs a = 2 * distance (a .0 .now) (a .1 .1 .0 .0) (a .1 .0 .0)
+
+abbrev μ-try-ports : Measures 2 try-ports-kinds.ps ℕ
+μ-try-ports κs a = 2 * reach (a .0 .now) (a .1 .1 .0 .0) (a .1 .0 .0) (a .1 .1 .1 .1 .0) + 1
+
+abbrev arrive-at : ℕ → In 2 arrive-kinds.ps
+arrive-at t = and 2 arrive-kinds.ps (is 2 arrive-kinds.ps μ-arrive t) arrive.Pre
+
+abbrev arrive-below : ℕ → In 2 arrive-kinds.ps
+arrive-below t = and 2 arrive-kinds.ps (falls 2 arrive-kinds.ps _<_ μ-arrive t) arrive.Pre
+
+abbrev try-ports-at : ℕ → In 2 try-ports-kinds.ps
+try-ports-at t = and 2 try-ports-kinds.ps (is 2 try-ports-kinds.ps μ-try-ports t) try-ports.Pre
+
+abbrev try-ports-below : ℕ → In 2 try-ports-kinds.ps
+try-ports-below t =
+    and 2 try-ports-kinds.ps (falls 2 try-ports-kinds.ps _<_ μ-try-ports t) try-ports.Pre
+
+abbrev try-ports-Inv-loop : try-ports-lts.InvT-loop
+try-ports-Inv-loop t₀ at target c vector arrival hops scouts first left₀ sent₀ t left sent = Turn t₀ (target .0) (c .0) (at .0) vector (arrival .0) hops scouts t left sent
+
+abbrev try-ports-μ-loop : try-ports-lts.MeasureT-loop
+try-ports-μ-loop t₀ at target c vector arrival hops scouts first left₀ sent₀ t left sent = left
+
+-- what `arrive` knows of those that it calls; a place or a need of it
+abbrev arrive-in : ℕ → arrive-lts.Claims
+arrive-in t = (
+  free-channel-reads.Asked,
+  free-channel-reads.Learnt,
+  uphill-vector-reads.Asked,
+  uphill-vector-reads.Learnt,
+  try-ports-below t,
+  try-ports.Post,
+)
+
+abbrev arrive-At : (arrive-lts.Claims → In 2 arrive-kinds.ps → Out 2 arrive-kinds.ps arrive-kinds.r → Type 0) → ℕ → Type 0
+arrive-At P t = P (arrive-in t) (arrive-at t) arrive.Post
+
+-- what `try-ports` knows of those that it calls; a place or a need of it
+abbrev try-ports-in : ℕ → try-ports-lts.Claims
+try-ports-in t = (
+  first-port-reads.Asked,
+  first-port-reads.Learnt,
+  without-reads.Asked,
+  without-reads.Learnt,
+  is-free-reads.Asked,
+  is-free-reads.Learnt,
+  set-owner-reads.Asked,
+  set-owner-reads.Learnt,
+  neighbour-reads.Asked,
+  neighbour-reads.Learnt,
+  arrive-below t,
+  arrive.Post,
+)
+
+abbrev try-ports-At : (try-ports-lts.Claims → In 2 try-ports-kinds.ps → Out 2 try-ports-kinds.ps try-ports-kinds.r → try-ports-lts.InvT-loop → try-ports-lts.MeasureT-loop → Type 0) → ℕ → Type 0
+try-ports-At P t = P (try-ports-in t) (try-ports-at t) try-ports.Post try-ports-Inv-loop try-ports-μ-loop
+
+arrive-free-channel-requires : (t : ℕ) → arrive-At arrive-lts.Need-free-channel-requires t
+arrive-free-channel-requires t c κs =
+    let s = c .before .before .before .before .before in
+    record { bytes = s .pre .1 .1 .here .bytes; node = byte-vector (s .args .t .now) (s .args .at .0) (s .pre .1 .1 .here .fits) (s .pre .1 .1 .here .node); port = lit< tt }
+
+arrive-uphill-vector-requires : (t : ℕ) → arrive-At arrive-lts.Need-uphill-vector-requires t
+arrive-uphill-vector-requires t c κs = search needs
+
+arrive-try-ports-requires : (t : ℕ) → arrive-At arrive-lts.Need-try-ports-requires t
+arrive-try-ports-requires t c κs =
+    let e = c .before .before in
+    let s = e .before .before .before .before in
+    let v = c .uphill-vector .result in (
+      (let less = arrive-falls (s .args .t .now) (s .args .target .0) (s .args .c .0) (s .args .at .0) (s .args .arrival .0) (s .args .hops) (s .args .scouts) (s .pre .1 .1) (e .if1 .left) v (c .uphill-vector .ensures .value) in omega (arith, less, s .pre .0)),
+      (s .pre .1 .0, arrive-may (s .args .t .now) (s .args .target .0) (s .args .c .0) (s .args .at .0) (s .args .arrival .0) (s .args .hops) (s .args .scouts) (s .pre .1 .1) (e .if1 .left) v (c .uphill-vector .ensures .value)),
+    )
+
+arrive-same-length : (t : ℕ) → arrive-At arrive-lts.Need-same-length t
+arrive-same-length t c = search needs
+
+arrive-returns : (t : ℕ) → arrive-At arrive-lts.Need-returns t
+arrive-returns t c =
+    let k = c .before in
+    let e = k .before .before in
+    let s = e .before .before .before .before in
+    arrive-full (s .args .t .now) (s .args .target .0) (s .args .c .0) (s .args .at .0) (s .args .arrival .0) (s .args .hops) (s .args .scouts) (s .pre .1 .1) (k .free-channel .result) (e .if1 .taken) (k .free-channel .ensures) (c .if2 .taken)
+
+arrive-same-length-2 : (t : ℕ) → arrive-At arrive-lts.Need-same-length-2 t
+arrive-same-length-2 t c = search needs
+
+arrive-returns-2 : (t : ℕ) → arrive-At arrive-lts.Need-returns-2 t
+arrive-returns-2 t c =
+    let k = c .before in
+    let e = k .before .before in
+    let s = e .before .before .before .before in
+    arrive-receives (s .args .t .now) (s .args .target .0) (s .args .c .0) (s .args .at .0) (s .args .arrival .0) (s .args .hops) (s .args .scouts) (s .pre .1 .1) (k .free-channel .result) (e .if1 .taken) (k .free-channel .ensures) (c .if2 .left)
+
+arrive-same-length-3 : (t : ℕ) → arrive-At arrive-lts.Need-same-length-3 t
+arrive-same-length-3 t c = search needs
+
+arrive-returns-3 : (t : ℕ) → arrive-At arrive-lts.Need-returns-3 t
+arrive-returns-3 t c =
+    let y = c .before .before in
+    let u = y .before in
+    let e = u .before .before in
+    let s = e .before .before .before .before in
+    y .try-ports .ensures ∙ arrive-tries (s .args .t .now) (s .args .target .0) (s .args .c .0) (s .args .at .0) (s .args .arrival .0) (s .args .hops) (s .args .scouts) (s .pre .1 .1) (e .if1 .left) (u .uphill-vector .result) (u .uphill-vector .ensures .value)
+
+try-ports-loop-holds : (t : ℕ) → try-ports-At try-ports-lts.Need-loop-holds t
+try-ports-loop-holds t c =
+    let s = c .before in
+    first-turn (s .args .t .now) (s .args .target .0) (s .args .c .0) (s .args .at .0) (s .args .vector) (s .args .arrival .0) (s .args .hops) (s .args .scouts) (s .pre .1 .1)
+
+try-ports-first-port-requires : (t : ℕ) → try-ports-At try-ports-lts.Need-first-port-requires t
+try-ports-first-port-requires t c κs =
+    let l = c .before in
+    let s = l .before .before in
+    (byte-vector (s .args .t .now) (l .loop .left) (s .pre .1 .1 .here .fits) (l .loop .inv .ports), s .pre .1 .1 .here .port, s .pre .1 .0)
+
+try-ports-without-requires : (t : ℕ) → try-ports-At try-ports-lts.Need-without-requires t
+try-ports-without-requires t c κs =
+    let f = c in
+    let l = f .before .before in
+    let s = l .before .before in
+    let r = here-tried (s .args .t .now) (s .args .target .0) (s .args .c .0) (s .args .at .0) (s .args .arrival .0) (s .args .hops) (s .args .vector) (l .loop .left) (f .first-port .result .0) (l .loop .sent) (s .args .scouts) (s .pre .1 .1) (turned (l .loop .inv)) (f .before .loop-test .taken) (f .first-port .ensures) in
+    (let q = r .small in omega arith, r .offered)
+
+try-ports-is-free-requires : (t : ℕ) → try-ports-At try-ports-lts.Need-is-free-requires t
+try-ports-is-free-requires t c κs =
+    let f = c .before .before in
+    let l = f .before .before in
+    let s = l .before .before in
+    rw (l .loop .inv .same) (here-within (s .args .t .now) (s .args .target .0) (s .args .c .0) (s .args .at .0) (s .args .arrival .0) (s .args .hops) (s .args .vector) (l .loop .left) (f .first-port .result .0) (l .loop .sent) (s .args .scouts) (s .pre .1 .1) (turned (l .loop .inv)) (f .before .loop-test .taken) (f .first-port .ensures))
+
+try-ports-set-owner-requires : (t : ℕ) → try-ports-At try-ports-lts.Need-set-owner-requires t
+try-ports-set-owner-requires t c κs =
+    let f = c .before .before .before .before .before in
+    let l = f .before .before in
+    let s = l .before .before in
+    rw (l .loop .inv .same) (here-within (s .args .t .now) (s .args .target .0) (s .args .c .0) (s .args .at .0) (s .args .arrival .0) (s .args .hops) (s .args .vector) (l .loop .left) (f .first-port .result .0) (l .loop .sent) (s .args .scouts) (s .pre .1 .1) (turned (l .loop .inv)) (f .before .loop-test .taken) (f .first-port .ensures))
+
+try-ports-neighbour-requires : (t : ℕ) → try-ports-At try-ports-lts.Need-neighbour-requires t
+try-ports-neighbour-requires t c κs =
+    let i = c .before .before .before .before .before .before in
+    let f = i .before .before .before in
+    let l = f .before .before in
+    let s = l .before .before in
+    let r = here-tried (s .args .t .now) (s .args .target .0) (s .args .c .0) (s .args .at .0) (s .args .arrival .0) (s .args .hops) (s .args .vector) (l .loop .left) (f .first-port .result .0) (l .loop .sent) (s .args .scouts) (s .pre .1 .1) (turned (l .loop .inv)) (f .before .loop-test .taken) (f .first-port .ensures) in
+    (let q = r .small in omega arith)
+
+try-ports-add-arrive : (t : ℕ) → try-ports-At try-ports-lts.Need-add-arrive t
+try-ports-add-arrive t c = search needs
+
+try-ports-add-arrive-2 : (t : ℕ) → try-ports-At try-ports-lts.Need-add-arrive-2 t
+try-ports-add-arrive-2 t c =
+    let i = c .before .before .before .before .before .before .before in
+    let f = i .before .before .before in
+    let l = f .before .before in
+    let s = l .before .before in
+    let r = here-room (s .args .t .now) (s .args .target .0) (s .args .c .0) (s .args .at .0) (s .args .arrival .0) (s .args .hops) (s .args .vector) (l .loop .left) (f .first-port .result .0) (l .loop .sent) (s .args .scouts) (s .pre .1 .1) (turned (l .loop .inv)) (f .before .loop-test .taken) (f .first-port .ensures) in
+    omega (arith, r)
+
+try-ports-arrive-requires : (t : ℕ) → try-ports-At try-ports-lts.Need-arrive-requires t
+try-ports-arrive-requires t c κs =
+    let o = c .before .before .before .before in
+    let i = o .before .before .before in
+    let f = i .before .before .before in
+    let l = f .before .before in
+    let s = l .before .before in (
+      (let less = here-falls (s .args .t .now) (s .args .target .0) (s .args .c .0) (s .args .at .0) (s .args .arrival .0) (s .args .hops) (s .args .vector) (l .loop .left) (f .first-port .result .0) (l .loop .sent) (s .args .scouts) (s .pre .1 .1) (turned (l .loop .inv)) (f .before .loop-test .taken) (f .first-port .ensures) (s .pre .1 .1 .here .small) (o .set-owner .last .0) (c .neighbour .result .0) (o .set-owner .ensures ∙ ap (λ y. putOwner y (s .args .at .0) (f .first-port .result .0) (s .args .c .0)) (l .loop .inv .same)) (c .neighbour .ensures) in omega (arith, less, s .pre .0)),
+      (s .pre .1 .0, here-arrives (s .args .t .now) (s .args .target .0) (s .args .c .0) (s .args .at .0) (s .args .arrival .0) (s .args .hops) (s .args .vector) (l .loop .left) (f .first-port .result .0) (l .loop .sent) (s .args .scouts) (s .pre .1 .1) (turned (l .loop .inv)) (f .before .loop-test .taken) (f .first-port .ensures) (s .pre .1 .1 .here .small) (o .set-owner .last .0) (c .neighbour .result .0) (o .set-owner .ensures ∙ ap (λ y. putOwner y (s .args .at .0) (f .first-port .result .0) (s .args .c .0)) (l .loop .inv .same)) (c .neighbour .ensures)),
+    )
+
+try-ports-same-length : (t : ℕ) → try-ports-At try-ports-lts.Need-same-length t
+try-ports-same-length t c =
+    let y = c .before .before .before .before in
+    let o = y .before .before .before .before .before in
+    let i = o .before .before .before in
+    let f = i .before .before .before in
+    let l = f .before .before in
+    let s = l .before .before in
+    omega (arith, y .arrive .kept .0, o .set-owner .kept .0, ap length (l .loop .inv .same))
+
+try-ports-returns : (t : ℕ) → try-ports-At try-ports-lts.Need-returns t
+try-ports-returns t c =
+    let y = c .before .before .before .before in
+    let o = y .before .before .before .before .before in
+    let i = o .before .before .before in
+    let f = i .before .before .before in
+    let l = f .before .before in
+    let s = l .before .before in
+    turn-acknowledged (s .args .t .now) (s .args .target .0) (s .args .c .0) (s .args .at .0) (s .args .arrival .0) (s .args .hops) (s .args .vector) (l .loop .left) (f .first-port .result .0) (l .loop .sent) (s .args .scouts) (s .pre .1 .1) (turned (l .loop .inv)) (f .before .loop-test .taken) (f .first-port .ensures) (ap (λ y. freeIn (view y) (s .args .at .0) (f .first-port .result .0)) (sym (l .loop .inv .same)) ∙ sym (i .is-free .ensures) ∙ o .before .before .if1 .taken) (y .arrive .result .refused) (y .arrive .result .channel) (y .arrive .result .hops) (y .arrive .result .scouts) (y .arrive .last .0) (here-answer (s .args .t .now) (s .args .target .0) (s .args .c .0) (s .args .at .0) (s .args .arrival .0) (s .args .hops) (s .args .vector) (l .loop .left) (f .first-port .result .0) (l .loop .sent) (s .args .scouts) (s .pre .1 .1) (turned (l .loop .inv)) (f .before .loop-test .taken) (f .first-port .ensures) (s .pre .1 .1 .here .small) (y .arrive .result .refused) (y .arrive .result .channel) (y .arrive .result .hops) (y .arrive .result .scouts) (o .set-owner .last .0) (y .arrive .last .0) (y .before .neighbour .result .0) (o .set-owner .ensures ∙ ap (λ y. putOwner y (s .args .at .0) (f .first-port .result .0) (s .args .c .0)) (l .loop .inv .same)) (y .before .neighbour .ensures) (y .arrive .ensures)) (c .if2 .taken)
+
+try-ports-set-owner-requires-2 : (t : ℕ) → try-ports-At try-ports-lts.Need-set-owner-requires-2 t
+try-ports-set-owner-requires-2 t c κs =
+    let y = c .before .before .before .before .before in
+    let o = y .before .before .before .before .before in
+    let i = o .before .before .before in
+    let f = i .before .before .before in
+    let l = f .before .before in
+    let s = l .before .before in
+    let w = here-within (s .args .t .now) (s .args .target .0) (s .args .c .0) (s .args .at .0) (s .args .arrival .0) (s .args .hops) (s .args .vector) (l .loop .left) (f .first-port .result .0) (l .loop .sent) (s .args .scouts) (s .pre .1 .1) (turned (l .loop .inv)) (f .before .loop-test .taken) (f .first-port .ensures) in
+    record { bytes = omega (arith, y .arrive .kept .0, o .set-owner .kept .0, ap length (l .loop .inv .same), s .pre .1 .1 .here .bytes); node = w .node; port = w .port }
+
+try-ports-same-length-2 : (t : ℕ) → try-ports-At try-ports-lts.Need-same-length-2 t
+try-ports-same-length-2 t c =
+    let y = c .before .before .before .before .before .before .before .before .before .before in
+    let o = y .before .before .before .before .before in
+    let i = o .before .before .before in
+    let f = i .before .before .before in
+    let l = f .before .before in
+    let s = l .before .before in
+    omega (arith, c .before .before .before .before .set-owner2 .kept .0, y .arrive .kept .0, o .set-owner .kept .0, ap length (l .loop .inv .same))
+
+try-ports-returns-2 : (t : ℕ) → try-ports-At try-ports-lts.Need-returns-2 t
+try-ports-returns-2 t c =
+    let y = c .before .before .before .before .before .before .before .before .before .before in
+    let o = y .before .before .before .before .before in
+    let i = o .before .before .before in
+    let f = i .before .before .before in
+    let l = f .before .before in
+    let s = l .before .before in
+    turn-full (s .args .t .now) (s .args .target .0) (s .args .c .0) (s .args .at .0) (s .args .arrival .0) (s .args .hops) (s .args .vector) (l .loop .left) (f .first-port .result .0) (l .loop .sent) (s .args .scouts) (s .pre .1 .1) (turned (l .loop .inv)) (f .before .loop-test .taken) (f .first-port .ensures) (ap (λ y. freeIn (view y) (s .args .at .0) (f .first-port .result .0)) (sym (l .loop .inv .same)) ∙ sym (i .is-free .ensures) ∙ o .before .before .if1 .taken) (y .arrive .result .refused) (y .arrive .result .channel) (y .arrive .result .hops) (y .arrive .result .scouts) (y .arrive .last .0) (here-answer (s .args .t .now) (s .args .target .0) (s .args .c .0) (s .args .at .0) (s .args .arrival .0) (s .args .hops) (s .args .vector) (l .loop .left) (f .first-port .result .0) (l .loop .sent) (s .args .scouts) (s .pre .1 .1) (turned (l .loop .inv)) (f .before .loop-test .taken) (f .first-port .ensures) (s .pre .1 .1 .here .small) (y .arrive .result .refused) (y .arrive .result .channel) (y .arrive .result .hops) (y .arrive .result .scouts) (o .set-owner .last .0) (y .arrive .last .0) (y .before .neighbour .result .0) (o .set-owner .ensures ∙ ap (λ y. putOwner y (s .args .at .0) (f .first-port .result .0) (s .args .c .0)) (l .loop .inv .same)) (y .before .neighbour .ensures) (y .arrive .ensures)) (c .if3 .taken) (c .before .before .before .before .set-owner2 .last .0) (c .before .before .before .before .set-owner2 .ensures)
+
+try-ports-loop-less : (t : ℕ) → try-ports-At try-ports-lts.Need-loop-less t
+try-ports-loop-less t c =
+    let y = c .before .before .before .before .before .before .before .before .before .before in
+    let o = y .before .before .before .before .before in
+    let i = o .before .before .before in
+    let f = i .before .before .before in
+    let l = f .before .before in
+    let s = l .before .before in
+    let w = f .before in
+    omega (arith, i .before .before .without .ensures .value, pow-pos (f .first-port .result .0))
+
+try-ports-loop-again : (t : ℕ) → try-ports-At try-ports-lts.Need-loop-again t
+try-ports-loop-again t c =
+    let y = c .before .before .before .before .before .before .before .before .before .before in
+    let o = y .before .before .before .before .before in
+    let i = o .before .before .before in
+    let f = i .before .before .before in
+    let l = f .before .before in
+    let s = l .before .before in
+    turn-next (s .args .t .now) (s .args .target .0) (s .args .c .0) (s .args .at .0) (s .args .arrival .0) (s .args .hops) (s .args .vector) (l .loop .left) (f .first-port .result .0) (l .loop .sent) (s .args .scouts) (s .pre .1 .1) (turned (l .loop .inv)) (f .before .loop-test .taken) (f .first-port .ensures) (ap (λ y. freeIn (view y) (s .args .at .0) (f .first-port .result .0)) (sym (l .loop .inv .same)) ∙ sym (i .is-free .ensures) ∙ o .before .before .if1 .taken) (y .arrive .result .refused) (y .arrive .result .channel) (y .arrive .result .hops) (y .arrive .result .scouts) (y .arrive .last .0) (here-answer (s .args .t .now) (s .args .target .0) (s .args .c .0) (s .args .at .0) (s .args .arrival .0) (s .args .hops) (s .args .vector) (l .loop .left) (f .first-port .result .0) (l .loop .sent) (s .args .scouts) (s .pre .1 .1) (turned (l .loop .inv)) (f .before .loop-test .taken) (f .first-port .ensures) (s .pre .1 .1 .here .small) (y .arrive .result .refused) (y .arrive .result .channel) (y .arrive .result .hops) (y .arrive .result .scouts) (o .set-owner .last .0) (y .arrive .last .0) (y .before .neighbour .result .0) (o .set-owner .ensures ∙ ap (λ y. putOwner y (s .args .at .0) (f .first-port .result .0) (s .args .c .0)) (l .loop .inv .same)) (y .before .neighbour .ensures) (y .arrive .ensures)) (c .before .before .before .before .before .before .if2 .left) (c .if3 .left) (i .before .before .without .result) (let e = i .before .before .without .ensures .value in omega arith) (c .before .before .before .before .set-owner2 .last .0) (c .before .before .before .before .set-owner2 .ensures)
+
+try-ports-loop-less-2 : (t : ℕ) → try-ports-At try-ports-lts.Need-loop-less-2 t
+try-ports-loop-less-2 t c =
+    let i = c .before in
+    let f = i .before .before .before in
+    let l = f .before .before in
+    let s = l .before .before in
+    omega (arith, i .before .before .without .ensures .value, pow-pos (f .first-port .result .0))
+
+try-ports-loop-again-2 : (t : ℕ) → try-ports-At try-ports-lts.Need-loop-again-2 t
+try-ports-loop-again-2 t c =
+    let i = c .before in
+    let f = i .before .before .before in
+    let l = f .before .before in
+    let s = l .before .before in
+    rw (l .loop .inv .same)
+    (turn-busy (s .args .t .now) (s .args .target .0) (s .args .c .0) (s .args .at .0) (s .args .arrival .0) (s .args .hops) (s .args .vector) (l .loop .left) (f .first-port .result .0) (l .loop .sent) (s .args .scouts) (s .pre .1 .1) (turned (l .loop .inv)) (f .before .loop-test .taken) (f .first-port .ensures) (ap (λ y. freeIn (view y) (s .args .at .0) (f .first-port .result .0)) (sym (l .loop .inv .same)) ∙ sym (i .is-free .ensures) ∙ c .if1 .left) (i .before .before .without .result) (let e = i .before .before .without .ensures .value in omega arith))
+
+try-ports-same-length-3 : (t : ℕ) → try-ports-At try-ports-lts.Need-same-length-3 t
+try-ports-same-length-3 t c = search needs
+
+try-ports-returns-3 : (t : ℕ) → try-ports-At try-ports-lts.Need-returns-3 t
+try-ports-returns-3 t c =
+    let l = c .before in
+    let s = l .before .before in
+    turn-over (s .args .t .now) (s .args .target .0) (s .args .c .0) (s .args .at .0) (s .args .vector) (s .args .arrival .0) (s .args .hops) (s .args .scouts) (l .loop .t) (l .loop .left) (l .loop .sent) (l .loop .inv) (c .loop-test .left)
+
+pub +arrive+try-ports-spec : {M : Type 1} → statement M
++arrive+try-ports-spec = close μ-arrive μ-try-ports (λ t. arrive-lts.spec (arrive-in t)
+    (arrive-at t)
+    arrive.Post
+    (arrive-free-channel-requires t)
+    (arrive-uphill-vector-requires t)
+    (arrive-try-ports-requires t)
+    (arrive-same-length t)
+    (arrive-returns t)
+    (arrive-same-length-2 t)
+    (arrive-returns-2 t)
+    (arrive-same-length-3 t)
+    (arrive-returns-3 t))
+    λ t. try-ports-lts.spec (try-ports-in t)
+    (try-ports-at t)
+    try-ports.Post
+    try-ports-Inv-loop
+    try-ports-μ-loop
+    (try-ports-loop-holds t)
+    (try-ports-first-port-requires t)
+    (try-ports-without-requires t)
+    (try-ports-is-free-requires t)
+    (try-ports-set-owner-requires t)
+    (try-ports-neighbour-requires t)
+    (try-ports-add-arrive t)
+    (try-ports-add-arrive-2 t)
+    (try-ports-arrive-requires t)
+    (try-ports-same-length t)
+    (try-ports-returns t)
+    (try-ports-set-owner-requires-2 t)
+    (try-ports-same-length-2 t)
+    (try-ports-returns-2 t)
+    (try-ports-loop-less t)
+    (try-ports-loop-again t)
+    (try-ports-loop-less-2 t)
+    (try-ports-loop-again-2 t)
+    (try-ports-same-length-3 t)
+    (try-ports-returns-3 t)

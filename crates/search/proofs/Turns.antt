@@ -1,0 +1,312 @@
+-- The turns of the search as the code makes them: what each asks of the next, and what it makes of the answer.
+-- Assumes nothing.
+use mathlib.Core.Path.{_≡_, refl, ap, ap₂, sym, _∙_, subst}
+use mathlib.Core.Logic.{_≢_}
+use mathlib.Core.Bool.{Bool, true, false, cond}
+use mathlib.Core.List.{List, [], _∷_, List·Memᴰ·head, List·Memᴰ·tail, List·Memᴰ·cases-cons}
+use Prim.Native.Nat.{ℕ, zero, suc, _+_, _-_, _*_, _/_, _%_, _^_, _≤_, _<_}
+use native.Mathlib.Omega.{arith}
+use native.Mathlib.Numerals.{add-one}
+use native.Mathlib.Nat.{le-trans, le-refl, mul-le-mul-right, lt-of-lt-of-le}
+use lib.Dec.{leb, ltb}
+use lib.ListN.{length, set, length-set}
+use lib.Pow.{pow-mono}
+use lib.Bits.{bitXor, xor-lt}
+use borrow.Author.Tests.{leb-true, leb-false, ltb-true, ltb-false}
+use Rattle.common.specs.Lists.{_∈_}
+use Rattle.common.proofs.Tests.{clash}
+use Rattle.cube.specs.Bits.{has}
+use Rattle.cube.specs.Cube.{next}
+use Rattle.cube.proofs.Bits.{high-has, flip-inside}
+use Rattle.cube.specs.Helical.{helical, portsOf, firstPort, FirstTried}
+use Rattle.cube.proofs.Order.{first-tried, mem-ports, length-helical, helical-mem, mem-helical, helical-zero, length-ports}
+use Rattle.paths.specs.Network.{Network, offered}
+use Rattle.paths.specs.CubeNetwork.{network}
+use Rattle.paths.specs.Search.{trying, arriving}
+use Rattle.paths.specs.Pass.{Pass, scouts}
+use Rattle.paths.proofs.CubeNetwork.{cube-nearing, cube-cubical, cube-leading}
+use Rattle.paths.proofs.FirstPorts.{offered-vector}
+use Rattle.paths.proofs.Bound.{far-width}
+use Rattle.table.specs.Layout.{Within, dimensionAt, putOwner, putEntry, entryPlace, linkPart}
+use Rattle.table.specs.View.{View, view, setOwner, receive, lowestChannel}
+use Rattle.table.specs.Sound.{net, shapeOf}
+use Rattle.table.proofs.Views.{view-put-owner}
+use Rattle.search.specs.Settle.{freeIn, Settled, settled, settle, behindPort, beyond}
+use Rattle.search.specs.Turns.{farthest, distance, reach, tries, arrived, Here, MayTry, MayArrive, Turn}
+use Rattle.search.proofs.Settle.{at-target, arrives, target-receives, target-full, behind, receive-same, given-back, free-owner, port-busy, port-acknowledged, port-receive-rejected, port-route-rejected, three-answers, settled-scouts, ports-over}
+use Rattle.search.proofs.Room.{arriving-room}
+
+-- every node behind a port of the list is within the farthest
+pub farthest-mem : (N : Network) (t n : ℕ) (ps : List ℕ) (p : ℕ) → p ∈ ps → N .far t (N .next n p) ≤ farthest N t n ps
+unfolding farthest
+farthest-mem N t n [] p m = absurd (mathlib.Core.List.List·Memᴰ·not-nil m)
+farthest-mem N t n (q ∷ ps) p m = go (leb (farthest N t n ps) (N .far t (N .next n q))) refl (λ k. farthest-mem N t n ps p k) (List·Memᴰ·cases-cons m)
+  where
+    go : (x : Bool) → leb (farthest N t n ps) (N .far t (N .next n q)) ≡ x → (p ∈ ps → N .far t (N .next n p) ≤ farthest N t n ps) → mathlib.Core.Logic._⊎_ (p ≡ q) (p ∈ ps)
+        → N .far t (N .next n p) ≤ cond x (N .far t (N .next n q)) (farthest N t n ps)
+    go true e f (mathlib.Core.Logic.inl z) = rw z (le-refl _)
+    go true e f (mathlib.Core.Logic.inr z) = le-trans (f z) (leb-true _ _ e)
+    go false e f (mathlib.Core.Logic.inl z) = rw z (let g = leb-false (farthest N t n ps) (N .far t (N .next n q)) e in omega arith)
+    go false e f (mathlib.Core.Logic.inr z) = f z
+
+pub farthest-most : (N : Network) (t n m : ℕ) (ps : List ℕ) → ((p : ℕ) → p ∈ ps → N .far t (N .next n p) ≤ m) → farthest N t n ps ≤ m
+unfolding farthest
+farthest-most N t n m [] h = omega arith
+farthest-most N t n m (q ∷ ps) h = go (leb (farthest N t n ps) (N .far t (N .next n q))) (farthest-most N t n m ps (λ p k. h p (mathlib.Core.List.List·Memᴰ·tail k)))
+  where
+    go : (x : Bool) → farthest N t n ps ≤ m → cond x (N .far t (N .next n q)) (farthest N t n ps) ≤ m
+    go true k = h q (List·Memᴰ·head refl)
+    go false k = k
+
+pub beyond-more : (w j k : ℕ) → j ≤ k → beyond w j ≤ beyond w k
+unfolding beyond
+beyond-more w zero k h = omega arith
+beyond-more w (suc j) zero h = absurd (omega arith)
+beyond-more w (suc j) (suc k) h = native.Mathlib.Nat.mul-le-mul-left w (let r = beyond-more w j k (omega arith) in omega arith)
+
+one-further : (w j k : ℕ) → suc j ≤ k → w * (1 + beyond w j) ≤ beyond w k
+unfolding beyond
+one-further w j k h = beyond-more w (suc j) k h
+
+-- a hop held: as many bytes, the same cube
+pub owner-length : (b : List ℕ) (n p c : ℕ) → length (putOwner b n p c) ≡ length b
+unfolding putOwner putEntry
+owner-length b n p c = length-set (set b (entryPlace linkPart n p) (c % 256)) (entryPlace linkPart n p + 1) (c / 256) ∙ length-set b (entryPlace linkPart n p) (c % 256)
+
+module _ (b : List ℕ) (n p c : ℕ) (w : Within b n p) (small : c < 65536) where
+  pub held-dimension : dimensionAt (putOwner b n p c) ≡ dimensionAt b
+  held-dimension = unfold view setOwner in ap (λ v. v .dimension) (view-put-owner b n p c w small)
+
+  pub held-net : net (view (putOwner b n p c)) ≡ net (view b)
+  held-net = ap (λ D. network record { dimension = D }) (unfold view in held-dimension)
+
+-- an arrival on the table with the hop held, read on the table before it
+pub handed-on : (b : List ℕ) (t c n p h s : ℕ) → Within b n p → c < 65536 → c ≢ 0 → (b₁ : List ℕ) (n₁ : ℕ) → b₁ ≡ putOwner b n p c → n₁ ≡ next n p
+    → arrived b₁ t c n₁ p (h + 1) (s + 1) ≡ settle (putOwner b n p c) c (next n p) (h + 1) (receive (view b) t) (behindPort (net (view b)) (freeIn (view b)) t n p (suc s))
+unfolding arrived distance behindPort network
+handed-on b t c n p h s w small z b₁ n₁ e q =
+    let B = putOwner b n p c in
+    let m = next n p in
+    let near = cube-nearing (shapeOf (view b)) t in
+    rw (e, q)
+    (ap₂ (λ N r. settle B c m (h + 1) r (arriving (N .far t m) N (freeIn (view B)) t m p (s + 1))) (held-net b n p c w small) (receive-same (net (view b)) t near b n p c w small z t)
+    ∙ ap (settle B c m (h + 1) (receive (view b) t))
+    (ap (arriving (net (view b) .far t m) (net (view b)) (freeIn (view B)) t m p) (add-one s) ∙ behind (net (view b)) t near b n p c w small z (net (view b) .far t m) (suc s)))
+
+-- the port tried first
+pub port-tried : (D v a p : ℕ) → D ≤ 8 → v < 2 ^ D → v ≢ 0 → p ≡ firstPort v a → FirstTried 8 v a p
+unfolding firstPort
+port-tried D v a p h l z e = rw e (first-tried 8 8 v a (lt-of-lt-of-le l (pow-mono h)) z)
+
+pub low-port : (D v p : ℕ) → v < 2 ^ D → has v p ≡ true → p < D
+low-port D v p l e = go (ltb p D) refl
+  where
+    go : (x : Bool) → ltb p D ≡ x → p < D
+    go true f = ltb-true p D f
+    go false f = absurd (clash e (high-has D v p l (ltb-false p D f)))
+
+pub few-ports : (b : List ℕ) (t : ℕ) → dimensionAt b ≤ 8 → (n : ℕ) → length (offered (net (view b)) t n) ≤ 8
+few-ports b t h n =
+    let S = shapeOf (view b) in
+    let cubic = cube-cubical S t in
+    let most = far-width (cube-nearing S t) cubic n in
+    let width : net (view b) .width ≤ 8 = unfold network view in h in
+    omega (arith, cubic .degree n, most, width)
+
+-- the bytes at a turn are those at the start
+pub turned : {b : List ℕ} {t c n v a h s : ℕ} {now : List ℕ} {left sent : ℕ} → Turn b t c n v a h s now left sent → Turn b t c n v a h s b left sent
+turned inv = record { same = refl; ports = inv .ports; sub = inv .sub; room = inv .room; rest = inv .rest }
+
+pub first-turn : (b : List ℕ) (t c n v a h s : ℕ) → MayTry b t c n v a h s → Turn b t c n v a h s b v s
+first-turn b t c n v a h s may = record { same = refl; ports = may .ports; sub = λ p m. m; room = may .room; rest = refl }
+
+pub byte-vector : (b : List ℕ) (x : ℕ) → dimensionAt b ≤ 8 → x < 2 ^ dimensionAt b → x < 256
+byte-vector b x h l = lt-of-lt-of-le l (pow-mono h)
+
+-- what a node trying its ports may do with the first of those left
+module _ (b : List ℕ) (t c n a h v left p sent s : ℕ) (may : MayTry b t c n v a h s) (inv : Turn b t c n v a h s b left sent) (some : left ≢ 0) (first : p ≡ firstPort left a) where
+  pub here-tried : FirstTried 8 left a p
+  here-tried = port-tried (dimensionAt b) left a p (may .here .fits) (inv .ports) some first
+
+  pub here-port : p < dimensionAt b
+  here-port = low-port (dimensionAt b) left p (inv .ports) (here-tried .offered)
+
+  pub here-within : Within b n p
+  here-within =
+      record { bytes = may .here .bytes; node = lt-of-lt-of-le (may .here .node) (pow-mono (may .here .fits)); port = let f = may .here .fits in omega (arith, here-port) }
+
+  here-member : p ∈ portsOf 8 left
+  here-member = mem-ports 8 left p (here-tried .small) (here-tried .offered)
+
+  here-reach : distance b t (next n p) ≤ reach b t n v
+  unfolding distance reach network
+  here-reach = farthest-mem (net (view b)) t n (portsOf 8 v) p (inv .sub p here-member)
+
+  -- one port fewer
+  pub here-fewer : length (portsOf 8 left) ≡ suc (length (portsOf 8 (left - 2 ^ p)))
+  here-fewer = sym (length-helical a (portsOf 8 left)) ∙ ap length (here-tried .rest) ∙ ap suc (length-helical a (portsOf 8 (left - 2 ^ p)))
+
+  pub here-room : sent + (1 + beyond 8 (reach b t n v)) + length (portsOf 8 (left - 2 ^ p)) * (1 + beyond 8 (reach b t n v)) < 2 ^ 32
+  here-room = let e = rw here-fewer at (inv .room) in omega (arith, e)
+
+  module _ (small : c < 65536) where
+    held-distance : distance (putOwner b n p c) t (next n p) ≡ distance b t (next n p)
+    unfolding distance
+    held-distance = ap (λ N. N .far t (next n p)) (held-net b n p c here-within small)
+
+    held-here : Here (putOwner b n p c) t c (next n p) p
+    held-here =
+        let D = held-dimension b n p c here-within small in
+        record {
+          bytes = owner-length b n p c ∙ may .here .bytes;
+          fits = rw D (may .here .fits);
+          node = rw D (flip-inside (dimensionAt b) n p (may .here .node) here-port);
+          target = rw D (may .here .target);
+          port = here-within .port;
+          circuit = may .here .circuit;
+          small = may .here .small;
+        }
+
+    pub here-arrives : (b₁ : List ℕ) (n₁ : ℕ) → b₁ ≡ putOwner b n p c → n₁ ≡ next n p → MayArrive b₁ t c n₁ p (h + 1) (sent + 1)
+    here-arrives b₁ n₁ e q =
+        let far = held-distance in
+        let less = here-reach in
+        let more = beyond-more 8 (distance b t (next n p)) (reach b t n v) here-reach in
+        rw (e, q) record { here = held-here; hops = rw far (omega (arith, may .hops)); room = rw far (omega (arith, here-room)) }
+
+    pub here-falls : (b₁ : List ℕ) (n₁ : ℕ) → b₁ ≡ putOwner b n p c → n₁ ≡ next n p → 2 * distance b₁ t n₁ < 2 * reach b t n v + 1
+    here-falls b₁ n₁ e q = let far = held-distance in let less = here-reach in rw (e, q, far) (omega arith)
+
+    -- the arrival's answer, on the table before the hop
+    pub here-answer : (x k g d : ℕ) (b₁ b₂ : List ℕ) (n₁ : ℕ) → b₁ ≡ putOwner b n p c → n₁ ≡ next n p → settled x k g d b₂ ≡ arrived b₁ t c n₁ p (h + 1) (sent + 1)
+        → settled x k g d b₂ ≡ settle (putOwner b n p c) c (next n p) (h + 1) (receive (view b) t) (behindPort (net (view b)) (freeIn (view b)) t n p (suc sent))
+    here-answer x k g d b₁ b₂ n₁ e q z = z ∙ handed-on b t c n p h sent here-within small (may .here .circuit) b₁ n₁ e q
+
+  -- the vector without that port
+  tail-ports : (q : ℕ) → q ∈ portsOf 8 (left - 2 ^ p) → q ∈ portsOf 8 v
+  tail-ports q m = inv .sub q (helical-mem a (portsOf 8 left) (rw (here-tried .rest) (List·Memᴰ·tail (mem-helical a (portsOf 8 (left - 2 ^ p)) m))))
+
+  open-tries : (d : ℕ) → tries b t c n left a h d
+      ≡ settle b c n h (receive (view b) t) (trying (freeIn (view b) n) (behindPort (net (view b)) (freeIn (view b)) t n) (p ∷ helical a (portsOf 8 (left - 2 ^ p))) d)
+  unfolding tries
+  open-tries d = ap (λ ps. settle b c n h (receive (view b) t) (trying (freeIn (view b) n) (behindPort (net (view b)) (freeIn (view b)) t n) ps d)) (here-tried .rest)
+
+  -- the link is not free: on with the other ports
+  pub turn-busy : freeIn (view b) n p ≡ false → (r : ℕ) → r ≡ left - 2 ^ p → Turn b t c n v a h s b r sent
+  unfolding tries
+  turn-busy e r q =
+      rw q
+      record {
+        same = refl;
+        ports = (let l = inv .ports in omega arith);
+        sub = tail-ports;
+        room = omega (arith, here-room);
+        rest = port-busy (freeIn (view b) n) (behindPort (net (view b)) (freeIn (view b)) t n) b c n h (receive (view b) t) p (helical a (portsOf 8 (left - 2 ^ p))) sent e ∙ sym (open-tries sent) ∙ inv .rest;
+      }
+
+  module _ (free : freeIn (view b) n p ≡ true) (x k g d : ℕ) (b₂ : List ℕ)
+      (answer : settled x k g d b₂ ≡ settle (putOwner b n p c) c (next n p) (h + 1) (receive (view b) t) (behindPort (net (view b)) (freeIn (view b)) t n p (suc sent))) where
+    on : ℕ → ℕ → Pass
+    on = behindPort (net (view b)) (freeIn (view b)) t n
+
+    pub turn-acknowledged : x ≡ 0 → settled x k g d b₂ ≡ tries b t c n v a h s
+    unfolding on
+    turn-acknowledged z =
+        ap (λ y. settled y k g d b₂) z
+        ∙ port-acknowledged (freeIn (view b) n) on b c n h (receive (view b) t) p (helical a (portsOf 8 (left - 2 ^ p))) sent free k g d b₂ (ap (λ y. settled y k g d b₂) (sym z) ∙ answer)
+        ∙ sym (open-tries sent) ∙ inv .rest
+
+    restored : b₂ ≡ putOwner b n p c → (b₃ : List ℕ) → b₃ ≡ putOwner b₂ n p 0 → b₃ ≡ b
+    restored e b₃ q = q ∙ ap (λ y. putOwner y n p 0) e ∙ given-back b n p c here-within (unfold view in free-owner (view b) n p free)
+
+    pub turn-full : x ≡ 11 → (b₃ : List ℕ) → b₃ ≡ putOwner b₂ n p 0 → settled x k g d b₃ ≡ tries b t c n v a h s
+    unfolding on
+    turn-full z b₃ q =
+        let r = port-receive-rejected (freeIn (view b) n) on b c n h (receive (view b) t) p (helical a (portsOf 8 (left - 2 ^ p))) sent free k g d b₂ (ap (λ y. settled y k g d b₂) (sym z) ∙ answer) in
+        ap₂ (λ y u. settled y k g d u) z (restored (r .0) b₃ q) ∙ r .1 ∙ sym (open-tries sent) ∙ inv .rest
+
+    few-scouts : d ≤ suc sent + beyond 8 (reach b t n v)
+    unfolding on behindPort distance network
+    few-scouts =
+        let m = beyond-more 8 (distance b t (next n p)) (reach b t n v) here-reach in
+        let all = arriving-room 8 (net (view b)) (freeIn (view b)) t (few-ports b t (may .here .fits)) (distance b t (next n p)) (next n p) p (suc sent) in
+        let same : d ≡ scouts (on p (suc sent)) = settled-scouts (putOwner b n p c) c (next n p) (h + 1) (receive (view b) t) (on p (suc sent)) x k g d b₂ answer in
+        omega (arith, all, m, same)
+
+    pub turn-next : x ≢ 0 → x ≢ 11 → (r : ℕ) → r ≡ left - 2 ^ p → (b₃ : List ℕ) → b₃ ≡ putOwner b₂ n p 0 → Turn b t c n v a h s b₃ r d
+    unfolding on tries
+    turn-next f e r q b₃ u =
+        let z : x ≡ 10 = three-answers (putOwner b n p c) c (next n p) (h + 1) (receive (view b) t) (on p (suc sent)) x k g d b₂ answer f e in
+        let w = port-route-rejected (freeIn (view b) n) on b c n h (receive (view b) t) p (helical a (portsOf 8 (left - 2 ^ p))) sent free k g d b₂ (ap (λ y. settled y k g d b₂) (sym z) ∙ answer) in
+        rw q
+        record {
+          same = restored (w .0) b₃ u;
+          ports = (let l = inv .ports in omega arith);
+          sub = tail-ports;
+          room = (let m = few-scouts in omega (arith, here-room));
+          rest = w .1 ∙ sym (open-tries sent) ∙ inv .rest;
+        }
+
+-- no port left
+pub turn-over : (b : List ℕ) (t c n v a h s : ℕ) (now : List ℕ) (left sent : ℕ) → Turn b t c n v a h s now left sent → left ≡ 0 → settled 10 0 0 sent now ≡ tries b t c n v a h s
+unfolding tries
+turn-over b t c n v a h s now left sent inv z =
+    let none : helical a (portsOf 8 left) ≡ [] = ap (λ x. helical a (portsOf 8 x)) z ∙ helical-zero 8 a in
+    ap (settled 10 0 0 sent) (inv .same)
+    ∙ ports-over (freeIn (view b) n) (behindPort (net (view b)) (freeIn (view b)) t n) b c n h (receive (view b) t) sent
+    ∙ ap (λ ps. settle b c n h (receive (view b) t) (trying (freeIn (view b) n) (behindPort (net (view b)) (freeIn (view b)) t n) ps sent)) (sym none)
+    ∙ inv .rest
+
+-- An arrival.
+module _ (b : List ℕ) (t c n a h s : ℕ) (may : MayArrive b t c n a h s) where
+  pub arrive-receives : (k : ℕ) → n ≡ t → k ≡ lowestChannel (view b) n → k ≢ 8 → settled 0 k h s b ≡ arrived b t c n a h s
+  unfolding arrived
+  arrive-receives k e q g =
+      target-receives (view b) b c n h k s k (arriving (distance b t n) (net (view b)) (freeIn (view b)) t n a s) (at-target (net (view b)) (freeIn (view b)) t n a s (distance b t n) e) q g
+      ∙ ap (λ m. settle b c n h (receive (view b) m) (arriving (distance b t n) (net (view b)) (freeIn (view b)) t n a s)) e
+
+  pub arrive-full : (k : ℕ) → n ≡ t → k ≡ lowestChannel (view b) n → k ≡ 8 → settled 11 0 0 s b ≡ arrived b t c n a h s
+  unfolding arrived
+  arrive-full k e q g =
+      target-full (view b) b c n h k s k (arriving (distance b t n) (net (view b)) (freeIn (view b)) t n a s) (at-target (net (view b)) (freeIn (view b)) t n a s (distance b t n) e) q g
+      ∙ ap (λ m. settle b c n h (receive (view b) m) (arriving (distance b t n) (net (view b)) (freeIn (view b)) t n a s)) e
+
+  module _ (away : n ≢ t) (v : ℕ) (uphill : v ≡ bitXor n t) where
+    offers : offered (net (view b)) t n ≡ portsOf 8 v
+    unfolding view
+    offers = offered-vector (shapeOf (view b)) 8 n t (may .here .fits) (may .here .node) (may .here .target) ∙ ap (portsOf 8) (sym uphill)
+
+    pub arrive-tries : tries b t c n v a h s ≡ arrived b t c n a h s
+    unfolding tries arrived distance
+    arrive-tries =
+        ap (settle b c n h (receive (view b) t))
+        (ap (λ ps. trying (freeIn (view b) n) (behindPort (net (view b)) (freeIn (view b)) t n) (helical a ps) s) (sym offers) ∙ arrives (net (view b)) (freeIn (view b)) t n a s (cube-nearing (shapeOf (view b)) t) away)
+
+    nearer : (p : ℕ) → p ∈ portsOf 8 v → distance b t n ≡ suc (net (view b) .far t (net (view b) .next n p))
+    unfolding distance
+    nearer p m = cube-nearing (shapeOf (view b)) t .nearer n p (rw offers m)
+
+    pub arrive-reach : suc (reach b t n v) ≤ distance b t n
+    arrive-reach =
+        let goal : t < 2 ^ shapeOf (view b) .dimension = unfold view in may .here .target in
+        let start : n < 2 ^ shapeOf (view b) .dimension = unfold view in may .here .node in
+        let some = cube-leading (shapeOf (view b)) t goal .leads n start away in
+        let e = nearer (some .0) (rw offers at (some .1)) in
+        let most : reach b t n v ≤ net (view b) .far t (net (view b) .next n (some .0)) = unfold reach in
+        farthest-most (net (view b)) t n _ (portsOf 8 v) (λ p m. let z = nearer p m in omega (arith, e)) in
+        omega (arith, e, most)
+
+    pub arrive-may : MayTry b t c n v a h s
+    arrive-may =
+        let R = reach b t n v in
+        let more : 8 * (1 + beyond 8 (reach b t n v)) ≤ beyond 8 (distance b t n) = one-further 8 (reach b t n v) (distance b t n) arrive-reach in
+        let ports = mul-le-mul-right (1 + beyond 8 (reach b t n v)) (length-ports 8 v) in
+        record {
+          here = may .here;
+          ports = rw uphill (xor-lt (dimensionAt b) n t (may .here .node) (may .here .target));
+          hops = omega (arith, may .hops, arrive-reach);
+          room = omega (arith, may .room, more, ports);
+        }
+
+    pub arrive-falls : 2 * reach b t n v + 1 < 2 * distance b t n
+    arrive-falls = omega (arith, arrive-reach)

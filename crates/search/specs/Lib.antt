@@ -1,0 +1,3 @@
+-- A pass on a lent table: what it answers, and its bytes afterwards.
+pub mod Settle
+pub mod Turns

@@ -1,0 +1,42 @@
+-- A pass of a search on the bytes of a table: which links are free, and what the path that was found makes of the answer and of the bytes.
+-- Assumes nothing.
+use mathlib.Core.Bool.{Bool}
+use mathlib.Core.List.{List, [], _∷_}
+use Prim.Native.Nat.{ℕ, zero, suc, _+_, _*_}
+use lib.ListN.{length}
+use Rattle.cube.specs.Cube.{next}
+use Rattle.paths.specs.Network.{Network, Path, isFree, linkState}
+use Rattle.paths.specs.Pass.{Pass, none, found}
+use Rattle.paths.specs.Search.{arriving}
+use Rattle.paths.specs.Send.{Receive, channel, all-held}
+use Rattle.table.specs.Layout.{putOwner}
+use Rattle.table.specs.View.{View}
+
+-- "A link is free if enabled and held by nobody."
+unfoldable pub freeIn : View → ℕ → ℕ → Bool
+freeIn v n p = isFree (linkState (v .enabled n p) (v .owner n p))
+
+-- the bytes after the links of a path from node n are given to circuit c, one after another
+unfoldable pub hold : List ℕ → ℕ → ℕ → Path → List ℕ
+hold b c n [] = b
+hold b c n (p ∷ w) = hold (putOwner b n p c) c (next n p) w
+
+-- what a pass answers, and the bytes afterwards: the refusal number, the receive channel, the hops and the scouts
+pub data Settled : Type 0 where
+  settled : (refused receive hops scouts : ℕ) → List ℕ → Settled
+
+-- "With none, route rejected. With one, the target takes its lowest receive channel ..; if all are held, receive rejected." The path's links are
+-- held where it is acknowledged; where it is rejected each byte is as it was. h hops were made before the pass came to node n.
+unfoldable pub settle : List ℕ → ℕ → ℕ → ℕ → Receive → Pass → Settled
+settle b c n h r (none s) = settled 10 0 0 s b
+settle b c n h (channel k) (found w s) = settled 0 k (h + length w) s (hold b c n w)
+settle b c n h all-held (found w s) = settled 11 0 0 s b
+
+-- the arrival behind a port of node n, on the way to t
+unfoldable pub behindPort : Network → (ℕ → ℕ → Bool) → ℕ → ℕ → ℕ → ℕ → Pass
+behindPort N free t n p = arriving (N .far t (N .next n p)) N free t (N .next n p) p
+
+-- no arrival that is k hops from its target sends more scouts than this, with at most w ports at each node
+unfoldable pub beyond : ℕ → ℕ → ℕ
+beyond w zero = 0
+beyond w (suc k) = w * (1 + beyond w k)

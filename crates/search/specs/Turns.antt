@@ -1,0 +1,68 @@
+-- What the two halves of the search ask and answer: a node trying its ports, and an arrival.
+-- Assumes nothing.
+use mathlib.Core.Path.{_≡_}
+use mathlib.Core.Logic.{_≢_}
+use mathlib.Core.Bool.{Bool, cond}
+use mathlib.Core.List.{List, [], _∷_}
+use Prim.Native.Nat.{ℕ, _+_, _*_, _^_, _≤_, _<_}
+use lib.Dec.{leb}
+use lib.ListN.{length}
+use Rattle.common.specs.Lists.{_∈_}
+use Rattle.cube.specs.Helical.{helical, portsOf}
+use Rattle.paths.specs.Network.{Network}
+use Rattle.paths.specs.CubeNetwork.{network}
+use Rattle.paths.specs.Search.{trying, arriving}
+use Rattle.table.specs.Layout.{tableLength, dimensionAt}
+use Rattle.table.specs.View.{View, view, receive}
+use Rattle.table.specs.Sound.{net}
+use Rattle.search.specs.Settle.{freeIn, Settled, settle, behindPort, beyond}
+
+-- the farthest from a target of the nodes behind the ports of a list
+unfoldable pub farthest : Network → ℕ → ℕ → List ℕ → ℕ
+farthest N t n [] = 0
+farthest N t n (p ∷ ps) = cond (leb (farthest N t n ps) (N .far t (N .next n p))) (N .far t (N .next n p)) (farthest N t n ps)
+
+-- how far node n of a table's cube is from t
+unfoldable pub distance : List ℕ → ℕ → ℕ → ℕ
+distance b t n = net (view b) .far t n
+
+unfoldable pub reach : List ℕ → ℕ → ℕ → ℕ → ℕ
+reach b t n vector = farthest (net (view b)) t n (portsOf 8 vector)
+
+-- trying the ports of a vector at node n, after an arrival on port a, with h hops made and s scouts sent; and an arrival
+unfoldable pub tries : List ℕ → ℕ → ℕ → ℕ → ℕ → ℕ → ℕ → ℕ → Settled
+tries b t c n vector a h s =
+    settle b c n h (receive (view b) t) (trying (freeIn (view b) n) (behindPort (net (view b)) (freeIn (view b)) t n) (helical a (portsOf 8 vector)) s)
+
+unfoldable pub arrived : List ℕ → ℕ → ℕ → ℕ → ℕ → ℕ → ℕ → Settled
+arrived b t c n a h s = settle b c n h (receive (view b) t) (arriving (distance b t n) (net (view b)) (freeIn (view b)) t n a s)
+
+-- what both ask: a table of a cube up to dimension 8, a node and a target of it, a port, a circuit
+pub record Here (b : List ℕ) (t c n a : ℕ) : Type 0 where
+  pub bytes : length b ≡ tableLength
+  pub fits : dimensionAt b ≤ 8
+  pub node : n < 2 ^ dimensionAt b
+  pub target : t < 2 ^ dimensionAt b
+  pub port : a < 8
+  pub circuit : c ≢ 0
+  pub small : c < 65536
+
+pub record MayTry (b : List ℕ) (t c n vector a h s : ℕ) : Type 0 where
+  pub here : Here b t c n a
+  pub ports : vector < 2 ^ dimensionAt b
+  pub hops : h + 1 + reach b t n vector < 65536
+  pub room : s + length (portsOf 8 vector) * (1 + beyond 8 (reach b t n vector)) < 2 ^ 32
+
+pub record MayArrive (b : List ℕ) (t c n a h s : ℕ) : Type 0 where
+  pub here : Here b t c n a
+  pub hops : h + distance b t n < 65536
+  pub room : s + beyond 8 (distance b t n) < 2 ^ 32
+
+-- what holds at each turn of the trying of ports: the bytes are those at the start, the ports left are ports of the vector, there is room for
+-- the scouts still to be sent, and what is left to do gives the whole
+pub record Turn (b : List ℕ) (t c n vector a h s : ℕ) (now : List ℕ) (left sent : ℕ) : Type 0 where
+  pub same : now ≡ b
+  pub ports : left < 2 ^ dimensionAt b
+  pub sub : (p : ℕ) → p ∈ portsOf 8 left → p ∈ portsOf 8 vector
+  pub room : sent + length (portsOf 8 left) * (1 + beyond 8 (reach b t n vector)) < 2 ^ 32
+  pub rest : tries b t c n left a h sent ≡ tries b t c n vector a h s

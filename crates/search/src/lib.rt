@@ -1,0 +1,129 @@
+// The search for a free permitted path on a lent table.
+ghost use mathlib.Core.Path.{_≡_};
+ghost use Rattle.table.specs.Layout.{Within};
+ghost use Rattle.table.specs.View.{view};
+ghost use Rattle.cube.specs.Helical.{FirstPorts};
+ghost use Rattle.search.specs.Settle.{freeIn, settled};
+ghost use Rattle.search.specs.Turns.{tries, arrived, MayTry, MayArrive};
+use common::refusal;
+use cube::Circuit;
+use cube::Node;
+use cube::Port;
+
+// Whether a link is enabled and held by nobody.
+pub fn is_free(t: &[u8], n: Node, p: Port) -> bool
+    requires { ⌜ Within (now t) (n .0) (p .0) ⌝ }
+    ensures { λ r. ⌜ r ≡ freeIn (view (now (t .entry))) (n .0) (p .0) ⌝ }
+{
+    if table::enabled(t, n, p) {
+        table::owner(t, n, p).0 == 0
+    } else {
+        false
+    }
+}
+
+// What a pass comes to: 0 with the receive channel and the hops, or the refusal; and the scouts sent.
+pub struct Pass {
+    pub refused: u16,
+    pub channel: u16,
+    pub hops: u16,
+    pub scouts: u32,
+}
+
+// A node tries the ports of a vector in the helical order. Each hop is held as the scout goes, and given back when it is rejected.
+pub fn try_ports(
+    t: &mut [u8],
+    at: Node,
+    target: Node,
+    c: Circuit,
+    vector: u16,
+    arrival: Port,
+    hops: u16,
+    scouts: u32,
+    first: &[u8; 2048],
+) -> Pass
+    requires { ⌜ FirstPorts (now first) ⌝ }
+    requires { ⌜ MayTry (now t) (target .0) (c .0) (at .0) vector (arrival .0) hops scouts ⌝ }
+    ensures { λ r. ⌜ settled (r .refused) (r .channel) (r .hops) (r .scouts) (now (t .exit)) ≡ tries (now (t .entry)) (target .0) (c .0) (at .0) vector (arrival .0) hops scouts ⌝ }
+{
+    let mut left = vector;
+    let mut sent = scouts;
+    while left != 0 {
+        let p = cube::first_port(first, left, arrival);
+        left = cube::without(left, p);
+        if is_free(t, at, p) {
+            table::set_owner(t, at, p, c);
+            let got = arrive(
+                t,
+                cube::neighbour(at, p),
+                target,
+                c,
+                p,
+                hops + 1,
+                sent + 1,
+                first,
+            );
+            if got.refused == refusal::ACCEPTED {
+                return got;
+            }
+            table::set_owner(t, at, p, Circuit(0));
+            if got.refused == refusal::RECEIVE_REJECTED {
+                return got;
+            }
+            sent = got.scouts;
+        }
+    }
+    Pass {
+        refused: refusal::ROUTE_REJECTED,
+        channel: 0,
+        hops: 0,
+        scouts: sent,
+    }
+}
+
+// A scout arrives: at the target, whose lowest receive channel that nobody holds is answered, or at a node that tries its uphill ports.
+pub fn arrive(
+    t: &mut [u8],
+    at: Node,
+    target: Node,
+    c: Circuit,
+    arrival: Port,
+    hops: u16,
+    scouts: u32,
+    first: &[u8; 2048],
+) -> Pass
+    requires { ⌜ FirstPorts (now first) ⌝ }
+    requires { ⌜ MayArrive (now t) (target .0) (c .0) (at .0) (arrival .0) hops scouts ⌝ }
+    ensures { λ r. ⌜ settled (r .refused) (r .channel) (r .hops) (r .scouts) (now (t .exit)) ≡ arrived (now (t .entry)) (target .0) (c .0) (at .0) (arrival .0) hops scouts ⌝ }
+{
+    if at.0 == target.0 {
+        let channel = table::free_channel(t, at);
+        if channel == 8 {
+            Pass {
+                refused: refusal::RECEIVE_REJECTED,
+                channel: 0,
+                hops: 0,
+                scouts,
+            }
+        } else {
+            Pass {
+                refused: refusal::ACCEPTED,
+                channel,
+                hops,
+                scouts,
+            }
+        }
+    } else {
+        try_ports(
+            t,
+            at,
+            target,
+            c,
+            cube::uphill_vector(at, target),
+            arrival,
+            hops,
+            scouts,
+            first,
+        )
+    }
+}
