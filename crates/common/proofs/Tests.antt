@@ -2,11 +2,11 @@
 -- Assumes nothing.
 use mathlib.Core.Path.{_≡_, refl, sym, _∙_}
 use mathlib.Core.Logic.{_⊎_, inl, inr, _≢_}
-use mathlib.Core.Bool.{Bool, true, false, true≢false}
+use mathlib.Core.Bool.{Bool, true, false, _&&_, and-eq-true-iff, true≢false}
 use mathlib.Core.List.{List, [], _∷_}
-use Prim.Native.Nat.{ℕ}
-use lib.Dec.{eqb}
-use borrow.Author.Tests.{eqb-true, eqb-false}
+use Prim.Native.Nat.{ℕ, _<_}
+use lib.Dec.{eqb, ltb}
+use borrow.Author.Tests.{eqb-true, eqb-false, ltb-true}
 use Rattle.common.specs.Decides.{Decides}
 use Rattle.common.specs.Tests.{Test, test, refusal}
 
@@ -21,6 +21,14 @@ same? a b = go (eqb a b) refl
 -- a test is not both
 pub clash : {b : Bool} → b ≡ true → b ≡ false → ⊥
 clash e f = true≢false (sym e ∙ f)
+
+pub is-false : (b : Bool) → (b ≡ true → ⊥) → b ≡ false
+is-false true h = absurd (h refl)
+is-false false h = refl
+
+-- two bounds tested together
+pub both-below : {n a p b : ℕ} → ltb n a && ltb p b ≡ true → (n < a) × (p < b)
+both-below {n} {a} {p} {b} e = let r = and-eq-true-iff (ltb n a) (ltb p b) .0 e in (ltb-true n a (r .0), ltb-true p b (r .1))
 
 -- an answer that is known decides
 pub decided-yes : {P : Type 0} → P → Decides P true

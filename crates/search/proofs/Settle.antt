@@ -2,7 +2,7 @@
 -- Assumes nothing.
 use mathlib.Core.Path.{_≡_, refl, ap, ap₂, sym, _∙_, fun-ext}
 use mathlib.Core.Logic.{_≢_}
-use mathlib.Core.Bool.{Bool, true, false, cond, _&&_, not, false≢true}
+use mathlib.Core.Bool.{Bool, true, false, cond, _&&_, not, false≢true, and-true, and-false}
 use mathlib.Core.List.{List, [], _∷_, List·Memᴰ·head}
 use Prim.Native.Nat.{ℕ, zero, suc, _+_, _/_, _%_, _<_}
 use native.Mathlib.Omega.{arith}
@@ -42,14 +42,6 @@ unfolding putOwner putEntry ownerAt entryAt
 given-back b n p c w e = given-word b (entryPlace linkPart n p) c (rw (within n p (w .node) (w .port)) at e)
 
 -- While a link is held, it alone is no longer free.
-and-not-true : (x : Bool) → x && not true ≡ false
-and-not-true true = refl
-and-not-true false = refl
-
-and-not-false : (x : Bool) → x && not false ≡ x
-and-not-false true = refl
-and-not-false false = refl
-
 pub free-held : (v : View) (n p c : ℕ) → c ≢ 0 → freeIn (setOwner v n p c) ≡ holding (freeIn v) n p
 unfolding freeIn setOwner setAt holding
 free-held v n p c h = fun-ext (λ m. fun-ext (λ q. go (eqb m n && eqb q p) (v .enabled m q) (v .owner m q)))
@@ -59,8 +51,8 @@ free-held v n p c h = fun-ext (λ m. fun-ext (λ q. go (eqb m n && eqb q p) (v .
     taken false = unfold isFree linkState in refl
 
     go : (x on : Bool) (o : ℕ) → isFree (linkState on (cond x c o)) ≡ isFree (linkState on o) && not x
-    go true on o = taken on ∙ sym (and-not-true (isFree (linkState on o)))
-    go false on o = sym (and-not-false (isFree (linkState on o)))
+    go true on o = taken on ∙ sym (and-false (isFree (linkState on o)))
+    go false on o = sym (and-true (isFree (linkState on o)))
 
 -- the two tests of a link
 pub free-on : (v : View) (n p : ℕ) (on : Bool) (o : ℕ) → on ≡ v .enabled n p → on ≡ true → o ≡ v .owner n p → eqb o 0 ≡ freeIn v n p

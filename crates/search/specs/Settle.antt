@@ -1,4 +1,4 @@
--- A pass of a search on the bytes of a table: which links are free, and what the path that was found makes of the answer and of the bytes.
+-- The search on the bytes of a table: which links are free, and what the path that was found makes of the answer and of the bytes.
 -- Assumes nothing.
 use mathlib.Core.Bool.{Bool}
 use mathlib.Core.List.{List, [], _∷_}
@@ -26,7 +26,8 @@ pub data Settled : Type 0 where
   settled : (refused receive hops scouts : ℕ) → List ℕ → Settled
 
 -- "With none, route rejected. With one, the target takes its lowest receive channel ..; if all are held, receive rejected." The path's links are
--- held where it is acknowledged; where it is rejected each byte is as it was. h hops were made before the pass came to node n.
+-- held where it is acknowledged; where it is rejected each byte is as it was. The receive channel is answered here and not yet held: that is for
+-- the pass above. h hops were made before the search came to node n.
 unfoldable pub settle : List ℕ → ℕ → ℕ → ℕ → Receive → Pass → Settled
 settle b c n h r (none s) = settled 10 0 0 s b
 settle b c n h (channel k) (found w s) = settled 0 k (h + length w) s (hold b c n w)

@@ -1,7 +1,7 @@
 -- Following the links of a circuit, as the code's branches meet it.
 -- Assumes nothing.
 use mathlib.Core.Path.{_≡_, refl, ap, ap₂, sym, _∙_}
-use mathlib.Core.Bool.{Bool, true, false, cond, _&&_, _||_}
+use mathlib.Core.Bool.{Bool, true, false, cond, _&&_, _||_, or-assoc, or-false}
 use mathlib.Core.Logic.{⊎-elim}
 use mathlib.Core.List.{List, [], _∷_, _++_, List·Memᴰ·head, List·Memᴰ·append-cases}
 use Prim.Native.Nat.{ℕ, zero, suc, _+_, _/_, _%_, _^_, _≤_, _<_}
@@ -153,14 +153,6 @@ module _ (v : View) (c n vector : ℕ) where
   follow-end q e h =
       let z : q ≡ firstOr 8 taken = e ∙ lowest-taken in
       course-none (net v) (heldBy v c) 7 (portsOf 8 vector) n (first-none taken (λ p m. taken-port p m .0) (omega arith))
-
-or-assoc : (a b c : Bool) → ((a || b) || c) ≡ (a || (b || c))
-or-assoc true b c = refl
-or-assoc false b c = refl
-
-or-false : (a : Bool) → (a || false) ≡ a
-or-false true = refl
-or-false false = refl
 
 -- one hop of the walk: what is left ends where all of it ends, and the link passed is counted
 module _ (v : View) (c n vector q rest m : ℕ) (e : q ≡ lowest (takes v c n vector) 8 0) (h : q < 8) (w : Without vector q rest) (to : m ≡ next n q) where

@@ -1,7 +1,7 @@
 -- The test of a whole table from the tests of its nodes, and what its answer says.
 -- Assumes nothing.
 use mathlib.Core.Path.{_≡_, refl, sym, _∙_, ap}
-use mathlib.Core.Bool.{Bool, true, false, cond, _&&_, not, and-eq-true-iff}
+use mathlib.Core.Bool.{Bool, true, false, cond, _&&_, not, and-false, and-eq-true-iff}
 use mathlib.Core.List.{List, [], _∷_}
 use mathlib.Core.Logic.{_≢_}
 use Prim.Native.Nat.{ℕ, _^_, _≤_, _<_}
@@ -12,7 +12,7 @@ use lib.Pow.{pow-pos}
 use borrow.Author.Tests.{lt-ltb, le-ltb, ltb-true, ltb-false, eq-eqb, ne-eqb, le-leb, lt-leb}
 use Rattle.common.specs.Decides.{Decides}
 use Rattle.common.specs.Tests.{refusal, test}
-use Rattle.common.proofs.Tests.{clash, refused, passed, accepted}
+use Rattle.common.proofs.Tests.{clash, is-false, both-below, refused, passed, accepted}
 use Rattle.common.specs.Lists.{every}
 use Rattle.common.proofs.Every.{at, all}
 use Rattle.cube.specs.Bits.{has}
@@ -31,10 +31,6 @@ module _ (b : List ℕ) (n D limit : ℕ) (d : D ≡ dimensionAt b) (lim : limit
   unfolding enabledAt enableBits
   off p e = rw (bits (ltb n (2 ^ D)) refl e) (and-false (inTable n p))
     where
-      and-false : (x : Bool) → (x && false) ≡ false
-      and-false true = refl
-      and-false false = refl
-
       bits : (x : Bool) → ltb n (2 ^ D) ≡ x → (x && ltb p D) ≡ false → has (enableBits b n) p ≡ false
       bits true y z = high-has D (enableBits b n) p (let q : limit ≡ 2 ^ D = lim ∙ ap (λ x. cond x (2 ^ D) 1) y in omega (arith, q)) (ltb-false p D z)
       bits false y z = high-has 0 (enableBits b n) p (let q : limit ≡ 1 = lim ∙ ap (λ x. cond x (2 ^ D) 1) y in omega (arith, q)) (omega arith)
@@ -91,11 +87,7 @@ module _ (v : View) where
 
 -- nothing lies outside 256 nodes and 8 ports or channels
 outside : (n p : ℕ) → ((n < 256) × (p < 8) → ⊥) → inTable n p ≡ false
-outside n p h = go (inTable n p) refl
-  where
-    go : (b : Bool) → inTable n p ≡ b → b ≡ false
-    go true e = let r = and-eq-true-iff (ltb n 256) (ltb p 8) .0 e in absurd (h (ltb-true n 256 (r .0), ltb-true p 8 (r .1)))
-    go false e = refl
+outside n p h = is-false (inTable n p) (λ e. h (both-below e))
 
 pub view-framed : (b : List ℕ) → Framed (view b)
 unfolding view enabledAt ownerAt receiverAt entryAt

@@ -11,7 +11,7 @@ use lib.ListN.{length}
 use lib.Pow.{pow-mono}
 use borrow.Author.Tests.{eqb-true, eqb-false, eq-eqb, ne-eqb, not-true, ltb-true, lt-ltb, le-ltb, ltb-false, leb-true, le-leb}
 use Rattle.common.specs.Lists.{_∈_, keep, from, Sorted}
-use Rattle.common.proofs.Tests.{same?, clash}
+use Rattle.common.proofs.Tests.{same?, clash, is-false, both-below}
 use Rattle.common.proofs.Every.{decide₂}
 use Rattle.common.proofs.Lists.{keep-mem, mem-keep, keep-sorted, from-mem, mem-from, from-sorted}
 use Rattle.cube.specs.Cube.{sourceOf}
@@ -53,10 +53,6 @@ or-left b e = rw e
 or-right : (a : Bool) {b : Bool} → b ≡ true → a || b ≡ true
 or-right true e = refl
 or-right false e = e
-
-is-false : (b : Bool) → (b ≡ true → ⊥) → b ≡ false
-is-false true h = absurd (h refl)
-is-false false h = refl
 
 -- a link of a list, by the test
 link-true : (ls : List Link) (m q : ℕ) → (m, q) ∈ ls → hasLink ls m q ≡ true
@@ -105,9 +101,6 @@ unfolding Permitted isEmpty
 some-hop N s vector t (p ∷ w) o = refl
 
 -- two bounds tested together
-within : {n a p b : ℕ} → ltb n a && ltb p b ≡ true → (n < a) × (p < b)
-within {n} {a} {p} {b} e = let r = both (ltb n a) (ltb p b) e in (ltb-true n a (r .0), ltb-true p b (r .1))
-
 beyond : {n a p b : ℕ} → ltb n a && ltb p b ≡ false → (n < a) × (p < b) → ⊥
 beyond e i = clash (and (lt-ltb _ _ (i .0)) (lt-ltb _ _ (i .1))) e
 
@@ -116,7 +109,7 @@ placed : (n p : ℕ) → ((n < 256) × (p < 8)) ⊎ ((n < 256) × (p < 8) → �
 placed n p = go (ltb n 256 && ltb p 8) refl
   where
     go : (b : Bool) → ltb n 256 && ltb p 8 ≡ b → ((n < 256) × (p < 8)) ⊎ ((n < 256) × (p < 8) → ⊥)
-    go true e = inl (within e)
+    go true e = inl (both-below e)
     go false e = inr (beyond e)
 
 module _ (v : View) where
@@ -142,7 +135,7 @@ module _ (v : View) where
 
   absent-passes : (n p : ℕ) → ((n < 2 ^ v .dimension) × (p < v .dimension) → ⊥) → (v .enabled n p ≡ false) × (v .owner n p ≡ 0) → linkTest v n p ≡ true
   unfolding linkTest
-  absent-passes n p h a = rw (is-false (ltb n (2 ^ v .dimension) && ltb p (v .dimension)) (λ e. h (within e))) (and (ap not (a .0)) (eq-eqb _ 0 (a .1)))
+  absent-passes n p h a = rw (is-false (ltb n (2 ^ v .dimension) && ltb p (v .dimension)) (λ e. h (both-below e))) (and (ap not (a .0)) (eq-eqb _ 0 (a .1)))
 
   absent-receives : (n k : ℕ) → (n < 2 ^ v .dimension → ⊥) → v .receiver n k ≡ 0 → receiveTest v n k ≡ true
   unfolding receiveTest
@@ -191,14 +184,14 @@ module _ (v : View) where
       go true e =
           ⊎-elim (λ z. absurd (h (eqb-true _ 0 z)))
           (λ r. let a = both (v .enabled n p) _ r in let b = both (reaches v (v .owner n p)) _ (a .1) in
-          record { there = within e; on = a .0; stands = b .0; passed = true-link _ n p (b .1) })
+          record { there = both-below e; on = a .0; stands = b .0; passed = true-link _ n p (b .1) })
           (either (eqb (v .owner n p) 0) _ (rw e at t))
       go false e = absurd (h (eqb-true _ 0 (both (not (v .enabled n p)) _ (rw e at t) .1)))
 
   link-absent : (n p : ℕ) → linkTest v n p ≡ true → ((n < 2 ^ v .dimension) × (p < v .dimension) → ⊥) → (v .enabled n p ≡ false) × (v .owner n p ≡ 0)
   unfolding linkTest
   link-absent n p t h =
-      let e = is-false (ltb n (2 ^ v .dimension) && ltb p (v .dimension)) (λ e. h (within e)) in
+      let e = is-false (ltb n (2 ^ v .dimension) && ltb p (v .dimension)) (λ e. h (both-below e)) in
       let r = both (not (v .enabled n p)) _ (rw e at t) in
       (not-true _ (r .0), eqb-true _ 0 (r .1))
 
@@ -311,7 +304,7 @@ pub fresh-sound : (D : ℕ) → Sound (fresh D)
 unfolding fresh
 fresh-sound D =
     record {
-      absent-link = λ n p h. (is-false (ltb n (2 ^ D) && ltb p D) (λ e. h (within e)), refl);
+      absent-link = λ n p h. (is-false (ltb n (2 ^ D) && ltb p D) (λ e. h (both-below e)), refl);
       absent-receive = λ n k h. refl;
       held-enabled = λ n p h. absurd (h refl);
       link-number = λ n p. omega arith;

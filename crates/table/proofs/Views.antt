@@ -10,6 +10,7 @@ use lib.Dec.{eqb, ltb, lit<, lit≤}
 use lib.ListN.{length, getD, set, length-set}
 use lib.Seq.{getD-set-same, getD-set-other}
 use borrow.Author.Tests.{ltb-true, ltb-false, eqb-true, eqb-false}
+use Rattle.common.proofs.Tests.{both-below}
 use Rattle.cube.specs.Bits.{has, withBit}
 use Rattle.cube.proofs.Bits.{with-bit-same, with-bit-other}
 use Rattle.table.specs.Layout.{inTable, dimensionAt, enablePlace, entryPlace, linkPart, receivePart, wordAt, putWord, enabledAt, entryAt, ownerAt, receiverAt, putEntry, putOwner, putReceiver, putEnabled, Within}
@@ -46,7 +47,7 @@ module _ (b : List ℕ) (i c : ℕ) where
       off‴ g e = ⊎-elim (λ x. omega arith) (λ x. omega arith) g
 
 pub inside : (n k : ℕ) → inTable n k ≡ true → (n < 256) × (k < 8)
-inside n k e = let r = and-eq-true-iff (ltb n 256) (ltb k 8) .0 e in (ltb-true n 256 (r .0), ltb-true k 8 (r .1))
+inside n k e = both-below e
 
 -- two entries of one part lie at one place only if they are one
 place-one : (part m q n k : ℕ) → q < 8 → k < 8 → entryPlace part m q ≡ entryPlace part n k → (m ≡ n) × (q ≡ k)

@@ -58,8 +58,8 @@ receiveTest v n k =
 unfoldable pub soundTest : View → Bool
 soundTest v = every 256 (λ n. every 8 (linkTest v n) && every 8 (receiveTest v n))
 
--- what looking at circuit c comes to: whether it reaches the end of its path and, where it does, where its path ends and whether it passes the link out of port p of
--- node n
+-- what looking at circuit c comes to: whether it reaches the end of its path and, where it does, where that is and whether the path passes the
+-- link out of port p of node n
 pub record Examined (v : View) (c n p : ℕ) (reached : Bool) (at : ℕ) (passes : Bool) : Type 0 where
   pub does-reach : reached ≡ reaches v c
   pub ends : reached ≡ true → at ≡ endFor v c (pathOf v c)

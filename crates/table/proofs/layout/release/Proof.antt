@@ -41,7 +41,7 @@ loop-again c =
     let on = f .free-entry .ensures in (
       omega arith,
       ap length on ∙ free-length (s .args .c .0) (l .loop .t) (257 + 2 * l .loop .i) ∙ l .loop .inv .1,
-      ap (λ b. freeFrom (s .args .c .0) b (257 + 2 * (l .loop .i + 1)) (4096 - (l .loop .i + 1))) on ∙ free-step (s .args .c .0) (l .loop .t) (l .loop .i) (f .before .before .loop-test .taken) ∙ l .loop .inv .2,
+      ap (λ b. freeFrom (s .args .c .0) b (257 + 2 * (l .loop .i + 1)) (4096 - (l .loop .i + 1))) on ∙ free-step (s .args .c .0) (l .loop .t) (l .loop .i) (omega (arith, f .before .before .loop-test .taken)) ∙ l .loop .inv .2,
     )
 
 same-length : tie.Need-same-length Inv-loop μ-loop

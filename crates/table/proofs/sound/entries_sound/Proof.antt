@@ -24,7 +24,7 @@ loop-holds c = (omega arith, λ j h. absurd (not-suc-le-zero h))
 node-sound-requires : tie.Need-node-sound-requires Inv-loop μ-loop
 node-sound-requires c κs =
     let s = c .before .before .before in
-    (record { bytes = s .pre .bytes; node = c .loop-test .taken; port = lit< tt }, s .pre)
+    (record { bytes = s .pre .bytes; node = omega (arith, c .loop-test .taken); port = lit< tt }, s .pre)
 
 add-n : tie.Need-add-n Inv-loop μ-loop
 add-n c = omega arith
@@ -42,7 +42,7 @@ returns : tie.Need-returns Inv-loop μ-loop
 returns c =
     let l = c .before .before .before in
     let s = l .before .before in
-    node-fails (view (s .args .t .now)) (l .loop .n) (c .before .before .loop-test .taken) (c .before .node-sound .ensures .fails (c .if1 .left))
+    node-fails (view (s .args .t .now)) (l .loop .n) (omega (arith, c .before .before .loop-test .taken)) (c .before .node-sound .ensures .fails (c .if1 .left))
 
 returns-2 : tie.Need-returns-2 Inv-loop μ-loop
 returns-2 c =

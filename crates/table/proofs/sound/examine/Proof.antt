@@ -21,7 +21,7 @@ returns : tie.Need-returns
 returns c =
     let m = c .before .before in
     let s = m .before .before in
-    unfold view in looked-large (view (s .args .t .now)) (s .args .c .0) (s .args .dimension) (m .node-count .result) (s .pre .1 .stored) (s .pre .1 .most) (m .node-count .ensures .value) (s .args .n .0) (s .args .p .0) (c .if1 .taken)
+    unfold view in looked-large (view (s .args .t .now)) (s .args .c .0) (s .args .dimension) (m .node-count .result) (s .pre .1 .stored) (s .pre .1 .most) (m .node-count .ensures .value) (s .args .n .0) (s .args .p .0) (omega (arith, c .if1 .taken))
 
 source-of-requires : tie.Need-source-of-requires
 source-of-requires c κs = search needs
@@ -39,7 +39,7 @@ returns-2 c =
     let m = g .before .before .before in
     let s = m .before .before in
     unfold view in looked-none (view (s .args .t .now)) (s .args .c .0) (s .args .dimension) (m .node-count .result) (s .pre .1 .stored) (s .pre .1 .most) (m .node-count .ensures .value) (s .args .n .0) (s .args .p .0)
-    (g .source-of .result .0) (h .first-hop .result .0) (g .source-of .ensures) (g .before .if1 .left) (h .first-hop .ensures) (c .if2 .taken)
+    (g .source-of .result .0) (h .first-hop .result .0) (g .source-of .ensures) (g .before .if1 .left) (h .first-hop .ensures) (omega (arith, c .if2 .taken))
 
 neighbour-requires : tie.Need-neighbour-requires
 neighbour-requires c κs = search needs

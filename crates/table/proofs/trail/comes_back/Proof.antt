@@ -1,6 +1,7 @@
 -- `table::trail::comes_back` meets its contract: the link of the port, and then the one back.
 -- Assumes nothing.
 use mathlib.Core.Path.{_≡_, refl, sym, _∙_}
+use native.Mathlib.Omega.{arith}
 use Rattle.cube.proofs.Bits.{flip-inside}
 use Rattle.table.specs.View.{view}
 use Rattle.table.proofs.Follow.{back-on, back-off}
@@ -17,7 +18,7 @@ neighbour-requires c κs = search needs
 holds-requires : tie.Need-holds-requires
 holds-requires c κs =
     let s = c .before .before .before .before in
-    record { bytes = s .pre .bytes; node = rw (c .neighbour .ensures) (flip-inside 8 (s .args .n .0) (s .args .p .0) (s .pre .node) (s .pre .port)); port = s .pre .port }
+    record { bytes = s .pre .bytes; node = rw (c .neighbour .ensures) (flip-inside 8 (s .args .n .0) _ (s .pre .node) (omega (arith, s .pre .port))); port = s .pre .port }
 
 returns : tie.Need-returns
 returns c =
