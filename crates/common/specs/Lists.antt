@@ -1,6 +1,6 @@
 -- Lists of numbers, as the definitions of the other crates use them.
 -- Assumes nothing.
-use mathlib.Core.Bool.{Bool, cond, true, _&&_}
+use mathlib.Core.Bool.{Bool, cond, true, false, _&&_, _||_}
 use mathlib.Core.List.{List, [], _∷_, List·Memᴰ}
 use Prim.Native.Nat.{ℕ, zero, suc}
 
@@ -13,6 +13,11 @@ x ∈ xs = List·Memᴰ x xs
 unfoldable pub keep : {A : Type 0} → (A → Bool) → List A → List A
 keep f [] = []
 keep f (x ∷ xs) = cond (f x) (x ∷ keep f xs) (keep f xs)
+
+-- some member passes a test
+unfoldable pub any : {A : Type 0} → (A → Bool) → List A → Bool
+any f [] = false
+any f (x ∷ xs) = f x || any f xs
 
 -- k numbers from s upward: s, s + 1, ..
 unfoldable pub from : ℕ → ℕ → List ℕ

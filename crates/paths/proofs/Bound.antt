@@ -5,7 +5,7 @@ use mathlib.Core.Bool.{Bool, true, false, cond, _||_, not}
 use mathlib.Core.List.{List, [], _∷_, _++_, map, List·Memᴰ·head, List·Memᴰ·tail}
 use Prim.Native.Nat.{ℕ, zero, suc, _+_, _*_, _-_, _≤_, _<_, pred}
 use native.Mathlib.Omega.{arith}
-use native.Mathlib.Nat.{le-trans, le-refl}
+use native.Mathlib.Nat.{le-trans, le-refl, mul-le-mul}
 use borrow.Author.Tests.{eqb-true, eqb-false, leb-true, le-leb, not-true}
 use lib.Dec.{eqb, leb}
 use lib.ListN.{length, length-append, length-map}
@@ -15,10 +15,11 @@ use Rattle.common.proofs.Lists.{keep-mem, keep-yes, keep-no, from-mem, length-f
 use Rattle.cube.specs.Helical.{helical}
 use Rattle.cube.proofs.Order.{helical-mem, length-helical}
 use Rattle.paths.specs.Network.{Network, Path, offered, freePath, Nearing}
-use Rattle.paths.specs.Pass.{Pass, over, ways, beginnings, scan, whole, attempt, pass, scouts}
+use Rattle.paths.specs.Pass.{Pass, found, over, ways, beginnings, scan, whole, attempt, pass, scouts}
+use Rattle.paths.specs.Search.{arriving}
 use Rattle.paths.specs.Bound.{Cubical, waysFrom, sendsFrom}
 use Rattle.paths.proofs.Scan.{scan-sends}
-use Rattle.paths.proofs.Depth.{over-cons}
+use Rattle.paths.proofs.Depth.{over-cons, arriving-scan}
 
 -- what `over` has, where each port has l ways on
 length-over : (on : ℕ → List Path) (l : ℕ) (ps : List ℕ) → ((p : ℕ) → p ∈ ps → length (on p) ≡ l) → length (over on ps) ≡ length ps * suc l
@@ -62,7 +63,7 @@ from-step (suc d) = refl
 
 module _ {N : Network} {t : ℕ} (near : Nearing N t) (cubic : Cubical N t) where
   -- from a node, as many beginnings of ways on as its distance says
-  ways-count : (k n a : ℕ) → N .far t n ≤ k → length (ways k N t n a) ≡ waysFrom (N .far t n)
+  pub ways-count : (k n a : ℕ) → N .far t n ≤ k → length (ways k N t n a) ≡ waysFrom (N .far t n)
   unfolding ways
   ways-count zero n a h = let e : N .far t n ≡ 0 = omega arith in rw e (unfold waysFrom in refl)
   ways-count (suc k) n a h = go (eqb n t) refl (λ p. ways-count k (N .next n p) p)
@@ -105,6 +106,14 @@ module _ {N : Network} {t : ℕ} (near : Nearing N t) (cubic : Cubical N t) wher
           length-over (on s) (waysFrom (suc (N .far t s))) (others N t s) (λ p m. ways-count _ (N .next s p) p (le-refl _) ∙ ap waysFrom (farther p m))
           ∙ ap (_* suc (waysFrom (suc (N .far t s)))) (omega (arith, length-others s))
 
+  -- an arrival sends no more scouts than there are beginnings of ways on
+  pub arriving-sends : (free : ℕ → ℕ → Bool) (n a c : ℕ) → scouts (arriving (N .far t n) N free t n a c) ≤ c + waysFrom (N .far t n)
+  arriving-sends free n a c = rw (arriving-scan (N .far t n) N free t n a c) (go (eqb n t))
+    where
+      go : (x : Bool) → scouts (cond x (found [] c) (scan (freePath N free n) (whole N t n) c (ways (N .far t n) N t n a))) ≤ c + waysFrom (N .far t n)
+      go true = unfold scouts in omega arith
+      go false = omega (arith, scan-sends (freePath N free n) (whole N t n) (ways (N .far t n) N t n a) c, ways-count (N .far t n) n a (le-refl _))
+
   pass-sends : (free : ℕ → ℕ → Bool) (s : ℕ) (vector : List ℕ) → scouts (pass N free s vector t) ≤ length (beginnings N s vector t)
   unfolding pass attempt
   pass-sends free s vector = omega (arith, scan-sends (freePath N free s) (whole N t s) (beginnings N s vector t) 0)
@@ -117,6 +126,13 @@ module _ {N : Network} {t : ℕ} (near : Nearing N t) (cubic : Cubical N t) wher
       let a = pass-sends f s (keep v (from 0 (N .width))) in
       let b = pass-sends g s (keep (λ p. not (v p)) (from 0 (N .width))) in
       omega (arith, length-shared (on s) v (from 0 (N .width)), all-count s)
+
+-- farther away, more ways on
+pub ways-more : (j k : ℕ) → j ≤ k → waysFrom j ≤ waysFrom k
+unfolding waysFrom
+ways-more zero k h = omega arith
+ways-more (suc j) zero h = absurd (omega arith)
+ways-more (suc j) (suc k) h = mul-le-mul h (let r = ways-more j k (omega arith) in omega arith)
 
 -- "Both passes together never send more than 123,300": the largest count of up to 8 ports, at distance 7 of 8.
 pub largest-count : sendsFrom 8 7 ≡ 123300

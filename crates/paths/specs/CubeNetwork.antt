@@ -1,8 +1,9 @@
 -- The cube as a network, the ports of a send vector, and the routing types of document 01.
 -- Assumes nothing.
-use mathlib.Core.Bool.{Bool, not}
+use mathlib.Core.Bool.{Bool, cond, not}
 use mathlib.Core.List.{List, [], _∷_}
 use Prim.Native.Nat.{ℕ, _^_, _<_}
+use lib.Dec.{eqb}
 use lib.ListN.{length}
 use Rattle.common.specs.Lists.{keep, from}
 use Rattle.cube.specs.Bits.{has}
@@ -45,3 +46,7 @@ maze S free r s vector t = runs r (pass (network S) free s (sendPorts S vector) 
 unfoldable pub alternateMaze : Shape → (ℕ → ℕ → Bool) → Receive → ℕ → ℕ → ℕ → Sent
 alternateMaze S free r s vector t =
     runs r (pass (network S) free s (sendPorts S vector) t) (pass (network S) free s (otherPorts S vector) t ∷ [])
+
+-- the send of a routing type, 0 or 4
+unfoldable pub send : ℕ → Shape → (ℕ → ℕ → Bool) → Receive → ℕ → ℕ → ℕ → Sent
+send type S free r s vector t = cond (eqb type 4) (alternateMaze S free r s vector t) (maze S free r s vector t)

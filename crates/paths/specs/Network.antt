@@ -2,7 +2,7 @@
 -- Assumes nothing.
 use mathlib.Core.Path.{_≡_}
 use mathlib.Core.Logic.{_≢_}
-use mathlib.Core.Bool.{Bool, true, false, cond, _&&_}
+use mathlib.Core.Bool.{Bool, true, false, cond, _&&_, _||_}
 use mathlib.Core.List.{List, [], _∷_}
 use Prim.Native.Nat.{ℕ, suc}
 use lib.Dec.{eqb}
@@ -38,6 +38,11 @@ end N n (p ∷ w) = end N (N .next n p) w
 unfoldable pub links : Network → ℕ → Path → List Link
 links N n [] = []
 links N n (p ∷ w) = (n, p) ∷ links N (N .next n p) w
+
+-- a link is one of a list
+unfoldable pub hasLink : List Link → ℕ → ℕ → Bool
+hasLink [] m q = false
+hasLink (l ∷ ls) m q = (eqb m (l .0) && eqb q (l .1)) || hasLink ls m q
 
 -- the links that pass a test are exactly those of the path w from s
 pub record Exactly (N : Network) (s : ℕ) (w : Path) (own : ℕ → ℕ → Bool) : Type 0 where

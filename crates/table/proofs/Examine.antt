@@ -14,13 +14,13 @@ use Rattle.common.proofs.Lists.{keep-same, keep-wider, keep-all, from-mem, leng
 use Rattle.cube.specs.Bits.{has}
 use Rattle.cube.specs.Cube.{next, sourceOf}
 use Rattle.cube.specs.Helical.{portsOf, firstOr}
-use Rattle.paths.specs.Network.{Network, Path, end, links}
+use Rattle.paths.specs.Network.{Network, Path, end, links, hasLink}
 use Rattle.paths.specs.CubeNetwork.{network}
 use Rattle.paths.specs.Trail.{hop, course, firstHops, trail}
 use Rattle.paths.proofs.Trail.{course-fuel}
 use Rattle.table.specs.View.{View}
 use Rattle.table.specs.Sound.{shapeOf, net, heldBy, endFor}
-use Rattle.table.specs.SoundTest.{pathOf, isEmpty, hasLink, channelsHeld, reaches, Examined, linkTest, receiveTest}
+use Rattle.table.specs.SoundTest.{pathOf, isEmpty, channelsHeld, reaches, Examined, linkTest, receiveTest}
 use Rattle.table.specs.Follow.{followed, firstHop, Follows}
 use Rattle.table.proofs.Made.{ones}
 use Rattle.table.proofs.Follow.{first-none, first-is, hop-port}

@@ -16,13 +16,12 @@ use Rattle.cube.specs.Bits.{bitAt, has}
 use Rattle.cube.specs.Cube.{next, Without}
 use Rattle.cube.specs.Helical.{portsOf, firstOr}
 use Rattle.cube.proofs.Order.{ports-mem, mem-ports, ports-without, length-ports}
-use Rattle.paths.specs.Network.{Network, Path, end, links}
+use Rattle.paths.specs.Network.{Network, Path, end, links, hasLink}
 use Rattle.paths.specs.CubeNetwork.{network}
 use Rattle.paths.specs.Trail.{dropPort, course, firstHops}
 use Rattle.paths.proofs.Trail.{course-fuel, course-none, course-some, drop-shorter}
 use Rattle.table.specs.View.{View, lowest}
 use Rattle.table.specs.Sound.{net, heldBy}
-use Rattle.table.specs.SoundTest.{hasLink}
 use Rattle.table.specs.Follow.{takes, comesBack, followed, firstHop}
 
 module _ (v : View) (c n vector p : ℕ) where

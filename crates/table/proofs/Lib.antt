@@ -9,3 +9,4 @@ pub mod Soundness
 pub mod Follow
 pub mod Examine
 pub mod Passing
+pub mod Encode

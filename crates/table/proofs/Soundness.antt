@@ -15,7 +15,7 @@ use Rattle.common.proofs.Tests.{same?, clash, is-false, both-below}
 use Rattle.common.proofs.Every.{decide₂}
 use Rattle.common.proofs.Lists.{keep-mem, mem-keep, keep-sorted, from-mem, mem-from, from-sorted}
 use Rattle.cube.specs.Cube.{sourceOf}
-use Rattle.paths.specs.Network.{Network, Path, Link, Exactly, end, links}
+use Rattle.paths.specs.Network.{Network, Path, Link, Exactly, end, links, hasLink}
 use Rattle.paths.specs.Permitted.{Permitted}
 use Rattle.paths.specs.CubeNetwork.{Shape, network}
 use Rattle.paths.specs.Trail.{trail}
@@ -24,7 +24,7 @@ use Rattle.paths.proofs.Apart.{apart-permitted}
 use Rattle.paths.proofs.Trail.{trail-finds, trail-owned, trail-apart}
 use Rattle.table.specs.View.{View, fresh}
 use Rattle.table.specs.Sound.{shapeOf, net, heldBy, endFor, Stands, Nowhere, Sound}
-use Rattle.table.specs.SoundTest.{pathOf, isEmpty, hasLink, channelsHeld, reaches, linkTest, receiveTest}
+use Rattle.table.specs.SoundTest.{pathOf, isEmpty, channelsHeld, reaches, linkTest, receiveTest}
 
 -- what lies in a table: nothing outside 256 nodes and 8 ports or channels
 pub record Framed (v : View) : Type 0 where
@@ -37,32 +37,32 @@ pub record EntriesPass (v : View) : Type 0 where
   pub receives-pass : (n k : ℕ) → n < 256 → k < 8 → receiveTest v n k ≡ true
 
 -- tests joined
-both : (a b : Bool) → a && b ≡ true → (a ≡ true) × (b ≡ true)
+pub both : (a b : Bool) → a && b ≡ true → (a ≡ true) × (b ≡ true)
 both a b e = and-eq-true-iff a b .0 e
 
-and : {a b : Bool} → a ≡ true → b ≡ true → a && b ≡ true
+pub and : {a b : Bool} → a ≡ true → b ≡ true → a && b ≡ true
 and {a} {b} e f = and-eq-true-iff a b .1 (e, f)
 
-either : (a b : Bool) → a || b ≡ true → (a ≡ true) ⊎ (b ≡ true)
+pub either : (a b : Bool) → a || b ≡ true → (a ≡ true) ⊎ (b ≡ true)
 either true b e = inl refl
 either false b e = inr e
 
-or-left : {a : Bool} (b : Bool) → a ≡ true → a || b ≡ true
+pub or-left : {a : Bool} (b : Bool) → a ≡ true → a || b ≡ true
 or-left b e = rw e
 
-or-right : (a : Bool) {b : Bool} → b ≡ true → a || b ≡ true
+pub or-right : (a : Bool) {b : Bool} → b ≡ true → a || b ≡ true
 or-right true e = refl
 or-right false e = e
 
 -- a link of a list, by the test
-link-true : (ls : List Link) (m q : ℕ) → (m, q) ∈ ls → hasLink ls m q ≡ true
+pub link-true : (ls : List Link) (m q : ℕ) → (m, q) ∈ ls → hasLink ls m q ≡ true
 unfolding hasLink
 link-true [] m q o = absurd (List·Memᴰ·not-nil o)
 link-true (l ∷ ls) m q o =
     ⊎-elim (λ e. or-left _ (and (eq-eqb m (l .0) (ap (λ (x : Link). x .0) e)) (eq-eqb q (l .1) (ap (λ (x : Link). x .1) e))))
     (λ k. or-right (eqb m (l .0) && eqb q (l .1)) (link-true ls m q k)) (List·Memᴰ·cases-cons o)
 
-true-link : (ls : List Link) (m q : ℕ) → hasLink ls m q ≡ true → (m, q) ∈ ls
+pub true-link : (ls : List Link) (m q : ℕ) → hasLink ls m q ≡ true → (m, q) ∈ ls
 unfolding hasLink
 true-link [] m q e = absurd (false≢true e)
 true-link (l ∷ ls) m q e =
@@ -91,12 +91,12 @@ kept-one f e = go (keep f (from 0 8)) refl e
         let r = keep-mem f (from 0 8) m in
         (x, (let b = from-mem 0 8 (r .0) in omega arith), r .1, λ j h t. let i : j ∈ (x ∷ []) = rw q at (mem-keep f (from 0 8) (mem-from 0 8 j (omega arith) (omega arith)) t) in ⊎-elim (λ z. z) (λ z. absurd (List·Memᴰ·not-nil z)) (List·Memᴰ·cases-cons i))
 
-not-empty : (w : Path) → not (isEmpty w) ≡ true → w ≢ []
+pub not-empty : (w : Path) → not (isEmpty w) ≡ true → w ≢ []
 unfolding isEmpty
 not-empty [] e q = false≢true e
 not-empty (p ∷ w) e q = let z : isEmpty (p ∷ w) ≡ true = ap isEmpty q in false≢true z
 
-some-hop : (N : Network) (s : ℕ) (vector : List ℕ) (t : ℕ) (w : Path) → Permitted N s vector t w → not (isEmpty w) ≡ true
+pub some-hop : (N : Network) (s : ℕ) (vector : List ℕ) (t : ℕ) (w : Path) → Permitted N s vector t w → not (isEmpty w) ≡ true
 unfolding Permitted isEmpty
 some-hop N s vector t (p ∷ w) o = refl
 

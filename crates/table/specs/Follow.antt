@@ -6,11 +6,10 @@ use Prim.Native.Nat.{ℕ, _<_}
 use Rattle.cube.specs.Bits.{has}
 use Rattle.cube.specs.Cube.{next}
 use Rattle.cube.specs.Helical.{portsOf, firstOr}
-use Rattle.paths.specs.Network.{Path, end, links}
+use Rattle.paths.specs.Network.{Path, end, links, hasLink}
 use Rattle.paths.specs.Trail.{course, firstHops}
 use Rattle.table.specs.View.{View, lowest}
 use Rattle.table.specs.Sound.{net, heldBy}
-use Rattle.table.specs.SoundTest.{hasLink}
 
 -- port p is in the vector, and circuit c holds the link out of it
 unfoldable pub takes : View → ℕ → ℕ → ℕ → ℕ → Bool

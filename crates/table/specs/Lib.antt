@@ -4,3 +4,4 @@ pub mod View
 pub mod Sound
 pub mod SoundTest
 pub mod Follow
+pub mod Encode

@@ -10,7 +10,7 @@ use lib.ListN.{length}
 use Rattle.common.specs.Lists.{keep, from, every}
 use Rattle.common.specs.Tests.{Test, test, refusal}
 use Rattle.cube.specs.Cube.{sourceOf}
-use Rattle.paths.specs.Network.{Path, Link, links}
+use Rattle.paths.specs.Network.{Path, Link, links, hasLink}
 use Rattle.paths.specs.Trail.{trail}
 use Rattle.table.specs.Layout.{tableLength, dimensionAt}
 use Rattle.table.specs.View.{View, view}
@@ -23,11 +23,6 @@ pathOf v c = trail (shapeOf v) (heldBy v c) (sourceOf c)
 unfoldable pub isEmpty : Path → Bool
 isEmpty [] = true
 isEmpty (p ∷ w) = false
-
--- a link is one of a list
-unfoldable pub hasLink : List Link → ℕ → ℕ → Bool
-hasLink [] m q = false
-hasLink (l ∷ ls) m q = (eqb m (l .0) && eqb q (l .1)) || hasLink ls m q
 
 -- circuit c holds receive channel k of node n
 abbrev pub receivesFor : View → ℕ → ℕ → ℕ → Bool

@@ -5,10 +5,9 @@ use mathlib.Core.Bool.{_||_}
 use Prim.Native.Nat.{_≤_, _<_}
 use native.Mathlib.Omega.{arith}
 use borrow.Author.Needs.{needs}
-use Rattle.paths.specs.Network.{end, links}
+use Rattle.paths.specs.Network.{end, links, hasLink}
 use Rattle.table.specs.View.{view, lowest}
 use Rattle.table.specs.Sound.{net}
-use Rattle.table.specs.SoundTest.{hasLink}
 use Rattle.table.specs.Follow.{takes, followed}
 use lib.Dec.{lit<}
 use lib.Pow.{pow-pos}

@@ -1,0 +1,25 @@
+-- The bytes of a table that shows a given view: the parts of document 01's layout, one after another.
+-- Assumes nothing.
+use mathlib.Core.Bool.{Bool, cond}
+use mathlib.Core.List.{List, [], _∷_, _++_, map}
+use Prim.Native.Nat.{ℕ, zero, suc, _+_, _/_, _%_, _^_}
+use Rattle.common.specs.Lists.{from}
+use Rattle.table.specs.View.{View}
+
+-- a byte with bit p set where a test passes, for the w bits from p on
+unfoldable pub bitsFrom : (ℕ → Bool) → ℕ → ℕ → ℕ
+bitsFrom f p zero = 0
+bitsFrom f p (suc w) = cond (f p) (2 ^ p) 0 + bitsFrom f (suc p) w
+
+-- "for each node, bit p set where the link out of port p is enabled"
+unfoldable pub enableByte : View → ℕ → ℕ
+enableByte v n = bitsFrom (v .enabled n) 0 8
+
+-- "Circuit numbers take two bytes, low byte first. Rows run node by node", 8 entries to a row: k entries from entry i on
+unfoldable pub entryBytes : (ℕ → ℕ → ℕ) → ℕ → ℕ → List ℕ
+entryBytes f i zero = []
+entryBytes f i (suc k) = f (i / 8) (i % 8) % 256 ∷ f (i / 8) (i % 8) / 256 ∷ entryBytes f (suc i) k
+
+-- 1 byte, 256 bytes, 4,096 bytes and 4,096 bytes
+unfoldable pub encode : View → List ℕ
+encode v = v .dimension ∷ map (enableByte v) (from 0 256) ++ entryBytes (v .owner) 0 2048 ++ entryBytes (v .receiver) 0 2048
