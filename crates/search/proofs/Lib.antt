@@ -1,4 +1,5 @@
 -- The laws of a pass on the bytes of a table.
 pub mod Settle
-pub mod Room
 pub mod Turns
+pub mod Sends
+pub mod SendSays

@@ -7,7 +7,7 @@ use mathlib.Core.List.{List, [], _∷_, List·Memᴰ·head, List·Memᴰ·tail, 
 use Prim.Native.Nat.{ℕ, zero, suc, _+_, _-_, _*_, _/_, _%_, _^_, _≤_, _<_}
 use native.Mathlib.Omega.{arith}
 use native.Mathlib.Numerals.{add-one}
-use native.Mathlib.Nat.{le-trans, le-refl, mul-le-mul-right, lt-of-lt-of-le}
+use native.Mathlib.Nat.{le-trans, le-refl, mul-le-mul, lt-of-lt-of-le}
 use lib.Dec.{leb, ltb}
 use lib.ListN.{length, set, length-set}
 use lib.Pow.{pow-mono}
@@ -26,15 +26,15 @@ use Rattle.paths.specs.Search.{trying, arriving}
 use Rattle.paths.specs.Pass.{Pass, scouts}
 use Rattle.paths.proofs.CubeNetwork.{cube-nearing, cube-cubical, cube-leading}
 use Rattle.paths.proofs.FirstPorts.{offered-vector}
-use Rattle.paths.proofs.Bound.{far-width}
+use Rattle.paths.specs.Bound.{waysFrom}
+use Rattle.paths.proofs.Bound.{arriving-sends, ways-more}
 use Rattle.table.specs.Layout.{Within, dimensionAt, putOwner, putEntry, entryPlace, linkPart}
 use Rattle.table.specs.View.{View, view, setOwner, receive, lowestChannel}
 use Rattle.table.specs.Sound.{net, shapeOf}
 use Rattle.table.proofs.Views.{view-put-owner}
-use Rattle.search.specs.Settle.{freeIn, Settled, settled, settle, behindPort, beyond}
+use Rattle.search.specs.Settle.{freeIn, Settled, settled, settle, behindPort}
 use Rattle.search.specs.Turns.{farthest, distance, reach, tries, arrived, Here, MayTry, MayArrive, Turn}
 use Rattle.search.proofs.Settle.{at-target, arrives, target-receives, target-full, behind, receive-same, given-back, free-owner, port-busy, port-acknowledged, port-receive-rejected, port-route-rejected, three-answers, settled-scouts, ports-over}
-use Rattle.search.proofs.Room.{arriving-room}
 
 -- every node behind a port of the list is within the farthest
 pub farthest-mem : (N : Network) (t n : ℕ) (ps : List ℕ) (p : ℕ) → p ∈ ps → N .far t (N .next n p) ≤ farthest N t n ps
@@ -58,15 +58,11 @@ farthest-most N t n m (q ∷ ps) h = go (leb (farthest N t n ps) (N .far t (N .n
     go true k = h q (List·Memᴰ·head refl)
     go false k = k
 
-pub beyond-more : (w j k : ℕ) → j ≤ k → beyond w j ≤ beyond w k
-unfolding beyond
-beyond-more w zero k h = omega arith
-beyond-more w (suc j) zero h = absurd (omega arith)
-beyond-more w (suc j) (suc k) h = native.Mathlib.Nat.mul-le-mul-left w (let r = beyond-more w j k (omega arith) in omega arith)
-
-one-further : (w j k : ℕ) → suc j ≤ k → w * (1 + beyond w j) ≤ beyond w k
-unfolding beyond
-one-further w j k h = beyond-more w (suc j) k h
+-- the ports of a node that is k hops away, each with the ways on from one hop nearer
+one-further : (m j k : ℕ) → suc j ≤ k → m ≤ k → m * (1 + waysFrom j) ≤ waysFrom k
+unfolding waysFrom
+one-further m j zero h l = absurd (omega arith)
+one-further m j (suc k) h l = mul-le-mul l (let r = ways-more j k (omega arith) in omega arith)
 
 -- a hop held: as many bytes, the same cube
 pub owner-length : (b : List ℕ) (n p c : ℕ) → length (putOwner b n p c) ≡ length b
@@ -105,14 +101,6 @@ low-port D v p l e = go (ltb p D) refl
     go true f = ltb-true p D f
     go false f = absurd (clash e (high-has D v p l (ltb-false p D f)))
 
-pub few-ports : (b : List ℕ) (t : ℕ) → dimensionAt b ≤ 8 → (n : ℕ) → length (offered (net (view b)) t n) ≤ 8
-few-ports b t h n =
-    let S = shapeOf (view b) in
-    let cubic = cube-cubical S t in
-    let most = far-width (cube-nearing S t) cubic n in
-    let width : net (view b) .width ≤ 8 = unfold network view in h in
-    omega (arith, cubic .degree n, most, width)
-
 -- the bytes at a turn are those at the start
 pub turned : {b : List ℕ} {t c n v a h s : ℕ} {now : List ℕ} {left sent : ℕ} → Turn b t c n v a h s now left sent → Turn b t c n v a h s b left sent
 turned inv = record { same = refl; ports = inv .ports; sub = inv .sub; room = inv .room; rest = inv .rest }
@@ -146,7 +134,7 @@ module _ (b : List ℕ) (t c n a h v left p sent s : ℕ) (may : MayTry b t c n 
   pub here-fewer : length (portsOf 8 left) ≡ suc (length (portsOf 8 (left - 2 ^ p)))
   here-fewer = sym (length-helical a (portsOf 8 left)) ∙ ap length (here-tried .rest) ∙ ap suc (length-helical a (portsOf 8 (left - 2 ^ p)))
 
-  pub here-room : sent + (1 + beyond 8 (reach b t n v)) + length (portsOf 8 (left - 2 ^ p)) * (1 + beyond 8 (reach b t n v)) < 2 ^ 32
+  pub here-room : sent + (1 + waysFrom (reach b t n v)) + length (portsOf 8 (left - 2 ^ p)) * (1 + waysFrom (reach b t n v)) < 2 ^ 32
   here-room = let e = rw here-fewer at (inv .room) in omega (arith, e)
 
   module _ (small : c < 65536) where
@@ -171,7 +159,7 @@ module _ (b : List ℕ) (t c n a h v left p sent s : ℕ) (may : MayTry b t c n 
     here-arrives b₁ n₁ e q =
         let far = held-distance in
         let less = here-reach in
-        let more = beyond-more 8 (distance b t (next n p)) (reach b t n v) here-reach in
+        let more = ways-more (distance b t (next n p)) (reach b t n v) here-reach in
         rw (e, q) record { here = held-here; hops = rw far (omega (arith, may .hops)); room = rw far (omega (arith, here-room)) }
 
     pub here-falls : (b₁ : List ℕ) (n₁ : ℕ) → b₁ ≡ putOwner b n p c → n₁ ≡ next n p → 2 * distance b₁ t n₁ < 2 * reach b t n v + 1
@@ -225,11 +213,11 @@ module _ (b : List ℕ) (t c n a h v left p sent s : ℕ) (may : MayTry b t c n 
         let r = port-receive-rejected (freeIn (view b) n) on b c n h (receive (view b) t) p (helical a (portsOf 8 (left - 2 ^ p))) sent free k g d b₂ (ap (λ y. settled y k g d b₂) (sym z) ∙ answer) in
         ap₂ (λ y u. settled y k g d u) z (restored (r .0) b₃ q) ∙ r .1 ∙ sym (open-tries sent) ∙ inv .rest
 
-    few-scouts : d ≤ suc sent + beyond 8 (reach b t n v)
+    few-scouts : d ≤ suc sent + waysFrom (reach b t n v)
     unfolding on behindPort distance network
     few-scouts =
-        let m = beyond-more 8 (distance b t (next n p)) (reach b t n v) here-reach in
-        let all = arriving-room 8 (net (view b)) (freeIn (view b)) t (few-ports b t (may .here .fits)) (distance b t (next n p)) (next n p) p (suc sent) in
+        let m = ways-more (distance b t (next n p)) (reach b t n v) here-reach in
+        let all = arriving-sends (cube-nearing (shapeOf (view b)) t) (cube-cubical (shapeOf (view b)) t) (freeIn (view b)) (next n p) p (suc sent) in
         let same : d ≡ scouts (on p (suc sent)) = settled-scouts (putOwner b n p c) c (next n p) (h + 1) (receive (view b) t) (on p (suc sent)) x k g d b₂ answer in
         omega (arith, all, m, same)
 
@@ -297,15 +285,15 @@ module _ (b : List ℕ) (t c n a h s : ℕ) (may : MayArrive b t c n a h s) wher
         omega (arith, e, most)
 
     pub arrive-may : MayTry b t c n v a h s
+    unfolding distance network
     arrive-may =
-        let R = reach b t n v in
-        let more : 8 * (1 + beyond 8 (reach b t n v)) ≤ beyond 8 (distance b t n) = one-further 8 (reach b t n v) (distance b t n) arrive-reach in
-        let ports = mul-le-mul-right (1 + beyond 8 (reach b t n v)) (length-ports 8 v) in
+        let degree : length (portsOf 8 v) ≡ distance b t n = ap length (sym offers) ∙ cube-cubical (shapeOf (view b)) t .degree n in
+        let ports = one-further (length (portsOf 8 v)) (reach b t n v) (distance b t n) arrive-reach (omega (arith, degree)) in
         record {
           here = may .here;
           ports = rw uphill (xor-lt (dimensionAt b) n t (may .here .node) (may .here .target));
           hops = omega (arith, may .hops, arrive-reach);
-          room = omega (arith, may .room, more, ports);
+          room = omega (arith, may .room, ports);
         }
 
     pub arrive-falls : 2 * reach b t n v + 1 < 2 * distance b t n

@@ -2,7 +2,7 @@
 -- Assumes nothing.
 use mathlib.Core.Bool.{Bool}
 use mathlib.Core.List.{List, [], _∷_}
-use Prim.Native.Nat.{ℕ, zero, suc, _+_, _*_}
+use Prim.Native.Nat.{ℕ, _+_}
 use lib.ListN.{length}
 use Rattle.cube.specs.Cube.{next}
 use Rattle.paths.specs.Network.{Network, Path, isFree, linkState}
@@ -36,8 +36,3 @@ settle b c n h all-held (found w s) = settled 11 0 0 s b
 -- the arrival behind a port of node n, on the way to t
 unfoldable pub behindPort : Network → (ℕ → ℕ → Bool) → ℕ → ℕ → ℕ → ℕ → Pass
 behindPort N free t n p = arriving (N .far t (N .next n p)) N free t (N .next n p) p
-
--- no arrival that is k hops from its target sends more scouts than this, with at most w ports at each node
-unfoldable pub beyond : ℕ → ℕ → ℕ
-beyond w zero = 0
-beyond w (suc k) = w * (1 + beyond w k)

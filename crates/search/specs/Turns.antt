@@ -11,11 +11,12 @@ use Rattle.common.specs.Lists.{_∈_}
 use Rattle.cube.specs.Helical.{helical, portsOf}
 use Rattle.paths.specs.Network.{Network}
 use Rattle.paths.specs.CubeNetwork.{network}
+use Rattle.paths.specs.Bound.{waysFrom}
 use Rattle.paths.specs.Search.{trying, arriving}
 use Rattle.table.specs.Layout.{tableLength, dimensionAt}
 use Rattle.table.specs.View.{View, view, receive}
 use Rattle.table.specs.Sound.{net}
-use Rattle.search.specs.Settle.{freeIn, Settled, settle, behindPort, beyond}
+use Rattle.search.specs.Settle.{freeIn, Settled, settle, behindPort}
 
 -- the farthest from a target of the nodes behind the ports of a list
 unfoldable pub farthest : Network → ℕ → ℕ → List ℕ → ℕ
@@ -51,12 +52,12 @@ pub record MayTry (b : List ℕ) (t c n vector a h s : ℕ) : Type 0 where
   pub here : Here b t c n a
   pub ports : vector < 2 ^ dimensionAt b
   pub hops : h + 1 + reach b t n vector < 65536
-  pub room : s + length (portsOf 8 vector) * (1 + beyond 8 (reach b t n vector)) < 2 ^ 32
+  pub room : s + length (portsOf 8 vector) * (1 + waysFrom (reach b t n vector)) < 2 ^ 32
 
 pub record MayArrive (b : List ℕ) (t c n a h s : ℕ) : Type 0 where
   pub here : Here b t c n a
   pub hops : h + distance b t n < 65536
-  pub room : s + beyond 8 (distance b t n) < 2 ^ 32
+  pub room : s + waysFrom (distance b t n) < 2 ^ 32
 
 -- what holds at each turn of the trying of ports: the bytes are those at the start, the ports left are ports of the vector, there is room for
 -- the scouts still to be sent, and what is left to do gives the whole
@@ -64,5 +65,5 @@ pub record Turn (b : List ℕ) (t c n vector a h s : ℕ) (now : List ℕ) (left
   pub same : now ≡ b
   pub ports : left < 2 ^ dimensionAt b
   pub sub : (p : ℕ) → p ∈ portsOf 8 left → p ∈ portsOf 8 vector
-  pub room : sent + length (portsOf 8 left) * (1 + beyond 8 (reach b t n vector)) < 2 ^ 32
+  pub room : sent + length (portsOf 8 left) * (1 + waysFrom (reach b t n vector)) < 2 ^ 32
   pub rest : tries b t c n left a h sent ≡ tries b t c n vector a h s

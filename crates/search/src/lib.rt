@@ -5,6 +5,7 @@ ghost use Rattle.table.specs.View.{view};
 ghost use Rattle.cube.specs.Helical.{FirstPorts};
 ghost use Rattle.search.specs.Settle.{freeIn, settled};
 ghost use Rattle.search.specs.Turns.{tries, arrived, MayTry, MayArrive};
+ghost use Rattle.search.specs.Sent.{MaySend, sendsMaze, sendsAlternate, sends};
 use common::refusal;
 use cube::Circuit;
 use cube::Node;
@@ -125,5 +126,68 @@ pub fn arrive(
             scouts,
             first,
         )
+    }
+}
+
+// A pass from a source, over the ports of a send vector: a send tries them from 0 upward, as a scout does that came in on port 7. Where it is
+// acknowledged, the links of the path and the receive channel are held by the circuit. Routing type 0 is one pass.
+pub fn maze(
+    t: &mut [u8],
+    source: Node,
+    target: Node,
+    c: Circuit,
+    vector: u16,
+    first: &[u8; 2048],
+) -> Pass
+    requires { ⌜ FirstPorts (now first) ⌝ }
+    requires { ⌜ MaySend (now t) (source .0) (target .0) (c .0) vector ⌝ }
+    ensures { λ r. ⌜ settled (r .refused) (r .channel) (r .hops) (r .scouts) (now (t .exit)) ≡ sendsMaze (now (t .entry)) (source .0) (target .0) (c .0) vector ⌝ }
+{
+    let got = try_ports(t, source, target, c, vector, Port(7), 0, 0, first);
+    if got.refused == refusal::ACCEPTED {
+        table::set_receiver(t, target, got.channel, c);
+    }
+    got
+}
+
+// Routing type 4: where the pass is not acknowledged, a second one over the ports of the cube that are not in the vector. The answer is that of
+// the last pass, with the scouts of both.
+pub fn alternate_maze(
+    t: &mut [u8],
+    source: Node,
+    target: Node,
+    c: Circuit,
+    vector: u16,
+    first: &[u8; 2048],
+) -> Pass
+    requires { ⌜ FirstPorts (now first) ⌝ }
+    requires { ⌜ MaySend (now t) (source .0) (target .0) (c .0) vector ⌝ }
+    ensures { λ r. ⌜ settled (r .refused) (r .channel) (r .hops) (r .scouts) (now (t .exit)) ≡ sendsAlternate (now (t .entry)) (source .0) (target .0) (c .0) vector ⌝ }
+{
+    let others = (cube::node_count(table::dimension(t)) - 1) ^ vector;
+    let got = maze(t, source, target, c, vector, first);
+    if got.refused == refusal::ACCEPTED {
+        return got;
+    }
+    let again = maze(t, source, target, c, others, first);
+    let scouts = got.scouts + again.scouts;
+    Pass {
+        refused: again.refused,
+        channel: again.channel,
+        hops: again.hops,
+        scouts,
+    }
+}
+
+// A send of routing type 0 or 4. The table of first ports is built once for all its hops.
+pub fn send(t: &mut [u8], source: Node, target: Node, c: Circuit, routing: u16, vector: u16) -> Pass
+    requires { ⌜ MaySend (now t) (source .0) (target .0) (c .0) vector ⌝ }
+    ensures { λ r. ⌜ settled (r .refused) (r .channel) (r .hops) (r .scouts) (now (t .exit)) ≡ sends (now (t .entry)) (source .0) (target .0) (c .0) routing vector ⌝ }
+{
+    let first = cube::first_ports();
+    if routing == 4 {
+        alternate_maze(t, source, target, c, vector, &first)
+    } else {
+        maze(t, source, target, c, vector, &first)
     }
 }

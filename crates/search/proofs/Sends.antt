@@ -1,0 +1,265 @@
+-- A send as the code makes it: a pass from the source, the receive channel taken behind it, and the second pass of routing type 4.
+-- Assumes nothing.
+use mathlib.Core.Path.{_≡_, refl, ap, ap₂, sym, _∙_}
+use mathlib.Core.Logic.{_≢_}
+use mathlib.Core.Bool.{Bool, true, false, cond, not}
+use mathlib.Core.List.{List, [], _∷_}
+use Prim.Native.Nat.{ℕ, zero, suc, _+_, _-_, _*_, _^_, _≤_, _<_}
+use native.Mathlib.Omega.{arith}
+use native.Mathlib.Nat.{mul-le-mul-right}
+use lib.Dec.{eqb, lit<, lit≤}
+use lib.ListN.{length}
+use lib.Pow.{pow-pos}
+use lib.Bits.{bitXor, xor-lt}
+use borrow.Author.Tests.{eqb-false, eq-eqb, ne-eqb, lt-ltb}
+use Rattle.common.specs.Lists.{_∈_, keep, from}
+use Rattle.common.proofs.Lists.{keep-same, from-mem}
+use Rattle.cube.specs.Bits.{bitAt, has}
+use Rattle.cube.proofs.Bits.{bit-lt, bit-xor, has-bit}
+use Rattle.cube.specs.Helical.{helical, portsOf}
+use Rattle.cube.proofs.Order.{helical-last, ports-wider, ports-mem, length-ports}
+use Rattle.paths.specs.Network.{Network, Path}
+use Rattle.paths.specs.Pass.{Pass, none, found, pass, scouts}
+use Rattle.paths.specs.Search.{trying, sending}
+use Rattle.paths.specs.Send.{Receive, channel, all-held, Outcome, acknowledged, route-rejected, receive-rejected, Sent, received, outcome, goesOn, runs, answered}
+use Rattle.paths.specs.CubeNetwork.{Shape, network, sendPorts, otherPorts, maze, alternateMaze, send}
+use Rattle.paths.proofs.Depth.{search-is-pass}
+use Rattle.paths.proofs.CubeNetwork.{cube-nearing, cube-cubical, scouts-bound}
+use Rattle.paths.proofs.Send.{maze-answers, alternate-stops, alternate-goes-on}
+use Rattle.paths.specs.Bound.{waysFrom}
+use Rattle.paths.proofs.Bound.{far-width, ways-more}
+use Rattle.table.specs.Layout.{Within, dimensionAt, putReceiver}
+use Rattle.table.specs.View.{View, view, receive, lowest, lowestChannel, available}
+use Rattle.table.specs.Sound.{net, shapeOf}
+use Rattle.table.proofs.Made.{ones}
+use Rattle.search.specs.Settle.{freeIn, hold, Settled, settled, settle, behindPort}
+use Rattle.search.specs.Turns.{farthest, reach, tries, Here, MayTry}
+use Rattle.search.specs.Sent.{marked, sentOn, sendsMaze, sendsAlternate, sends, MaySend}
+use Rattle.search.proofs.Turns.{farthest-most}
+
+-- what one pass comes to for a send
+abbrev oneOf : Receive → Pass → Sent
+oneOf r x = record { outcome = outcome r x; scouts = scouts x }
+
+-- the pass of a send over the ports of a vector
+abbrev passOf : List ℕ → ℕ → ℕ → ℕ → Pass
+passOf b s t vector = pass (net (view b)) (freeIn (view b)) s (sendPorts (shapeOf (view b)) vector) t
+
+module _ (b : List ℕ) (s t c vector : ℕ) (may : MaySend b s t c vector) where
+  ports-listed : portsOf 8 vector ≡ sendPorts (shapeOf (view b)) vector
+  ports-listed = unfold view in ports-wider (dimensionAt b) 8 vector (may .fits) (may .ports) ∙ (unfold portsOf sendPorts in refl)
+
+  -- ports after arrival port 7 are tried from 0 upward: the search is the pass
+  pub tries-pass : tries b t c s vector 7 0 0 ≡ settle b c s 0 (receive (view b) t) (passOf b s t vector)
+  unfolding tries
+  tries-pass =
+      ap (settle b c s 0 (receive (view b) t))
+      (ap (λ ps. trying (freeIn (view b) s) (behindPort (net (view b)) (freeIn (view b)) t s) ps 0) (helical-last 7 (portsOf 8 vector) (λ p m. let r = ports-mem 8 vector m in omega arith) ∙ ports-listed)
+      ∙ (unfold sending behindPort in search-is-pass (net (view b)) (freeIn (view b)) s (sendPorts (shapeOf (view b)) vector) t))
+
+  near : reach b t s vector ≤ 8
+  unfolding reach
+  near = farthest-most (net (view b)) t s 8 (portsOf 8 vector) (λ p m. let w = far-width (cube-nearing (shapeOf (view b)) t) (cube-cubical (shapeOf (view b)) t) (net (view b) .next s p) in let f : net (view b) .width ≤ 8 = unfold network view in may .fits in omega (arith, w, f))
+
+  -- there is room for the hops and the scouts of a pass
+  pub may-try : MayTry b t c s vector 7 0 0
+  may-try =
+      let more : waysFrom (reach b t s vector) ≤ waysFrom 8 = ways-more (reach b t s vector) 8 near in
+      let most : waysFrom 8 ≡ 109600 = unfold waysFrom in refl in
+      let all = mul-le-mul-right (1 + waysFrom (reach b t s vector)) (length-ports 8 vector) in
+      record {
+        here = record { bytes = may .bytes; fits = may .fits; node = may .source; target = may .target; port = lit< tt; circuit = may .circuit; small = may .small };
+        ports = may .ports;
+        hops = omega (arith, near);
+        room = omega (arith, all, more, most);
+      }
+
+-- of k numbers from i on, the lowest that passes is at most i + k
+lowest-most : (f : ℕ → Bool) (k i : ℕ) → lowest f k i ≤ i + k
+unfolding lowest
+lowest-most f zero i = omega arith
+lowest-most f (suc k) i = go (f i) (lowest-most f k (i + 1))
+  where
+    go : (x : Bool) → lowest f k (i + 1) ≤ i + 1 + k → cond x i (lowest f k (i + 1)) ≤ i + suc k
+    go true h = omega arith
+    go false h = omega arith
+
+-- the receive channel that a target takes is one of its eight
+pub receive-small : (v : View) (t k : ℕ) → receive v t ≡ channel k → k < 8
+unfolding receive lowestChannel
+receive-small v t k e = go (eqb (lowest (available v t) 8 0) 8) refl e
+  where
+    go : (x : Bool) → eqb (lowest (available v t) 8 0) 8 ≡ x → cond x all-held (channel (lowest (available v t) 8 0)) ≡ channel k → k < 8
+    go true q z = let y : _≡_ {A = ℕ} 0 1 = cc in absurd (omega arith)
+    go false q z = let y : lowest (available v t) 8 0 ≡ k = cc in omega (arith, y, lowest-most (available v t) 8 0, eqb-false (lowest (available v t) 8 0) 8 q)
+
+-- The answer of a pass that was acknowledged, with the receive channel taken; and of one that was not.
+module _ (b : List ℕ) (c s t : ℕ) (r : Receive) where
+  pub pass-channel : (p : Pass) (x k h n : ℕ) (b₁ : List ℕ) → settled x k h n b₁ ≡ settle b c s 0 r p → x ≡ 0 → r ≡ channel k
+  unfolding settle
+  pass-channel (none m) x k h n b₁ q z = let y : x ≡ 10 = cc in absurd (omega arith)
+  pass-channel (found w m) x k h n b₁ q z = go r q
+    where
+      go : (r : Receive) → settled x k h n b₁ ≡ settle b c s 0 r (found w m) → r ≡ channel k
+      go all-held u = let y : x ≡ 11 = cc in absurd (omega arith)
+      go (channel j) u = let i : j ≡ k = cc in ap channel i
+
+  pub pass-taken : (p : Pass) (x k h n : ℕ) (b₁ b₂ : List ℕ) → settled x k h n b₁ ≡ settle b c s 0 r p → x ≡ 0 → b₂ ≡ putReceiver b₁ t k c → settled x k h n b₂ ≡ sentOn b c s t (oneOf r p)
+  unfolding settle sentOn marked answered outcome received scouts
+  pass-taken (none m) x k h n b₁ b₂ q z e = let y : x ≡ 10 = cc in absurd (omega arith)
+  pass-taken (found w m) x k h n b₁ b₂ q z e = go r q
+    where
+      go : (r : Receive) → settled x k h n b₁ ≡ settle b c s 0 r (found w m) → settled x k h n b₂ ≡ sentOn b c s t (oneOf r (found w m))
+      go all-held u = let y : x ≡ 11 = cc in absurd (omega arith)
+      go (channel j) u =
+          let i : k ≡ j = cc in
+          let l₀ : h ≡ 0 + length w = cc in
+          let l : h ≡ length w = omega arith in
+          let o : n ≡ m = cc in
+          let d : b₁ ≡ hold b c s w = cc in
+          rw (z, l, o, e, d, i) refl
+
+  pub pass-rejected : (p : Pass) (x k h n : ℕ) (b₁ : List ℕ) → settled x k h n b₁ ≡ settle b c s 0 r p → x ≢ 0 → settled x k h n b₁ ≡ sentOn b c s t (oneOf r p)
+  unfolding settle sentOn marked answered outcome received scouts
+  pass-rejected (none m) x k h n b₁ q f = q
+  pass-rejected (found w m) x k h n b₁ q f = go r q
+    where
+      go : (r : Receive) → settled x k h n b₁ ≡ settle b c s 0 r (found w m) → settled x k h n b₁ ≡ sentOn b c s t (oneOf r (found w m))
+      go all-held u = u
+      go (channel j) u = let y : x ≡ 0 = cc in absurd (f y)
+
+-- What the answer of a send tells: whether another pass follows, that a rejection leaves each byte as it was, and its scouts.
+module _ (b : List ℕ) (c s t : ℕ) where
+  pub sent-stops : (o : Outcome) (m x k h n : ℕ) (b₁ : List ℕ) → settled x k h n b₁ ≡ sentOn b c s t (record { outcome = o; scouts = m }) → x ≡ 0 → goesOn o ≡ false
+  unfolding sentOn marked answered goesOn
+  sent-stops (acknowledged w j) m x k h n b₁ q z = refl
+  sent-stops route-rejected m x k h n b₁ q z = let y : x ≡ 10 = cc in absurd (omega arith)
+  sent-stops receive-rejected m x k h n b₁ q z = let y : x ≡ 11 = cc in absurd (omega arith)
+
+  pub sent-goes-on : (o : Outcome) (m x k h n : ℕ) (b₁ : List ℕ) → settled x k h n b₁ ≡ sentOn b c s t (record { outcome = o; scouts = m }) → x ≢ 0 → (goesOn o ≡ true) × (b₁ ≡ b)
+  unfolding sentOn marked answered goesOn
+  sent-goes-on (acknowledged w j) m x k h n b₁ q f = let y : x ≡ 0 = cc in absurd (f y)
+  sent-goes-on route-rejected m x k h n b₁ q f = (refl, cc)
+  sent-goes-on receive-rejected m x k h n b₁ q f = (refl, cc)
+
+  pub sent-scouts : (o : Outcome) (m x k h n : ℕ) (b₁ : List ℕ) → settled x k h n b₁ ≡ sentOn b c s t (record { outcome = o; scouts = m }) → n ≡ m
+  unfolding sentOn marked answered
+  sent-scouts (acknowledged w j) m x k h n b₁ q = cc
+  sent-scouts route-rejected m x k h n b₁ q = cc
+  sent-scouts receive-rejected m x k h n b₁ q = cc
+
+  -- the same answer with other scouts
+  pub sent-counted : (o : Outcome) (m x k h n j : ℕ) (b₁ : List ℕ) → settled x k h n b₁ ≡ sentOn b c s t (record { outcome = o; scouts = m }) → settled x k h j b₁ ≡ sentOn b c s t (record { outcome = o; scouts = j })
+  unfolding sentOn marked answered
+  sent-counted (acknowledged w i) m x k h n j b₁ q = cc
+  sent-counted route-rejected m x k h n j b₁ q = cc
+  sent-counted receive-rejected m x k h n j b₁ q = cc
+
+-- "every port below D that was not in the given vector": the ports of the vector with every bit below D changed
+module _ (D vector : ℕ) (h : D ≤ 8) where
+  other-has : (p : ℕ) → p < D → has (bitXor (2 ^ D - 1) vector) p ≡ not (has vector p)
+  unfolding has
+  other-has p i = rw (bit-xor (2 ^ D - 1) vector p, has-bit (2 ^ D - 1) p (ones D p (omega arith) (omega arith) ∙ lt-ltb p D i)) (go (bitAt vector p) (bit-lt vector p))
+    where
+      go : (x : ℕ) → x < 2 → eqb (bitXor 1 x) 1 ≡ not (eqb x 1)
+      go zero l = refl
+      go (suc zero) l = refl
+      go (suc (suc x)) l = absurd (omega arith)
+
+  other-ports : keep (has (bitXor (2 ^ D - 1) vector)) (from 0 D) ≡ keep (λ p. not (has vector p)) (from 0 D)
+  other-ports = keep-same _ _ (from 0 D) (λ p m. other-has p (let r = from-mem 0 D m in omega arith))
+
+-- A send of routing type 0.
+module _ (b : List ℕ) (s t c vector : ℕ) (may : MaySend b s t c vector) (x k h n : ℕ) (b₁ : List ℕ) (got : settled x k h n b₁ ≡ tries b t c s vector 7 0 0) where
+  passed : settled x k h n b₁ ≡ settle b c s 0 (receive (view b) t) (passOf b s t vector)
+  passed = got ∙ tries-pass b s t c vector may
+
+  as-maze : sentOn b c s t (oneOf (receive (view b) t) (passOf b s t vector)) ≡ sendsMaze b s t c vector
+  unfolding sendsMaze
+  as-maze = ap (sentOn b c s t) (sym (maze-answers (shapeOf (view b)) (freeIn (view b)) (receive (view b) t) s vector t))
+
+  pub maze-channel : x ≡ 0 → k < 8
+  maze-channel z = receive-small (view b) t k (pass-channel b c s t (receive (view b) t) (passOf b s t vector) x k h n b₁ passed z)
+
+  pub maze-taken : x ≡ 0 → (b₂ : List ℕ) → b₂ ≡ putReceiver b₁ t k c → settled x k h n b₂ ≡ sendsMaze b s t c vector
+  maze-taken z b₂ e = pass-taken b c s t (receive (view b) t) (passOf b s t vector) x k h n b₁ b₂ passed z e ∙ as-maze
+
+  pub maze-rejected : x ≢ 0 → settled x k h n b₁ ≡ sendsMaze b s t c vector
+  maze-rejected f = pass-rejected b c s t (receive (view b) t) (passOf b s t vector) x k h n b₁ passed f ∙ as-maze
+
+-- A send of routing type 4: after a rejection, a second pass over the other ports on the same bytes.
+module _ (b : List ℕ) (s t c vector : ℕ) (may : MaySend b s t c vector) (x k h n : ℕ) (b₁ : List ℕ) (got : settled x k h n b₁ ≡ sendsMaze b s t c vector) where
+  S : Shape
+  S = shapeOf (view b)
+
+  free : ℕ → ℕ → Bool
+  free = freeIn (view b)
+
+  r : Receive
+  r = receive (view b) t
+
+  first : Pass
+  first = pass (network S) free s (sendPorts S vector) t
+
+  second : Pass
+  second = pass (network S) free s (otherPorts S vector) t
+
+  first-is : settled x k h n b₁ ≡ sentOn b c s t (oneOf r first)
+  unfolding sendsMaze S free r first
+  first-is = got ∙ ap (sentOn b c s t) (maze-answers S free r s vector t)
+
+  pub alternate-taken : x ≡ 0 → settled x k h n b₁ ≡ sendsAlternate b s t c vector
+  unfolding sendsAlternate S free r first
+  alternate-taken z = first-is ∙ ap (sentOn b c s t) (sym (alternate-stops S free r s vector t (sent-stops b c s t (outcome r first) (scouts first) x k h n b₁ first-is z)))
+
+  -- the vector of the second pass
+  module _ (others : ℕ) (e : others ≡ bitXor (2 ^ dimensionAt b - 1) vector) (f : x ≢ 0) where
+    pub same-bytes : b₁ ≡ b
+    same-bytes = sent-goes-on b c s t (outcome r first) (scouts first) x k h n b₁ first-is f .1
+
+    pub may-again : MaySend b₁ s t c others
+    may-again =
+        rw (same-bytes, e)
+        record {
+          bytes = may .bytes;
+          fits = may .fits;
+          source = may .source;
+          target = may .target;
+          ports = xor-lt (dimensionAt b) (2 ^ dimensionAt b - 1) vector (omega (arith, pow-pos (dimensionAt b))) (may .ports);
+          circuit = may .circuit;
+          small = may .small;
+        }
+
+    ports-other : sendPorts S others ≡ otherPorts S vector
+    unfolding sendPorts otherPorts S view
+    ports-other = rw e (other-ports (dimensionAt b) vector (may .fits))
+
+    module _ (x₂ k₂ h₂ n₂ : ℕ) (b₂ : List ℕ) (again : settled x₂ k₂ h₂ n₂ b₂ ≡ sendsMaze b₁ s t c others) where
+      second-is : settled x₂ k₂ h₂ n₂ b₂ ≡ sentOn b c s t (oneOf r second)
+      unfolding sendsMaze S free r second
+      second-is =
+          again ∙ ap (λ u. sentOn u c s t (maze (shapeOf (view u)) (freeIn (view u)) (receive (view u) t) s others t)) same-bytes
+          ∙ ap (sentOn b c s t) (maze-answers S free r s others t ∙ ap (λ ps. oneOf r (pass (network S) free s ps t)) ports-other)
+
+      pub few-scouts : n + n₂ ≤ 123300
+      unfolding S first second view
+      few-scouts =
+          omega (arith, sent-scouts b c s t (outcome r first) (scouts first) x k h n b₁ first-is, sent-scouts b c s t (outcome r second) (scouts second) x₂ k₂ h₂ n₂ b₂ second-is, scouts-bound S (may .fits) s t vector free free)
+
+      pub alternate-again : settled x₂ k₂ h₂ (n + n₂) b₂ ≡ sendsAlternate b s t c vector
+      unfolding sendsAlternate S free r first second
+      alternate-again =
+          sent-counted b c s t (outcome r second) (scouts second) x₂ k₂ h₂ n₂ (n + n₂) b₂ second-is
+          ∙ ap (λ m. sentOn b c s t (record { outcome = outcome r second; scouts = m }))
+          (ap₂ _+_ (sent-scouts b c s t (outcome r first) (scouts first) x k h n b₁ first-is) (sent-scouts b c s t (outcome r second) (scouts second) x₂ k₂ h₂ n₂ b₂ second-is))
+          ∙ ap (sentOn b c s t) (sym (alternate-goes-on S free r s vector t (sent-goes-on b c s t (outcome r first) (scouts first) x k h n b₁ first-is f .0)))
+
+-- Either type, from the number that names it.
+module _ (b : List ℕ) (s t c type vector : ℕ) where
+  pub send-alternate : type ≡ 4 → {y : Settled} → y ≡ sendsAlternate b s t c vector → y ≡ sends b s t c type vector
+  unfolding sendsAlternate sends send
+  send-alternate e q = q ∙ ap (sentOn b c s t) (sym (rw (eq-eqb type 4 e)))
+
+  pub send-maze : type ≢ 4 → {y : Settled} → y ≡ sendsMaze b s t c vector → y ≡ sends b s t c type vector
+  unfolding sendsMaze sends send
+  send-maze e q = q ∙ ap (sentOn b c s t) (sym (rw (ne-eqb type 4 e)))

@@ -1,0 +1,49 @@
+-- `search::maze` meets its contract: a pass from the source, and the receive channel taken where it is acknowledged.
+-- Assumes nothing.
+use mathlib.Core.Path.{_≡_, _∙_}
+use Prim.Native.Nat.{_<_}
+use native.Mathlib.Omega.{arith}
+use Rattle.table.specs.Layout.{Within, tableLength}
+use Rattle.search.proofs.Turns.{byte-vector}
+use Rattle.search.proofs.Sends.{may-try, maze-channel, maze-taken, maze-rejected}
+use borrow.Author.Needs.{needs}
+use Rattle.search.proofs.maze.Statement.{statement}
+use Rattle.search.proofs.maze.Tie as tie
+
+try-ports-requires : tie.Need-try-ports-requires
+try-ports-requires c κs =
+    let s = c .before .before in
+    (s .pre .0, may-try (s .args .t .now) (s .args .source .0) (s .args .target .0) (s .args .c .0) (s .args .vector) (s .pre .1))
+
+set-receiver-requires : tie.Need-set-receiver-requires
+set-receiver-requires c κs =
+    let g = c .before .before .before .before .before in
+    let s = g .before .before .before in
+    let may = s .pre .1 in
+    record {
+      bytes = g .try-ports .kept .0 ∙ may .bytes;
+      node = byte-vector (s .args .t .now) (s .args .target .0) (may .fits) (may .target);
+      port = maze-channel (s .args .t .now) (s .args .source .0) (s .args .target .0) (s .args .c .0) (s .args .vector) may (g .try-ports .result .refused) (g .try-ports .result .channel) (g .try-ports .result .hops) (g .try-ports .result .scouts) (g .try-ports .last .0) (g .try-ports .ensures) (c .before .if1 .taken);
+    }
+
+same-length : tie.Need-same-length
+same-length c = search needs
+
+returns : tie.Need-returns
+returns c =
+    let r = c .before .before in
+    let g = r .before .before .before .before .before .before in
+    let s = g .before .before .before in
+    maze-taken (s .args .t .now) (s .args .source .0) (s .args .target .0) (s .args .c .0) (s .args .vector) (s .pre .1) (g .try-ports .result .refused) (g .try-ports .result .channel) (g .try-ports .result .hops) (g .try-ports .result .scouts) (g .try-ports .last .0) (g .try-ports .ensures) (r .before .before .if1 .taken) (r .set-receiver .last .0) (r .set-receiver .ensures)
+
+same-length-2 : tie.Need-same-length-2
+same-length-2 c = search needs
+
+returns-2 : tie.Need-returns-2
+returns-2 c =
+    let g = c .before .before .before .before in
+    let s = g .before .before .before in
+    maze-rejected (s .args .t .now) (s .args .source .0) (s .args .target .0) (s .args .c .0) (s .args .vector) (s .pre .1) (g .try-ports .result .refused) (g .try-ports .result .channel) (g .try-ports .result .hops) (g .try-ports .result .scouts) (g .try-ports .last .0) (g .try-ports .ensures) (c .if1 .left)
+
+pub maze-spec : {M : Type 1} → statement M
+maze-spec = tie.close (tie.spec try-ports-requires set-receiver-requires same-length returns same-length-2 returns-2)
