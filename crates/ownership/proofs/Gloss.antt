@@ -1,0 +1,193 @@
+-- After a list of calls a send channel is open in the history exactly where the list has an acknowledged open of it, and no accepted making and no
+-- accepted close of it afterwards.
+-- Assumes nothing.
+use mathlib.Core.Path.{_≡_, refl, sym, _∙_, ap, subst}
+use mathlib.Core.Logic.{_⊎_, inl, inr, ⊎-elim, _↔_}
+use mathlib.Core.Bool.{Bool, true, not, _&&_}
+use mathlib.Core.List.{List, [], _∷_, _++_, List·Memᴰ·head, List·Memᴰ·tail, List·Memᴰ·not-nil, List·Memᴰ·cases-cons}
+use Prim.Native.Nat.{ℕ}
+use native.Mathlib.Omega.{arith}
+use lib.Dec.{eqb}
+use borrow.Author.Tests.{eqb-true, eq-eqb, not-true}
+use Rattle.common.specs.Lists.{any, keep}
+use Rattle.common.proofs.Tests.{same?, clash, is-false}
+use Rattle.common.proofs.Lists.{keep-mem, mem-keep}
+use Rattle.paths.specs.Send.{Outcome, acknowledged, route-rejected, receive-rejected, answered}
+use Rattle.table.proofs.Soundness.{both, and, either, or-left, or-right}
+use Rattle.ownership.specs.Calls.{Call, making, blocking, unblocking, opening, closing, tracing}
+use Rattle.ownership.specs.History.{Circuit, History, belongs, openOn, stoppedOn, sendOn, withCircuits, adds, follows, gives, Told, told}
+use Rattle.ownership.specs.Lists.{historyAfter, historyGives}
+use Rattle.ownership.specs.Gloss.{numbered, Ends, Lasts, StillOpen}
+use Rattle.ownership.proofs.Circuits.{any-some, some-any, belongs-parts, parts-belong}
+use Rattle.ownership.proofs.Told.{told-passed, told-stopped}
+
+module _ (s c : ℕ) where
+  -- a call that answered n is an acknowledged open of the channel
+  abbrev Opens : Call → ℕ → Type 0
+  Opens a n = (t : ℕ) × (y : ℕ) × (v : ℕ) × (a ≡ opening s c t y v) × (n ≡ 0)
+
+  -- it leaves the channel open where it was
+  abbrev Spares : Call → ℕ → Type 0
+  Spares a n = n ≡ 0 → Ends s c a → ⊥
+
+  -- ONE CALL: from a history, to the next, answering n
+  record Step (h next : History) (a : Call) (n : ℕ) : Type 0 where
+    from-next : openOn next s c ≡ true → Opens a n ⊎ ((openOn h s c ≡ true) × Spares a n)
+    opens : Opens a n → openOn next s c ≡ true
+    spares : openOn h s c ≡ true → Spares a n → openOn next s c ≡ true
+
+  -- a call that changes no circuit
+  step-same : (h next : History) (a : Call) (n : ℕ) → openOn next s c ≡ openOn h s c → (Opens a n → ⊥) → Spares a n → Step h next a n
+  step-same h next a n e no-open spare = record { from-next = λ o. inr (sym e ∙ o, spare); opens = λ o. absurd (no-open o); spares = λ o z. e ∙ o }
+
+  -- an accepted making
+  step-making : (h : History) (D n : ℕ) → n ≡ 0 → Step h (record { dimension = D; blocked = []; circuits = [] }) (making D) n
+  unfolding openOn any Ends
+  step-making h D n z =
+      record {
+        from-next = λ o. absurd (clash o refl);
+        opens = λ o. let u : _≡_ {A = ℕ} 0 1 = cc (o .3) in absurd (omega arith);
+        spares = λ o spare. absurd (spare z tt);
+      }
+
+  -- an open, by its outcome
+  step-opening : (h : History) (m d t y v k : ℕ) (o : Outcome) → Step h (adds h m d t o) (opening m d t y v) (answered o k .number)
+  unfolding adds openOn any belongs answered
+  step-opening h m d t y v k (acknowledged w j) =
+      record {
+        from-next = λ o. ⊎-elim (λ e. inl (new (both (eqb m s) (eqb d c) e))) (λ e. inr (e, λ z ends. unfold Ends in absurd ends)) (either (eqb m s && eqb d c) (any (belongs s c) (h .circuits)) o);
+        opens = λ o. let e : m ≡ s = cc (o .3) in let f : d ≡ c = cc (o .3) in or-left _ (and (eq-eqb m s e) (eq-eqb d c f));
+        spares = λ o spare. or-right (eqb m s && eqb d c) o;
+      }
+    where
+      new : (eqb m s ≡ true) × (eqb d c ≡ true) → Opens (opening m d t y v) 0
+      new r = (t, y, v, (λ i. opening (eqb-true m s (r .0) i) (eqb-true d c (r .1) i) t y v), refl)
+  step-opening h m d t y v k route-rejected = step-same h h (opening m d t y v) 10 refl (λ o. omega (arith, o .4)) (λ z ends. omega arith)
+  step-opening h m d t y v k receive-rejected = step-same h h (opening m d t y v) 11 refl (λ o. omega (arith, o .4)) (λ z ends. omega arith)
+
+  -- an accepted close
+  step-closing : (h : History) (m d n : ℕ) → n ≡ 0 → Step h (withCircuits h (keep (λ x. not (belongs m d x)) (h .circuits))) (closing m d) n
+  unfolding openOn Ends
+  step-closing h m d n z =
+      record {
+        from-next = λ o.
+            let r = any-some (belongs s c) left o in
+            let k = keep-mem other (h .circuits) (r .1) in
+            inr (some-any (belongs s c) (h .circuits) (k .0) (r .2), λ u ends. clash (mine (r .0) (r .2) ends) (not-true _ (k .1)));
+        opens = λ o. let u : _≡_ {A = ℕ} 0 1 = cc (o .3) in absurd (omega arith);
+        spares = λ o spare.
+            let r = any-some (belongs s c) (h .circuits) o in
+            some-any (belongs s c) left (mem-keep other (h .circuits) (r .1) (ap not (is-false _ (λ e. spare z (owned (r .0) (r .2) e))))) (r .2);
+      }
+    where
+      other : Circuit → Bool
+      other x = not (belongs m d x)
+
+      left : List Circuit
+      left = keep other (h .circuits)
+
+      mine : (x : Circuit) → belongs s c x ≡ true → (m ≡ s) × (d ≡ c) → belongs m d x ≡ true
+      mine x e ends = let r = belongs-parts s c x e in parts-belong m d x (r .0 ∙ sym (ends .0)) (r .1 ∙ sym (ends .1))
+
+      owned : (x : Circuit) → belongs s c x ≡ true → belongs m d x ≡ true → (m ≡ s) × (d ≡ c)
+      owned x e f = let r = belongs-parts s c x e in let q = belongs-parts m d x f in (sym (q .0) ∙ r .0, sym (q .1) ∙ r .1)
+
+  -- any call that no test stops, then any call
+  step-passed : (h : History) (a : Call) → Step h (follows h a) a (gives h a .answer .number)
+  unfolding follows gives Ends openOn
+  step-passed h (making D) = step-making h D 0 refl
+  step-passed h (blocking m p) = step-same h _ (blocking m p) 0 refl (λ o. let u : _≡_ {A = ℕ} 0 1 = cc (o .3) in absurd (omega arith)) (λ z ends. absurd ends)
+  step-passed h (unblocking m p) = step-same h _ (unblocking m p) 0 refl (λ o. let u : _≡_ {A = ℕ} 0 1 = cc (o .3) in absurd (omega arith)) (λ z ends. absurd ends)
+  step-passed h (opening m d t y v) = step-opening h m d t y v (sendOn h m t y v .scouts) (sendOn h m t y v .outcome)
+  step-passed h (closing m d) = step-closing h m d 0 refl
+  step-passed h (tracing m d buffer) = step-same h h (tracing m d buffer) 0 refl (λ o. let u : _≡_ {A = ℕ} 0 1 = cc (o .3) in absurd (omega arith)) (λ z ends. absurd ends)
+
+  step-told : (h : History) (a : Call) → Step h (told h a .history) a (told h a .given .answer .number)
+  step-told h a =
+      ⊎-elim (λ e. subst (λ (x : Told). Step h (x .history) a (x .given .answer .number)) (sym (told-passed h a e)) (step-passed h a))
+      (λ e. subst (λ (x : Told). Step h (x .history) a (x .given .answer .number)) (sym (told-stopped h a e))
+      (step-same h h a (stoppedOn h a) refl (λ o. e (o .4)) (λ z ends. e z)))
+      (same? (stoppedOn h a) 0)
+
+  -- LISTS, of calls with the numbers that they answered
+  lasts-cons : (a : Call) (n : ℕ) (ps : List (Call × ℕ)) → Spares a n → Lasts s c ps → Lasts s c ((a, n) ∷ ps)
+  unfolding Lasts
+  lasts-cons a n ps spare l b m ends =
+      ⊎-elim (λ e. spare (sym (ap (λ (x : Call × ℕ). x .1) e)) (subst (Ends s c) (ap (λ (x : Call × ℕ). x .0) e) ends)) (λ k. l b k ends) (List·Memᴰ·cases-cons m)
+
+  lasts-first : (a : Call) (n : ℕ) (ps : List (Call × ℕ)) → Lasts s c ((a, n) ∷ ps) → Spares a n × Lasts s c ps
+  unfolding Lasts
+  lasts-first a n ps l = ((λ z ends. l a (List·Memᴰ·head (λ i. (a, sym z i))) ends), λ b m ends. l b (List·Memᴰ·tail m) ends)
+
+  still-cons : (a : Call) (n : ℕ) (ps : List (Call × ℕ)) → StillOpen s c ps → StillOpen s c ((a, n) ∷ ps)
+  still-cons a n ps o =
+      record { before = (a, n) ∷ o .before; target = o .target; type = o .type; vector = o .vector; after = o .after; split = ap ((a, n) ∷_) (o .split); lasts = o .lasts }
+
+  still-first : (a : Call) (n : ℕ) (ps : List (Call × ℕ)) → Opens a n → Lasts s c ps → StillOpen s c ((a, n) ∷ ps)
+  still-first a n ps o l =
+      record { before = []; target = o .0; type = o .1; vector = o .2; after = ps; split = (λ i. (o .3 i, o .4 i) ∷ ps); lasts = l }
+
+  still-cases : (a : Call) (n : ℕ) (ps : List (Call × ℕ)) → StillOpen s c ((a, n) ∷ ps) → (Opens a n × Lasts s c ps) ⊎ StillOpen s c ps
+  still-cases a n ps o = go (o .before) (o .split)
+    where
+      first : Call × ℕ
+      first = (opening s c (o .target) (o .type) (o .vector), 0)
+
+      go : (before : List (Call × ℕ)) → (a, n) ∷ ps ≡ before ++ first ∷ o .after → (Opens a n × Lasts s c ps) ⊎ StillOpen s c ps
+      go [] e =
+          let h : (a, n) ≡ first = cc in
+          let t : ps ≡ o .after = cc in
+          inl ((o .target, o .type, o .vector, ap (λ (x : Call × ℕ). x .0) h, ap (λ (x : Call × ℕ). x .1) h), subst (Lasts s c) (sym t) (o .lasts))
+      go (b ∷ bs) e =
+          let t : ps ≡ bs ++ first ∷ o .after = cc in
+          inr (record { before = bs; target = o .target; type = o .type; vector = o .vector; after = o .after; split = t; lasts = o .lasts })
+
+  still-none : StillOpen s c [] → ⊥
+  still-none o = go (o .before) (o .split)
+    where
+      first : Call × ℕ
+      first = (opening s c (o .target) (o .type) (o .vector), 0)
+
+      go : (before : List (Call × ℕ)) → [] ≡ before ++ first ∷ o .after → ⊥
+      go [] e = let u : _≡_ {A = ℕ} 0 1 = cc in absurd (omega arith)
+      go (b ∷ bs) e = let u : _≡_ {A = ℕ} 0 1 = cc in absurd (omega arith)
+
+  -- the channel was opened in a list and stayed so, or was open in history h before it and stayed so
+  abbrev OpenBy : History → List (Call × ℕ) → Type 0
+  OpenBy h ps = StillOpen s c ps ⊎ ((openOn h s c ≡ true) × Lasts s c ps)
+
+  by-one : (h next : History) (a : Call) (n : ℕ) → Step h next a n → (ps : List (Call × ℕ)) → OpenBy next ps ↔ OpenBy h ((a, n) ∷ ps)
+  by-one h next a n step ps = (there, back)
+    where
+      there : OpenBy next ps → OpenBy h ((a, n) ∷ ps)
+      there (inl o) = inl (still-cons a n ps o)
+      there (inr r) = ⊎-elim (λ x. inl (still-first a n ps x (r .1))) (λ x. inr (x .0, lasts-cons a n ps (x .1) (r .1))) (step .from-next (r .0))
+
+      back : OpenBy h ((a, n) ∷ ps) → OpenBy next ps
+      back (inl o) = ⊎-elim (λ r. inr (step .opens (r .0), r .1)) inl (still-cases a n ps o)
+      back (inr r) = let l = lasts-first a n ps (r .1) in inr (step .spares (r .0) (l .0), l .1)
+
+  -- From any history on:
+  pub open-after : (h : History) (calls : List Call)
+      → (openOn (historyAfter h calls) s c ≡ true) ↔ (StillOpen s c (numbered calls (historyGives h calls)) ⊎ ((openOn h s c ≡ true) × Lasts s c (numbered calls (historyGives h calls))))
+  unfolding historyAfter historyGives numbered Lasts
+  open-after h [] = ((λ o. inr (o, λ a m. absurd (List·Memᴰ·not-nil m))), ⊎-elim (λ o. absurd (still-none o)) (λ r. r .0))
+  open-after h (a ∷ more) =
+      let ih = open-after (told h a .history) more in
+      let one = by-one h (told h a .history) a (told h a .given .answer .number) (step-told h a) (numbered more (historyGives (told h a .history) more)) in
+      ((λ o. one .0 (ih .0 o)), λ r. ih .1 (one .1 r))
+
+  -- From an accepted making on: the list has an acknowledged open of the channel, and no accepted making and no accepted close of it afterwards.
+  pub open-exactly : (h : History) (D : ℕ) → stoppedOn h (making D) ≡ 0 → (calls : List Call)
+      → (openOn (historyAfter h (making D ∷ calls)) s c ≡ true) ↔ StillOpen s c (numbered (making D ∷ calls) (historyGives h (making D ∷ calls)))
+  open-exactly h D e calls =
+      let r = open-after h (making D ∷ calls) in
+      ((λ o. ⊎-elim (λ x. x) (λ x. absurd (ended (x .1))) (r .0 o)), λ x. r .1 (inl x))
+    where
+      accepted : told h (making D) .given .answer .number ≡ 0
+      accepted = unfold gives in ap (λ (x : Told). x .given .answer .number) (told-passed h (making D) e)
+
+      ended : Lasts s c (numbered (making D ∷ calls) (historyGives h (making D ∷ calls))) → ⊥
+      ended l =
+          unfold historyGives numbered Ends in
+          lasts-first (making D) (told h (making D) .given .answer .number) (numbered calls (historyGives (told h (making D) .history) calls)) l .0 accepted tt

@@ -1,0 +1,55 @@
+-- What a table that agrees with the history shows of links and of receive channels is what the history says of them; so a send is the same on both.
+-- Assumes nothing.
+use mathlib.Core.Path.{_≡_, refl, _∙_, ap, fun-ext}
+use mathlib.Core.Bool.{Bool, true, false, cond, _&&_, not}
+use Prim.Native.Nat.{ℕ}
+use lib.Dec.{eqb}
+use Rattle.paths.specs.Network.{link-free, link-held, isFree, linkState}
+use Rattle.paths.specs.Send.{channel, all-held}
+use Rattle.paths.specs.CubeNetwork.{send}
+use Rattle.table.specs.View.{available, lowest, lowestChannel, receive}
+use Rattle.search.specs.Settle.{freeIn}
+use Rattle.ownership.specs.OnTable.{heldIn, sendIn}
+use Rattle.ownership.specs.History.{History, shapeOn, netOn, holdsLink, holdsReceive, enabledOn, heldOn, freeOn, takenOn, receiveOn, sendOn}
+use Rattle.ownership.specs.Lists.{viewOf}
+use Rattle.ownership.proofs.Circuits.{number-any}
+
+-- "A link is free if enabled and held by nobody", as one test
+free-state : (e : Bool) (c : ℕ) → isFree (linkState e c) ≡ e && not (not (eqb c 0))
+unfolding isFree linkState
+free-state false c = refl
+free-state true c = go (eqb c 0)
+  where
+    go : (b : Bool) → isFree (cond b link-free link-held) ≡ not (not b)
+    go true = refl
+    go false = refl
+
+twice : (b : Bool) → b ≡ not (not b)
+twice true = refl
+twice false = refl
+
+module _ (h : History) where
+  -- "the link is held"
+  pub held-same : heldIn (viewOf h) ≡ heldOn h
+  unfolding heldIn heldOn viewOf
+  held-same = fun-ext (λ n. fun-ext (λ p. number-any (holdsLink (netOn h) n p) (h .circuits)))
+
+  -- free links
+  pub free-same : freeIn (viewOf h) ≡ freeOn h
+  unfolding freeIn freeOn heldOn viewOf
+  free-same = fun-ext (λ n. fun-ext (λ p.
+      free-state (enabledOn h n p) (viewOf h .owner n p) ∙ ap (λ (b : Bool). enabledOn h n p && not b) (number-any (holdsLink (netOn h) n p) (h .circuits))))
+
+  -- the lowest receive channel of a node that no circuit holds
+  available-same : (t : ℕ) → available (viewOf h) t ≡ (λ k. not (takenOn h t k))
+  unfolding available takenOn viewOf
+  available-same t = fun-ext (λ k. twice (eqb (viewOf h .receiver t k) 0) ∙ ap not (number-any (holdsReceive t k) (h .circuits)))
+
+  pub receive-same : (t : ℕ) → receive (viewOf h) t ≡ receiveOn h t
+  unfolding receive lowestChannel receiveOn
+  receive-same t = ap (λ (f : ℕ → Bool). cond (eqb (lowest f 8 0) 8) all-held (channel (lowest f 8 0))) (available-same t)
+
+  -- A send is the same on both.
+  pub send-same : (s t y v : ℕ) → sendIn (viewOf h) s t y v ≡ sendOn h s t y v
+  unfolding sendIn sendOn viewOf
+  send-same s t y v = λ i. send y (shapeOn h) (free-same i) (receive-same t i) s v t

@@ -1,0 +1,98 @@
+-- The tests of a call read off a table that agrees with a valid history answer what they answer when read off the history.
+-- Assumes nothing.
+use mathlib.Core.Path.{_≡_, refl, sym, _∙_, ap}
+use mathlib.Core.Bool.{Bool, true, false, cond, not}
+use mathlib.Core.List.{List, [], _∷_, List·Memᴰ·head, List·Memᴰ·tail}
+use Prim.Native.Nat.{ℕ, _<_}
+use native.Mathlib.Omega.{arith}
+use lib.Dec.{ltb}
+use lib.ListN.{length}
+use borrow.Author.Tests.{eqb-true, ltb-false}
+use Rattle.common.specs.Lists.{_∈_, any, from}
+use Rattle.common.specs.Tests.{Test, test, refusal}
+use Rattle.common.proofs.Tests.{clash, refused, passed}
+use Rattle.cube.specs.Cube.{circuitOf, sourceOf}
+use Rattle.paths.specs.Network.{Path}
+use Rattle.paths.proofs.Links.{on-first}
+use Rattle.paths.proofs.Trail.{trail-owned}
+use Rattle.table.specs.Sound.{shapeOf, net, heldBy}
+use Rattle.table.specs.SoundTest.{pathOf, isEmpty}
+use Rattle.table.proofs.Soundness.{path-is, some-hop}
+use Rattle.ownership.specs.Calls.{Call, making, blocking, unblocking, opening, closing, tracing, channel, callTests}
+use Rattle.ownership.specs.OnTable.{openIn, askedOf}
+use Rattle.ownership.specs.History.{Circuit, History, netOn, belongs, openOn, listed, askedOn, stoppedOn}
+use Rattle.ownership.specs.Lists.{viewOf, Valid}
+use Rattle.ownership.proofs.Circuits.{any-some, some-any, numberFor, circuit-parts, belongs-parts, parts-belong}
+use Rattle.ownership.proofs.Sameness.{held-same}
+use Rattle.ownership.proofs.Standing.{link-held, valid-stands, stands-path}
+
+-- the listed path is that of a circuit that belongs to the send channel
+listed-some : (s c : ℕ) (xs : List Circuit) → any (belongs s c) xs ≡ true → (x : Circuit) × (x ∈ xs) × (belongs s c x ≡ true) × (listed xs s c ≡ x .ports)
+unfolding any listed
+listed-some s c [] e = absurd (clash e refl)
+listed-some s c (x ∷ xs) e = go (belongs s c x) refl (listed-some s c xs)
+  where
+    go : (b : Bool) → belongs s c x ≡ b → (any (belongs s c) xs ≡ true → (y : Circuit) × (y ∈ xs) × (belongs s c y ≡ true) × (listed xs s c ≡ y .ports))
+        → (y : Circuit) × (y ∈ (x ∷ xs)) × (belongs s c y ≡ true) × (cond (belongs s c x) (x .ports) (listed xs s c) ≡ y .ports)
+    go true f ih = (x, List·Memᴰ·head refl, f, rw f)
+    go false f ih = let r = ih (rw f at e) in (r .0, List·Memᴰ·tail (r .1), r .2, rw f (r .3))
+
+module _ (h : History) (valid : Valid h) (s c : ℕ) (small : c < 8) where
+  -- a listed circuit of the send channel has its number, and the trail finds its path
+  found : (x : Circuit) → x ∈ h .circuits → belongs s c x ≡ true → pathOf (viewOf h) (circuitOf s c) ≡ x .ports
+  found x m e =
+      let r = belongs-parts s c x e in
+      let same : numberFor x ≡ circuitOf s c = rw (r .0, r .1) in
+      sym (ap (pathOf (viewOf h)) same) ∙ path-is (viewOf h) (numberFor x) (valid-stands h valid x m) ∙ stands-path h valid x m .0
+
+  -- Tracing by the table gives the ports that the history keeps.
+  pub path-listed : openOn h s c ≡ true → pathOf (viewOf h) (circuitOf s c) ≡ listed (h .circuits) s c
+  unfolding openOn
+  path-listed e = let r = listed-some s c (h .circuits) e in found (r .0) (r .1) (r .2) ∙ sym (r .3)
+
+  -- "this send channel has an open circuit"
+  shut : openOn h s c ≡ false → (w : Path) → pathOf (viewOf h) (circuitOf s c) ≡ w → isEmpty w ≡ true
+  unfolding isEmpty openOn pathOf
+  shut e [] q = refl
+  shut e (p ∷ w) q =
+      let k : numberFor′ ≡ circuitOf s c = eqb-true _ _ (trail-owned (shapeOf (viewOf h)) (heldBy (viewOf h) (circuitOf s c)) (sourceOf (circuitOf s c)) _ p (rw q (on-first (net (viewOf h)) (sourceOf (circuitOf s c)) p w))) in
+      let r = link-held h valid (sourceOf (circuitOf s c)) p (λ z. omega (arith, k, z)) in
+      let b = circuit-parts (r .0 .source) (r .0 .channel) s c (valid .stands (r .0) (r .1) .channel) small (sym (r .3) ∙ k) in
+      absurd (clash (some-any (belongs s c) (h .circuits) (r .1) (parts-belong s c (r .0) (b .0) (b .1))) e)
+    where
+      numberFor′ : ℕ
+      numberFor′ = viewOf h .owner (sourceOf (circuitOf s c)) p
+
+  pub open-same : openIn (viewOf h) s c ≡ openOn h s c
+  unfolding openIn
+  open-same = go (openOn h s c) refl
+    where
+      go : (b : Bool) → openOn h s c ≡ b → not (isEmpty (pathOf (viewOf h) (circuitOf s c))) ≡ b
+      go true e =
+          let r = any-some (belongs s c) (h .circuits) (unfold openOn in e) in
+          ap (λ (w : Path). not (isEmpty w)) (found (r .0) (r .1) (r .2)) ∙ some-hop (netOn h) (r .0 .source) (from 0 (h .dimension)) (r .0 .target) (r .0 .ports) (valid .stands (r .0) (r .1) .permitted)
+      go false e = ap not (shut e (pathOf (viewOf h) (circuitOf s c)) refl)
+
+-- a list of tests, by what comes behind its first; behind the test of the channel that is below 8
+past : (t : Test) (ts us : List Test) → refusal ts ≡ refusal us → refusal (t ∷ ts) ≡ refusal (t ∷ us)
+unfolding refusal
+past t ts us e = rw e
+
+past-channel : (c : ℕ) (ts us : List Test) → (c < 8 → refusal ts ≡ refusal us) → refusal (channel c ∷ ts) ≡ refusal (channel c ∷ us)
+past-channel c ts us h = go (ltb 7 c) refl
+  where
+    go : (b : Bool) → ltb 7 c ≡ b → refusal (test b 5 ∷ ts) ≡ refusal (test b 5 ∷ us)
+    go true e = refused 5 ts refl ∙ sym (refused 5 us refl)
+    go false e = passed 5 ts refl ∙ h (let l = ltb-false 7 c e in omega arith) ∙ sym (passed 5 us refl)
+
+-- The tests of a call answer the same on both.
+pub stopped-same : (h : History) → Valid h → (a : Call) → refusal (callTests (askedOf (viewOf h)) a) ≡ stoppedOn h a
+unfolding stoppedOn callTests askedOf askedOn viewOf
+stopped-same h valid (making D) = refl
+stopped-same h valid (blocking n p) = past _ _ _ (past _ _ _ (ap (λ (held : ℕ → ℕ → Bool). refusal (test (held n p) 13 ∷ [])) (held-same h)))
+stopped-same h valid (unblocking n p) = refl
+stopped-same h valid (opening s c t y v) =
+    past _ _ _ (past-channel c _ _ (λ l. past _ _ _ (past _ _ _ (ap (λ (b : Bool). refusal (test b 9 ∷ [])) (open-same h valid s c l)))))
+stopped-same h valid (closing s c) = past _ _ _ (past-channel c _ _ (λ l. ap (λ (b : Bool). refusal (test (not b) 12 ∷ [])) (open-same h valid s c l)))
+stopped-same h valid (tracing s c buffer) =
+    past _ _ _ (past-channel c _ _ (λ l. ap (λ (b : Bool). refusal (test (not b) 12 ∷ test (ltb (length buffer) 9) 14 ∷ [])) (open-same h valid s c l)))

@@ -1,0 +1,125 @@
+-- The ownership history of document 01. It is fed the calls and their arguments, never the bytes of a table: each test and each answer is read off this record.
+-- Assumes nothing.
+use mathlib.Core.Bool.{Bool, true, false, cond, _&&_, not}
+use mathlib.Core.List.{List, [], _∷_}
+use Prim.Native.Nat.{ℕ, _^_}
+use lib.Dec.{eqb, ltb}
+use lib.ListN.{length}
+use Rattle.common.specs.Lists.{keep, any}
+use Rattle.common.specs.Tests.{refusal}
+use Rattle.paths.specs.Network.{Network, Path, Link, links, hasLink}
+use Rattle.paths.specs.Send.{Receive, channel, all-held, Outcome, acknowledged, route-rejected, receive-rejected, Sent, answered}
+use Rattle.paths.specs.CubeNetwork.{Shape, network, send}
+use Rattle.table.specs.View.{lowest}
+use Rattle.ownership.specs.Calls.{Call, making, blocking, unblocking, opening, closing, tracing, Given, Asked, only, written, callTests, lent}
+
+-- "each open circuit with the links and receive channel it holds": its source and send channel, its path, and the receive channel at the path's end
+pub record Circuit : Type 0 where
+  pub source : ℕ
+  pub channel : ℕ
+  pub ports : Path
+  pub target : ℕ
+  pub receive : ℕ
+
+-- "It keeps the dimension, the blocked links and each open circuit"
+pub record History : Type 0 where
+  pub dimension : ℕ
+  pub blocked : List Link
+  pub circuits : List Circuit
+
+abbrev pub shapeOn : History → Shape
+shapeOn h = record { dimension = h .dimension }
+
+abbrev pub netOn : History → Network
+netOn h = network (shapeOn h)
+
+-- a circuit holds a link: it is on its path
+unfoldable pub holdsLink : Network → ℕ → ℕ → Circuit → Bool
+holdsLink N n p x = hasLink (links N (x .source) (x .ports)) n p
+
+-- a circuit holds a receive channel of a node
+unfoldable pub holdsReceive : ℕ → ℕ → Circuit → Bool
+holdsReceive n k x = eqb n (x .target) && eqb k (x .receive)
+
+-- a circuit is that of a send channel
+unfoldable pub belongs : ℕ → ℕ → Circuit → Bool
+belongs s c x = eqb (x .source) s && eqb (x .channel) c
+
+-- What the history says of a link, of a receive channel and of a send channel: "links not blocked are enabled", held means on a listed path or taken by
+-- a listed circuit, open means listed.
+unfoldable pub enabledOn : History → ℕ → ℕ → Bool
+enabledOn h n p = (ltb n (2 ^ h .dimension) && ltb p (h .dimension)) && not (hasLink (h .blocked) n p)
+
+unfoldable pub heldOn : History → ℕ → ℕ → Bool
+heldOn h n p = any (holdsLink (netOn h) n p) (h .circuits)
+
+unfoldable pub freeOn : History → ℕ → ℕ → Bool
+freeOn h n p = enabledOn h n p && not (heldOn h n p)
+
+unfoldable pub takenOn : History → ℕ → ℕ → Bool
+takenOn h n k = any (holdsReceive n k) (h .circuits)
+
+unfoldable pub openOn : History → ℕ → ℕ → Bool
+openOn h s c = any (belongs s c) (h .circuits)
+
+-- "its lowest receive channel that no circuit holds"
+unfoldable pub receiveOn : History → ℕ → Receive
+receiveOn h t = let k = lowest (λ k. not (takenOn h t k)) 8 0 in cond (eqb k 8) all-held (channel k)
+
+-- the ports of the circuit listed for a send channel
+unfoldable pub listed : List Circuit → ℕ → ℕ → Path
+listed [] s c = []
+listed (x ∷ xs) s c = cond (belongs s c x) (x .ports) (listed xs s c)
+
+-- "The tests are read off it; of 1 to 3, only a making's 2 arises on this table."
+unfoldable pub askedOn : History → Asked
+askedOn h = record { dimension = h .dimension; held = heldOn h; isOpen = openOn h }
+
+unfoldable pub stoppedOn : History → Call → ℕ
+stoppedOn h a = refusal (callTests (askedOn h) a)
+
+-- the send of an open, "by the rules above, read on this record"
+unfoldable pub sendOn : History → ℕ → ℕ → ℕ → ℕ → Sent
+sendOn h s t y v = send y (shapeOn h) (freeOn h) (receiveOn h t) s v t
+
+-- the history with other blocked links, or with other circuits
+abbrev pub withBlocked : History → List Link → History
+withBlocked h ls = record { dimension = h .dimension; blocked = ls; circuits = h .circuits }
+
+abbrev pub withCircuits : History → List Circuit → History
+withCircuits h xs = record { dimension = h .dimension; blocked = h .blocked; circuits = xs }
+
+-- "an open adds its circuit with path and channel"
+unfoldable pub adds : History → ℕ → ℕ → ℕ → Outcome → History
+adds h s c t (acknowledged w k) = withCircuits h (record { source = s; channel = c; ports = w; target = t; receive = k } ∷ h .circuits)
+adds h s c t route-rejected = h
+adds h s c t receive-rejected = h
+
+-- a history after a call, and what the call gives
+pub record Told : Type 0 where
+  pub history : History
+  pub given : Given
+
+-- "Else a making sets the dimension and clears the rest; a block adds a link, an unblock drops it; an open adds its circuit ..; a close drops its circuit."
+unfoldable pub follows : History → Call → History
+follows h (making D) = record { dimension = D; blocked = []; circuits = [] }
+follows h (blocking n p) = withBlocked h ((n, p) ∷ h .blocked)
+follows h (unblocking n p) = withBlocked h (keep (λ l. not (eqb (l .0) n && eqb (l .1) p)) (h .blocked))
+follows h (opening s c t y v) = adds h s c t (sendOn h s t y v .outcome)
+follows h (closing s c) = withCircuits h (keep (λ x. not (belongs s c x)) (h .circuits))
+follows h (tracing s c buffer) = h
+
+unfoldable pub gives : History → Call → Given
+gives h (making D) = record { answer = only 0; buffer = [] }
+gives h (blocking n p) = record { answer = only 0; buffer = [] }
+gives h (unblocking n p) = record { answer = only 0; buffer = [] }
+gives h (opening s c t y v) = let x = sendOn h s t y v in record { answer = answered (x .outcome) (x .scouts); buffer = [] }
+gives h (closing s c) = record { answer = only 0; buffer = [] }
+gives h (tracing s c buffer) =
+    let w = listed (h .circuits) s c in record { answer = record { number = 0; hops = length w; receive = 0; scouts = 0 }; buffer = written w buffer }
+
+-- "A refused call and a trace change nothing."
+unfoldable pub told : History → Call → Told
+told h a =
+    let n = stoppedOn h a in
+    cond (eqb n 0) (record { history = follows h a; given = gives h a }) (record { history = h; given = record { answer = only n; buffer = lent a } })

@@ -1,0 +1,87 @@
+-- Lists of calls, on a table and in the history, and what it is for both to agree: the mission's third demand.
+-- Assumes nothing.
+use mathlib.Core.Path.{_≡_}
+use mathlib.Core.Bool.{Bool, cond, not, _&&_}
+use mathlib.Core.List.{List, [], _∷_}
+use Prim.Native.Nat.{ℕ, _^_, _≤_, _<_}
+use lib.ListN.{length, getD}
+use Rattle.common.specs.Lists.{_∈_, from, Sorted}
+use Rattle.cube.specs.Cube.{circuitOf}
+use Rattle.paths.specs.Network.{Network, Path, Link, links, end}
+use Rattle.paths.specs.Permitted.{Permitted}
+use Rattle.table.specs.Layout.{tableLength}
+use Rattle.table.specs.View.{View, view}
+use Rattle.table.specs.Encode.{encode}
+use Rattle.ownership.specs.Calls.{Call, Given}
+use Rattle.ownership.specs.OnTable.{called}
+use Rattle.ownership.specs.History.{Circuit, History, netOn, holdsLink, holdsReceive, enabledOn, told}
+
+-- the table after a list of calls, and what each of them gave; the step is the contracts' own definition of a call
+unfoldable pub tableAfter : List ℕ → List Call → List ℕ
+tableAfter b [] = b
+tableAfter b (a ∷ more) = tableAfter (called b a .table) more
+
+unfoldable pub tableGives : List ℕ → List Call → List Given
+tableGives b [] = []
+tableGives b (a ∷ more) = called b a .given ∷ tableGives (called b a .table) more
+
+-- the history after it, and what it says that each gave
+unfoldable pub historyAfter : History → List Call → History
+historyAfter h [] = h
+historyAfter h (a ∷ more) = historyAfter (told h a .history) more
+
+unfoldable pub historyGives : History → List Call → List Given
+historyGives h [] = []
+historyGives h (a ∷ more) = told h a .given ∷ historyGives (told h a .history) more
+
+-- the number of the first circuit that passes a test; 0, "no circuit", where none does
+unfoldable pub numberOf : (Circuit → Bool) → List Circuit → ℕ
+numberOf f [] = 0
+numberOf f (x ∷ xs) = cond (f x) (circuitOf (x .source) (x .channel)) (numberOf f xs)
+
+-- what a table that agrees with the history shows
+unfoldable pub viewOf : History → View
+viewOf h =
+    record {
+      dimension = h .dimension;
+      enabled = enabledOn h;
+      owner = λ n p. numberOf (holdsLink (netOn h) n p) (h .circuits);
+      receiver = λ n k. numberOf (holdsReceive n k) (h .circuits);
+    }
+
+-- and its bytes
+unfoldable pub bytesOf : History → List ℕ
+bytesOf h = encode (viewOf h)
+
+-- a circuit's links
+abbrev pub linksOf : Network → Circuit → List Link
+linksOf N x = links N (x .source) (x .ports)
+
+-- What holds of each listed circuit: it is a send channel's of the cube, its path is permitted and ends on its target, and its links are not blocked.
+pub record Standing (h : History) (x : Circuit) : Type 0 where
+  pub source : x .source < 2 ^ h .dimension
+  pub channel : x .channel < 8
+  pub permitted : Permitted (netOn h) (x .source) (from 0 (h .dimension)) (x .target) (x .ports)
+  pub enabled : (l : Link) → l ∈ linksOf (netOn h) x → enabledOn h (l .0) (l .1) ≡ mathlib.Core.Bool.true
+  pub receive : x .receive < 8
+
+-- "no two open circuits share a link or receive channel"; nor a send channel
+pub record Separate (N : Network) (x y : Circuit) : Type 0 where
+  pub send : x .source ≡ y .source → x .channel ≡ y .channel → ⊥
+  pub link : (l : Link) → l ∈ linksOf N x → l ∈ linksOf N y → ⊥
+  pub receives : x .target ≡ y .target → x .receive ≡ y .receive → ⊥
+
+-- what always holds of a history that begins with an accepted making
+pub record Valid (h : History) : Type 0 where
+  pub least : 1 ≤ h .dimension
+  pub most : h .dimension ≤ 8
+  pub blocked : (l : Link) → l ∈ h .blocked → (l .0 < 2 ^ h .dimension) × (l .1 < h .dimension)
+  pub stands : (x : Circuit) → x ∈ h .circuits → Standing h x
+  pub apart : Sorted (Separate (netOn h)) (h .circuits)
+
+-- These bytes are covered by this history. A list of calls can go on from any such table, however it came to be covered.
+pub record Covered (b : List ℕ) (h : History) : Type 0 where
+  pub length : length b ≡ tableLength
+  pub bytes : (i : ℕ) → getD b i 0 < 256
+  pub shows : view b ≡ viewOf h
+  pub valid : Valid h
