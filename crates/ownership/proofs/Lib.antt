@@ -13,3 +13,4 @@ pub mod Range
 pub mod Shows
 pub mod Stops
 pub mod Carried
+pub mod Agreement

@@ -85,3 +85,15 @@ pub record Covered (b : List ℕ) (h : History) : Type 0 where
   pub bytes : (i : ℕ) → getD b i 0 < 256
   pub shows : view b ≡ viewOf h
   pub valid : Valid h
+
+-- The mission's third demand for a list of calls, refused ones included: table and history agree in every byte, each answer and each lent buffer is the
+-- history's, and what always holds of a history holds of it (no two of its circuits share a link or a receive channel). The table's side of it runs the very
+-- definitions that the contracts of the calls cite. The calls are lent no second table, so nothing else could be taken for this one.
+pub record Agrees (b : List ℕ) (h : History) (calls : List Call) : Type 0 where
+  pub bytes : tableAfter b calls ≡ bytesOf (historyAfter h calls)
+  pub gives : tableGives b calls ≡ historyGives h calls
+  pub valid : Valid (historyAfter h calls)
+
+-- "accepted": the call answers 0
+abbrev pub Accepted : List ℕ → Call → Type 0
+Accepted b a = called b a .given .answer .number ≡ 0

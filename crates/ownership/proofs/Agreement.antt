@@ -1,0 +1,155 @@
+-- The mission's third demand: one theorem about lists of calls. A table that a history covers stays covered by every call, and an accepted making covers any bytes.
+-- Assumes nothing.
+use mathlib.Core.Path.{_≡_, refl, ap, ap₂, sym, _∙_, subst}
+use mathlib.Core.Logic.{_⊎_, inl, inr, ⊎-elim, _≢_}
+use mathlib.Core.List.{List, [], _∷_}
+use Prim.Native.Nat.{ℕ, _^_, _≤_, _<_}
+use native.Mathlib.Omega.{arith}
+use lib.ListN.{length}
+use Rattle.common.specs.Tests.{refusal}
+use Rattle.common.proofs.Tests.{same?}
+use Rattle.cube.specs.Cube.{circuitOf}
+use Rattle.paths.specs.Network.{Path}
+use Rattle.paths.specs.Send.{Sent, answered}
+use Rattle.table.specs.Layout.{tableLength, dimensionAt}
+use Rattle.table.specs.View.{View, view, fresh}
+use Rattle.table.specs.Sound.{Sound}
+use Rattle.table.specs.SoundTest.{pathOf, tableTests}
+use Rattle.table.specs.Encode.{encode}
+use Rattle.table.proofs.Encode.{encode-view}
+use Rattle.ownership.specs.Calls.{Call, making, blocking, unblocking, opening, closing, tracing, Given, only, written, callTests, lent}
+use Rattle.ownership.specs.OnTable.{askedOf, stoppedAt, Done, done, sendIn, carriedOut, called}
+use Rattle.ownership.specs.History.{History, askedOn, stoppedOn, sendOn, listed, follows, gives, Told, told}
+use Rattle.ownership.specs.Lists.{tableAfter, tableGives, historyAfter, historyGives, viewOf, bytesOf, Valid, Covered, Agrees, Accepted}
+use Rattle.ownership.proofs.Update.{updated}
+use Rattle.ownership.proofs.Range.{Bytes}
+use Rattle.ownership.proofs.Stops.{Allowed, allowed, none-stops, tests-pass, stopped-is}
+use Rattle.ownership.proofs.Carried.{called-carried, called-stopped, called-shows, called-bytes, made-shows}
+use Rattle.ownership.proofs.Sameness.{send-same}
+use Rattle.ownership.proofs.Standing.{valid-sound}
+use Rattle.ownership.proofs.Stopped.{path-listed, open-same, stopped-same}
+use Rattle.ownership.proofs.Followed.{made-valid, made-view, follows-valid, follows-view}
+use Rattle.ownership.proofs.Told.{told-passed, told-stopped}
+
+-- what a covered table is
+module _ (b : List ℕ) (h : History) (k : Covered b h) where
+  dimension-is : dimensionAt b ≡ h .dimension
+  dimension-is = unfold view viewOf in ap (λ (v : View). v .dimension) (k .shows)
+
+  least : 1 ≤ dimensionAt b
+  least = rw dimension-is (k .valid .least)
+
+  most : dimensionAt b ≤ 8
+  most = rw dimension-is (k .valid .most)
+
+  -- Every table that a history covers is sound, and none of the tests of the lent table stops a call on it.
+  pub covered-sound : Sound (view b)
+  covered-sound = rw (k .shows) (valid-sound h (k .valid))
+
+  pub covered-passes : refusal (tableTests b) ≡ 0
+  covered-passes = tests-pass b (k .length) least most covered-sound
+
+  -- a call is stopped on the table where the history stops it, by the same test
+  pub stops-alike : (a : Call) → stoppedAt b a ≡ stoppedOn h a
+  stops-alike a = stopped-is b (k .length) least most covered-sound a ∙ ap (λ v. refusal (callTests (askedOf v) a)) (k .shows) ∙ stopped-same h (k .valid) a
+
+  -- and carried out it gives what the history says
+  gives-alike : (a : Call) → stoppedOn h a ≡ 0 → carriedOut b a .given ≡ gives h a
+  unfolding carriedOut gives
+  gives-alike (making D) e = refl
+  gives-alike (blocking n p) e = refl
+  gives-alike (unblocking n p) e = refl
+  gives-alike (opening s c t y v) e = ap (λ (x : Sent). record { answer = answered (x .outcome) (x .scouts); buffer = [] }) (ap (λ u. sendIn u s t y v) (k .shows) ∙ send-same h s t y v)
+  gives-alike (closing s c) e = refl
+  gives-alike (tracing s c buffer) e = ap (λ (w : Path). record { answer = record { number = 0; hops = length w; receive = 0; scouts = 0 }; buffer = written w buffer }) path-alike
+    where
+      path-alike : pathOf (view b) (circuitOf s c) ≡ listed (h .circuits) s c
+      path-alike =
+          let r : Allowed (askedOn h) (tracing s c buffer) = allowed (askedOn h) (tracing s c buffer) (unfold stoppedOn in e) in
+          unfold Allowed askedOn in ap (λ v. pathOf v (circuitOf s c)) (k .shows) ∙ path-listed h (k .valid) s c (r .1) (r .2)
+
+  -- What a call gives, on the table and in the history, and that the table stays covered.
+  pub record Step (a : Call) : Type 0 where
+    pub given : called b a .given ≡ told h a .given
+    pub covered : Covered (called b a .table) (told h a .history)
+
+  pub covered-step : (a : Call) → Step a
+  covered-step a = ⊎-elim carried stopped (same? (stoppedOn h a) 0)
+    where
+      in-range : Bytes b
+      in-range = record { long = k .length; small = k .bytes }
+
+      carried : stoppedOn h a ≡ 0 → Step a
+      carried e =
+          let z = stops-alike a ∙ e in
+          let t = told-passed h a e in
+          let after = called-bytes b in-range most a in
+          record {
+            given = ap (λ (x : Done). x .given) (called-carried b a z) ∙ gives-alike a e ∙ sym (ap (λ (x : Told). x .given) t);
+            covered =
+                subst (λ (x : Told). Covered (called b a .table) (x .history)) (sym t)
+                record {
+                  length = after .long;
+                  bytes = after .small;
+                  shows = called-shows b (k .length) most a z ∙ ap (λ v. updated v a) (k .shows) ∙ sym (follows-view h (k .valid) a e);
+                  valid = follows-valid h (k .valid) a e;
+                };
+          }
+
+      stopped : stoppedOn h a ≢ 0 → Step a
+      stopped f =
+          let n = stops-alike a in
+          let c = called-stopped b a (λ z. f (sym n ∙ z)) in
+          let t = told-stopped h a f in
+          record {
+            given = ap (λ (x : Done). x .given) c ∙ ap (λ i. record { answer = only i; buffer = lent a }) n ∙ sym (ap (λ (x : Told). x .given) t);
+            covered = subst (λ (x : Done). Covered (x .table) (told h a .history)) (sym c) (subst (λ (x : Told). Covered b (x .history)) (sym t) k);
+          }
+
+-- A covered table's bytes are those of its history.
+pub covered-bytes : (b : List ℕ) (h : History) → Covered b h → b ≡ bytesOf h
+unfolding bytesOf
+covered-bytes b h k = sym (encode-view b (k .length) (k .bytes)) ∙ ap encode (k .shows)
+
+-- From any covered table, a list of calls agrees with the history and leaves the table covered.
+pub covered-after : (calls : List Call) (b : List ℕ) (h : History) → Covered b h → Covered (tableAfter b calls) (historyAfter h calls)
+unfolding tableAfter historyAfter
+covered-after [] b h k = k
+covered-after (a ∷ more) b h k = covered-after more (called b a .table) (told h a .history) (covered-step b h k a .covered)
+
+pub covered-gives : (calls : List Call) (b : List ℕ) (h : History) → Covered b h → tableGives b calls ≡ historyGives h calls
+unfolding tableGives historyGives
+covered-gives [] b h k = refl
+covered-gives (a ∷ more) b h k = let s = covered-step b h k a in ap₂ _∷_ (s .given) (covered-gives more (called b a .table) (told h a .history) (s .covered))
+
+pub covered-agrees : (calls : List Call) (b : List ℕ) (h : History) → Covered b h → Agrees b h calls
+covered-agrees calls b h k =
+    let after = covered-after calls b h k in record { bytes = covered-bytes _ _ after; gives = covered-gives calls b h k; valid = after .valid }
+
+-- an accepted call is one that no test stops, or a send that goes through
+accepted-passes : (b : List ℕ) (a : Call) → Accepted b a → stoppedAt b a ≡ 0
+accepted-passes b a e = ⊎-elim (λ z. z) (λ f. absurd (f (sym (ap (λ (x : Done). x .given .answer .number) (called-stopped b a f)) ∙ e))) (same? (stoppedAt b a) 0)
+
+-- An accepted making covers any bytes, whatever the table and the history were.
+module _ (b : List ℕ) (h : History) (D : ℕ) (e : Accepted b (making D)) where
+  making-passes : stoppedOn h (making D) ≡ 0
+  unfolding stoppedOn callTests
+  making-passes = none-stops b (making D) (accepted-passes b (making D) e)
+
+  pub made-given : called b (making D) .given ≡ told h (making D) .given
+  unfolding carriedOut gives
+  made-given = ap (λ (x : Done). x .given) (called-carried b (making D) (accepted-passes b (making D) e)) ∙ sym (ap (λ (x : Told). x .given) (told-passed h (making D) making-passes))
+
+  pub made-covered : Covered (called b (making D) .table) (told h (making D) .history)
+  unfolding follows
+  made-covered =
+      let m = made-shows b D (accepted-passes b (making D) e) in
+      subst (λ (x : Told). Covered (called b (making D) .table) (x .history)) (sym (told-passed h (making D) making-passes))
+      record { length = m .bytes .long; bytes = m .bytes .small; shows = m .shows ∙ sym (made-view D); valid = made-valid D (m .least) (m .most) }
+
+-- The mission's third demand. From any bytes, after an accepted making and any list of calls, refused ones included.
+pub demand-3 : (b : List ℕ) (h : History) (D : ℕ) → Accepted b (making D) → (calls : List Call) → Agrees b h (making D ∷ calls)
+unfolding tableAfter tableGives historyAfter historyGives
+demand-3 b h D e calls =
+    let r = covered-agrees calls (called b (making D) .table) (told h (making D) .history) (made-covered b h D e) in
+    record { bytes = r .bytes; gives = ap₂ _∷_ (made-given b h D e) (r .gives); valid = r .valid }
