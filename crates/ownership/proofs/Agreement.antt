@@ -132,7 +132,7 @@ accepted-passes b a e = ⊎-elim (λ z. z) (λ f. absurd (f (sym (ap (λ (x : Do
 
 -- An accepted making covers any bytes, whatever the table and the history were.
 module _ (b : List ℕ) (h : History) (D : ℕ) (e : Accepted b (making D)) where
-  making-passes : stoppedOn h (making D) ≡ 0
+  pub making-passes : stoppedOn h (making D) ≡ 0
   unfolding stoppedOn callTests
   making-passes = none-stops b (making D) (accepted-passes b (making D) e)
 

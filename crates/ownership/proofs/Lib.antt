@@ -14,3 +14,4 @@ pub mod Shows
 pub mod Stops
 pub mod Carried
 pub mod Agreement
+pub mod Corollaries

@@ -1,0 +1,93 @@
+-- The sentences of the mission's third demand, one by one, from the theorem about lists of calls.
+-- Assumes nothing.
+use mathlib.Core.Path.{_≡_, refl, ap, sym, _∙_, subst}
+use mathlib.Core.Logic.{⊎-elim, _≢_, _↔_}
+use mathlib.Core.Bool.{true}
+use mathlib.Core.List.{List, [], _∷_}
+use Prim.Native.Nat.{ℕ, _<_}
+use native.Mathlib.Omega.{arith}
+use Rattle.common.specs.Lists.{_∈_}
+use Rattle.common.specs.Tests.{refusal}
+use Rattle.common.proofs.Tests.{same?}
+use Rattle.cube.specs.Cube.{circuitOf}
+use Rattle.paths.specs.Network.{Link}
+use Rattle.paths.specs.Send.{Outcome, acknowledged, route-rejected, receive-rejected, answered}
+use Rattle.table.specs.Layout.{ownerAt, receiverAt}
+use Rattle.table.specs.View.{View, view}
+use Rattle.table.specs.Sound.{Sound}
+use Rattle.table.specs.SoundTest.{tableTests}
+use Rattle.search.specs.Sent.{marked}
+use Rattle.ownership.specs.Calls.{Call, making, blocking, unblocking, opening, closing, tracing, lent}
+use Rattle.ownership.specs.OnTable.{stoppedAt, Done, sendIn, carriedOut, called}
+use Rattle.ownership.specs.History.{Circuit, History, netOn, openOn, told}
+use Rattle.ownership.specs.Lists.{tableAfter, tableGives, historyAfter, historyGives, viewOf, linksOf, Separate, Covered, Accepted}
+use Rattle.ownership.specs.Gloss.{numbered, StillOpen}
+use Rattle.ownership.proofs.Circuits.{sorted-one}
+use Rattle.ownership.proofs.Carried.{called-carried, called-stopped}
+use Rattle.ownership.proofs.Standing.{owner-exactly, receiver-exactly}
+use Rattle.ownership.proofs.Gloss.{open-exactly}
+use Rattle.ownership.proofs.Agreement.{making-passes, made-covered, covered-after, covered-sound, covered-passes, demand-3}
+
+-- "No refusal alters any lent byte": of any call on any bytes. A rejected search leaves each byte of the table as it was.
+module _ (b : List ℕ) where
+  send-leaves : (o : Outcome) (n c s t : ℕ) → answered o n .number ≢ 0 → marked b c s t o ≡ b
+  unfolding answered marked
+  send-leaves (acknowledged w k) n c s t f = absurd (f refl)
+  send-leaves route-rejected n c s t f = refl
+  send-leaves receive-rejected n c s t f = refl
+
+  carried-leaves : (a : Call) → carriedOut b a .given .answer .number ≢ 0 → (carriedOut b a .table ≡ b) × (carriedOut b a .given .buffer ≡ lent a)
+  unfolding carriedOut lent
+  carried-leaves (making D) f = absurd (f refl)
+  carried-leaves (blocking n p) f = absurd (f refl)
+  carried-leaves (unblocking n p) f = absurd (f refl)
+  carried-leaves (opening s c t y v) f = (send-leaves (sendIn (view b) s t y v .outcome) (sendIn (view b) s t y v .scouts) (circuitOf s c) s t f, refl)
+  carried-leaves (closing s c) f = absurd (f refl)
+  carried-leaves (tracing s c buffer) f = absurd (f refl)
+
+  pub refused-leaves : (a : Call) → called b a .given .answer .number ≢ 0 → (called b a .table ≡ b) × (called b a .given .buffer ≡ lent a)
+  refused-leaves a f =
+      ⊎-elim (λ z. let e = called-carried b a z in rw e (carried-leaves a (rw e at f)))
+      (λ z. let e = called-stopped b a z in (ap (λ (x : Done). x .table) e, ap (λ (x : Done). x .given .buffer) e)) (same? (stoppedAt b a) 0)
+
+-- From any bytes, after an accepted making and any list of calls:
+module _ (b : List ℕ) (h : History) (D : ℕ) (e : Accepted b (making D)) (calls : List Call) where
+  -- the table and the history then
+  abbrev table : List ℕ
+  table = tableAfter b (making D ∷ calls)
+
+  abbrev history : History
+  history = historyAfter h (making D ∷ calls)
+
+  pub reached-covered : Covered table history
+  unfolding tableAfter historyAfter
+  reached-covered = covered-after calls (called b (making D) .table) (told h (making D) .history) (made-covered b h D e)
+
+  -- "a circuit holds a link or receive channel in the table exactly when it does in the history"
+  pub table-holds-link : (s c : ℕ) → c < 8 → (n p : ℕ)
+      → (ownerAt table n p ≡ circuitOf s c) ↔ ((x : Circuit) × (x ∈ history .circuits) × ((x .source ≡ s) × (x .channel ≡ c)) × ((n, p) ∈ linksOf (netOn history) x))
+  unfolding view
+  table-holds-link s c l n p = subst (λ (v : View). (v .owner n p ≡ circuitOf s c) ↔ ((x : Circuit) × (x ∈ history .circuits) × ((x .source ≡ s) × (x .channel ≡ c)) × ((n, p) ∈ linksOf (netOn history) x))) (sym (reached-covered .shows)) (owner-exactly history (reached-covered .valid) s c l n p)
+
+  pub table-holds-receive : (s c : ℕ) → c < 8 → (n k : ℕ)
+      → (receiverAt table n k ≡ circuitOf s c) ↔ ((x : Circuit) × (x ∈ history .circuits) × ((x .source ≡ s) × (x .channel ≡ c)) × ((n ≡ x .target) × (k ≡ x .receive)))
+  unfolding view
+  table-holds-receive s c l n k = subst (λ (v : View). (v .receiver n k ≡ circuitOf s c) ↔ ((x : Circuit) × (x ∈ history .circuits) × ((x .source ≡ s) × (x .channel ≡ c)) × ((n ≡ x .target) × (k ≡ x .receive)))) (sym (reached-covered .shows)) (receiver-exactly history (reached-covered .valid) s c l n k)
+
+  -- it is listed "exactly when the list has an acknowledged open of it with no accepted making and no accepted close of it afterwards", by the table's own answers
+  pub listed-exactly : (s c : ℕ) → (openOn history s c ≡ true) ↔ StillOpen s c (numbered (making D ∷ calls) (tableGives b (making D ∷ calls)))
+  listed-exactly s c = rw (demand-3 b h D e calls .gives) (open-exactly s c h D (making-passes b h D e) calls)
+
+  -- "no two open circuits share a link or a receive channel"
+  pub no-link-shared : (x y : Circuit) → x ∈ history .circuits → y ∈ history .circuits → (l : Link) → l ∈ linksOf (netOn history) x → l ∈ linksOf (netOn history) y → x ≡ y
+  no-link-shared x y m k l i j = sorted-one (Separate (netOn history)) (history .circuits) (reached-covered .valid .apart) x y m k (λ r. r .link l i j) (λ r. r .link l j i)
+
+  pub no-receive-shared : (x y : Circuit) → x ∈ history .circuits → y ∈ history .circuits → x .target ≡ y .target → x .receive ≡ y .receive → x ≡ y
+  no-receive-shared x y m k t r = sorted-one (Separate (netOn history)) (history .circuits) (reached-covered .valid .apart) x y m k (λ z. z .receives t r) (λ z. z .receives (sym t) (sym r))
+
+  -- "every table so reached is sound", and none of tests 1 to 3 stops a call on it but a making's 2
+  pub reached-sound : Sound (view table)
+  reached-sound = covered-sound table history reached-covered
+
+  pub reached-passes : refusal (tableTests table) ≡ 0
+  reached-passes = covered-passes table history reached-covered
