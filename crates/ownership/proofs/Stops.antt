@@ -52,7 +52,7 @@ refusal-both (x ∷ xs) ys h e =
 pub below : (n m : ℕ) → not (ltb n m) ≡ false → n < m
 below n m e = ltb-true n m (not-false _ e)
 
-neither : (a b : Bool) → a || b ≡ false → (a ≡ false) × (b ≡ false)
+pub neither : (a b : Bool) → a || b ≡ false → (a ≡ false) × (b ≡ false)
 neither true b e = absurd (true≢false e)
 neither false b e = (refl, e)
 

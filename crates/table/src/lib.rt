@@ -8,6 +8,7 @@ pub use layout::disable;
 pub use layout::enable;
 pub use layout::enabled;
 pub use layout::free_channel;
+pub use layout::BYTES;
 pub use layout::make;
 pub use layout::owner;
 pub use layout::receiver;

@@ -1,0 +1,115 @@
+-- What the portions of tests are, and what a call answers where they stop it and where they do not.
+-- Assumes nothing.
+use mathlib.Core.Path.{_≡_, refl, ap, ap₂, sym, _∙_, subst}
+use mathlib.Core.Logic.{_≢_}
+use mathlib.Core.Bool.{Bool, true, false, cond, not, _&&_, _||_, and-false}
+use mathlib.Core.List.{List, [], _∷_, _++_}
+use Prim.Native.Nat.{ℕ, _^_, _≤_, _<_}
+use native.Mathlib.Omega.{arith}
+use lib.Dec.{eqb, ltb, leb}
+use lib.ListN.{length}
+use borrow.Author.Tests.{eq-eqb, ne-eqb, le-leb, lt-leb}
+use Rattle.common.specs.Tests.{Test, test, refusal}
+use Rattle.common.proofs.Tests.{refused, passed, accepted}
+use Rattle.cube.specs.Cube.{circuitOf}
+use Rattle.paths.specs.Send.{Sent, Outcome, Answer, answered}
+use Rattle.table.specs.Layout.{tableLength, dimensionAt, made, putEnabled, freed}
+use Rattle.table.specs.View.{view}
+use Rattle.table.specs.SoundTest.{tableTests}
+use Rattle.ownership.specs.Calls.{Call, making, blocking, unblocking, opening, closing, tracing, Asked, only, node, nodes, channel, port, noCircuit, linkHeld, shortBuffer, callTests, lent}
+use Rattle.ownership.specs.OnTable.{askedOf, lentTests, stoppedAt, Done, done, carriedOut, called}
+use Rattle.ownership.proofs.Carried.{called-carried, called-stopped}
+use Rattle.router.specs.Portions.{askedAt, nodeTests, channelTests, linkTests, blockTests, closeTests, traceTests, typeTests, vectorTests, openTests}
+
+-- the test of one node is that of two which are the same
+one-node : (a : Asked) (n : ℕ) → nodes a n n ≡ node a n
+one-node a n = ap (λ w. test w 4) (twice (not (ltb n (2 ^ a .dimension))))
+  where
+    twice : (w : Bool) → w || w ≡ w
+    twice true = refl
+    twice false = refl
+
+-- "D outside 1 to 8"
+pub dimension-zero : (D : ℕ) → D ≡ 0 → (leb 1 D && leb D 8) ≡ false
+dimension-zero D e = ap (_&& leb D 8) (lt-leb 1 D (omega (arith, e)))
+
+pub dimension-large : (D : ℕ) → 8 < D → (leb 1 D && leb D 8) ≡ false
+dimension-large D h = ap (leb 1 D &&_) (lt-leb D 8 h) ∙ and-false (leb 1 D)
+
+pub dimension-is : (D : ℕ) → D ≢ 0 → D ≤ 8 → (leb 1 D && leb D 8) ≡ true
+dimension-is D f h = ap₂ _&&_ (le-leb 1 D (omega (arith, f))) (le-leb D 8 h)
+
+-- The portions are the tests of the calls.
+module _ (b : List ℕ) where
+  as-one : (n : ℕ) (ts : List Test) → refusal (tableTests b ++ nodes (askedOf (view b)) n n ∷ ts) ≡ refusal (tableTests b ++ node (askedOf (view b)) n ∷ ts)
+  as-one n ts = ap (λ x. refusal (tableTests b ++ x ∷ ts)) (one-node (askedOf (view b)) n)
+
+  pub unblock-tests : (n p : ℕ) → refusal (linkTests b n p) ≡ stoppedAt b (unblocking n p)
+  unfolding linkTests nodeTests tableTests askedAt stoppedAt lentTests callTests
+  unblock-tests n p = as-one n (port (askedOf (view b)) p ∷ [])
+
+  pub block-tests : (n p : ℕ) → refusal (blockTests b n p) ≡ stoppedAt b (blocking n p)
+  unfolding blockTests linkTests nodeTests tableTests askedAt stoppedAt lentTests callTests
+  block-tests n p = as-one n (port (askedOf (view b)) p ∷ linkHeld (askedOf (view b)) n p ∷ [])
+
+  pub close-tests : (s c : ℕ) → refusal (closeTests b s c) ≡ stoppedAt b (closing s c)
+  unfolding closeTests channelTests nodeTests tableTests askedAt stoppedAt lentTests callTests
+  close-tests s c = as-one s (channel c ∷ noCircuit (askedOf (view b)) s c ∷ [])
+
+  pub trace-tests : (s c : ℕ) (buffer : List ℕ) → refusal (traceTests b s c buffer) ≡ stoppedAt b (tracing s c buffer)
+  unfolding traceTests closeTests channelTests nodeTests tableTests askedAt stoppedAt lentTests callTests
+  trace-tests s c buffer = as-one s (channel c ∷ noCircuit (askedOf (view b)) s c ∷ shortBuffer buffer ∷ [])
+
+  pub open-tests : (s c t y v : ℕ) → refusal (openTests b s c t y v) ≡ stoppedAt b (opening s c t y v)
+  unfolding openTests vectorTests typeTests channelTests nodeTests tableTests askedAt stoppedAt lentTests callTests
+  open-tests s c t y v = refl
+
+  -- a call that is stopped changes nothing; one that is not is carried out
+  module _ (a : Call) {n : ℕ} (e : n ≡ stoppedAt b a) where
+    pub call-stopped : n ≢ 0 → done b (only n) (lent a) ≡ called b a
+    call-stopped f = sym (called-stopped b a (λ z. f (e ∙ z)) ∙ ap (λ i. done b (only i) (lent a)) (sym e))
+
+    pub call-carried : n ≡ 0 → carriedOut b a ≡ called b a
+    call-carried z = sym (called-carried b a (sym e ∙ z))
+
+  -- making
+  module _ (D : ℕ) where
+    pub make-length : length b ≢ tableLength → done b (only 1) [] ≡ called b (making D)
+    make-length f = unfold lent in call-stopped (making D) (sym (unfold stoppedAt lentTests in refused 1 _ (ap not (ne-eqb (length b) tableLength f)))) (λ z. omega arith)
+
+    stops : length b ≡ tableLength → refusal (callTests (askedOf (view b)) (making D)) ≡ stoppedAt b (making D)
+    unfolding stoppedAt lentTests
+    stops e = sym (passed 1 (callTests (askedOf (view b)) (making D)) (ap not (eq-eqb (length b) tableLength e)))
+
+    outside : (leb 1 D && leb D 8) ≡ false → refusal (callTests (askedOf (view b)) (making D)) ≡ 2
+    unfolding callTests
+    outside f = refused 2 [] (ap not f)
+
+    within : (leb 1 D && leb D 8) ≡ true → refusal (callTests (askedOf (view b)) (making D)) ≡ 0
+    unfolding callTests
+    within f = passed 2 [] (ap not f) ∙ accepted
+
+    pub make-dimension : length b ≡ tableLength → (leb 1 D && leb D 8) ≡ false → done b (only 2) [] ≡ called b (making D)
+    unfolding lent
+    make-dimension e f = call-stopped (making D) {n = 2} (sym (outside f) ∙ stops e) (λ z. omega arith)
+
+    pub make-made : length b ≡ tableLength → (leb 1 D && leb D 8) ≡ true → (b₁ : List ℕ) → b₁ ≡ made D → done b₁ (only 0) [] ≡ called b (making D)
+    unfolding carriedOut
+    make-made e f b₁ q = ap (λ x. done x (only 0) []) q ∙ call-carried (making D) {n = 0} (sym (within f) ∙ stops e) refl
+
+  -- blocking and unblocking
+  pub call-blocks : (n p : ℕ) {m : ℕ} → m ≡ refusal (blockTests b n p) → m ≡ 0 → (b₁ : List ℕ) → b₁ ≡ putEnabled b n p false → done b₁ (only 0) [] ≡ called b (blocking n p)
+  unfolding carriedOut
+  call-blocks n p e z b₁ q = ap (λ x. done x (only 0) []) q ∙ call-carried (blocking n p) (e ∙ block-tests n p) z
+
+  pub call-unblocks : (n p : ℕ) {m : ℕ} → m ≡ refusal (linkTests b n p) → m ≡ 0 → (b₁ : List ℕ) → b₁ ≡ putEnabled b n p true → done b₁ (only 0) [] ≡ called b (unblocking n p)
+  unfolding carriedOut
+  call-unblocks n p e z b₁ q = ap (λ x. done x (only 0) []) q ∙ call-carried (unblocking n p) (e ∙ unblock-tests n p) z
+
+  pub block-refused : (n p : ℕ) {m : ℕ} → m ≡ refusal (blockTests b n p) → m ≢ 0 → done b (only m) [] ≡ called b (blocking n p)
+  unfolding lent
+  block-refused n p e f = call-stopped (blocking n p) (e ∙ block-tests n p) f
+
+  pub unblock-refused : (n p : ℕ) {m : ℕ} → m ≡ refusal (linkTests b n p) → m ≢ 0 → done b (only m) [] ≡ called b (unblocking n p)
+  unfolding lent
+  unblock-refused n p e f = call-stopped (unblocking n p) (e ∙ unblock-tests n p) f

@@ -1,0 +1,4 @@
+-- The laws of the calls' tests.
+pub mod Stopping
+pub mod Sites
+pub mod Called

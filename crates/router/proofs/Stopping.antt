@@ -1,0 +1,119 @@
+-- The tests of a call, one after another: where an earlier one stops it, where the next does, and where none does.
+-- Assumes nothing.
+use mathlib.Core.Path.{_≡_, refl, ap, sym, _∙_}
+use mathlib.Core.Logic.{_≢_}
+use mathlib.Core.Bool.{Bool, true, false, cond, not, _&&_, _||_}
+use mathlib.Core.List.{List, [], _∷_, _++_}
+use Prim.Native.Nat.{ℕ, _^_, _≤_, _<_}
+use native.Mathlib.Omega.{arith}
+use lib.Dec.{eqb, ltb, leb, lit<}
+use lib.ListN.{length}
+use lib.Pow.{pow-mono}
+use native.Mathlib.Nat.{lt-of-lt-of-le}
+use borrow.Author.Tests.{ltb-false, lt-ltb, le-ltb, eq-eqb, ne-eqb}
+use Rattle.common.specs.Tests.{Test, test, refusal}
+use Rattle.common.proofs.Tests.{refused, passed, accepted}
+use Rattle.table.specs.Layout.{tableLength, dimensionAt, Within}
+use Rattle.table.specs.View.{view}
+use Rattle.table.specs.Sound.{Sound}
+use Rattle.table.specs.SoundTest.{tableTests}
+use Rattle.ownership.specs.Calls.{Call, making, blocking, unblocking, opening, closing, tracing, Asked, nodes, channel, port, callTests}
+use Rattle.ownership.specs.OnTable.{heldIn, openIn, askedOf, lentTests, stoppedAt}
+use Rattle.ownership.proofs.Stops.{first-passed, neither, below, Numbered, refusal-behind, refusal-both, pass-tests}
+use Rattle.router.specs.Portions.{askedAt, nodeTests, channelTests, linkTests, blockTests, closeTests, traceTests, typeTests, vectorTests, openTests}
+
+-- one more test behind a list
+pub numbered-behind : (xs : List Test) (x : Test) → Numbered xs → x .number ≢ 0 → Numbered (xs ++ x ∷ [])
+unfolding Numbered
+numbered-behind [] x h f = (f, tt)
+numbered-behind (y ∷ ys) x h f = (h .0, numbered-behind ys x (h .1) f)
+
+-- an earlier test stops the call; the next one does; none does
+stops-before : (xs ys : List Test) → refusal xs ≢ 0 → refusal (xs ++ ys) ≡ refusal xs
+unfolding refusal
+stops-before [] ys f = absurd (f refl)
+stops-before (x ∷ xs) ys f = go (x .when) refl (stops-before xs ys)
+  where
+    go : (w : Bool) → x .when ≡ w → (refusal xs ≢ 0 → refusal (xs ++ ys) ≡ refusal xs) → cond (x .when) (x .number) (refusal (xs ++ ys)) ≡ cond (x .when) (x .number) (refusal xs)
+    go true e more = rw e
+    go false e more = rw e (more (λ z. f (rw e z)))
+
+module _ (xs : List Test) (w : Bool) (m : ℕ) where
+  pub stopped-before : {n : ℕ} → n ≡ refusal xs → n ≢ 0 → n ≡ refusal (xs ++ test w m ∷ [])
+  stopped-before e f = e ∙ sym (stops-before xs (test w m ∷ []) (λ z. f (e ∙ z)))
+
+  module _ (numbered : Numbered xs) {n : ℕ} (e : n ≡ refusal xs) (z : n ≡ 0) where
+    pub stopped-here : w ≡ true → m ≡ refusal (xs ++ test w m ∷ [])
+    stopped-here q = sym (refusal-behind xs (test w m ∷ []) numbered (sym e ∙ z) ∙ refused m [] q)
+
+    pub not-stopped : w ≡ false → 0 ≡ refusal (xs ++ test w m ∷ [])
+    not-stopped q = sym (refusal-behind xs (test w m ∷ []) numbered (sym e ∙ z) ∙ passed m [] q ∙ accepted)
+
+-- The numbers of the portions are not 0, so that an answer of 0 says that none of their tests applies.
+module _ (b : List ℕ) where
+  pub table-numbered : Numbered (tableTests b)
+  unfolding Numbered tableTests
+  table-numbered = ((λ z. omega arith), ((λ z. omega arith), ((λ z. omega arith), tt)))
+
+  pub node-numbered : (s t : ℕ) → Numbered (nodeTests b s t)
+  unfolding nodeTests
+  node-numbered s t = numbered-behind (tableTests b) _ table-numbered (λ z. omega arith)
+
+  pub channel-numbered : (s t c : ℕ) → Numbered (channelTests b s t c)
+  unfolding channelTests
+  channel-numbered s t c = numbered-behind (nodeTests b s t) _ (node-numbered s t) (λ z. omega arith)
+
+  pub link-numbered : (n p : ℕ) → Numbered (linkTests b n p)
+  unfolding linkTests
+  link-numbered n p = numbered-behind (nodeTests b n n) _ (node-numbered n n) (λ z. omega arith)
+
+  pub close-numbered : (s c : ℕ) → Numbered (closeTests b s c)
+  unfolding closeTests
+  close-numbered s c = numbered-behind (channelTests b s s c) _ (channel-numbered s s c) (λ z. omega arith)
+
+  pub type-numbered : (s c t y : ℕ) → Numbered (typeTests b s c t y)
+  unfolding typeTests
+  type-numbered s c t y = numbered-behind (channelTests b s t c) _ (channel-numbered s t c) (λ z. omega arith)
+
+  pub vector-numbered : (s c t y v : ℕ) → Numbered (vectorTests b s c t y v)
+  unfolding vectorTests
+  vector-numbered s c t y v = numbered-behind (typeTests b s c t y) _ (type-numbered s c t y) (λ z. omega arith)
+
+-- What is known of a table and its nodes once the tests of the nodes have passed, of a channel, of a port.
+pub record Inside (b : List ℕ) (s t : ℕ) : Type 0 where
+  pub long : length b ≡ tableLength
+  pub most : dimensionAt b ≤ 8
+  pub source : s < 2 ^ dimensionAt b
+  pub target : t < 2 ^ dimensionAt b
+
+pub table-passed : (b : List ℕ) {n : ℕ} → n ≡ refusal (tableTests b) → n ≡ 0 → (length b ≡ tableLength) × (dimensionAt b ≤ 8)
+table-passed b e z = let r = pass-tests b (sym e ∙ z) in (r .0, r .2)
+
+module _ (b : List ℕ) (s t : ℕ) where
+  pub node-passed : {n : ℕ} → n ≡ refusal (nodeTests b s t) → n ≡ 0 → Inside b s t
+  unfolding nodeTests askedAt askedOf view
+  node-passed e z =
+      let r = refusal-both (tableTests b) (nodes (askedAt b) s t ∷ []) (table-numbered b) (sym e ∙ z) in
+      let p = pass-tests b (r .0) in
+      let q = neither (not (ltb s (2 ^ dimensionAt b))) (not (ltb t (2 ^ dimensionAt b))) (first-passed _ 4 [] (λ z. omega arith) (r .1) .0) in
+      record { long = p .0; most = p .2; source = below s _ (q .0); target = below t _ (q .1) }
+
+  pub channel-passed : (c : ℕ) {n : ℕ} → n ≡ refusal (channelTests b s t c) → n ≡ 0 → Inside b s t × (c < 8)
+  unfolding channelTests
+  channel-passed c e z =
+      let r = refusal-both (nodeTests b s t) (channel c ∷ []) (node-numbered b s t) (sym e ∙ z) in
+      (node-passed refl (r .0), (let l = ltb-false 7 c (first-passed (ltb 7 c) 5 [] (λ z. omega arith) (r .1) .0) in omega arith))
+
+pub link-passed : (b : List ℕ) (m p : ℕ) {n : ℕ} → n ≡ refusal (linkTests b m p) → n ≡ 0 → Inside b m m × (p < dimensionAt b)
+unfolding linkTests askedAt askedOf view
+link-passed b m p e z =
+    let r = refusal-both (nodeTests b m m) (port (askedAt b) p ∷ []) (node-numbered b m m) (sym e ∙ z) in
+    (node-passed b m m refl (r .0), below p _ (first-passed (not (ltb p (dimensionAt b))) 6 [] (λ z. omega arith) (r .1) .0))
+
+-- A link of the cube lies in the table.
+pub link-within : (b : List ℕ) (m p : ℕ) → Inside b m m × (p < dimensionAt b) → Within b m p
+link-within b m p h = record { bytes = h .0 .long; node = lt-of-lt-of-le (h .0 .source) (pow-mono (h .0 .most)); port = omega (arith, h .0 .most, h .1) }
+
+pub block-passed : (b : List ℕ) (m p : ℕ) {n : ℕ} → n ≡ refusal (blockTests b m p) → n ≡ 0 → Inside b m m × (p < dimensionAt b)
+unfolding blockTests
+block-passed b m p e z = link-passed b m p refl (refusal-both (linkTests b m p) _ (link-numbered b m p) (sym e ∙ z) .0)

@@ -1,0 +1,40 @@
+-- `router::calls::make` meets its contract: the tests of a making, then the made bytes.
+-- Assumes nothing.
+use Rattle.router.proofs.Called.{dimension-zero, dimension-large, dimension-is, make-length, make-dimension, make-made}
+use borrow.Author.Needs.{needs}
+use Rattle.router.proofs.calls.make.Statement.{statement}
+use Rattle.router.proofs.calls.make.Tie as tie
+
+returns : tie.Need-returns
+returns c = 
+    let s = c .before .before in
+    make-length (s .args .t .now) (s .args .dimension) (c .if1 .taken)
+
+returns-2 : tie.Need-returns-2
+returns-2 c = 
+    let s = c .before .before .before in
+    make-dimension (s .args .t .now) (s .args .dimension) (c .before .if1 .left) (dimension-zero (s .args .dimension) (c .if2 .taken))
+
+returns-3 : tie.Need-returns-3
+returns-3 c = 
+    let s = c .before .before .before .before in
+    make-dimension (s .args .t .now) (s .args .dimension) (c .before .before .if1 .left) (dimension-large (s .args .dimension) (c .if3 .taken))
+
+cast-make : tie.Need-cast-make
+cast-make c = search needs
+
+make-requires : tie.Need-make-requires
+make-requires c κs = search needs
+
+same-length : tie.Need-same-length
+same-length c = search needs
+
+returns-4 : tie.Need-returns-4
+returns-4 c = 
+    let m = c .before .before in
+    let e = m .before .before in
+    let s = e .before .before .before .before in
+    make-made (s .args .t .now) (s .args .dimension) (e .before .before .if1 .left) (dimension-is (s .args .dimension) (e .before .if2 .left) (e .if3 .left)) (m .make .last .0) (m .make .ensures)
+
+pub make-spec : {M : Type 1} → statement M
+make-spec = tie.close (tie.spec returns returns-2 returns-3 cast-make make-requires same-length returns-4)

@@ -1,0 +1,67 @@
+// Which test stops a call: the refusal of the first that applies, 0 where none does. Each function makes the tests of one before it and one more.
+ghost use mathlib.Core.Path.{_≡_};
+ghost use Rattle.common.specs.Tests.{refusal};
+ghost use Rattle.router.specs.Portions.{nodeTests, channelTests, linkTests, blockTests};
+use common::refusal;
+use cube::Node;
+use cube::Port;
+
+// The lent table, and a source and a target.
+pub fn nodes(t: &[u8], source: Node, target: Node) -> u16
+    ensures { λ r. ⌜ r ≡ refusal (nodeTests (now (t .entry)) (source .0) (target .0)) ⌝ }
+{
+    let refused = table::check(t);
+    if refused != refusal::ACCEPTED {
+        return refused;
+    }
+    let count = cube::node_count(table::dimension(t));
+    if source.0 < count {
+        if target.0 < count {
+            return refusal::ACCEPTED;
+        }
+    }
+    refusal::NODE
+}
+
+pub fn channel(t: &[u8], source: Node, target: Node, channel: u16) -> u16
+    ensures { λ r. ⌜ r ≡ refusal (channelTests (now (t .entry)) (source .0) (target .0) channel) ⌝ }
+{
+    let refused = nodes(t, source, target);
+    if refused != refusal::ACCEPTED {
+        return refused;
+    }
+    if channel > 7 {
+        refusal::CHANNEL
+    } else {
+        refusal::ACCEPTED
+    }
+}
+
+// Unblocking a link; blocking one.
+pub fn link(t: &[u8], node: Node, port: Port) -> u16
+    ensures { λ r. ⌜ r ≡ refusal (linkTests (now (t .entry)) (node .0) (port .0)) ⌝ }
+{
+    let refused = nodes(t, node, node);
+    if refused != refusal::ACCEPTED {
+        return refused;
+    }
+    if port.0 < table::dimension(t) {
+        refusal::ACCEPTED
+    } else {
+        refusal::PORT
+    }
+}
+
+pub fn block(t: &[u8], node: Node, port: Port) -> u16
+    ensures { λ r. ⌜ r ≡ refusal (blockTests (now (t .entry)) (node .0) (port .0)) ⌝ }
+{
+    let refused = link(t, node, port);
+    if refused != refusal::ACCEPTED {
+        return refused;
+    }
+    if table::owner(t, node, port).0 == 0 {
+        refusal::ACCEPTED
+    } else {
+        refusal::LINK_HELD
+    }
+}
