@@ -8,6 +8,7 @@ use Prim.Native.Nat.{ℕ, _^_, _≤_, _<_}
 use native.Mathlib.Omega.{arith}
 use lib.Dec.{eqb, ltb, leb}
 use lib.ListN.{length}
+use lib.Pow.{pow-mono}
 use borrow.Author.Tests.{eq-eqb, ne-eqb, le-leb, lt-leb}
 use Rattle.common.specs.Tests.{Test, test, refusal}
 use Rattle.common.proofs.Tests.{refused, passed, accepted}
@@ -17,8 +18,11 @@ use Rattle.table.specs.Layout.{tableLength, dimensionAt, made, putEnabled, free
 use Rattle.table.specs.View.{view}
 use Rattle.table.specs.SoundTest.{tableTests}
 use Rattle.ownership.specs.Calls.{Call, making, blocking, unblocking, opening, closing, tracing, Asked, only, node, nodes, channel, port, noCircuit, linkHeld, shortBuffer, callTests, lent}
-use Rattle.ownership.specs.OnTable.{askedOf, lentTests, stoppedAt, Done, done, carriedOut, called}
+use Rattle.search.specs.Settle.{Settled, settled}
+use Rattle.search.specs.Sent.{sentOn, sends, MaySend}
+use Rattle.ownership.specs.OnTable.{sendIn, askedOf, lentTests, stoppedAt, Done, done, carriedOut, called}
 use Rattle.ownership.proofs.Carried.{called-carried, called-stopped}
+use Rattle.router.proofs.Stopping.{Inside}
 use Rattle.router.specs.Portions.{askedAt, nodeTests, channelTests, linkTests, blockTests, closeTests, traceTests, typeTests, vectorTests, openTests}
 
 -- the test of one node is that of two which are the same
@@ -28,6 +32,10 @@ one-node a n = ap (λ w. test w 4) (twice (not (ltb n (2 ^ a .dimension))))
     twice : (w : Bool) → w || w ≡ w
     twice true = refl
     twice false = refl
+
+-- the answer of a search as that of a call
+shown : Settled → Done
+shown (settled x r h n b) = done b (record { number = x; hops = h; receive = r; scouts = n }) []
 
 -- "D outside 1 to 8"
 pub dimension-zero : (D : ℕ) → D ≡ 0 → (leb 1 D && leb D 8) ≡ false
@@ -113,3 +121,36 @@ module _ (b : List ℕ) where
   pub unblock-refused : (n p : ℕ) {m : ℕ} → m ≡ refusal (linkTests b n p) → m ≢ 0 → done b (only m) [] ≡ called b (unblocking n p)
   unfolding lent
   unblock-refused n p e f = call-stopped (unblocking n p) (e ∙ unblock-tests n p) f
+
+  -- closing
+  pub close-refused : (s c : ℕ) {m : ℕ} → m ≡ refusal (closeTests b s c) → m ≢ 0 → done b (only m) [] ≡ called b (closing s c)
+  unfolding lent
+  close-refused s c e f = call-stopped (closing s c) (e ∙ close-tests s c) f
+
+  pub call-closes : (s c : ℕ) {m : ℕ} → m ≡ refusal (closeTests b s c) → m ≡ 0 → (k : ℕ) → k ≡ circuitOf s c → (b₁ : List ℕ) → b₁ ≡ freed b k → done b₁ (only 0) [] ≡ called b (closing s c)
+  unfolding carriedOut
+  call-closes s c e z k q b₁ r = ap (λ x. done x (only 0) []) (r ∙ ap (freed b) q) ∙ call-carried (closing s c) (e ∙ close-tests s c) z
+
+  -- opening: what the search comes to is the answer
+  pub open-refused : (s c t y v : ℕ) {m : ℕ} → m ≡ refusal (openTests b s c t y v) → m ≢ 0 → done b (only m) [] ≡ called b (opening s c t y v)
+  unfolding lent
+  open-refused s c t y v e f = call-stopped (opening s c t y v) (e ∙ open-tests s c t y v) f
+
+  pub call-opens : (s c t y v : ℕ) {m : ℕ} → m ≡ refusal (openTests b s c t y v) → m ≡ 0 → (k : ℕ) → k ≡ circuitOf s c → (x r h n : ℕ) (b₁ : List ℕ) → settled x r h n b₁ ≡ sends b s t k y v
+      → done b₁ (record { number = x; hops = h; receive = r; scouts = n }) [] ≡ called b (opening s c t y v)
+  unfolding carriedOut sends sentOn sendIn shown
+  call-opens s c t y v e z k q x r h n b₁ g = ap shown (g ∙ ap (λ i. sends b s t i y v) q) ∙ call-carried (opening s c t y v) (e ∙ open-tests s c t y v) z
+
+  pub may-send : (s c t v : ℕ) → Inside b s t × (c < 8) × (v < 2 ^ dimensionAt b) → (k : ℕ) → k ≡ circuitOf s c → MaySend b s t k v
+  may-send s c t v h k q =
+      let nodes : 2 ^ dimensionAt b ≤ 256 = pow-mono {i = dimensionAt b} {j = 8} (h .0 .most) in
+      rw q
+      record {
+        bytes = h .0 .long;
+        fits = h .0 .most;
+        source = h .0 .source;
+        target = h .0 .target;
+        ports = h .2;
+        circuit = λ z. omega arith;
+        small = omega (arith, nodes, h .0 .source, h .1);
+      }

@@ -2,7 +2,7 @@
 -- Assumes nothing.
 use mathlib.Core.Path.{_≡_, refl, ap, ap₂, sym, _∙_}
 use mathlib.Core.Logic.{_≢_}
-use mathlib.Core.Bool.{Bool, true, false, not, _&&_, _||_}
+use mathlib.Core.Bool.{Bool, true, false, not, _&&_, _||_, and-false}
 use mathlib.Core.List.{List, [], _∷_, _++_}
 use Prim.Native.Nat.{ℕ, _^_, _≤_, _<_}
 use native.Mathlib.Omega.{arith}
@@ -12,7 +12,8 @@ use borrow.Author.Tests.{lt-ltb, le-ltb, eq-eqb, ne-eqb}
 use Rattle.common.specs.Tests.{test, refusal}
 use Rattle.table.specs.Layout.{dimensionAt, ownerAt}
 use Rattle.table.specs.View.{view}
-use Rattle.table.specs.SoundTest.{tableTests}
+use Rattle.cube.specs.Cube.{circuitOf}
+use Rattle.table.specs.SoundTest.{tableTests, pathOf, isEmpty}
 use Rattle.ownership.specs.OnTable.{heldIn, openIn, askedOf}
 use Rattle.router.specs.Portions.{askedAt, nodeTests, channelTests, linkTests, blockTests, closeTests, traceTests, typeTests, vectorTests, openTests}
 use Rattle.router.proofs.Stopping.{stopped-before, stopped-here, not-stopped, table-numbered, node-numbered, channel-numbered, link-numbered, close-numbered, type-numbered, vector-numbered}
@@ -89,3 +90,97 @@ module _ (b : List ℕ) (m p : ℕ) {n : ℕ} (e : n ≡ refusal (linkTests b m 
     pub link-is-held : o ≢ 0 → 13 ≡ refusal (blockTests b m p)
     unfolding blockTests askedAt askedOf heldIn view
     link-is-held h = stopped-here (linkTests b m p) _ 13 (link-numbered b m p) e z (ap not (ne-eqb (ownerAt b m p) 0 (λ y. h (q ∙ y))))
+
+-- "routing type neither 0 nor 4"
+module _ (b : List ℕ) (s c t y : ℕ) {n : ℕ} (e : n ≡ refusal (channelTests b s t c)) where
+  pub type-before : n ≢ 0 → n ≡ refusal (typeTests b s c t y)
+  unfolding typeTests
+  type-before f = stopped-before (channelTests b s t c) _ 7 e f
+
+  module _ (z : n ≡ 0) where
+    pub type-zero : y ≡ 0 → 0 ≡ refusal (typeTests b s c t y)
+    unfolding typeTests
+    type-zero h = not-stopped (channelTests b s t c) _ 7 (channel-numbered b s t c) e z (ap (λ w. not w && not (eqb y 4)) (eq-eqb y 0 h))
+
+    pub type-four : y ≡ 4 → 0 ≡ refusal (typeTests b s c t y)
+    unfolding typeTests
+    type-four h = not-stopped (channelTests b s t c) _ 7 (channel-numbered b s t c) e z (ap (λ w. not (eqb y 0) && not w) (eq-eqb y 4 h) ∙ and-false (not (eqb y 0)))
+
+    pub type-neither : y ≢ 0 → y ≢ 4 → 7 ≡ refusal (typeTests b s c t y)
+    unfolding typeTests
+    type-neither f g = stopped-here (channelTests b s t c) _ 7 (channel-numbered b s t c) e z (ap₂ (λ u w. not u && not w) (ne-eqb y 0 f) (ne-eqb y 4 g))
+
+-- "send vector zero, or with a bit at or above D"
+module _ (b : List ℕ) (s c t y v : ℕ) {n : ℕ} (e : n ≡ refusal (typeTests b s c t y)) where
+  pub vector-before : n ≢ 0 → n ≡ refusal (vectorTests b s c t y v)
+  unfolding vectorTests
+  vector-before f = stopped-before (typeTests b s c t y) _ 8 e f
+
+  module _ (z : n ≡ 0) where
+    pub vector-zero : v ≡ 0 → 8 ≡ refusal (vectorTests b s c t y v)
+    unfolding vectorTests askedAt askedOf view
+    vector-zero h = stopped-here (typeTests b s c t y) _ 8 (type-numbered b s c t y) e z (ap (_|| not (ltb v (2 ^ dimensionAt b))) (eq-eqb v 0 h))
+
+    module _ (f : v ≢ 0) (d k : ℕ) (q : d ≡ dimensionAt b) (r : k ≡ 2 ^ d) where
+      ports : k ≡ 2 ^ dimensionAt b
+      ports = r ∙ ap (2 ^_) q
+
+      pub vector-inside : v < k → 0 ≡ refusal (vectorTests b s c t y v)
+      unfolding vectorTests askedAt askedOf view
+      vector-inside h = not-stopped (typeTests b s c t y) _ 8 (type-numbered b s c t y) e z (ap₂ _||_ (ne-eqb v 0 f) (is-below v (2 ^ dimensionAt b) (rw ports at h)))
+
+      pub vector-outside : k ≤ v → 8 ≡ refusal (vectorTests b s c t y v)
+      unfolding vectorTests askedAt askedOf view
+      vector-outside h = stopped-here (typeTests b s c t y) _ 8 (type-numbered b s c t y) e z (ap₂ _||_ (ne-eqb v 0 f) (not-below v (2 ^ dimensionAt b) (rw ports at h)))
+
+-- "this channel has no open circuit"; k is the circuit's number, o whether it has a path
+module _ (b : List ℕ) (s c : ℕ) {n : ℕ} (e : n ≡ refusal (channelTests b s s c)) where
+  pub close-before : n ≢ 0 → n ≡ refusal (closeTests b s c)
+  unfolding closeTests
+  close-before f = stopped-before (channelTests b s s c) _ 12 e f
+
+  module _ (z : n ≡ 0) (k : ℕ) (o : Bool) (q : k ≡ circuitOf s c) (r : o ≡ not (isEmpty (pathOf (view b) k))) where
+    opened : openIn (view b) s c ≡ o
+    unfolding openIn
+    opened = sym (r ∙ ap (λ i. not (isEmpty (pathOf (view b) i))) q)
+
+    pub close-open : o ≡ true → 0 ≡ refusal (closeTests b s c)
+    unfolding closeTests askedAt askedOf
+    close-open h = not-stopped (channelTests b s s c) _ 12 (channel-numbered b s s c) e z (ap not (opened ∙ h))
+
+    pub close-shut : o ≡ false → 12 ≡ refusal (closeTests b s c)
+    unfolding closeTests askedAt askedOf
+    close-shut h = stopped-here (channelTests b s s c) _ 12 (channel-numbered b s s c) e z (ap not (opened ∙ h))
+
+-- "this send channel has an open circuit"
+module _ (b : List ℕ) (s c t y v : ℕ) {n : ℕ} (e : n ≡ refusal (vectorTests b s c t y v)) where
+  pub open-before : n ≢ 0 → n ≡ refusal (openTests b s c t y v)
+  unfolding openTests
+  open-before f = stopped-before (vectorTests b s c t y v) _ 9 e f
+
+  module _ (z : n ≡ 0) (k : ℕ) (o : Bool) (q : k ≡ circuitOf s c) (r : o ≡ not (isEmpty (pathOf (view b) k))) where
+    in-use : openIn (view b) s c ≡ o
+    unfolding openIn
+    in-use = sym (r ∙ ap (λ i. not (isEmpty (pathOf (view b) i))) q)
+
+    pub open-used : o ≡ true → 9 ≡ refusal (openTests b s c t y v)
+    unfolding openTests askedAt askedOf
+    open-used h = stopped-here (vectorTests b s c t y v) _ 9 (vector-numbered b s c t y v) e z (in-use ∙ h)
+
+    pub open-unused : o ≡ false → 0 ≡ refusal (openTests b s c t y v)
+    unfolding openTests askedAt askedOf
+    open-unused h = not-stopped (vectorTests b s c t y v) _ 9 (vector-numbered b s c t y v) e z (in-use ∙ h)
+
+-- "buffer shorter than 9 bytes"
+module _ (b : List ℕ) (s c : ℕ) (buffer : List ℕ) {n : ℕ} (e : n ≡ refusal (closeTests b s c)) where
+  pub trace-before : n ≢ 0 → n ≡ refusal (traceTests b s c buffer)
+  unfolding traceTests
+  trace-before f = stopped-before (closeTests b s c) _ 14 e f
+
+  pub trace-short : n ≡ 0 → length buffer < 9 → 14 ≡ refusal (traceTests b s c buffer)
+  unfolding traceTests
+  trace-short z h = stopped-here (closeTests b s c) _ 14 (close-numbered b s c) e z (lt-ltb (length buffer) 9 h)
+
+  pub trace-long : n ≡ 0 → 9 ≤ length buffer → 0 ≡ refusal (traceTests b s c buffer)
+  unfolding traceTests
+  trace-long z h = not-stopped (closeTests b s c) _ 14 (close-numbered b s c) e z (le-ltb (length buffer) 9 h)

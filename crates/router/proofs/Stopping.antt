@@ -10,14 +10,17 @@ use lib.Dec.{eqb, ltb, leb, lit<}
 use lib.ListN.{length}
 use lib.Pow.{pow-mono}
 use native.Mathlib.Nat.{lt-of-lt-of-le}
-use borrow.Author.Tests.{ltb-false, lt-ltb, le-ltb, eq-eqb, ne-eqb}
+use borrow.Author.Tests.{not-false, ltb-false, lt-ltb, le-ltb, eq-eqb, ne-eqb}
 use Rattle.common.specs.Tests.{Test, test, refusal}
 use Rattle.common.proofs.Tests.{refused, passed, accepted}
 use Rattle.table.specs.Layout.{tableLength, dimensionAt, Within}
 use Rattle.table.specs.View.{view}
 use Rattle.table.specs.Sound.{Sound}
+use Rattle.cube.specs.Cube.{circuitOf}
+use Rattle.cube.proofs.Circuits.{source-of-circuit}
 use Rattle.table.specs.SoundTest.{tableTests}
-use Rattle.ownership.specs.Calls.{Call, making, blocking, unblocking, opening, closing, tracing, Asked, nodes, channel, port, callTests}
+use Rattle.table.specs.Follow.{HasSource}
+use Rattle.ownership.specs.Calls.{Call, making, blocking, unblocking, opening, closing, tracing, Asked, nodes, channel, port, sendVector, noCircuit, shortBuffer, callTests}
 use Rattle.ownership.specs.OnTable.{heldIn, openIn, askedOf, lentTests, stoppedAt}
 use Rattle.ownership.proofs.Stops.{first-passed, neither, below, Numbered, refusal-behind, refusal-both, pass-tests}
 use Rattle.router.specs.Portions.{askedAt, nodeTests, channelTests, linkTests, blockTests, closeTests, traceTests, typeTests, vectorTests, openTests}
@@ -117,3 +120,42 @@ link-within b m p h = record { bytes = h .0 .long; node = lt-of-lt-of-le (h .0 .
 pub block-passed : (b : List ℕ) (m p : ℕ) {n : ℕ} → n ≡ refusal (blockTests b m p) → n ≡ 0 → Inside b m m × (p < dimensionAt b)
 unfolding blockTests
 block-passed b m p e z = link-passed b m p refl (refusal-both (linkTests b m p) _ (link-numbered b m p) (sym e ∙ z) .0)
+
+-- Opening, closing and tracing: the channel has a circuit number, whose source is a node of the cube.
+module _ (b : List ℕ) (s c t y v : ℕ) where
+  pub type-passed : {n : ℕ} → n ≡ refusal (typeTests b s c t y) → n ≡ 0 → Inside b s t × (c < 8)
+  unfolding typeTests
+  type-passed e z = channel-passed b s t c refl (refusal-both (channelTests b s t c) _ (channel-numbered b s t c) (sym e ∙ z) .0)
+
+  pub vector-passed : {n : ℕ} → n ≡ refusal (vectorTests b s c t y v) → n ≡ 0 → Inside b s t × (c < 8) × (v < 2 ^ dimensionAt b)
+  unfolding vectorTests askedAt askedOf view
+  vector-passed e z =
+      let r = refusal-both (typeTests b s c t y) (sendVector (askedAt b) v ∷ []) (type-numbered b s c t y) (sym e ∙ z) in
+      let p = type-passed refl (r .0) in
+      let q = neither (eqb v 0) (not (ltb v (2 ^ dimensionAt b))) (first-passed _ 8 [] (λ z. omega arith) (r .1) .0) in
+      (p .0, p .1, below v _ (q .1))
+
+  pub open-passed : {n : ℕ} → n ≡ refusal (openTests b s c t y v) → n ≡ 0 → Inside b s t × (c < 8) × (v < 2 ^ dimensionAt b)
+  unfolding openTests
+  open-passed e z = vector-passed refl (refusal-both (vectorTests b s c t y v) _ (vector-numbered b s c t y v) (sym e ∙ z) .0)
+
+module _ (b : List ℕ) (s c : ℕ) where
+  pub close-passed : {n : ℕ} → n ≡ refusal (closeTests b s c) → n ≡ 0 → Inside b s s × (c < 8) × (openIn (view b) s c ≡ true)
+  unfolding closeTests askedAt askedOf
+  close-passed e z =
+      let r = refusal-both (channelTests b s s c) (noCircuit (askedAt b) s c ∷ []) (channel-numbered b s s c) (sym e ∙ z) in
+      let p = channel-passed b s s c refl (r .0) in
+      (p .0, p .1, not-false _ (first-passed (not (openIn (view b) s c)) 12 [] (λ z. omega arith) (r .1) .0))
+
+  pub trace-passed : (buffer : List ℕ) {n : ℕ} → n ≡ refusal (traceTests b s c buffer) → n ≡ 0 → (Inside b s s × (c < 8) × (openIn (view b) s c ≡ true)) × (9 ≤ length buffer)
+  unfolding traceTests
+  trace-passed buffer e z =
+      let r = refusal-both (closeTests b s c) (shortBuffer buffer ∷ []) (close-numbered b s c) (sym e ∙ z) in
+      (close-passed refl (r .0), ltb-false (length buffer) 9 (first-passed (ltb (length buffer) 9) 14 [] (λ z. omega arith) (r .1) .0))
+
+module _ (b : List ℕ) (s t c : ℕ) (h : Inside b s t) (l : c < 8) where
+  pub small-source : (s < 256) × (c < 8)
+  small-source = (lt-of-lt-of-le (h .source) (pow-mono (h .most)), l)
+
+  pub has-source : (k : ℕ) → k ≡ circuitOf s c → HasSource b k
+  has-source k e = rw e record { bytes = h .long; fits = h .most; circuit = omega arith; source = rw (source-of-circuit s c l) (h .source) }

@@ -1,7 +1,7 @@
 // The calls: the tests in rising order of their numbers, and then what the call does. A refused call changes no byte.
 ghost use mathlib.Core.Path.{_≡_};
 ghost use mathlib.Core.List.{[]};
-ghost use Rattle.ownership.specs.Calls.{only, making, blocking, unblocking};
+ghost use Rattle.ownership.specs.Calls.{only, making, blocking, unblocking, opening, closing};
 ghost use Rattle.ownership.specs.OnTable.{called, done};
 use crate::stopped;
 use common::refusal;
@@ -46,5 +46,48 @@ pub fn unblock(t: &mut [u8], node: Node, port: Port) -> u16
         return refused;
     }
     table::enable(t, node, port);
+    refusal::ACCEPTED
+}
+
+// What an open answers: 0 with the hops of its path and the receive channel taken, or the refusal; and the scouts sent.
+pub struct Opened {
+    pub number: u16,
+    pub hops: u16,
+    pub receive: u16,
+    pub scouts: u32,
+}
+
+// Opens a circuit from a send channel of a node to a target.
+pub fn open(t: &mut [u8], source: Node, channel: u16, target: Node, routing: u16, vector: u16) -> Opened
+    ensures { λ r. ⌜ done (now (t .exit)) (record { number = r .number; hops = r .hops; receive = r .receive; scouts = r .scouts }) [] ≡ called (now (t .entry)) (opening (source .0) channel (target .0) routing vector) ⌝ }
+{
+    let refused = stopped::open(t, source, channel, target, routing, vector);
+    if refused != refusal::ACCEPTED {
+        return Opened {
+            number: refused,
+            hops: 0,
+            receive: 0,
+            scouts: 0,
+        };
+    }
+    let c = cube::circuit_of(source, channel);
+    let got = search::send(t, source, target, c, routing, vector);
+    Opened {
+        number: got.refused,
+        hops: got.hops,
+        receive: got.channel,
+        scouts: got.scouts,
+    }
+}
+
+// Closes the circuit of a send channel: it frees its links and its receive channel, and nothing else.
+pub fn close(t: &mut [u8], source: Node, channel: u16) -> u16
+    ensures { λ r. ⌜ done (now (t .exit)) (only r) [] ≡ called (now (t .entry)) (closing (source .0) channel) ⌝ }
+{
+    let refused = stopped::close(t, source, channel);
+    if refused != refusal::ACCEPTED {
+        return refused;
+    }
+    table::release(t, cube::circuit_of(source, channel));
     refusal::ACCEPTED
 }

@@ -2,6 +2,9 @@
 mod calls;
 mod stopped;
 
+pub use calls::Opened;
 pub use calls::block;
+pub use calls::close;
 pub use calls::make;
+pub use calls::open;
 pub use calls::unblock;

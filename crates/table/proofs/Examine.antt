@@ -8,7 +8,7 @@ use Prim.Native.Nat.{ℕ, _+_, _-_, _*_, _^_, _≤_, _<_}
 use native.Mathlib.Omega.{arith}
 use lib.Dec.{eqb, ltb, leb}
 use lib.ListN.{length}
-use borrow.Author.Tests.{ltb-true, lt-ltb, le-ltb, le-leb, lt-leb, eq-eqb, ne-eqb}
+use borrow.Author.Tests.{ltb-true, ltb-false, lt-ltb, le-ltb, le-leb, lt-leb, eq-eqb, ne-eqb}
 use Rattle.common.specs.Lists.{_∈_, keep, from}
 use Rattle.common.proofs.Lists.{keep-same, keep-wider, keep-all, from-mem, length-from}
 use Rattle.cube.specs.Bits.{has}
@@ -84,7 +84,7 @@ module _ (v : View) (h : v .dimension < 9) (c : ℕ) where
       ends-at = unfold end network in rw (path-first a e g) (f .ends)
 
 -- the same, of the numbers that the code has: the dimension, the count of nodes and the source
-module _ (v : View) (c D nodes : ℕ) (d : D ≡ v .dimension) (h : D < 9) (m : nodes ≡ 2 ^ D) (n p : ℕ) where
+module _ (v : View) (c D nodes : ℕ) (d : D ≡ v .dimension) (h : D < 9) (m : nodes ≡ 2 ^ D) where
   counted : nodes ≡ 2 ^ v .dimension
   counted = m ∙ ap (2 ^_) d
 
@@ -94,15 +94,29 @@ module _ (v : View) (c D nodes : ℕ) (d : D ≡ v .dimension) (h : D < 9) (m : 
   every-port : (s a : ℕ) → s ≡ sourceOf c → a ≡ firstHop v c s (nodes - 1) → a ≡ firstHop v c (sourceOf c) (allPorts v)
   every-port s a q e = e ∙ ap₂ (firstHop v c) q (ap (_- 1) counted)
 
-  pub looked-large : 8 * nodes < c → Examined v c n p false 0 false
-  looked-large l = examined-large v below c n p (omega (arith, counted))
+  -- whether it is open is told by its first hop
+  pub opened : (s a : ℕ) → s ≡ sourceOf c → a ≡ firstHop v c s (nodes - 1) → ltb a 8 ≡ not (isEmpty (pathOf v c))
+  unfolding isEmpty
+  opened s a q e = go (ltb a 8) refl
+    where
+      go : (b : Bool) → ltb a 8 ≡ b → b ≡ not (isEmpty (pathOf v c))
+      go true l = rw (path-first v below c a (every-port s a q e) (ltb-true a 8 l))
+      go false l = rw (path-none v below c a (every-port s a q e) (ltb-false a 8 l))
 
-  pub looked-none : (s a : ℕ) → s ≡ sourceOf c → c ≤ 8 * nodes → a ≡ firstHop v c s (nodes - 1) → 8 ≤ a → Examined v c n p false 0 false
-  looked-none s a q l e g = examined-none v below c n p a (omega (arith, counted)) (every-port s a q e) g
+  -- and its path is that hop and what is followed behind it
+  pub path-behind : (s a start : ℕ) → s ≡ sourceOf c → a ≡ firstHop v c s (nodes - 1) → a < 8 → start ≡ next s a → pathOf v c ≡ a ∷ followed v c start (nodes - 1)
+  path-behind s a start q e g to =
+      path-first v below c a (every-port s a q e) g ∙ ap (a ∷_) (ap₂ (followed v c) (sym (to ∙ ap (λ x. next x a) q)) (sym (ap (_- 1) counted)))
 
-  pub looked : (s a start at count : ℕ) (first passes : Bool) → s ≡ sourceOf c → c ≤ 8 * nodes → a ≡ firstHop v c s (nodes - 1) → a < 8 → start ≡ next s a
+  pub looked-large : (n p : ℕ) → 8 * nodes < c → Examined v c n p false 0 false
+  looked-large n p l = examined-large v below c n p (omega (arith, counted))
+
+  pub looked-none : (n p s a : ℕ) → s ≡ sourceOf c → c ≤ 8 * nodes → a ≡ firstHop v c s (nodes - 1) → 8 ≤ a → Examined v c n p false 0 false
+  looked-none n p s a q l e g = examined-none v below c n p a (omega (arith, counted)) (every-port s a q e) g
+
+  pub looked : (n p s a start at count : ℕ) (first passes : Bool) → s ≡ sourceOf c → c ≤ 8 * nodes → a ≡ firstHop v c s (nodes - 1) → a < 8 → start ≡ next s a
       → Follows v c start (nodes - 1) n p at passes → count ≡ channelsHeld v c at → first ≡ (eqb n s && eqb p a) → Examined v c n p (eqb count 1) at (first || passes)
-  looked s a start at count first passes q l e g to f k r =
+  looked n p s a start at count first passes q l e g to f k r =
       examined v below c n p a at count first passes (omega (arith, counted)) (every-port s a q e) g
       (mathlib.Core.Path.transport (ap₂ (λ x y. Follows v c x y n p at passes) (to ∙ ap (λ x. next x a) q) (ap (_- 1) counted)) f)
       k (r ∙ ap (λ x. eqb n x && eqb p a) q)

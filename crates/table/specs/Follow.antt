@@ -2,12 +2,15 @@
 -- Assumes nothing.
 use mathlib.Core.Path.{_≡_}
 use mathlib.Core.Bool.{Bool, _&&_}
-use Prim.Native.Nat.{ℕ, _<_}
+use mathlib.Core.List.{List}
+use Prim.Native.Nat.{ℕ, _^_, _≤_, _<_}
+use lib.ListN.{length}
 use Rattle.cube.specs.Bits.{has}
-use Rattle.cube.specs.Cube.{next}
+use Rattle.cube.specs.Cube.{next, sourceOf}
 use Rattle.cube.specs.Helical.{portsOf, firstOr}
 use Rattle.paths.specs.Network.{Path, end, links, hasLink}
 use Rattle.paths.specs.Trail.{course, firstHops}
+use Rattle.table.specs.Layout.{tableLength, dimensionAt}
 use Rattle.table.specs.View.{View, lowest}
 use Rattle.table.specs.Sound.{net, heldBy}
 
@@ -32,3 +35,10 @@ pub record Follows (v : View) (c start vector n p : ℕ) (at : ℕ) (passes : Bo
   pub ends : at ≡ end (net v) start (followed v c start vector)
   pub link : passes ≡ hasLink (links (net v) start (followed v c start vector)) n p
   pub small : at < 256
+
+-- what looking for the path of a circuit asks: a table of a cube up to dimension 8, and a circuit whose source is in it
+pub record HasSource (b : List ℕ) (c : ℕ) : Type 0 where
+  pub bytes : length b ≡ tableLength
+  pub fits : dimensionAt b ≤ 8
+  pub circuit : 0 < c
+  pub source : sourceOf c < 2 ^ dimensionAt b

@@ -16,3 +16,6 @@ pub use layout::release;
 pub use layout::set_owner;
 pub use layout::set_receiver;
 pub use sound::check;
+pub use trail::first_hop;
+pub use trail::held_port;
+pub use trail::is_open;

@@ -1,13 +1,13 @@
 // The path of a circuit, recovered from the links that it holds.
 ghost use mathlib.Core.Path.{_≡_};
-ghost use mathlib.Core.Bool.{_&&_};
+ghost use mathlib.Core.Bool.{_&&_, not};
 ghost use lib.Dec.{eqb};
 ghost use Prim.Native.Nat.{_<_};
 ghost use Rattle.table.specs.Layout.{Within};
 ghost use Rattle.table.specs.View.{view, lowest};
 ghost use Rattle.table.specs.Sound.{heldBy};
-ghost use Rattle.table.specs.SoundTest.{channelsHeld};
-ghost use Rattle.table.specs.Follow.{takes, comesBack, firstHop, Follows};
+ghost use Rattle.table.specs.SoundTest.{channelsHeld, pathOf, isEmpty};
+ghost use Rattle.table.specs.Follow.{takes, comesBack, firstHop, Follows, HasSource};
 use crate::layout;
 use cube::Circuit;
 use cube::Node;
@@ -94,6 +94,16 @@ pub fn first_hop(t: &[u8], c: Circuit, s: Node, vector: u16) -> Port
     } else {
         held_port(t, c, s, vector)
     }
+}
+
+// Whether a circuit is open: whether it holds a link at its source that its path starts with. No other node is looked at.
+pub fn is_open(t: &[u8], c: Circuit) -> bool
+    requires { ⌜ HasSource (now t) (c .0) ⌝ }
+    ensures { λ r. ⌜ r ≡ not (isEmpty (pathOf (view (now (t .entry))) (c .0))) ⌝ }
+{
+    let nodes = cube::node_count(layout::dimension(t));
+    let first = first_hop(t, c, cube::source_of(c), nodes - 1);
+    first.0 < 8
 }
 
 // Where following a circuit's links ends, and whether it passes one link.
