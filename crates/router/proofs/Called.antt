@@ -16,11 +16,11 @@ use Rattle.cube.specs.Cube.{circuitOf}
 use Rattle.paths.specs.Send.{Sent, Outcome, Answer, answered}
 use Rattle.table.specs.Layout.{tableLength, dimensionAt, made, putEnabled, freed}
 use Rattle.table.specs.View.{view}
-use Rattle.table.specs.SoundTest.{tableTests}
-use Rattle.ownership.specs.Calls.{Call, making, blocking, unblocking, opening, closing, tracing, Asked, only, node, nodes, channel, port, noCircuit, linkHeld, shortBuffer, callTests, lent}
+use Rattle.table.specs.SoundTest.{tableTests, pathOf, isEmpty}
+use Rattle.ownership.specs.Calls.{Call, making, blocking, unblocking, opening, closing, tracing, Asked, only, written, node, nodes, channel, port, noCircuit, linkHeld, shortBuffer, callTests, lent}
 use Rattle.search.specs.Settle.{Settled, settled}
 use Rattle.search.specs.Sent.{sentOn, sends, MaySend}
-use Rattle.ownership.specs.OnTable.{sendIn, askedOf, lentTests, stoppedAt, Done, done, carriedOut, called}
+use Rattle.ownership.specs.OnTable.{openIn, sendIn, askedOf, lentTests, stoppedAt, Done, done, carriedOut, called}
 use Rattle.ownership.proofs.Carried.{called-carried, called-stopped}
 use Rattle.router.proofs.Stopping.{Inside}
 use Rattle.router.specs.Portions.{askedAt, nodeTests, channelTests, linkTests, blockTests, closeTests, traceTests, typeTests, vectorTests, openTests}
@@ -154,3 +154,20 @@ module _ (b : List ℕ) where
         circuit = λ z. omega arith;
         small = omega (arith, nodes, h .0 .source, h .1);
       }
+
+  -- tracing
+  pub trace-refused : (s c : ℕ) (buffer : List ℕ) {m : ℕ} → m ≡ refusal (traceTests b s c buffer) → m ≢ 0 → done b (only m) buffer ≡ called b (tracing s c buffer)
+  unfolding lent
+  trace-refused s c buffer e f = call-stopped (tracing s c buffer) (e ∙ trace-tests s c buffer) f
+
+  pub call-traces : (s c : ℕ) (buffer : List ℕ) {m : ℕ} → m ≡ refusal (traceTests b s c buffer) → m ≡ 0 → (k : ℕ) → k ≡ circuitOf s c → (h : ℕ) (after : List ℕ)
+      → h ≡ length (pathOf (view b) k) → after ≡ written (pathOf (view b) k) buffer → done b (record { number = 0; hops = h; receive = 0; scouts = 0 }) after ≡ called b (tracing s c buffer)
+  unfolding carriedOut
+  call-traces s c buffer e z k q h after l w =
+      ap₂ (λ i x. done b (record { number = 0; hops = i; receive = 0; scouts = 0 }) x) (l ∙ ap (λ i. length (pathOf (view b) i)) q) (w ∙ ap (λ i. written (pathOf (view b) i) buffer) q)
+      ∙ call-carried (tracing s c buffer) (e ∙ trace-tests s c buffer) z
+
+  -- the circuit of a channel that is open has a path
+  pub open-path : (s c : ℕ) → openIn (view b) s c ≡ true → (k : ℕ) → k ≡ circuitOf s c → not (isEmpty (pathOf (view b) k)) ≡ true
+  unfolding openIn
+  open-path s c e k q = ap (λ i. not (isEmpty (pathOf (view b) i))) q ∙ e

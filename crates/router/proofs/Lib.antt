@@ -2,3 +2,4 @@
 pub mod Stopping
 pub mod Sites
 pub mod Called
+pub mod Tracing

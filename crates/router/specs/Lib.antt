@@ -1,2 +1,3 @@
--- The tests of the calls, in the portions in which the code makes them.
+-- The tests of the calls in the portions in which the code makes them, and what the tracer writes.
 pub mod Portions
+pub mod Tracer

@@ -1,9 +1,10 @@
 // The calls: the tests in rising order of their numbers, and then what the call does. A refused call changes no byte.
 ghost use mathlib.Core.Path.{_≡_};
 ghost use mathlib.Core.List.{[]};
-ghost use Rattle.ownership.specs.Calls.{only, making, blocking, unblocking, opening, closing};
+ghost use Rattle.ownership.specs.Calls.{only, making, blocking, unblocking, opening, closing, tracing};
 ghost use Rattle.ownership.specs.OnTable.{called, done};
 use crate::stopped;
+use crate::tracer;
 use common::refusal;
 use cube::Node;
 use cube::Port;
@@ -58,7 +59,14 @@ pub struct Opened {
 }
 
 // Opens a circuit from a send channel of a node to a target.
-pub fn open(t: &mut [u8], source: Node, channel: u16, target: Node, routing: u16, vector: u16) -> Opened
+pub fn open(
+    t: &mut [u8],
+    source: Node,
+    channel: u16,
+    target: Node,
+    routing: u16,
+    vector: u16,
+) -> Opened
     ensures { λ r. ⌜ done (now (t .exit)) (record { number = r .number; hops = r .hops; receive = r .receive; scouts = r .scouts }) [] ≡ called (now (t .entry)) (opening (source .0) channel (target .0) routing vector) ⌝ }
 {
     let refused = stopped::open(t, source, channel, target, routing, vector);
@@ -90,4 +98,28 @@ pub fn close(t: &mut [u8], source: Node, channel: u16) -> u16
     }
     table::release(t, cube::circuit_of(source, channel));
     refusal::ACCEPTED
+}
+
+// What a trace answers: 0 with the hops of the path, or the refusal.
+pub struct Traced {
+    pub number: u16,
+    pub hops: u16,
+}
+
+// Writes the ports of a send channel's circuit to a buffer, one byte a hop in path order from its start. Later bytes keep their content.
+pub fn trace(t: &[u8], source: Node, channel: u16, buffer: &mut [u8]) -> Traced
+    ensures { λ r. ⌜ done (now (t .entry)) (record { number = r .number; hops = r .hops; receive = 0; scouts = 0 }) (now (buffer .exit)) ≡ called (now (t .entry)) (tracing (source .0) channel (now (buffer .entry))) ⌝ }
+{
+    let refused = stopped::trace(t, source, channel, buffer);
+    if refused != refusal::ACCEPTED {
+        return Traced {
+            number: refused,
+            hops: 0,
+        };
+    }
+    let hops = tracer::write_path(t, cube::circuit_of(source, channel), buffer);
+    Traced {
+        number: refusal::ACCEPTED,
+        hops,
+    }
 }

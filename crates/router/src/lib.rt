@@ -1,10 +1,13 @@
 // The six calls on a lent table.
 mod calls;
 mod stopped;
+mod tracer;
 
 pub use calls::Opened;
+pub use calls::Traced;
 pub use calls::block;
 pub use calls::close;
 pub use calls::make;
 pub use calls::open;
+pub use calls::trace;
 pub use calls::unblock;

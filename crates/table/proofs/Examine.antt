@@ -6,22 +6,23 @@ use mathlib.Core.Bool.{Bool, true, false, cond, _&&_, _||_, not}
 use mathlib.Core.List.{List, [], _∷_, _++_, List·Memᴰ·append-cases}
 use Prim.Native.Nat.{ℕ, _+_, _-_, _*_, _^_, _≤_, _<_}
 use native.Mathlib.Omega.{arith}
-use lib.Dec.{eqb, ltb, leb}
+use lib.Dec.{eqb, ltb, leb, lit<}
 use lib.ListN.{length}
 use borrow.Author.Tests.{ltb-true, ltb-false, lt-ltb, le-ltb, le-leb, lt-leb, eq-eqb, ne-eqb}
 use Rattle.common.specs.Lists.{_∈_, keep, from}
 use Rattle.common.proofs.Lists.{keep-same, keep-wider, keep-all, from-mem, length-from}
 use Rattle.cube.specs.Bits.{has}
-use Rattle.cube.specs.Cube.{next, sourceOf}
+use Rattle.cube.specs.Cube.{NodeCount, next, sourceOf}
 use Rattle.cube.specs.Helical.{portsOf, firstOr}
 use Rattle.paths.specs.Network.{Network, Path, end, links, hasLink}
 use Rattle.paths.specs.CubeNetwork.{network}
 use Rattle.paths.specs.Trail.{hop, course, firstHops, trail}
 use Rattle.paths.proofs.Trail.{course-fuel}
+use Rattle.table.specs.Layout.{Within, dimensionAt}
 use Rattle.table.specs.View.{View}
 use Rattle.table.specs.Sound.{shapeOf, net, heldBy, endFor}
 use Rattle.table.specs.SoundTest.{pathOf, isEmpty, channelsHeld, reaches, Examined, linkTest, receiveTest}
-use Rattle.table.specs.Follow.{followed, firstHop, Follows}
+use Rattle.table.specs.Follow.{followed, firstHop, Follows, HasSource}
 use Rattle.table.proofs.Made.{ones}
 use Rattle.table.proofs.Follow.{first-none, first-is, hop-port}
 
@@ -120,6 +121,11 @@ module _ (v : View) (c D nodes : ℕ) (d : D ≡ v .dimension) (h : D < 9) (m : 
       examined v below c n p a at count first passes (omega (arith, counted)) (every-port s a q e) g
       (mathlib.Core.Path.transport (ap₂ (λ x y. Follows v c x y n p at passes) (to ∙ ap (λ x. next x a) q) (ap (_- 1) counted)) f)
       k (r ∙ ap (λ x. eqb n x && eqb p a) q)
+
+-- a circuit's source is a node within the bytes
+pub source-within : (b : List ℕ) (c D nodes s : ℕ) → HasSource b c → D ≡ dimensionAt b → NodeCount D nodes → s ≡ sourceOf c → Within b s 0
+source-within b c D nodes s known d m q =
+    record { bytes = known .bytes; node = omega (arith, known .source, m .value, m .most, ap (2 ^_) d); port = lit< tt }
 
 -- the test of one link, branch by branch: d is the dimension, c the circuit that holds the link, b whether the cube has the link
 module _ (v : View) (n p D c : ℕ) (b : Bool) (d : D ≡ v .dimension) (held : c ≡ v .owner n p) (q : b ≡ (ltb n (2 ^ D) && ltb p D)) where

@@ -3,12 +3,12 @@ mod layout;
 mod sound;
 mod trail;
 
+pub use layout::BYTES;
 pub use layout::dimension;
 pub use layout::disable;
 pub use layout::enable;
 pub use layout::enabled;
 pub use layout::free_channel;
-pub use layout::BYTES;
 pub use layout::make;
 pub use layout::owner;
 pub use layout::receiver;

@@ -6,17 +6,17 @@ use Rattle.router.proofs.calls.make.Statement.{statement}
 use Rattle.router.proofs.calls.make.Tie as tie
 
 returns : tie.Need-returns
-returns c = 
+returns c =
     let s = c .before .before in
     make-length (s .args .t .now) (s .args .dimension) (c .if1 .taken)
 
 returns-2 : tie.Need-returns-2
-returns-2 c = 
+returns-2 c =
     let s = c .before .before .before in
     make-dimension (s .args .t .now) (s .args .dimension) (c .before .if1 .left) (dimension-zero (s .args .dimension) (c .if2 .taken))
 
 returns-3 : tie.Need-returns-3
-returns-3 c = 
+returns-3 c =
     let s = c .before .before .before .before in
     make-dimension (s .args .t .now) (s .args .dimension) (c .before .before .if1 .left) (dimension-large (s .args .dimension) (c .if3 .taken))
 
@@ -30,7 +30,7 @@ same-length : tie.Need-same-length
 same-length c = search needs
 
 returns-4 : tie.Need-returns-4
-returns-4 c = 
+returns-4 c =
     let m = c .before .before in
     let e = m .before .before in
     let s = e .before .before .before .before in

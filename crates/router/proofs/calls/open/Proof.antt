@@ -13,20 +13,20 @@ same-length : tie.Need-same-length
 same-length c = search needs
 
 returns : tie.Need-returns
-returns c = 
+returns c =
     let k = c .before in
     let s = k .before .before .before in
     open-refused (s .args .t .now) (s .args .source .0) (s .args .channel) (s .args .target .0) (s .args .routing) (s .args .vector) (k .«open» .ensures) (c .if1 .taken)
 
 circuit-of-requires : tie.Need-circuit-of-requires
-circuit-of-requires c κs = 
+circuit-of-requires c κs =
     let k = c .before in
     let s = k .before .before .before in
     let r = open-passed (s .args .t .now) (s .args .source .0) (s .args .channel) (s .args .target .0) (s .args .routing) (s .args .vector) (k .«open» .ensures) (c .if1 .left) in
     small-source (s .args .t .now) (s .args .source .0) (s .args .target .0) (s .args .channel) (r .0) (r .1)
 
 send-requires : tie.Need-send-requires
-send-requires c κs = 
+send-requires c κs =
     let m = c .before in
     let k = m .before .before in
     let s = k .before .before .before in
@@ -36,7 +36,7 @@ same-length-2 : tie.Need-same-length-2
 same-length-2 c = search needs
 
 returns-2 : tie.Need-returns-2
-returns-2 c = 
+returns-2 c =
     let g = c .before .before in
     let m = g .before .before in
     let k = m .before .before in

@@ -13,13 +13,13 @@ same-length : tie.Need-same-length
 same-length c = search needs
 
 returns : tie.Need-returns
-returns c = 
+returns c =
     let k = c .before in
     let s = k .before .before .before in
     unblock-refused (s .args .t .now) (s .args .node .0) (s .args .port .0) (k .link .ensures) (c .if1 .taken)
 
 enable-requires : tie.Need-enable-requires
-enable-requires c κs = 
+enable-requires c κs =
     let k = c .before .before in
     let s = k .before .before .before in
     link-within (s .args .t .now) (s .args .node .0) (s .args .port .0) (link-passed (s .args .t .now) (s .args .node .0) (s .args .port .0) (k .link .ensures) (c .before .if1 .left))
@@ -28,7 +28,7 @@ same-length-2 : tie.Need-same-length-2
 same-length-2 c = search needs
 
 returns-2 : tie.Need-returns-2
-returns-2 c = 
+returns-2 c =
     let d = c .before .before in
     let k = d .before .before .before in
     let s = k .before .before .before in

@@ -10,26 +10,26 @@ link-requires : tie.Need-link-requires
 link-requires c κs = search needs
 
 returns : tie.Need-returns
-returns c = 
+returns c =
     let k = c .before in
     let s = k .before .before in
     block-before (s .args .t .now) (s .args .node .0) (s .args .port .0) (k .link .ensures) (c .if1 .taken)
 
 owner-requires : tie.Need-owner-requires
-owner-requires c κs = 
+owner-requires c κs =
     let k = c .before in
     let s = k .before .before in
     link-within (s .args .t .now) (s .args .node .0) (s .args .port .0) (link-passed (s .args .t .now) (s .args .node .0) (s .args .port .0) (k .link .ensures) (c .if1 .left))
 
 returns-2 : tie.Need-returns-2
-returns-2 c = 
+returns-2 c =
     let d = c .before .before in
     let k = d .before .before in
     let s = k .before .before in
     link-unheld (s .args .t .now) (s .args .node .0) (s .args .port .0) (k .link .ensures) (d .before .if1 .left) (d .owner .result .0) (d .owner .ensures) (c .if2 .taken)
 
 returns-3 : tie.Need-returns-3
-returns-3 c = 
+returns-3 c =
     let d = c .before .before in
     let k = d .before .before in
     let s = k .before .before in

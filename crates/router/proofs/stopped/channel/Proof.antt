@@ -9,19 +9,19 @@ nodes-requires : tie.Need-nodes-requires
 nodes-requires c κs = search needs
 
 returns : tie.Need-returns
-returns c = 
+returns c =
     let k = c .before in
     let s = k .before .before in
     channel-before (s .args .t .now) (s .args .source .0) (s .args .target .0) (s .args .channel) (k .nodes .ensures) (c .if1 .taken)
 
 returns-2 : tie.Need-returns-2
-returns-2 c = 
+returns-2 c =
     let k = c .before .before in
     let s = k .before .before in
     channel-above (s .args .t .now) (s .args .source .0) (s .args .target .0) (s .args .channel) (k .nodes .ensures) (c .before .if1 .left) (c .if2 .taken)
 
 returns-3 : tie.Need-returns-3
-returns-3 c = 
+returns-3 c =
     let k = c .before .before in
     let s = k .before .before in
     channel-is (s .args .t .now) (s .args .source .0) (s .args .target .0) (s .args .channel) (k .nodes .ensures) (c .before .if1 .left) (c .if2 .left)

@@ -11,26 +11,26 @@ check-requires : tie.Need-check-requires
 check-requires c κs = search needs
 
 returns : tie.Need-returns
-returns c = 
+returns c =
     let k = c .before in
     let s = k .before .before in
     nodes-before (s .args .t .now) (s .args .source .0) (s .args .target .0) (k .check .ensures .tests) (c .if1 .taken)
 
 dimension-requires : tie.Need-dimension-requires
-dimension-requires c κs = 
+dimension-requires c κs =
     let k = c .before in
     let s = k .before .before in
     table-passed (s .args .t .now) (k .check .ensures .tests) (c .if1 .left) .0
 
 node-count-requires : tie.Need-node-count-requires
-node-count-requires c κs = 
+node-count-requires c κs =
     let k = c .before .before in
     let s = k .before .before in
     let r = table-passed (s .args .t .now) (k .check .ensures .tests) (c .before .if1 .left) in
     omega (arith, c .dimension .ensures, r .1)
 
 returns-2 : tie.Need-returns-2
-returns-2 c = 
+returns-2 c =
     let i = c .before .before in
     let g = i .before .before in
     let k = g .before .before .before in
@@ -38,7 +38,7 @@ returns-2 c =
     nodes-inside (s .args .t .now) (s .args .source .0) (s .args .target .0) (k .check .ensures .tests) (g .before .before .if1 .left) (g .before .dimension .result) (g .node-count .result) (g .before .dimension .ensures) (g .node-count .ensures .value) (i .if2 .taken) (c .if3 .taken)
 
 returns-3 : tie.Need-returns-3
-returns-3 c = 
+returns-3 c =
     let i = c .before .before in
     let g = i .before .before in
     let k = g .before .before .before in
@@ -46,7 +46,7 @@ returns-3 c =
     no-target (s .args .t .now) (s .args .source .0) (s .args .target .0) (k .check .ensures .tests) (g .before .before .if1 .left) (g .before .dimension .result) (g .node-count .result) (g .before .dimension .ensures) (g .node-count .ensures .value) (i .if2 .taken) (c .if3 .left)
 
 returns-4 : tie.Need-returns-4
-returns-4 c = 
+returns-4 c =
     let g = c .before .before in
     let k = g .before .before .before in
     let s = k .before .before in

@@ -10,20 +10,20 @@ send-vector-requires : tie.Need-send-vector-requires
 send-vector-requires c κs = search needs
 
 returns : tie.Need-returns
-returns c = 
+returns c =
     let k = c .before in
     let s = k .before .before in
     open-before (s .args .t .now) (s .args .source .0) (s .args .channel) (s .args .target .0) (s .args .routing) (s .args .vector) (k .send-vector .ensures) (c .if1 .taken)
 
 circuit-of-requires : tie.Need-circuit-of-requires
-circuit-of-requires c κs = 
+circuit-of-requires c κs =
     let k = c .before in
     let s = k .before .before in
     let r = vector-passed (s .args .t .now) (s .args .source .0) (s .args .channel) (s .args .target .0) (s .args .routing) (s .args .vector) (k .send-vector .ensures) (c .if1 .left) in
     small-source (s .args .t .now) (s .args .source .0) (s .args .target .0) (s .args .channel) (r .0) (r .1)
 
 is-open-requires : tie.Need-is-open-requires
-is-open-requires c κs = 
+is-open-requires c κs =
     let e = c .before in
     let k = e .before in
     let s = k .before .before in
@@ -31,7 +31,7 @@ is-open-requires c κs =
     has-source (s .args .t .now) (s .args .source .0) (s .args .target .0) (s .args .channel) (r .0) (r .1) (c .circuit-of .result .0) (c .circuit-of .ensures)
 
 returns-2 : tie.Need-returns-2
-returns-2 c = 
+returns-2 c =
     let o = c .before in
     let g = o .before in
     let k = g .before .before in
@@ -39,7 +39,7 @@ returns-2 c =
     open-used (s .args .t .now) (s .args .source .0) (s .args .channel) (s .args .target .0) (s .args .routing) (s .args .vector) (k .send-vector .ensures) (g .before .if1 .left) (g .circuit-of .result .0) (o .is-open .result) (g .circuit-of .ensures) (o .is-open .ensures) (c .if2 .taken)
 
 returns-3 : tie.Need-returns-3
-returns-3 c = 
+returns-3 c =
     let o = c .before in
     let g = o .before in
     let k = g .before .before in

@@ -9,27 +9,27 @@ channel-requires : tie.Need-channel-requires
 channel-requires c κs = search needs
 
 returns : tie.Need-returns
-returns c = 
+returns c =
     let k = c .before in
     let s = k .before .before in
     type-before (s .args .t .now) (s .args .source .0) (s .args .channel) (s .args .target .0) (s .args .routing) (k .channel .ensures) (c .if1 .taken)
 
 returns-2 : tie.Need-returns-2
-returns-2 c = 
+returns-2 c =
     let e = c .before in
     let k = e .before in
     let s = k .before .before in
     type-zero (s .args .t .now) (s .args .source .0) (s .args .channel) (s .args .target .0) (s .args .routing) (k .channel .ensures) (e .if1 .left) (c .if2 .taken)
 
 returns-3 : tie.Need-returns-3
-returns-3 c = 
+returns-3 c =
     let e = c .before .before in
     let k = e .before in
     let s = k .before .before in
     type-four (s .args .t .now) (s .args .source .0) (s .args .channel) (s .args .target .0) (s .args .routing) (k .channel .ensures) (e .if1 .left) (c .if3 .taken)
 
 returns-4 : tie.Need-returns-4
-returns-4 c = 
+returns-4 c =
     let e = c .before .before in
     let k = e .before in
     let s = k .before .before in

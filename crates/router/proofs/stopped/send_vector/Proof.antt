@@ -11,27 +11,27 @@ routing-type-requires : tie.Need-routing-type-requires
 routing-type-requires c κs = search needs
 
 returns : tie.Need-returns
-returns c = 
+returns c =
     let k = c .before in
     let s = k .before .before in
     vector-before (s .args .t .now) (s .args .source .0) (s .args .channel) (s .args .target .0) (s .args .routing) (s .args .vector) (k .routing-type .ensures) (c .if1 .taken)
 
 returns-2 : tie.Need-returns-2
-returns-2 c = 
+returns-2 c =
     let e = c .before in
     let k = e .before in
     let s = k .before .before in
     vector-zero (s .args .t .now) (s .args .source .0) (s .args .channel) (s .args .target .0) (s .args .routing) (s .args .vector) (k .routing-type .ensures) (e .if1 .left) (c .if2 .taken)
 
 dimension-requires : tie.Need-dimension-requires
-dimension-requires c κs = 
+dimension-requires c κs =
     let e = c .before in
     let k = e .before in
     let s = k .before .before in
     type-passed (s .args .t .now) (s .args .source .0) (s .args .channel) (s .args .target .0) (s .args .routing) (s .args .vector) (k .routing-type .ensures) (e .if1 .left) .0 .long
 
 node-count-requires : tie.Need-node-count-requires
-node-count-requires c κs = 
+node-count-requires c κs =
     let e = c .before .before in
     let k = e .before in
     let s = k .before .before in
@@ -39,7 +39,7 @@ node-count-requires c κs =
     omega (arith, c .dimension .ensures, r .0 .most)
 
 returns-3 : tie.Need-returns-3
-returns-3 c = 
+returns-3 c =
     let g = c .before in
     let d = g .before in
     let z = d .before in
@@ -49,7 +49,7 @@ returns-3 c =
     vector-inside (s .args .t .now) (s .args .source .0) (s .args .channel) (s .args .target .0) (s .args .routing) (s .args .vector) (k .routing-type .ensures) (e .if1 .left) (z .if2 .left) (d .dimension .result) (g .node-count .result) (d .dimension .ensures) (g .node-count .ensures .value) (c .if3 .taken)
 
 returns-4 : tie.Need-returns-4
-returns-4 c = 
+returns-4 c =
     let g = c .before in
     let d = g .before in
     let z = d .before in

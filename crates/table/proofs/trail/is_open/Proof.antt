@@ -1,11 +1,8 @@
 -- `table::trail::is_open` meets its contract: a path is empty where it has no first hop.
 -- Assumes nothing.
-use mathlib.Core.Path.{_≡_, ap}
-use Prim.Native.Nat.{_^_}
 use native.Mathlib.Omega.{arith}
-use lib.Dec.{lit<}
 use Rattle.table.specs.View.{view}
-use Rattle.table.proofs.Examine.{opened}
+use Rattle.table.proofs.Examine.{opened, source-within}
 use borrow.Author.Needs.{needs}
 use Rattle.table.proofs.trail.is_open.Statement.{statement}
 use Rattle.table.proofs.trail.is_open.Tie as tie
@@ -27,7 +24,7 @@ first-hop-requires c κs =
     let m = c .before in
     let d = m .before in
     let s = d .before .before in
-    record { bytes = s .pre .bytes; node = omega (arith, c .source-of .ensures, s .pre .source, m .node-count .ensures .value, m .node-count .ensures .most, ap (2 ^_) (d .dimension .ensures)); port = lit< tt }
+    source-within (s .args .t .now) (s .args .c .0) (d .dimension .result) (m .node-count .result) (c .source-of .result .0) (s .pre) (d .dimension .ensures) (m .node-count .ensures) (c .source-of .ensures)
 
 returns : tie.Need-returns
 returns c =

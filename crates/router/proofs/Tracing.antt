@@ -1,0 +1,126 @@
+-- Tracing: what is followed fits the buffer, and what is written hop after hop is the path, with what was there behind it.
+-- Assumes nothing.
+use mathlib.Core.Path.{_≡_, refl, ap, sym, _∙_}
+use mathlib.Core.Bool.{Bool, true, not}
+use mathlib.Core.List.{List, [], _∷_}
+use Prim.Native.Nat.{ℕ, zero, suc, _+_, _-_, _^_, _≤_, _<_}
+use native.Mathlib.Omega.{arith}
+use lib.ListN.{length, set, length-set}
+use borrow.Author.Tests.{ltb-true}
+use Rattle.common.specs.Lists.{keep}
+use Rattle.cube.specs.Cube.{next, sourceOf, NodeCount, Without}
+use Rattle.cube.proofs.Bits.{flip-inside}
+use Rattle.cube.proofs.Ports.{without-power}
+use Rattle.paths.specs.Network.{Network, Path}
+use Rattle.paths.specs.Trail.{hop, dropPort, course}
+use Rattle.table.specs.Layout.{dimensionAt}
+use Rattle.table.specs.View.{View, view, lowest}
+use Rattle.table.specs.SoundTest.{pathOf, isEmpty}
+use Rattle.table.specs.Follow.{takes, followed, firstHop, HasSource}
+use Rattle.table.proofs.Follow.{follow-on, follow-end, follow-port}
+use Rattle.table.proofs.Examine.{opened, path-behind, source-within}
+use Rattle.ownership.specs.Calls.{written}
+use Rattle.router.specs.Tracer.{writtenFrom, MayTrace}
+
+-- a course is no longer than its fuel
+hop-short : (k : ℕ) (ps : List ℕ) (on : ℕ → Path) → ((p : ℕ) → length (on p) ≤ k) → length (hop ps on) ≤ suc k
+unfolding hop
+hop-short k [] on h = omega arith
+hop-short k (p ∷ ps) on h = omega (arith, h p)
+
+course-short : (k : ℕ) (N : Network) (left : List ℕ) (own : ℕ → ℕ → Bool) (n : ℕ) → length (course k N left own n) ≤ k
+unfolding course
+course-short zero N left own n = omega arith
+course-short (suc k) N left own n =
+    hop-short k (keep (own n) left) (λ p. course k N (dropPort p left) own (N .next n p)) (λ p. course-short k N (dropPort p left) own (N .next n p))
+
+pub followed-short : (v : View) (c n left : ℕ) → length (followed v c n left) ≤ 8
+unfolding followed
+followed-short v c n left = course-short 8 _ _ _ n
+
+-- writing from place 0 on leaves the path, and what was there behind it
+write-later : (i : ℕ) (w : Path) (x : ℕ) (buffer : List ℕ) → writtenFrom (suc i) w (x ∷ buffer) ≡ x ∷ writtenFrom i w buffer
+unfolding writtenFrom
+write-later i [] x buffer = refl
+write-later i (p ∷ w) x buffer =
+    let sum : suc i + 1 ≡ suc (i + 1) = omega arith in
+    ap (λ j. writtenFrom j w (x ∷ set buffer i p)) sum ∙ write-later (i + 1) w x (set buffer i p)
+
+pub written-whole : (w : Path) (buffer : List ℕ) → length w ≤ length buffer → writtenFrom 0 w buffer ≡ written w buffer
+unfolding writtenFrom written
+written-whole [] buffer h = refl
+written-whole (p ∷ w) [] h = absurd (omega arith)
+written-whole (p ∷ w) (x ∷ buffer) h = write-later 0 w p buffer ∙ ap (p ∷_) (written-whole w buffer (omega arith))
+
+write-first : (p : ℕ) (w : Path) (buffer : List ℕ) → writtenFrom 1 w (set buffer 0 p) ≡ writtenFrom 0 (p ∷ w) buffer
+unfolding writtenFrom
+write-first p w buffer = refl
+
+-- tracing on from node n, where q is the port of the hop out of it
+module _ (b : List ℕ) (c n left hops : ℕ) (buffer : List ℕ) (q : ℕ) (e : q ≡ lowest (takes (view b) c n left) 8 0) where
+  pub end-count : 8 ≤ q → hops ≡ hops + length (followed (view b) c n left)
+  end-count h = rw (follow-end (view b) c n left q e h) (omega arith)
+
+  pub end-bytes : 8 ≤ q → buffer ≡ writtenFrom hops (followed (view b) c n left) buffer
+  unfolding writtenFrom
+  end-bytes h = rw (follow-end (view b) c n left q e h)
+
+  pub on-place : q < 8 → MayTrace b c n left hops buffer → hops < length buffer
+  on-place h may =
+      let w = without-power left q (follow-port (view b) c n left q e h) in
+      omega (arith, may .most, may .room, ap length (follow-on (view b) c n left q (left - 2 ^ q) e h w))
+
+  module _ (rest m : ℕ) (h : q < 8) (w : Without left q rest) (to : m ≡ next n q) where
+    on : followed (view b) c n left ≡ q ∷ followed (view b) c m rest
+    on = follow-on (view b) c n left q rest e h w ∙ ap (λ x. q ∷ followed (view b) c x rest) (sym to)
+
+    pub on-may : MayTrace b c n left hops buffer → MayTrace b c m rest (hops + 1) (set buffer hops q)
+    on-may may =
+        record {
+          bytes = may .bytes;
+          node = rw to (flip-inside 8 n q (may .node) h);
+          ports = omega (arith, w .value, may .ports);
+          most = omega (arith, may .most, ap length on);
+          room = rw (length-set buffer hops q) (may .room);
+        }
+
+    pub on-count : (answer : ℕ) → answer ≡ hops + 1 + length (followed (view b) c m rest) → answer ≡ hops + length (followed (view b) c n left)
+    on-count answer k = omega (arith, k, ap length on)
+
+    pub on-bytes : (after : List ℕ) → after ≡ writtenFrom (hops + 1) (followed (view b) c m rest) (set buffer hops q) → after ≡ writtenFrom hops (followed (view b) c n left) buffer
+    unfolding writtenFrom
+    on-bytes after k = rw on k
+
+-- the whole path, of the numbers that the code has: the dimension, the count of nodes, the source and the first hop
+module _ (b : List ℕ) (c D nodes s : ℕ) (known : HasSource b c) (d : D ≡ dimensionAt b) (m : NodeCount D nodes) (q : s ≡ sourceOf c) (a : ℕ) (e : a ≡ firstHop (view b) c s (nodes - 1)) (some : not (isEmpty (pathOf (view b) c)) ≡ true) where
+  shown : D ≡ view b .dimension
+  unfolding view
+  shown = d
+
+  fits : D < 9
+  fits = omega (arith, known .fits)
+
+  pub first-below : a < 8
+  first-below = ltb-true a 8 (opened (view b) c D nodes shown fits (m .value) s a q e ∙ some)
+
+  module _ (start : ℕ) (buffer : List ℕ) (to : start ≡ next s a) (room : 9 ≤ length buffer) where
+    path-is : pathOf (view b) c ≡ a ∷ followed (view b) c start (nodes - 1)
+    path-is = path-behind (view b) c D nodes shown fits (m .value) s a start q e first-below to
+
+    pub behind-may : MayTrace b c start (nodes - 1) 1 (set buffer 0 a)
+    behind-may =
+        record {
+          bytes = known .bytes;
+          node = rw to (flip-inside 8 s a (source-within b c D nodes s known d m q .node) first-below);
+          ports = omega (arith, m .some, m .most);
+          most = omega (arith, followed-short (view b) c start (nodes - 1));
+          room = rw (length-set buffer 0 a) room;
+        }
+
+    pub whole-count : (answer : ℕ) → answer ≡ 1 + length (followed (view b) c start (nodes - 1)) → answer ≡ length (pathOf (view b) c)
+    whole-count answer k = omega (arith, k, ap length path-is)
+
+    pub whole-bytes : (after : List ℕ) → after ≡ writtenFrom 1 (followed (view b) c start (nodes - 1)) (set buffer 0 a) → after ≡ written (pathOf (view b) c) buffer
+    whole-bytes after k =
+        let short : length (pathOf (view b) c) ≤ length buffer = omega (arith, ap length path-is, followed-short (view b) c start (nodes - 1)) in
+        k ∙ write-first a (followed (view b) c start (nodes - 1)) buffer ∙ ap (λ w. writtenFrom 0 w buffer) (sym path-is) ∙ written-whole (pathOf (view b) c) buffer short
