@@ -1,10 +1,24 @@
-/* The maze router's calls for C and C++: command words.
+/* The maze router's calls for C and C++: the table of one cube, its circuits, and command words.
  *
- * Every call finishes, takes any numbers, and answers MAZE_ACCEPTED or a refusal number. A refused call answers zero beside its
- * number. */
+ * Every call finishes, takes any numbers, and answers MAZE_ACCEPTED or a refusal number. The tests of a call run in rising order of
+ * number, and the first that applies is the answer. A refused call alters no byte lent to it and answers zero beside its number; only
+ * MAZE_ROUTE_REJECTED and MAZE_RECEIVE_REJECTED carry their scouts. Numbers are tested at their 16 bits and never cut: node 256 is not
+ * node 0.
+ *
+ * What the caller sees to:
+ * - A pointer comes with a length, and points to at least that many bytes that stay valid during the call; those of a table may be
+ *   written by every call but maze_trace, those of a buffer by maze_trace. With length 0 the pointer may be anything, also null. No
+ *   alignment is asked for.
+ * - The buffer of maze_trace does not overlap the table.
+ * - During a call nobody else reads or writes the table or the buffer. A search marks the links of its path in the table as it goes and
+ *   gives them back when they are rejected, so a table looked at during a call may show circuits that are never opened, even where the call
+ *   is refused in the end. Between calls anybody may read the table. Calls on different tables may run at the same time: the library keeps
+ *   nothing of its own between calls.
+ * The padding of an answer struct has no meaning. */
 #ifndef MAZE_H
 #define MAZE_H
 
+#include <stddef.h>
 #include <stdint.h>
 
 #ifdef __cplusplus
@@ -13,13 +27,116 @@ extern "C" {
 
 /* Answer numbers. */
 #define MAZE_ACCEPTED 0
+#define MAZE_BAD_LENGTH 1         /* the table lent is not 8,449 bytes long */
+#define MAZE_BAD_DIMENSION 2      /* the dimension given to maze_make, or else the one stored, is not 1 to 8 */
+#define MAZE_NOT_SOUND 3          /* the table lent is not sound; not tested by maze_make */
+#define MAZE_BAD_NODE 4           /* a node, source or target, is not below 2 to the power of the dimension */
+#define MAZE_BAD_CHANNEL 5        /* a channel above 7 */
+#define MAZE_BAD_PORT 6           /* block, unblock: a port not below the dimension */
+#define MAZE_BAD_ROUTING_TYPE 7   /* open: neither MAZE_TYPE_MAZE nor MAZE_TYPE_ALTERNATE_MAZE */
+#define MAZE_BAD_SEND_VECTOR 8    /* open: zero, or a bit at or above the dimension */
+#define MAZE_CHANNEL_IN_USE 9     /* open: this send channel has an open circuit */
+#define MAZE_ROUTE_REJECTED 10    /* open: no free permitted path; carries the scouts */
+#define MAZE_RECEIVE_REJECTED 11  /* open: every receive channel of the target is held; carries the scouts */
+#define MAZE_NO_CIRCUIT 12        /* close, trace: this send channel has no open circuit */
+#define MAZE_LINK_HELD 13         /* block: a circuit holds the link */
+#define MAZE_BUFFER_SHORT 14      /* trace: the buffer is shorter than MAZE_TRACE_BYTES, whatever the length of the path */
 #define MAZE_WORD_TOO_LARGE 15    /* reading: the word is above 4,095 */
 #define MAZE_NOT_A_COMMAND 16     /* reading: packet type 0 or 1 */
 #define MAZE_WRONG_TYPE 17        /* reading: the packet type does not go with the command */
 #define MAZE_RESERVED_COMMAND 18  /* the command is reserved or, in writing, above 15 */
 #define MAZE_CARRIED_TOO_LARGE 19 /* writing: the command cannot carry the number */
+#define MAZE_UNREADABLE_LINE 20   /* the printed list: a line that cannot be read; no call here gives it */
 
-/* A command word is type * 1024 + command * 64 + status. Commands 0 to 7 go with packet type 2, commands 8 to 15 with 3. */
+/* ---- The table of one cube ----
+ *
+ * A cube of dimension D has the nodes 0 to 2^D - 1. Port p, below D, of a node leads to the node whose number differs in bit p alone, and
+ * arrives there on port p. Each direction is a link of its own. A node has send channels 0 to 7 and receive channels 0 to 7. The circuit of
+ * send channel c at node s has the number 8 * s + c + 1; zero means no circuit.
+ *
+ * The table is MAZE_TABLE_BYTES bytes of the caller's, first written by maze_make:
+ *   1 byte                        the dimension
+ *   256 bytes from ENABLED_AT     for each node, bit p set where the link out of port p is enabled
+ *   4,096 bytes from LINKS_AT     for each node and port 0 to 7, the circuit that holds the link, two bytes, low byte first
+ *   4,096 bytes from RECEIVES_AT  for each node and receive channel, the circuit that holds it, two bytes, low byte first
+ * Rows run node by node. A link is free if it is enabled and held by no circuit. */
+#define MAZE_TABLE_BYTES 8449
+#define MAZE_NODES 256         /* nodes that have a row, present in the cube or not */
+#define MAZE_PORTS 8           /* ports in a row */
+#define MAZE_CHANNELS 8        /* send channels, and receive channels, of a node */
+#define MAZE_DIMENSION_LARGEST 8
+#define MAZE_DIMENSION_AT 0
+#define MAZE_ENABLED_AT 1
+#define MAZE_LINKS_AT 257
+#define MAZE_RECEIVES_AT 4353
+
+/* Reading a table between calls: `table` is a const uint8_t * or a uint8_t *, nodes are below 256, ports and channels below 8. The arguments
+ * are evaluated more than once. */
+#define MAZE_DIMENSION(table) ((table)[MAZE_DIMENSION_AT])
+#define MAZE_LINK_ENABLED(table, node, port) (((table)[MAZE_ENABLED_AT + (node)] >> (port) & 1) != 0)
+#define MAZE_LINK_CIRCUIT(table, node, port) \
+    ((table)[MAZE_LINKS_AT + 2 * (MAZE_PORTS * (node) + (port))] + 256u * (table)[MAZE_LINKS_AT + 2 * (MAZE_PORTS * (node) + (port)) + 1])
+#define MAZE_RECEIVE_CIRCUIT(table, node, channel)                            \
+    ((table)[MAZE_RECEIVES_AT + 2 * (MAZE_CHANNELS * (node) + (channel))] + \
+     256u * (table)[MAZE_RECEIVES_AT + 2 * (MAZE_CHANNELS * (node) + (channel)) + 1])
+
+/* The number of a circuit, and back: the source and the send channel of a circuit number that is not zero. */
+#define MAZE_CIRCUIT(node, channel) (8u * (node) + (channel) + 1u)
+#define MAZE_CIRCUIT_NODE(circuit) (((circuit) - 1) / 8)
+#define MAZE_CIRCUIT_CHANNEL(circuit) (((circuit) - 1) % 8)
+
+/* Routing types of maze_open. */
+#define MAZE_TYPE_MAZE 0           /* one pass, with the send vector given */
+#define MAZE_TYPE_ALTERNATE_MAZE 4 /* then, if it is rejected, a pass with the ports below the dimension that the vector left out */
+
+#define MAZE_HOPS_LARGEST 9        /* a permitted path has 1 to dimension + 1 hops */
+#define MAZE_SCOUTS_LARGEST 123300 /* both passes of a send together never send more */
+#define MAZE_TRACE_BYTES 9         /* what maze_trace asks of its buffer */
+
+typedef struct {
+    uint16_t number;
+    uint16_t hops;    /* links of the path */
+    uint16_t receive; /* the receive channel taken at the target */
+    uint32_t scouts;  /* address packets sent by the search */
+} maze_opened;
+
+typedef struct {
+    uint16_t number;
+    uint16_t hops; /* bytes written to the buffer */
+} maze_traced;
+
+/* Writes all 8,449 bytes: the dimension, all links of the cube enabled, nothing held. What they were before does not matter.
+ * Answers 0, 1 or 2. */
+uint16_t maze_make(uint8_t *table, size_t table_len, uint16_t dimension);
+
+/* Blocks the link out of a port of a node, in that direction alone. Blocking a blocked link changes nothing. Alters the node's byte of enabled
+ * links and leaves the rest alone.
+ * Answers 0, or the first of 1, 2, 3, 4, 6 and 13 that applies. */
+uint16_t maze_block(uint8_t *table, size_t table_len, uint16_t node, uint16_t port);
+
+/* Enables the link out of a port of a node, in that direction alone. Unblocking an enabled link, held or not, changes nothing. Alters the node's
+ * byte of enabled links and leaves the rest alone.
+ * Answers 0, or the first of 1, 2, 3, 4 and 6 that applies. */
+uint16_t maze_unblock(uint8_t *table, size_t table_len, uint16_t node, uint16_t port);
+
+/* Opens the circuit of a send channel of a node: looks for the first free permitted path to the target, in helical order, beginning with a port
+ * of the send vector (bit p for port p). An accepted open holds the links of that path and the target's lowest receive channel that no
+ * circuit holds; maze_trace tells the path. Alters the entries of those and leaves the rest alone.
+ * Answers 0 with hops, receive channel and scouts, or the first of 1, 2, 3, 4, 5, 7, 8, 9, 10 and 11 that applies; 10 and 11 with scouts. */
+maze_opened maze_open(uint8_t *table, size_t table_len, uint16_t node, uint16_t channel, uint16_t target, uint16_t type, uint16_t vector);
+
+/* Closes the circuit of a send channel of a node: frees its links and its receive channel and leaves the rest alone.
+ * Answers 0, or the first of 1, 2, 3, 4, 5 and 12 that applies. */
+uint16_t maze_close(uint8_t *table, size_t table_len, uint16_t node, uint16_t channel);
+
+/* Writes the ports of the circuit of a send channel of a node to the start of the buffer, one byte for each hop in path order. Later bytes of
+ * the buffer keep their content, and so does the table.
+ * Answers 0 with the number of hops, or the first of 1, 2, 3, 4, 5, 12 and 14 that applies. */
+maze_traced maze_trace(const uint8_t *table, size_t table_len, uint16_t node, uint16_t channel, uint8_t *buffer, size_t buffer_len);
+
+/* ---- Command words ----
+ *
+ * A command word is type * 1024 + command * 64 + status. Commands 0 to 7 go with packet type 2, commands 8 to 15 with 3. */
 #define MAZE_WORD_TYPE_PLACE 1024
 #define MAZE_WORD_COMMAND_PLACE 64
 #define MAZE_WORD_LARGEST 4095

@@ -6,17 +6,57 @@
 _Static_assert(sizeof(maze_word_read_answer) == 6 && offsetof(maze_word_read_answer, command) == 2 && offsetof(maze_word_read_answer, carried) == 4, "a reading is three 16-bit numbers");
 _Static_assert(sizeof(maze_word_written) == 4 && offsetof(maze_word_written, word) == 2, "a writing is two 16-bit numbers");
 
+_Static_assert(sizeof(maze_opened) == 12 && offsetof(maze_opened, hops) == 2 && offsetof(maze_opened, receive) == 4 && offsetof(maze_opened, scouts) == 8, "an open is three 16-bit numbers and a 32-bit number");
+_Static_assert(sizeof(maze_traced) == 4 && offsetof(maze_traced, hops) == 2, "a trace is two 16-bit numbers");
+
+#define HAS_TYPE(call, answer, ...) _Static_assert(_Generic(&call, answer (*)(__VA_ARGS__): 1, default: 0), #call)
+HAS_TYPE(maze_make, uint16_t, uint8_t *, size_t, uint16_t);
+HAS_TYPE(maze_block, uint16_t, uint8_t *, size_t, uint16_t, uint16_t);
+HAS_TYPE(maze_unblock, uint16_t, uint8_t *, size_t, uint16_t, uint16_t);
+HAS_TYPE(maze_open, maze_opened, uint8_t *, size_t, uint16_t, uint16_t, uint16_t, uint16_t, uint16_t);
+HAS_TYPE(maze_close, uint16_t, uint8_t *, size_t, uint16_t, uint16_t);
+HAS_TYPE(maze_trace, maze_traced, const uint8_t *, size_t, uint16_t, uint16_t, uint8_t *, size_t);
+
 static const struct {
     const char *name;
     int number, document;
 } names[] = {
 #define NAME(name, document) {#name, name, document}
     NAME(MAZE_ACCEPTED, 0),
+    NAME(MAZE_BAD_LENGTH, 1),
+    NAME(MAZE_BAD_DIMENSION, 2),
+    NAME(MAZE_NOT_SOUND, 3),
+    NAME(MAZE_BAD_NODE, 4),
+    NAME(MAZE_BAD_CHANNEL, 5),
+    NAME(MAZE_BAD_PORT, 6),
+    NAME(MAZE_BAD_ROUTING_TYPE, 7),
+    NAME(MAZE_BAD_SEND_VECTOR, 8),
+    NAME(MAZE_CHANNEL_IN_USE, 9),
+    NAME(MAZE_ROUTE_REJECTED, 10),
+    NAME(MAZE_RECEIVE_REJECTED, 11),
+    NAME(MAZE_NO_CIRCUIT, 12),
+    NAME(MAZE_LINK_HELD, 13),
+    NAME(MAZE_BUFFER_SHORT, 14),
     NAME(MAZE_WORD_TOO_LARGE, 15),
     NAME(MAZE_NOT_A_COMMAND, 16),
     NAME(MAZE_WRONG_TYPE, 17),
     NAME(MAZE_RESERVED_COMMAND, 18),
     NAME(MAZE_CARRIED_TOO_LARGE, 19),
+    NAME(MAZE_UNREADABLE_LINE, 20),
+    NAME(MAZE_TABLE_BYTES, 8449),
+    NAME(MAZE_NODES, 256),
+    NAME(MAZE_PORTS, 8),
+    NAME(MAZE_CHANNELS, 8),
+    NAME(MAZE_DIMENSION_LARGEST, 8),
+    NAME(MAZE_DIMENSION_AT, 0),
+    NAME(MAZE_ENABLED_AT, 1),
+    NAME(MAZE_LINKS_AT, 1 + 256),
+    NAME(MAZE_RECEIVES_AT, 1 + 256 + 4096),
+    NAME(MAZE_TYPE_MAZE, 0),
+    NAME(MAZE_TYPE_ALTERNATE_MAZE, 4),
+    NAME(MAZE_HOPS_LARGEST, 9),
+    NAME(MAZE_SCOUTS_LARGEST, 123300),
+    NAME(MAZE_TRACE_BYTES, 9),
     NAME(MAZE_WORD_TYPE_PLACE, 1024),
     NAME(MAZE_WORD_COMMAND_PLACE, 64),
     NAME(MAZE_WORD_LARGEST, 4095),
@@ -41,6 +81,24 @@ static const struct {
     NAME(MAZE_STATUS_CODE_PLACE, 16),
 };
 
+/* What the macros read in a table, beside document 01's layout: each byte is the low byte of its place plus 1, so that neighbours
+ * differ. */
+static int reads_table(void) {
+    static uint8_t table[MAZE_TABLE_BYTES];
+    int good = 1;
+    for (unsigned at = 0; at < sizeof table; at++) table[at] = (uint8_t)(at + 1);
+    good &= MAZE_DIMENSION(table) == 1;
+    for (unsigned node = 0; node < 256; node++)
+        for (unsigned slot = 0; slot < 8; slot++) {
+            unsigned link = 1 + 256 + 2 * (8 * node + slot), receive = link + 4096, circuit = 8 * node + slot + 1;
+            good &= MAZE_LINK_ENABLED(table, node, slot) == (table[1 + node] >> slot & 1);
+            good &= MAZE_LINK_CIRCUIT(table, node, slot) == table[link] + 256u * table[link + 1];
+            good &= MAZE_RECEIVE_CIRCUIT(table, node, slot) == table[receive] + 256u * table[receive + 1];
+            good &= MAZE_CIRCUIT(node, slot) == circuit && MAZE_CIRCUIT_NODE(circuit) == node && MAZE_CIRCUIT_CHANNEL(circuit) == slot;
+        }
+    return good;
+}
+
 int main(void) {
     maze_word_read_answer (*read)(uint16_t) = maze_word_read;
     maze_word_written (*write)(uint16_t, uint16_t) = maze_word_write;
@@ -53,6 +111,8 @@ int main(void) {
     maze_word_read_answer back = read(written.word);
     if (written.number == MAZE_ACCEPTED && back.command == MAZE_END_OF_TRANSMISSION && back.carried == MAZE_STATUS_END_TO_END) passed++;
     else failed++, printf("header: the names do not read back\n");
+    if (reads_table()) passed++;
+    else failed++, printf("header: the macros read another layout\n");
     printf("%u passed, %u failed\n", passed, failed);
     return failed != 0;
 }

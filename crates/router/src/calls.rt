@@ -51,6 +51,7 @@ pub fn unblock(t: &mut [u8], node: Node, port: Port) -> u16
 }
 
 // What an open answers: 0 with the hops of its path and the receive channel taken, or the refusal; and the scouts sent.
+#[repr(C)]
 pub struct Opened {
     pub number: u16,
     pub hops: u16,
@@ -101,6 +102,7 @@ pub fn close(t: &mut [u8], source: Node, channel: u16) -> u16
 }
 
 // What a trace answers: 0 with the hops of the path, or the refusal.
+#[repr(C)]
 pub struct Traced {
     pub number: u16,
     pub hops: u16,

@@ -96,7 +96,7 @@ pub fn first_hop(t: &[u8], c: Circuit, s: Node, vector: u16) -> Port
     }
 }
 
-// Whether a circuit is open: whether it holds a link at its source that its path starts with. No other node is looked at.
+// Whether a circuit is open: whether its path has a first hop. Only the links at its source and the ways back over them are looked at.
 pub fn is_open(t: &[u8], c: Circuit) -> bool
     requires { ⌜ HasSource (now t) (c .0) ⌝ }
     ensures { λ r. ⌜ r ≡ not (isEmpty (pathOf (view (now (t .entry))) (c .0))) ⌝ }

@@ -1,0 +1,334 @@
+/* A plain C version of the calls, written for speed and without proofs: what the library's speed is measured against.
+ *
+ * Two facts about permitted paths carry it. A port that is uphill stops being so once it is walked, so behind the first hop each port is
+ * walked at most once; a path is permitted exactly if that is true of it. And a path comes through its source again only by walking its first
+ * port back at once. So the links that a circuit holds give its path: out of its source by the port whose link back is held too, if there is
+ * one, and from then on by the one uphill port held. */
+#include "baseline.h"
+
+#include <string.h>
+
+enum { ROW_BYTES = 2 * MAZE_PORTS };
+
+static inline unsigned entry(const uint8_t *row, unsigned slot) {
+    return row[2 * slot] | (unsigned)row[2 * slot + 1] << 8;
+}
+
+static inline void set_entry(uint8_t *row, unsigned slot, unsigned circuit) {
+    row[2 * slot] = (uint8_t)circuit;
+    row[2 * slot + 1] = (uint8_t)(circuit >> 8);
+}
+
+static inline const uint8_t *links(const uint8_t *table, unsigned node) {
+    return table + MAZE_LINKS_AT + ROW_BYTES * node;
+}
+
+static inline const uint8_t *receives(const uint8_t *table, unsigned node) {
+    return table + MAZE_RECEIVES_AT + ROW_BYTES * node;
+}
+
+static inline unsigned lowest(unsigned bits) {
+    return (unsigned)__builtin_ctz(bits);
+}
+
+static inline uint64_t word(const uint8_t *bytes) {
+    uint64_t word;
+    memcpy(&word, bytes, sizeof word);
+    return word;
+}
+
+/* Whether four rows are zero; no early exit, so that it is one chain of `or`s. */
+static inline int zero_group(const uint8_t *rows) {
+    uint64_t any = word(rows) | word(rows + 8) | word(rows + 16) | word(rows + 24);
+    return (any | word(rows + 32) | word(rows + 40) | word(rows + 48) | word(rows + 56)) == 0;
+}
+
+/* Half a row: four entries in one number. */
+static inline uint64_t four_entries(const uint8_t *bytes) {
+    uint64_t low = bytes[0] | (uint64_t)bytes[1] << 8 | (uint64_t)bytes[2] << 16 | (uint64_t)bytes[3] << 24;
+    return low | (uint64_t)bytes[4] << 32 | (uint64_t)bytes[5] << 40 | (uint64_t)bytes[6] << 48 | (uint64_t)bytes[7] << 56;
+}
+
+/* Which of four entries are zero, as a mask of four bits: adding reaches the highest bit of each that is not, and the product brings the four
+ * highest bits together. */
+static inline unsigned zeros(uint64_t four) {
+    const uint64_t low = 0x7fff7fff7fff7fffu;
+    uint64_t highest = ~(((four & low) + low) | four | low);
+    return (unsigned)((highest >> 15) * 0x0001000200040008u >> 48) & 15;
+}
+
+/* The slots of a row that have this entry, as a mask. */
+static inline unsigned held_by(const uint8_t *row, unsigned circuit) {
+    uint64_t same = circuit * (uint64_t)0x0001000100010001u;
+    return zeros(four_entries(row) ^ same) | zeros(four_entries(row + 8) ^ same) << 4;
+}
+
+/* The slots of a row that have an entry, as a mask. */
+static inline unsigned held(const uint8_t *row) {
+    return held_by(row, 0) ^ 255;
+}
+
+/* The first hop of a circuit that holds the links `ports` of its source, at least one. */
+static inline unsigned first_hop(const uint8_t *table, unsigned source, unsigned circuit, unsigned ports) {
+    unsigned port = lowest(ports);
+    ports &= ports - 1;
+    if (ports && entry(links(table, source ^ 1u << port), port) != circuit) port = lowest(ports);
+    return port;
+}
+
+/* The number of hops by which a circuit comes from its source to the target, along links that it holds; 0 if it does not. */
+static unsigned walk(const uint8_t *table, unsigned circuit, unsigned target) {
+    unsigned node = (circuit - 1) / 8, hops = 1, port;
+    unsigned ports = held_by(links(table, node), circuit);
+    if (!ports) return 0;
+    port = first_hop(table, node, circuit, ports);
+    for (node ^= 1u << port; node != target; node ^= 1u << port, hops++) {
+        const uint8_t *row = links(table, node);
+        unsigned uphill = node ^ target;
+        while (port = lowest(uphill), entry(row, port) != circuit)
+            if (!(uphill &= uphill - 1)) return 0;
+    }
+    return hops;
+}
+
+/* No circuit is received twice, and from each receive entry's source a permitted path along links of its circuit ends there. Such paths have no
+ * link in common and none twice, so no other link is held exactly if as many are held as were walked. */
+static int sound(const uint8_t *table, unsigned dimension) {
+    enum { GROUP = 4 }; /* rows looked at together */
+    unsigned nodes = 1u << dimension, ports = nodes - 1, held_links = 0, walked = 0;
+    uint64_t seen[8 * MAZE_NODES / 64 + 1];
+    int any_seen = 0;
+    if (dimension < MAZE_DIMENSION_LARGEST) {
+        uint8_t absent[8];
+        uint64_t some = 0;
+        for (unsigned node = 0; node < 8; node++) absent[node] = (uint8_t)(node < nodes ? ~ports : 255);
+        for (unsigned node = 0; node < nodes; node += 8) some |= word(table + MAZE_ENABLED_AT + node) & word(absent);
+        for (unsigned node = nodes < 8 ? 8 : nodes; node < MAZE_NODES; node += 8) some |= word(table + MAZE_ENABLED_AT + node);
+        if (some) return 0;
+    }
+    for (unsigned node = nodes; node < GROUP; node++) /* fewer nodes than a group has: the rest of it */
+        if (held(links(table, node)) | held(receives(table, node))) return 0;
+    for (unsigned group = nodes < GROUP ? GROUP : nodes; group < MAZE_NODES; group += GROUP)
+        if (!zero_group(links(table, group)) || !zero_group(receives(table, group))) return 0;
+
+    for (unsigned group = 0; group < nodes; group += GROUP) {
+        if (zero_group(links(table, group))) continue; /* a group may end in absent nodes: these are zero */
+        for (unsigned node = group; node < group + GROUP; node++) {
+            unsigned mask = held(links(table, node));
+            if (mask & ~(unsigned)table[MAZE_ENABLED_AT + node]) return 0; /* absent ports are not enabled */
+            held_links += (unsigned)__builtin_popcount(mask);
+        }
+    }
+    for (unsigned group = 0; group < nodes; group += GROUP) {
+        if (zero_group(receives(table, group))) continue;
+        for (unsigned node = group; node < group + GROUP; node++) {
+            const uint8_t *row = receives(table, node);
+            for (unsigned mask = held(row); mask; mask &= mask - 1) {
+                unsigned circuit = entry(row, lowest(mask)), hops;
+                if (circuit > 8 * nodes) return 0;
+                if (!any_seen) memset(seen, 0, sizeof seen), any_seen = 1;
+                if (seen[circuit / 64] >> circuit % 64 & 1) return 0; /* a second receive channel */
+                seen[circuit / 64] |= (uint64_t)1 << circuit % 64;
+                hops = walk(table, circuit, node);
+                if (!hops) return 0;
+                walked += hops;
+            }
+        }
+    }
+    return walked == held_links;
+}
+
+/* Tests 1 to 3. */
+static uint16_t refuse_table(const uint8_t *table, size_t table_len) {
+    if (table_len != MAZE_TABLE_BYTES) return MAZE_BAD_LENGTH;
+    if (table[0] < 1 || table[0] > MAZE_DIMENSION_LARGEST) return MAZE_BAD_DIMENSION;
+    if (!sound(table, table[0])) return MAZE_NOT_SOUND;
+    return MAZE_ACCEPTED;
+}
+
+uint16_t base_make(uint8_t *table, size_t table_len, uint16_t dimension) {
+    if (table_len != MAZE_TABLE_BYTES) return MAZE_BAD_LENGTH;
+    if (dimension < 1 || dimension > MAZE_DIMENSION_LARGEST) return MAZE_BAD_DIMENSION;
+    table[0] = (uint8_t)dimension;
+    memset(table + MAZE_ENABLED_AT, (1 << dimension) - 1, (size_t)1 << dimension);
+    memset(table + MAZE_ENABLED_AT + (1u << dimension), 0, MAZE_TABLE_BYTES - MAZE_ENABLED_AT - ((size_t)1 << dimension));
+    return MAZE_ACCEPTED;
+}
+
+/* Tests 1 to 6 of a call on one link. */
+static uint16_t refuse_link(const uint8_t *table, size_t table_len, unsigned node, unsigned port) {
+    uint16_t number = refuse_table(table, table_len);
+    if (number) return number;
+    if (node >> table[0]) return MAZE_BAD_NODE;
+    if (port >= table[0]) return MAZE_BAD_PORT;
+    return MAZE_ACCEPTED;
+}
+
+uint16_t base_block(uint8_t *table, size_t table_len, uint16_t node, uint16_t port) {
+    uint16_t number = refuse_link(table, table_len, node, port);
+    if (number) return number;
+    if (entry(links(table, node), port)) return MAZE_LINK_HELD;
+    table[MAZE_ENABLED_AT + node] &= (uint8_t)~(1u << port);
+    return MAZE_ACCEPTED;
+}
+
+uint16_t base_unblock(uint8_t *table, size_t table_len, uint16_t node, uint16_t port) {
+    uint16_t number = refuse_link(table, table_len, node, port);
+    if (number) return number;
+    table[MAZE_ENABLED_AT + node] |= (uint8_t)(1u << port);
+    return MAZE_ACCEPTED;
+}
+
+struct search {
+    uint8_t *table;
+    unsigned target, circuit, hops;
+    uint32_t scouts;
+    uint16_t found; /* what the arrival at the target answers: 0, or 11 */
+};
+
+/* Tries the ports of `vector`, enabled ones, of a node that a scout reached on port `arrival`: those above it first, then the others. Each
+ * free link is held while the scout is behind it, and stays so if the search is accepted. */
+static uint16_t try_ports(struct search *search, unsigned node, unsigned vector, unsigned arrival) {
+    uint8_t *row = search->table + MAZE_LINKS_AT + ROW_BYTES * node;
+    unsigned later = vector & ((2u << arrival) - 1), now = vector ^ later;
+    for (;; now = later, later = 0) {
+        for (; now; now &= now - 1) {
+            unsigned port = lowest(now), next = node ^ 1u << port;
+            uint16_t number;
+            if (entry(row, port)) continue;
+            search->scouts++;
+            set_entry(row, port, search->circuit);
+            if (next == search->target) number = search->found;
+            else number = try_ports(search, next, (next ^ search->target) & search->table[MAZE_ENABLED_AT + next], port);
+            if (number == MAZE_ACCEPTED) {
+                search->hops++;
+                return number;
+            }
+            set_entry(row, port, 0);
+            if (number == MAZE_RECEIVE_REJECTED) return number;
+        }
+        if (!later) return MAZE_ROUTE_REJECTED;
+    }
+}
+
+maze_opened base_open(uint8_t *table, size_t table_len, uint16_t node, uint16_t channel, uint16_t target, uint16_t type, uint16_t vector) {
+    maze_opened answer = {0, 0, 0, 0};
+    struct search search;
+    uint8_t *receive_row;
+    unsigned ports, taken;
+
+    answer.number = refuse_table(table, table_len);
+    if (answer.number) return answer;
+    ports = (1u << table[0]) - 1;
+    if ((node | target) & ~ports) answer.number = MAZE_BAD_NODE;
+    else if (channel >= MAZE_CHANNELS) answer.number = MAZE_BAD_CHANNEL;
+    else if (type != MAZE_TYPE_MAZE && type != MAZE_TYPE_ALTERNATE_MAZE) answer.number = MAZE_BAD_ROUTING_TYPE;
+    else if (vector == 0 || vector & ~ports) answer.number = MAZE_BAD_SEND_VECTOR;
+    else if (held_by(links(table, node), MAZE_CIRCUIT(node, channel))) answer.number = MAZE_CHANNEL_IN_USE;
+    if (answer.number) return answer;
+
+    receive_row = table + MAZE_RECEIVES_AT + ROW_BYTES * target;
+    taken = held(receive_row);
+    search.table = table;
+    search.target = target;
+    search.circuit = MAZE_CIRCUIT(node, channel);
+    search.hops = 0;
+    search.scouts = 0;
+    search.found = taken == 255 ? MAZE_RECEIVE_REJECTED : MAZE_ACCEPTED;
+    answer.number = try_ports(&search, node, vector & table[MAZE_ENABLED_AT + node], 7);
+    if (answer.number && type == MAZE_TYPE_ALTERNATE_MAZE)
+        answer.number = try_ports(&search, node, ports & ~(unsigned)vector & table[MAZE_ENABLED_AT + node], 7);
+    answer.scouts = search.scouts;
+    if (answer.number == MAZE_ACCEPTED) {
+        answer.hops = (uint16_t)search.hops;
+        answer.receive = (uint16_t)lowest(~taken);
+        set_entry(receive_row, answer.receive, search.circuit);
+    }
+    return answer;
+}
+
+/* The hops of a circuit of a sound table: their nodes and ports, and the node where they end. Answers their number, 0 if the circuit is not
+ * open. */
+struct path {
+    uint8_t node[MAZE_HOPS_LARGEST + 1];
+    uint8_t port[MAZE_HOPS_LARGEST];
+};
+
+static unsigned follow(const uint8_t *table, unsigned source, unsigned circuit, struct path *path) {
+    unsigned node = source, hops = 0, ports = held_by(links(table, source), circuit), first;
+    if (!ports) return 0;
+    first = first_hop(table, source, circuit, ports);
+    ports = 1u << first;
+    do {
+        unsigned port = lowest(ports);
+        path->node[hops] = (uint8_t)node;
+        path->port[hops++] = (uint8_t)port;
+        node ^= 1u << port;
+        ports = held_by(links(table, node), circuit);
+        if (node == source) ports &= ~(1u << first);
+    } while (ports);
+    path->node[hops] = (uint8_t)node;
+    return hops;
+}
+
+/* Tests 1 to 12 of a call on an open circuit, and its path. */
+static uint16_t refuse_circuit(const uint8_t *table, size_t table_len, unsigned node, unsigned channel, struct path *path, unsigned *hops) {
+    uint16_t number = refuse_table(table, table_len);
+    if (number) return number;
+    if (node >> table[0]) return MAZE_BAD_NODE;
+    if (channel >= MAZE_CHANNELS) return MAZE_BAD_CHANNEL;
+    *hops = follow(table, node, MAZE_CIRCUIT(node, channel), path);
+    if (!*hops) return MAZE_NO_CIRCUIT;
+    return MAZE_ACCEPTED;
+}
+
+uint16_t base_close(uint8_t *table, size_t table_len, uint16_t node, uint16_t channel) {
+    struct path path;
+    unsigned hops, target;
+    uint16_t number = refuse_circuit(table, table_len, node, channel, &path, &hops);
+    if (number) return number;
+    for (unsigned i = 0; i < hops; i++) set_entry(table + MAZE_LINKS_AT + ROW_BYTES * path.node[i], path.port[i], 0);
+    target = path.node[hops];
+    set_entry(table + MAZE_RECEIVES_AT + ROW_BYTES * target, lowest(held_by(receives(table, target), MAZE_CIRCUIT(node, channel))), 0);
+    return MAZE_ACCEPTED;
+}
+
+maze_traced base_trace(const uint8_t *table, size_t table_len, uint16_t node, uint16_t channel, uint8_t *buffer, size_t buffer_len) {
+    maze_traced answer = {0, 0};
+    struct path path;
+    unsigned hops;
+    answer.number = refuse_circuit(table, table_len, node, channel, &path, &hops);
+    if (answer.number) return answer;
+    if (buffer_len < MAZE_TRACE_BYTES) {
+        answer.number = MAZE_BUFFER_SHORT;
+        return answer;
+    }
+    memcpy(buffer, path.port, hops);
+    answer.hops = (uint16_t)hops;
+    return answer;
+}
+
+/* How many numbers each command can carry; 0 where it is reserved. */
+static const uint8_t carries[16] = {1, 1, 1, 0, 2, 1, 64, 64, 1, 2, 0, 0, 1, 1, 2, 0};
+
+maze_word_read_answer base_word_read(uint16_t word) {
+    maze_word_read_answer answer = {0, 0, 0};
+    unsigned type = word / MAZE_WORD_TYPE_PLACE, command = word / MAZE_WORD_COMMAND_PLACE % 16;
+    if (word > MAZE_WORD_LARGEST) answer.number = MAZE_WORD_TOO_LARGE;
+    else if (type < 2) answer.number = MAZE_NOT_A_COMMAND;
+    else if (type != 2 + command / 8) answer.number = MAZE_WRONG_TYPE;
+    else if (!carries[command]) answer.number = MAZE_RESERVED_COMMAND;
+    else {
+        answer.command = (uint16_t)command;
+        answer.carried = (uint16_t)(word & (carries[command] - 1u) & 63); /* the counts are powers of two */
+    }
+    return answer;
+}
+
+maze_word_written base_word_write(uint16_t command, uint16_t carried) {
+    maze_word_written answer = {0, 0};
+    if (command > 15 || !carries[command]) answer.number = MAZE_RESERVED_COMMAND;
+    else if (carried >= carries[command]) answer.number = MAZE_CARRIED_TOO_LARGE;
+    else answer.word = (uint16_t)((2 + command / 8) * MAZE_WORD_TYPE_PLACE + command * MAZE_WORD_COMMAND_PLACE + carried);
+    return answer;
+}

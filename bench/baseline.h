@@ -1,0 +1,17 @@
+/* A plain C version of the calls, on the same table: what the library's speed is measured against. Signatures and answers are those of
+ * maze.h. */
+#ifndef BASELINE_H
+#define BASELINE_H
+
+#include <maze.h>
+
+uint16_t base_make(uint8_t *table, size_t table_len, uint16_t dimension);
+uint16_t base_block(uint8_t *table, size_t table_len, uint16_t node, uint16_t port);
+uint16_t base_unblock(uint8_t *table, size_t table_len, uint16_t node, uint16_t port);
+maze_opened base_open(uint8_t *table, size_t table_len, uint16_t node, uint16_t channel, uint16_t target, uint16_t type, uint16_t vector);
+uint16_t base_close(uint8_t *table, size_t table_len, uint16_t node, uint16_t channel);
+maze_traced base_trace(const uint8_t *table, size_t table_len, uint16_t node, uint16_t channel, uint8_t *buffer, size_t buffer_len);
+maze_word_read_answer base_word_read(uint16_t word);
+maze_word_written base_word_write(uint16_t command, uint16_t carried);
+
+#endif

@@ -1,0 +1,211 @@
+/* The library's speed beside the plain C version of the same calls, in one run on the same tables:
+ *
+ *     bench [rounds]
+ *
+ * Each line gives the time of one turn, in nanoseconds, for the plain C version and for the library, and the second divided by the first. A turn
+ * leaves the table as it found it. Rounds of both are taken by turns, and the best round of each counts (15 without an argument). */
+#define _POSIX_C_SOURCE 199309L
+#include "baseline.h"
+#include "../tests/subject.h"
+
+#include <stdio.h>
+#include <stdlib.h>
+#include <string.h>
+#include <time.h>
+
+struct calls {
+    uint16_t (*make)(uint8_t *, size_t, uint16_t);
+    uint16_t (*block)(uint8_t *, size_t, uint16_t, uint16_t);
+    uint16_t (*unblock)(uint8_t *, size_t, uint16_t, uint16_t);
+    maze_opened (*open)(uint8_t *, size_t, uint16_t, uint16_t, uint16_t, uint16_t, uint16_t);
+    uint16_t (*close)(uint8_t *, size_t, uint16_t, uint16_t);
+    maze_traced (*trace)(const uint8_t *, size_t, uint16_t, uint16_t, uint8_t *, size_t);
+    maze_word_read_answer (*word_read)(uint16_t);
+    maze_word_written (*word_write)(uint16_t, uint16_t);
+};
+
+static const struct calls plain = {base_make, base_block, base_unblock, base_open, base_close, base_trace, base_word_read, base_word_write};
+static const struct calls library = {maze_make, maze_block, maze_unblock, maze_open, maze_close, maze_trace, maze_word_read, maze_word_write};
+
+enum { BYTES = MAZE_TABLE_BYTES };
+
+static uint8_t table[BYTES], buffer[MAZE_TRACE_BYTES];
+
+/* ---- the tables ---- */
+
+static void empty(unsigned dimension) {
+    base_make(table, BYTES, (uint16_t)dimension);
+}
+
+static void empty_3(void) { empty(3); }
+static void empty_8(void) { empty(8); }
+
+/* The eight links into node 254 blocked. */
+static void walled(void) {
+    empty(8);
+    for (unsigned port = 0; port < 8; port++) base_block(table, BYTES, (uint16_t)(254 ^ 1u << port), (uint16_t)port);
+}
+
+static void nine_hops(void) {
+    empty(8);
+    base_open(table, BYTES, 0, 0, 254, 0, 1);
+}
+
+/* Every link held by a circuit of its own, but the one from node 0 to node 1. */
+static void full_of_short(void) {
+    empty(8);
+    for (unsigned node = 0; node < MAZE_NODES; node++)
+        for (unsigned port = 0; port < MAZE_PORTS; port++)
+            if (node != 0 || port != 0) base_open(table, BYTES, (uint16_t)node, (uint16_t)port, (uint16_t)(node ^ 1u << port), 0, (uint16_t)(1u << port));
+}
+
+/* Circuits of all lengths first, until none finds a path, and then every free link by a circuit of its own, but for the link from node 0 to
+ * node 1. */
+static void full_of_long(void) {
+    unsigned x = 1;
+    empty(8);
+    base_open(table, BYTES, 0, 0, 1, 0, 1);
+    for (unsigned i = 0; i < 4000; i++) {
+        unsigned node = (x = x * 1664525u + 1013904223u) >> 24, target = (x = x * 1664525u + 1013904223u) >> 24;
+        base_open(table, BYTES, (uint16_t)node, (uint16_t)(1 + i % 7), (uint16_t)target, 0, 255);
+    }
+    for (unsigned node = 0; node < MAZE_NODES; node++)
+        for (unsigned port = 0; port < MAZE_PORTS; port++)
+            for (unsigned channel = 0; channel < MAZE_CHANNELS && MAZE_LINK_CIRCUIT(table, node, port) == 0; channel++)
+                base_open(table, BYTES, (uint16_t)node, (uint16_t)channel, (uint16_t)(node ^ 1u << port), 0, (uint16_t)(1u << port));
+    base_close(table, BYTES, 0, 0);
+}
+
+/* ---- one turn of each line: answers a sum that both versions must agree on ---- */
+
+static unsigned long turn_make(const struct calls *c) {
+    return c->make(table, BYTES, 8);
+}
+
+static unsigned long turn_open_1(const struct calls *c) {
+    maze_opened opened = c->open(table, BYTES, 0, 0, 1, 0, 1);
+    return opened.number + 100ul * opened.scouts + c->close(table, BYTES, 0, 0);
+}
+
+static unsigned long turn_open_3(const struct calls *c) {
+    maze_opened opened = c->open(table, BYTES, 0, 0, 7, 0, 7);
+    return opened.number + 100ul * opened.scouts + c->close(table, BYTES, 0, 0);
+}
+
+static unsigned long turn_open_8(const struct calls *c) {
+    maze_opened opened = c->open(table, BYTES, 0, 0, 255, 0, 255);
+    return opened.number + 100ul * opened.scouts + c->close(table, BYTES, 0, 0);
+}
+
+static unsigned long turn_open_most(const struct calls *c) {
+    maze_opened opened = c->open(table, BYTES, 0, 0, 254, 0, 255);
+    return opened.number + 100ul * opened.scouts;
+}
+
+static unsigned long turn_open_rejected(const struct calls *c) {
+    maze_opened opened = c->open(table, BYTES, 0, 0, 255, 0, 255);
+    return opened.number + 100ul * opened.scouts;
+}
+
+static unsigned long turn_block(const struct calls *c) {
+    unsigned long number = c->block(table, BYTES, 200, 5);
+    return number + c->unblock(table, BYTES, 200, 5);
+}
+
+static unsigned long turn_block_last_free(const struct calls *c) {
+    unsigned long number = c->block(table, BYTES, 0, 0);
+    return number + c->unblock(table, BYTES, 0, 0);
+}
+
+static unsigned long turn_trace(const struct calls *c) {
+    maze_traced traced = c->trace(table, BYTES, 0, 0, buffer, sizeof buffer);
+    return traced.number + 100ul * traced.hops + buffer[0];
+}
+
+static unsigned long turn_trace_5(const struct calls *c) {
+    maze_traced traced = c->trace(table, BYTES, 255, 5, buffer, sizeof buffer);
+    return traced.number + 100ul * traced.hops + buffer[0];
+}
+
+static unsigned long turn_words_read(const struct calls *c) {
+    unsigned long sum = 0;
+    for (unsigned word = 0; word < 4096; word++) {
+        maze_word_read_answer read = c->word_read((uint16_t)word);
+        sum += read.number + read.command + (unsigned long)read.carried;
+    }
+    return sum;
+}
+
+static unsigned long turn_words_write(const struct calls *c) {
+    unsigned long sum = 0;
+    for (unsigned command = 0; command < 16; command++)
+        for (unsigned carried = 0; carried < 64; carried++) {
+            maze_word_written written = c->word_write((uint16_t)command, (uint16_t)carried);
+            sum += written.number + (unsigned long)written.word;
+        }
+    return sum;
+}
+
+static const struct {
+    const char *what;
+    void (*prepare)(void);
+    unsigned long (*turn)(const struct calls *);
+    unsigned turns;   /* of a round */
+    unsigned divisor; /* calls of a turn that the time is given for; 1 for the whole turn */
+} lines[] = {
+    {"make, dimension 8", empty_8, turn_make, 10000, 1},
+    {"open and close, 3 hops, dimension 3", empty_3, turn_open_3, 5000, 1},
+    {"open and close, 1 hop, dimension 8", empty_8, turn_open_1, 5000, 1},
+    {"open and close, 8 hops", empty_8, turn_open_8, 5000, 1},
+    {"open, 77,940 scouts, rejected", walled, turn_open_most, 10, 1},
+    {"block and unblock", empty_8, turn_block, 5000, 1},
+    {"trace of 9 hops", nine_hops, turn_trace, 5000, 1},
+    {"2,047 circuits of 1 hop: open and close", full_of_short, turn_open_1, 300, 1},
+    {"  open, rejected", full_of_short, turn_open_rejected, 300, 1},
+    {"  block and unblock", full_of_short, turn_block_last_free, 300, 1},
+    {"  trace", full_of_short, turn_trace_5, 300, 1},
+    {"circuits of all lengths, 2,047 links: open and close", full_of_long, turn_open_1, 300, 1},
+    {"  open, rejected", full_of_long, turn_open_rejected, 300, 1},
+    {"  block and unblock", full_of_long, turn_block_last_free, 300, 1},
+    {"  trace", full_of_long, turn_trace_5, 300, 1},
+    {"reading a word, of 4,096", empty_8, turn_words_read, 50, 4096},
+    {"writing a word, of 1,024", empty_8, turn_words_write, 200, 1024},
+};
+
+/* ---- time ---- */
+
+static double now(void) {
+    struct timespec time;
+    clock_gettime(CLOCK_MONOTONIC, &time);
+    return 1e9 * (double)time.tv_sec + (double)time.tv_nsec;
+}
+
+int main(int count, char **arguments) {
+    unsigned long rounds = count > 1 ? strtoul(arguments[1], NULL, 10) : 15;
+    int differs = 0;
+    printf("%-54s %12s %12s %7s\n", "nanoseconds", "plain C", "library", "ratio");
+    for (size_t i = 0; i < sizeof lines / sizeof *lines; i++) {
+        double best[2] = {0, 0};
+        unsigned long sum[2] = {0, 0};
+        static uint8_t before[BYTES];
+        lines[i].prepare();
+        memcpy(before, table, BYTES);
+        for (unsigned long round = 0; round < rounds; round++)
+            for (int version = 0; version < 2; version++) {
+                const struct calls *calls = version == 0 ? &plain : &library;
+                double start = now(), time;
+                sum[version] = 0;
+                for (unsigned turn = 0; turn < lines[i].turns; turn++) sum[version] += lines[i].turn(calls);
+                time = (now() - start) / lines[i].turns / lines[i].divisor;
+                if (round == 0 || time < best[version]) best[version] = time;
+                if (memcmp(before, table, BYTES) != 0) differs = 1;
+            }
+        if (sum[0] != sum[1]) differs = 1;
+        printf("%-54s %12.1f %12.1f %7.2f\n", lines[i].what, best[0], best[1], best[1] / best[0]);
+        if (differs) {
+            printf("bench: the two versions differ\n");
+            return 1;
+        }
+    }
+    return 0;
+}

@@ -1,0 +1,512 @@
+/* The six calls from C, beside vectors worked by hand from document 01: its examples with the bytes of their tables, each refusal at its edge,
+ * and that a refused call alters nothing.
+ *
+ * A byte of a table is given by its place: the link out of port p of node n is held at 257 + 16 n + 2 p, receive channel c of node n at
+ * 4353 + 16 n + 2 c, and the enabled links of node n are at 1 + n. */
+#include "subject.h"
+
+#include <stddef.h>
+#include <stdio.h>
+#include <string.h>
+
+_Static_assert(sizeof(maze_opened) == 12 && offsetof(maze_opened, number) == 0 && offsetof(maze_opened, hops) == 2 &&
+                   offsetof(maze_opened, receive) == 4 && offsetof(maze_opened, scouts) == 8,
+               "an open answers three 16-bit numbers and a 32-bit number");
+_Static_assert(sizeof(((maze_opened *)0)->scouts) == 4, "scouts have 32 bits");
+_Static_assert(sizeof(maze_traced) == 4 && offsetof(maze_traced, number) == 0 && offsetof(maze_traced, hops) == 2, "a trace answers two 16-bit numbers");
+
+enum { BYTES = 8449, SPARE = 64, BUFFER = 16, MOST = 24 };
+
+static unsigned passed, failed;
+
+static void expect(int ok, const char *what, unsigned long a, unsigned long b) {
+    if (ok) {
+        passed++;
+        return;
+    }
+    if (failed++ < 40) printf("calls: %s %lu %lu\n", what, a, b);
+}
+
+/* The table and the buffer lent, and what they were before a call. Both go on behind what is lent. */
+static uint8_t table[BYTES + SPARE], kept_table[BYTES + SPARE], buffer[BUFFER], kept_buffer[BUFFER];
+
+static void keep(void) {
+    memcpy(kept_table, table, sizeof table);
+    memcpy(kept_buffer, buffer, sizeof buffer);
+}
+
+static int unaltered(void) {
+    return memcmp(kept_table, table, sizeof table) == 0 && memcmp(kept_buffer, buffer, sizeof buffer) == 0;
+}
+
+static void fresh(unsigned dimension) {
+    for (size_t i = 0; i < sizeof table; i++) table[i] = (uint8_t)(i % 251 + 1);
+    for (size_t i = 0; i < sizeof buffer; i++) buffer[i] = (uint8_t)(0xc0 + i);
+    expect(maze_make(table, BYTES, (uint16_t)dimension) == 0, "make", dimension, 0);
+}
+
+struct place {
+    unsigned at, value;
+};
+
+/* The table is a made one but for some places; the bytes behind it are as fresh() left them. */
+static void expect_table(const char *what, unsigned dimension, const struct place *places) {
+    static uint8_t want[BYTES + SPARE];
+    size_t at = 0;
+    memset(want, 0, BYTES);
+    want[0] = (uint8_t)dimension;
+    for (unsigned node = 0; node < 1u << dimension; node++) want[1 + node] = (uint8_t)((1u << dimension) - 1);
+    for (size_t i = BYTES; i < sizeof want; i++) want[i] = (uint8_t)(i % 251 + 1);
+    for (; places && places->at; places++) want[places->at] = (uint8_t)places->value;
+    while (at < sizeof want && want[at] == table[at]) at++;
+    expect(at == sizeof want, what, at, at < sizeof want ? table[at] : 0);
+}
+
+/* The ports of a circuit, as digits; what the buffer had behind them is still there. */
+static void expect_trace(const char *what, unsigned node, unsigned channel, const char *ports) {
+    maze_traced got;
+    int good;
+    for (size_t i = 0; i < sizeof buffer; i++) buffer[i] = (uint8_t)(0xc0 + i);
+    keep();
+    got = maze_trace(table, BYTES, (uint16_t)node, (uint16_t)channel, buffer, BUFFER);
+    good = got.number == 0 && got.hops == strlen(ports);
+    for (size_t i = 0; i < sizeof buffer; i++) good &= buffer[i] == (i < strlen(ports) ? ports[i] - '0' : (int)(0xc0 + i));
+    expect(good && memcmp(kept_table, table, sizeof table) == 0, what, got.number, got.hops);
+}
+
+/* ---- opens ---- */
+
+struct send {
+    const char *what;
+    unsigned dimension;
+    struct { unsigned node, port; } blocked[MOST]; /* up to an entry with port 99 */
+    uint16_t node, channel, target, type, vector;
+    unsigned number, receive;
+    unsigned long scouts;
+    const char *ports;
+    struct place places[MOST]; /* up to a place 0 */
+};
+
+#define NONE {{0, 99}}
+
+static const struct send sends[] = {
+    {"example 1", 3, NONE, 0, 0, 7, 0, 7, 0, 0, 3, "012", {{257, 1}, {275, 1}, {309, 1}, {4465, 1}}},
+    {"example 2", 3, {{1, 2}, {3, 2}, {0, 99}}, 0, 0, 7, 0, 7, 0, 0, 5, "120", {{2, 3}, {4, 3}, {259, 1}, {293, 1}, {353, 1}, {4465, 1}}},
+    {"example 3", 1, NONE, 0, 0, 0, 0, 1, 0, 0, 2, "00", {{257, 1}, {273, 1}, {4353, 1}}},
+    {"example 4", 2, NONE, 0, 0, 1, 0, 2, 0, 0, 3, "101", {{259, 1}, {289, 1}, {307, 1}, {4369, 1}}},
+    {"example 5", 2, {{2, 0}, {0, 99}}, 0, 0, 1, 0, 2, 0, 0, 3, "110", {{3, 2}, {257, 1}, {259, 1}, {291, 1}, {4369, 1}}},
+    {"example 6, type 0", 2, {{0, 0}, {0, 99}}, 0, 0, 1, 0, 1, 10, 0, 0, "", {{1, 2}}},
+    {"example 6, type 4", 2, {{0, 0}, {0, 99}}, 0, 0, 1, 4, 1, 0, 0, 3, "101", {{1, 2}, {259, 1}, {289, 1}, {307, 1}, {4369, 1}}},
+    /* Circuit 1604 is 6 * 256 + 68, circuit 2048 is 8 * 256. */
+    {"a circuit above 255", 8, NONE, 200, 3, 201, 0, 1, 0, 0, 1, "0", {{3457, 68}, {3458, 6}, {7569, 68}, {7570, 6}}},
+    {"the last circuit", 8, NONE, 255, 7, 127, 0, 128, 0, 0, 1, "7", {{4352, 8}, {6386, 8}}},
+    {"eight hops", 8, NONE, 0, 0, 255, 0, 255, 0, 0, 8, "01234567",
+     {{257, 1}, {275, 1}, {309, 1}, {375, 1}, {505, 1}, {763, 1}, {1277, 1}, {2303, 1}, {8433, 1}}},
+    {"nine hops", 8, NONE, 0, 0, 254, 0, 1, 0, 0, 9, "012345670",
+     {{257, 1}, {275, 1}, {309, 1}, {375, 1}, {505, 1}, {763, 1}, {1277, 1}, {2303, 1}, {4337, 1}, {8417, 1}}},
+    {"first hop away", 3, NONE, 0, 0, 3, 0, 4, 0, 0, 4, "2012", {{261, 1}, {321, 1}, {339, 1}, {373, 1}, {4401, 1}}},
+    {"out and back", 3, NONE, 5, 0, 5, 0, 6, 0, 0, 2, "11", {{339, 41}, {371, 41}, {4433, 41}}},
+    {"one pass rejected", 2, {{1, 1}, {0, 99}}, 0, 0, 3, 0, 1, 10, 0, 1, "", {{2, 1}}},
+    {"a second pass accepted", 2, {{1, 1}, {0, 99}}, 0, 0, 3, 4, 1, 0, 0, 3, "10", {{2, 1}, {259, 1}, {289, 1}, {4401, 1}}},
+    {"both passes rejected", 2, {{1, 1}, {2, 0}, {0, 99}}, 0, 0, 3, 4, 1, 10, 0, 2, "", {{2, 1}, {3, 2}}},
+    {"a second pass with no port", 2, {{1, 1}, {2, 0}, {0, 99}}, 0, 0, 3, 4, 3, 10, 0, 2, "", {{2, 1}, {3, 2}}},
+    {"type 4 with one pass", 3, NONE, 0, 0, 7, 4, 7, 0, 0, 3, "012", {{257, 1}, {275, 1}, {309, 1}, {4465, 1}}},
+};
+
+static void run_send(const struct send *send) {
+    maze_opened got;
+    fresh(send->dimension);
+    for (size_t i = 0; send->blocked[i].port != 99; i++)
+        expect(maze_block(table, BYTES, (uint16_t)send->blocked[i].node, (uint16_t)send->blocked[i].port) == 0, "block for", i, 0);
+    got = maze_open(table, BYTES, send->node, send->channel, send->target, send->type, send->vector);
+    expect(got.number == send->number, send->what, send->number, got.number);
+    expect(got.hops == strlen(send->ports), send->what, strlen(send->ports), got.hops);
+    expect(got.receive == send->receive, send->what, send->receive, got.receive);
+    expect(got.scouts == send->scouts, send->what, send->scouts, got.scouts);
+    expect_table(send->what, send->dimension, send->places);
+    if (send->number != 0) return;
+    expect_trace(send->what, send->node, send->channel, send->ports);
+    expect(maze_close(table, BYTES, send->node, send->channel) == 0, send->what, 0, 0);
+    for (size_t i = 0; send->blocked[i].port != 99; i++)
+        expect(maze_unblock(table, BYTES, (uint16_t)send->blocked[i].node, (uint16_t)send->blocked[i].port) == 0, "unblock for", i, 0);
+    expect_table("closed and unblocked", send->dimension, NULL);
+}
+
+static void example_7(void) {
+    static const struct place first[] = {{257, 1}, {4369, 1}, {0, 0}}, second[] = {{257, 2}, {4369, 2}, {0, 0}};
+    maze_opened got;
+    fresh(1);
+    got = maze_open(table, BYTES, 0, 0, 1, 0, 1);
+    expect(got.number == 0 && got.hops == 1 && got.receive == 0 && got.scouts == 1, "example 7, channel 0", got.number, got.scouts);
+    got = maze_open(table, BYTES, 0, 1, 1, 0, 1);
+    expect(got.number == 10 && got.hops == 0 && got.receive == 0 && got.scouts == 0, "example 7, channel 1", got.number, got.scouts);
+    expect_table("example 7", 1, first);
+    expect(maze_close(table, BYTES, 0, 0) == 0, "example 7, close", 0, 0);
+    expect_table("example 7, closed", 1, NULL);
+    got = maze_open(table, BYTES, 0, 1, 1, 0, 1);
+    expect(got.number == 0 && got.hops == 1 && got.receive == 0 && got.scouts == 1, "example 7, again", got.number, got.scouts);
+    expect_table("example 7, again", 1, second);
+}
+
+static void example_8(void) {
+    static const struct { uint16_t word, number, command, carried; } read[] = {
+        {2175, 0, 1, 0}, {2437, 0, 6, 5}, {3649, 0, 9, 1}, {3136, 17, 0, 0}, {2240, 18, 0, 0},
+    };
+    maze_word_written written = maze_word_write(1, 0);
+    for (size_t i = 0; i < sizeof read / sizeof *read; i++) {
+        maze_word_read_answer got = maze_word_read(read[i].word);
+        expect(got.number == read[i].number && got.command == read[i].command && got.carried == read[i].carried, "example 8", read[i].word, got.number);
+    }
+    expect(written.number == 0 && written.word == 2112, "example 8, written", written.number, written.word);
+}
+
+static void example_9(void) {
+    fresh(8);
+    expect(maze_make(table, BYTES, 9) == 2, "example 9, dimension", 9, 0);
+    expect_table("example 9, still dimension 8", 8, NULL);
+    fresh(3);
+    expect(maze_open(table, BYTES, 7, 0, 0, 0, 7).number == 0, "example 9, node", 7, 0);
+    expect(maze_open(table, BYTES, 8, 0, 0, 0, 7).number == 4, "example 9, node", 8, 0);
+    expect(maze_open(table, BYTES, 0, 0, 7, 0, 7).number == 0, "example 9, vector", 7, 0);
+    expect(maze_open(table, BYTES, 0, 1, 7, 0, 8).number == 8, "example 9, vector", 8, 0);
+    expect(maze_open(table, 8448, 0, 1, 7, 0, 7).number == 1, "example 9, length", 8448, 0);
+}
+
+/* The eight links into the target are blocked: every beginning that is not a whole path is sent, 123,300 - 45,360 of them. */
+static void most_scouts(void) {
+    static const uint16_t vectors[] = {255, 1, 128, 170};
+    for (size_t i = 0; i < sizeof vectors / sizeof *vectors; i++) {
+        maze_opened got;
+        fresh(8);
+        for (unsigned port = 0; port < 8; port++) expect(maze_block(table, BYTES, (uint16_t)(254 ^ 1u << port), (uint16_t)port) == 0, "block into", 254, port);
+        keep();
+        got = maze_open(table, BYTES, 0, 0, 254, 4, vectors[i]);
+        expect(got.number == 10 && got.scouts == 77940 && got.hops == 0 && got.receive == 0, "most scouts", got.number, got.scouts);
+        expect(unaltered(), "most scouts, bytes", vectors[i], 0);
+    }
+}
+
+/* A target takes its lowest receive channel that no circuit holds, and a closed circuit gives its own back. */
+static void receive_channels(void) {
+    static const struct place three[] = {{259, 2}, {289, 2}, {4403, 2}, {275, 9}, {4401, 9}, {0, 0}};
+    maze_opened got;
+    fresh(2);
+    got = maze_open(table, BYTES, 0, 0, 3, 0, 1); /* 0, 1 */
+    expect(got.number == 0 && got.receive == 0, "first receive channel", got.number, got.receive);
+    got = maze_open(table, BYTES, 0, 1, 3, 0, 2); /* 1, 0 */
+    expect(got.number == 0 && got.receive == 1, "second receive channel", got.number, got.receive);
+    got = maze_open(table, BYTES, 1, 0, 3, 0, 2);
+    expect(got.number == 10 && got.scouts == 0, "both links taken", got.number, got.scouts);
+    expect(maze_close(table, BYTES, 0, 0) == 0, "close the first", 0, 0);
+    got = maze_open(table, BYTES, 1, 0, 3, 0, 2); /* circuit 9 by port 1 */
+    expect(got.number == 0 && got.receive == 0, "the lowest again", got.number, got.receive);
+    expect_table("receive channels", 2, three);
+}
+
+/* ---- blocking ---- */
+
+static void blocking(void) {
+    for (unsigned dimension = 1; dimension <= 8; dimension++) {
+        unsigned last = (1u << dimension) - 1, top = dimension - 1;
+        struct place blocked[] = {{1 + last, last ^ 1u << top}, {0, 0}};
+        fresh(dimension);
+        keep();
+        expect(maze_unblock(table, BYTES, (uint16_t)last, (uint16_t)top) == 0 && unaltered(), "unblock an enabled link", dimension, last);
+        expect(maze_block(table, BYTES, (uint16_t)last, (uint16_t)top) == 0, "block", dimension, last);
+        expect_table("blocked", dimension, blocked);
+        keep();
+        expect(maze_block(table, BYTES, (uint16_t)last, (uint16_t)top) == 0 && unaltered(), "block a blocked link", dimension, last);
+        expect(maze_unblock(table, BYTES, (uint16_t)last, (uint16_t)top) == 0, "unblock", dimension, last);
+        expect_table("unblocked", dimension, NULL);
+    }
+    fresh(2);
+    expect(maze_open(table, BYTES, 0, 0, 1, 0, 1).number == 0, "open for blocking", 0, 0);
+    keep();
+    expect(maze_block(table, BYTES, 0, 0) == 13 && unaltered(), "block a held link", 0, 0);
+    expect(maze_unblock(table, BYTES, 0, 0) == 0 && unaltered(), "unblock a held link", 0, 0);
+    expect(maze_block(table, BYTES, 1, 0) == 0, "block the link back", 1, 0);
+    expect(maze_close(table, BYTES, 0, 0) == 0, "close", 0, 0);
+    expect(maze_block(table, BYTES, 0, 0) == 0, "block it when closed", 0, 0);
+    {
+        static const struct place both[] = {{1, 2}, {2, 2}, {0, 0}};
+        expect_table("both directions blocked", 2, both);
+    }
+}
+
+/* ---- refusals ---- */
+
+static void refused(unsigned number, unsigned got, const char *what, unsigned value) {
+    expect(got == number, what, value, got);
+    expect(unaltered(), "altered by", value, number);
+}
+
+static void refused_open(unsigned number, size_t length, unsigned node, unsigned channel, unsigned target, unsigned type, unsigned vector) {
+    maze_opened got;
+    keep();
+    got = maze_open(table, length, (uint16_t)node, (uint16_t)channel, (uint16_t)target, (uint16_t)type, (uint16_t)vector);
+    expect(got.number == number && got.hops == 0 && got.receive == 0 && got.scouts == 0, "refused open", number, got.number);
+    expect(unaltered(), "altered by an open refused as", number, 0);
+}
+
+static void refused_trace(unsigned number, size_t length, unsigned node, unsigned channel, size_t buffer_length) {
+    maze_traced got;
+    keep();
+    got = maze_trace(table, length, (uint16_t)node, (uint16_t)channel, buffer, buffer_length);
+    expect(got.number == number && got.hops == 0, "refused trace", number, got.number);
+    expect(unaltered(), "altered by a trace refused as", number, buffer_length);
+}
+
+static void refused_block(unsigned number, size_t length, unsigned node, unsigned port) {
+    keep();
+    refused(number, maze_block(table, length, (uint16_t)node, (uint16_t)port), "refused block", node);
+    refused(number, maze_unblock(table, length, (uint16_t)node, (uint16_t)port), "refused unblock", node);
+}
+
+static void refused_close(unsigned number, size_t length, unsigned node, unsigned channel) {
+    keep();
+    refused(number, maze_close(table, length, (uint16_t)node, (uint16_t)channel), "refused close", node);
+}
+
+/* Every call but making is refused with this number, also where later tests apply. */
+static void all_refused(unsigned number, size_t length) {
+    refused_block(number, length, 0, 0);
+    refused_block(number, length, 65535, 65535);
+    refused_open(number, length, 0, 0, 0, 0, 1);
+    refused_open(number, length, 65535, 65535, 65535, 65535, 65535);
+    refused_close(number, length, 0, 0);
+    refused_close(number, length, 65535, 65535);
+    refused_trace(number, length, 0, 0, BUFFER);
+    refused_trace(number, length, 65535, 65535, 0);
+}
+
+static void lengths(void) {
+    static const size_t wrong[] = {0, 1, 257, 8448, 8450, BYTES + SPARE};
+    uint8_t *const anywhere[] = {NULL, (uint8_t *)(uintptr_t)1};
+    for (size_t i = 0; i < sizeof wrong / sizeof *wrong; i++) {
+        fresh(3);
+        all_refused(1, wrong[i]);
+        keep();
+        refused(1, maze_make(table, wrong[i], 3), "make of length", (unsigned)wrong[i]);
+        refused(1, maze_make(table, wrong[i], 9), "make of length, dimension 9", (unsigned)wrong[i]);
+        table[0] = 0; /* 1 comes before 2 */
+        all_refused(1, wrong[i]);
+    }
+    /* With length 0 the pointer may be anything. */
+    for (size_t i = 0; i < 2; i++) {
+        uint8_t *none = anywhere[i];
+        maze_opened opened = maze_open(none, 0, 0, 0, 0, 0, 1);
+        maze_traced traced = maze_trace(none, 0, 0, 0, none, 0);
+        expect(maze_make(none, 0, 3) == 1, "no table, make", i, 0);
+        expect(maze_block(none, 0, 0, 0) == 1 && maze_unblock(none, 0, 0, 0) == 1, "no table, block", i, 0);
+        expect(opened.number == 1 && opened.hops == 0 && opened.receive == 0 && opened.scouts == 0, "no table, open", i, 0);
+        expect(maze_close(none, 0, 0, 0) == 1, "no table, close", i, 0);
+        expect(traced.number == 1 && traced.hops == 0, "no table, trace", i, 0);
+    }
+}
+
+static void dimensions(void) {
+    static const uint16_t wrong[] = {0, 9, 10, 16, 255, 256, 257, 264, 32769, 65535};
+    for (unsigned dimension = 1; dimension <= 8; dimension++) {
+        fresh(dimension);
+        expect_table("made", dimension, NULL);
+    }
+    for (size_t i = 0; i < sizeof wrong / sizeof *wrong; i++) {
+        fresh(3);
+        expect(maze_open(table, BYTES, 0, 0, 7, 0, 7).number == 0, "open before a refused making", wrong[i], 0);
+        keep();
+        refused(2, maze_make(table, BYTES, wrong[i]), "make of dimension", wrong[i]);
+        if (wrong[i] > 255) continue;
+        table[0] = (uint8_t)wrong[i];
+        table[300] = 77; /* not sound either: 2 comes before 3 */
+        all_refused(2, BYTES);
+        expect(maze_make(table, BYTES, 4) == 0, "make over dimension", wrong[i], 0);
+        expect_table("made over it", 4, NULL);
+    }
+}
+
+/* Nodes, channels, ports, types and vectors, just inside and outside, in every dimension. */
+static void ranges(void) {
+    static const uint16_t no_channel[] = {8, 9, 255, 256, 257, 263, 65535}, no_type[] = {1, 2, 3, 5, 6, 7, 8, 255, 256, 257, 260, 1024, 65535};
+    for (unsigned dimension = 1; dimension <= 8; dimension++) {
+        unsigned nodes = 1u << dimension, last = nodes - 1;
+        unsigned no_node[] = {nodes, nodes + 1, 256, 256 + last, 257, 32768, 65535}, no_port[] = {dimension, dimension + 1, 8, 255, 256, 257, 65535};
+        unsigned no_vector[] = {0, nodes, nodes + 1, 256, 256 + last, 257, 32769, 65535};
+        fresh(dimension);
+        expect(maze_open(table, BYTES, (uint16_t)last, 7, 0, 0, (uint16_t)last).number == 0, "the last node and channel", dimension, last);
+        expect(maze_open(table, BYTES, 0, 0, (uint16_t)last, 4, (uint16_t)last).number == 0, "the last target", dimension, last);
+        if (dimension > 1) expect(maze_block(table, BYTES, (uint16_t)last, (uint16_t)(dimension - 1)) == 0, "the last port", dimension, last);
+        for (size_t i = 0; i < sizeof no_node / sizeof *no_node; i++) {
+            refused_block(4, BYTES, no_node[i], 0);
+            refused_block(4, BYTES, no_node[i], 65535); /* 4 before 6 */
+            refused_close(4, BYTES, no_node[i], 0);
+            refused_close(4, BYTES, no_node[i], 8);     /* 4 before 5 */
+            refused_trace(4, BYTES, no_node[i], 0, BUFFER);
+            refused_trace(4, BYTES, no_node[i], 8, 0);
+            refused_open(4, BYTES, no_node[i], 1, 0, 0, 1);
+            refused_open(4, BYTES, 0, 1, no_node[i], 0, 1);
+            refused_open(4, BYTES, no_node[i], 1, no_node[i], 0, 1);
+            refused_open(4, BYTES, 0, 8, no_node[i], 1, 0);
+        }
+        for (size_t i = 0; i < sizeof no_channel / sizeof *no_channel; i++) {
+            refused_open(5, BYTES, 0, no_channel[i], 0, 0, 1);
+            refused_open(5, BYTES, 0, no_channel[i], 0, 1, 0); /* 5 before 7 and 8 */
+            refused_close(5, BYTES, 0, no_channel[i]);
+            refused_close(5, BYTES, last, no_channel[i]);
+            refused_trace(5, BYTES, 0, no_channel[i], BUFFER);
+            refused_trace(5, BYTES, 0, no_channel[i], 8); /* 5 before 14 */
+        }
+        for (size_t i = 0; i < sizeof no_port / sizeof *no_port; i++) refused_block(6, BYTES, last, no_port[i]);
+        for (size_t i = 0; i < sizeof no_type / sizeof *no_type; i++) {
+            refused_open(7, BYTES, 0, 1, 0, no_type[i], 1);
+            refused_open(7, BYTES, 0, 0, 0, no_type[i], 0); /* 7 before 8 and 9 */
+        }
+        for (size_t i = 0; i < sizeof no_vector / sizeof *no_vector; i++) {
+            refused_open(8, BYTES, 0, 1, 0, 0, no_vector[i]);
+            refused_open(8, BYTES, 0, 0, 0, 4, no_vector[i]); /* 8 before 9 */
+        }
+        refused_open(9, BYTES, 0, 0, 0, 0, 1);
+        refused_open(9, BYTES, 0, 0, last, 4, last);
+        refused_open(9, BYTES, last, 7, last, 0, 1);
+        refused_close(12, BYTES, 0, 1);
+        refused_close(12, BYTES, last, 6);
+        refused_trace(12, BYTES, 0, 1, BUFFER);
+        refused_trace(12, BYTES, last, 6, BUFFER);
+        for (size_t length = 0; length < 9; length++) {
+            refused_trace(12, BYTES, 0, 1, length); /* 12 before 14 */
+            refused_trace(14, BYTES, 0, 0, length);
+            refused_trace(14, BYTES, last, 7, length);
+        }
+        expect(maze_close(table, BYTES, 0, 0) == 0, "close", dimension, 0);
+        refused_close(12, BYTES, 0, 0); /* closed already */
+        refused_trace(12, BYTES, 0, 0, BUFFER);
+    }
+}
+
+/* A buffer of exactly nine bytes, and longer ones; the length of the path does not matter. */
+static void buffers(void) {
+    fresh(8);
+    expect(maze_open(table, BYTES, 0, 0, 254, 0, 1).number == 0, "open nine hops", 0, 0);
+    expect(maze_open(table, BYTES, 7, 2, 3, 0, 4).number == 0, "open one hop", 0, 0);
+    for (size_t length = 9; length <= BUFFER; length++) {
+        static const uint8_t nine[] = {0, 1, 2, 3, 4, 5, 6, 7, 0};
+        maze_traced got;
+        int good = 1;
+        for (size_t i = 0; i < sizeof buffer; i++) buffer[i] = (uint8_t)(0xc0 + i);
+        got = maze_trace(table, BYTES, 7, 2, buffer, length);
+        for (size_t i = 1; i < sizeof buffer; i++) good &= buffer[i] == 0xc0 + i;
+        expect(got.number == 0 && got.hops == 1 && buffer[0] == 2 && good, "trace one hop", length, got.hops);
+        good = 1;
+        got = maze_trace(table, BYTES, 0, 0, buffer, length);
+        for (size_t i = 9; i < sizeof buffer; i++) good &= buffer[i] == 0xc0 + i;
+        expect(got.number == 0 && got.hops == 9 && memcmp(buffer, nine, 9) == 0 && good, "trace nine hops", length, got.hops);
+    }
+}
+
+/* A table and a buffer may lie anywhere. */
+static void alignments(void) {
+    static uint8_t room[BYTES + 16], ports[9 + 16];
+    for (size_t shift = 0; shift < 16; shift++) {
+        uint8_t *lent = room + shift;
+        maze_opened opened;
+        maze_traced traced;
+        memset(room, 0x5a, sizeof room);
+        expect(maze_make(lent, BYTES, 3) == 0 && maze_block(lent, BYTES, 1, 2) == 0 && maze_block(lent, BYTES, 3, 2) == 0, "made at", shift, 0);
+        opened = maze_open(lent, BYTES, 0, 0, 7, 0, 7);
+        traced = maze_trace(lent, BYTES, 0, 0, ports + shift, 9);
+        expect(opened.number == 0 && opened.scouts == 5 && traced.number == 0 && traced.hops == 3, "opened at", shift, opened.number);
+        expect(ports[shift] == 1 && ports[shift + 1] == 2 && ports[shift + 2] == 0, "traced at", shift, 0);
+        expect(lent[0] == 3 && lent[259] == 1 && lent[293] == 1 && lent[353] == 1 && lent[4465] == 1, "held at", shift, 0);
+        expect(maze_unblock(lent, BYTES, 1, 2) == 0 && maze_close(lent, BYTES, 0, 0) == 0 && lent[259] == 0, "closed at", shift, 0);
+        for (size_t i = 0; i < sizeof room; i++)
+            if ((i < shift || i >= shift + BYTES) && room[i] != 0x5a) expect(0, "a byte beside the table", shift, i);
+    }
+}
+
+/* ---- sound tables and others, each circuit 1 of dimension 3 on ports 0, 1, 2 but for the places given ---- */
+
+static const struct {
+    const char *what;
+    const char *ports; /* NULL where it is not sound */
+    struct place places[16];
+} tables[] = {
+    {"as opened", "012", {{0, 0}}},
+    {"another receive channel", "012", {{4465, 0}, {4475, 1}}},
+    {"not the first path", "210", {{257, 0}, {275, 0}, {309, 0}, {261, 1}, {323, 1}, {353, 1}}},
+    {"first hop away", "2012", {{257, 0}, {275, 0}, {309, 0}, {4465, 0}, {261, 1}, {321, 1}, {339, 1}, {373, 1}, {4401, 1}}},
+    {"through the source", "001", {{273, 1}, {259, 1}, {275, 0}, {309, 0}, {4465, 0}, {4385, 1}}},
+    {"through the source, highest port first", "2201", {{261, 1}, {325, 1}, {309, 0}, {4465, 0}, {4401, 1}}},
+    {"out and back", "00", {{273, 1}, {275, 0}, {309, 0}, {4465, 0}, {4353, 1}}},
+    {"a free link blocked", "012", {{1, 5}}},
+    {"all free links blocked", "012", {{1, 1}, {2, 2}, {3, 0}, {4, 4}, {5, 0}, {6, 0}, {7, 0}, {8, 0}}},
+    {"first link lost", NULL, {{257, 0}}},
+    {"second link lost", NULL, {{275, 0}}},
+    {"last link lost", NULL, {{309, 0}}},
+    {"all links lost", NULL, {{257, 0}, {275, 0}, {309, 0}}},
+    {"receive channel lost", NULL, {{4465, 0}}},
+    {"received twice at its end", NULL, {{4467, 1}}},
+    {"received twice, and as many links held by another circuit", NULL, {{4467, 1}, {337, 2}, {339, 2}, {341, 2}}},
+    {"received twice", NULL, {{4401, 1}}},
+    {"received half-way", NULL, {{4465, 0}, {4369, 1}}},
+    {"received at its source", NULL, {{4465, 0}, {4353, 1}}},
+    {"a link elsewhere", NULL, {{337, 1}}},
+    {"a second link of the source", NULL, {{259, 1}}},
+    {"a link behind the target", NULL, {{369, 1}}},
+    {"the first link back", NULL, {{273, 1}}},
+    {"another circuit on a link alone", NULL, {{337, 2}}},
+    {"another circuit on a receive channel alone", NULL, {{4433, 2}}},
+    {"circuit 65 on a link", NULL, {{337, 65}}},
+    {"circuit 65 on a receive channel", NULL, {{4433, 65}}},
+    {"circuit 65 on a whole path", NULL, {{257, 65}, {275, 65}, {309, 65}, {4465, 65}}},
+    {"circuit 257 on a link", NULL, {{258, 1}}},
+    {"circuit 257 on a receive channel", NULL, {{4466, 1}}},
+    {"not from its source", NULL, {{257, 9}, {275, 9}, {309, 9}, {4465, 9}}},
+    {"a held link blocked", NULL, {{1, 6}}},
+    {"the last held link blocked", NULL, {{4, 3}}},
+    {"an absent port enabled", NULL, {{1, 15}}},
+    {"port 7 enabled", NULL, {{8, 135}}},
+    {"a link of an absent node enabled", NULL, {{9, 1}}},
+    {"a link of node 255 enabled", NULL, {{256, 1}}},
+    {"an absent port held", NULL, {{263, 1}}},
+    {"an absent port held and enabled", NULL, {{263, 1}, {1, 15}}},
+    {"a link of an absent node held", NULL, {{385, 1}}},
+    {"a link of node 255 held", NULL, {{4352, 1}}},
+    {"a receive channel of an absent node held", NULL, {{4481, 1}}},
+    {"the last byte", NULL, {{8448, 1}}},
+    {"a port walked twice", NULL, {{371, 1}, {4465, 0}, {4433, 1}}},
+    {"once round", NULL, {{305, 1}, {291, 1}, {309, 0}, {4465, 0}, {4353, 1}}},
+};
+
+static void soundness(void) {
+    for (size_t i = 0; i < sizeof tables / sizeof *tables; i++) {
+        fresh(3);
+        expect(maze_open(table, BYTES, 0, 0, 7, 0, 7).number == 0, "open for", i, 0);
+        for (const struct place *place = tables[i].places; place->at; place++) table[place->at] = (uint8_t)place->value;
+        if (tables[i].ports) {
+            expect_trace(tables[i].what, 0, 0, tables[i].ports);
+            expect(maze_close(table, BYTES, 0, 0) == 0, tables[i].what, i, 0);
+            expect(memchr(table + 257, 1, BYTES - 257) == NULL, tables[i].what, i, 1);
+        } else {
+            all_refused(3, BYTES);
+            expect(maze_make(table, BYTES, 3) == 0, "make over an unsound table", i, 0);
+            expect_table("made over it", 3, NULL);
+        }
+    }
+}
+
+int main(void) {
+    for (size_t i = 0; i < sizeof sends / sizeof *sends; i++) run_send(&sends[i]);
+    example_7();
+    example_8();
+    example_9();
+    most_scouts();
+    receive_channels();
+    blocking();
+    lengths();
+    dimensions();
+    ranges();
+    buffers();
+    alignments();
+    soundness();
+    printf("%u passed, %u failed\n", passed, failed);
+    return failed != 0;
+}

@@ -1,0 +1,589 @@
+/* The library beside the reference, on random lists of calls and on damaged tables of every dimension: answer for answer and byte for byte.
+ *
+ *     random [streams [seed]]
+ *
+ * runs that many streams of calls of each kind and dimension (20 without an argument), each from a seed of its own. At the first difference it
+ * shortens the list of calls as long as they still differ, prints it and stops. Otherwise it prints how often each case has occurred. Calls are
+ * written as in the printed list, and beside them `T node channel` traces, `P place value` writes one byte of the table, and a number after `/`
+ * is the length of the table lent, of the buffer lent, or of both. */
+#include "reference.h"
+#include "subject.h"
+
+#include <stdio.h>
+#include <stdlib.h>
+#include <string.h>
+
+enum { SPARE = 32, BUFFER = 24, MOST_CALLS = 6000 };
+
+/* ---- pseudo-random numbers: the same on every machine ---- */
+
+static uint64_t random_state;
+
+static uint32_t random_word(void) {
+    uint64_t z = random_state += 0x9e3779b97f4a7c15u;
+    z = (z ^ z >> 30) * 0xbf58476d1ce4e5b9u;
+    z = (z ^ z >> 27) * 0x94d049bb133111ebu;
+    return (uint32_t)((z ^ z >> 31) >> 16);
+}
+
+static unsigned below(unsigned limit) {
+    return (unsigned)((uint64_t)random_word() * limit >> 32);
+}
+
+static int one_in(unsigned count) {
+    return below(count) == 0;
+}
+
+/* ---- calls, and both tables ---- */
+
+static const char letters[] = "FBESCTP";
+
+static size_t letter_place(char letter) {
+    return (size_t)(strchr(letters, letter) - letters);
+}
+
+struct call {
+    char letter;
+    uint16_t argument[5];
+    uint16_t table_len, buffer_len;
+};
+
+struct pair {
+    uint8_t table[2][MAZE_TABLE_BYTES + SPARE]; /* the library's and the reference's; more bytes than are lent */
+    uint8_t buffer[2][BUFFER];
+};
+
+/* The answers of one call, of both sides. */
+struct answers {
+    unsigned long value[2][4]; /* number, hops, receive channel, scouts */
+};
+
+static struct pair now;
+
+static struct answers run(const struct call *call, struct pair *on) {
+    struct answers answers;
+    const uint16_t *a = call->argument;
+    uint8_t *lib = on->table[0], *ref = on->table[1];
+    size_t length = call->table_len;
+    maze_opened opened[2] = {{0, 0, 0, 0}, {0, 0, 0, 0}};
+    maze_traced traced[2] = {{0, 0}, {0, 0}};
+    uint16_t number[2] = {0, 0};
+
+    switch (call->letter) {
+    case 'F': number[0] = maze_make(lib, length, a[0]), number[1] = ref_make(ref, length, a[0]); break;
+    case 'B': number[0] = maze_block(lib, length, a[0], a[1]), number[1] = ref_block(ref, length, a[0], a[1]); break;
+    case 'E': number[0] = maze_unblock(lib, length, a[0], a[1]), number[1] = ref_unblock(ref, length, a[0], a[1]); break;
+    case 'S':
+        opened[0] = maze_open(lib, length, a[0], a[1], a[2], a[3], a[4]);
+        opened[1] = ref_open(ref, length, a[0], a[1], a[2], a[3], a[4]);
+        break;
+    case 'C': number[0] = maze_close(lib, length, a[0], a[1]), number[1] = ref_close(ref, length, a[0], a[1]); break;
+    case 'T':
+        traced[0] = maze_trace(lib, length, a[0], a[1], on->buffer[0], call->buffer_len);
+        traced[1] = ref_trace(ref, length, a[0], a[1], on->buffer[1], call->buffer_len);
+        break;
+    default: lib[a[0]] = ref[a[0]] = (uint8_t)a[1]; break; /* P */
+    }
+    for (int i = 0; i < 2; i++) {
+        answers.value[i][0] = (unsigned long)number[i] + opened[i].number + traced[i].number; /* two of the three are 0 */
+        answers.value[i][1] = (unsigned long)opened[i].hops + traced[i].hops;
+        answers.value[i][2] = opened[i].receive;
+        answers.value[i][3] = opened[i].scouts;
+    }
+    return answers;
+}
+
+static int same(const struct answers *answers, const struct pair *on) {
+    return memcmp(answers->value[0], answers->value[1], sizeof answers->value[0]) == 0 &&
+           memcmp(on->table[0], on->table[1], sizeof on->table[0]) == 0 && memcmp(on->buffer[0], on->buffer[1], sizeof on->buffer[0]) == 0;
+}
+
+/* Before the first call the bytes lent mean nothing. */
+static void start(struct pair *on) {
+    for (size_t i = 0; i < sizeof on->table[0]; i++) on->table[0][i] = on->table[1][i] = (uint8_t)(7 * i + 3);
+    for (size_t i = 0; i < sizeof on->buffer[0]; i++) on->buffer[0][i] = on->buffer[1][i] = (uint8_t)(0xe0 + i % 16);
+}
+
+/* ---- the list of a stream, and what is said of a difference ---- */
+
+static struct call list[MOST_CALLS];
+static size_t calls;
+
+static void print_call(const struct call *call) {
+    static const int arguments[] = {1, 2, 2, 5, 2, 2, 2};
+    int count = arguments[letter_place(call->letter)];
+    printf("%c", call->letter);
+    for (int i = 0; i < count; i++) printf(" %u", (unsigned)call->argument[i]);
+    if (call->table_len != MAZE_TABLE_BYTES) printf(" / table of %u", (unsigned)call->table_len);
+    if (call->letter == 'T' && call->buffer_len != BUFFER) printf(" / buffer of %u", (unsigned)call->buffer_len);
+    printf("\n");
+}
+
+/* Runs a list from the start; answers how many calls it takes to show a difference, or 0. */
+static size_t replay(const struct call *some, size_t count) {
+    static struct pair pair;
+    start(&pair);
+    for (size_t i = 0; i < count; i++) {
+        struct answers answers = run(&some[i], &pair);
+        if (!same(&answers, &pair)) return i + 1;
+    }
+    return 0;
+}
+
+/* Leaves out runs of calls, long ones first, as long as the rest still shows a difference. */
+static void shorten(void) {
+    static struct call some[MOST_CALLS];
+    unsigned tries = 3000;
+    for (size_t run_length = calls / 2; run_length > 0; run_length /= 2)
+        for (size_t at = 0; at + run_length <= calls && tries > 0;) {
+            size_t shown;
+            memcpy(some, list, at * sizeof *some);
+            memcpy(some + at, list + at + run_length, (calls - at - run_length) * sizeof *some);
+            tries--;
+            shown = replay(some, calls - run_length);
+            if (shown) memcpy(list, some, shown * sizeof *some), calls = shown;
+            else at += run_length;
+        }
+}
+
+static void report(unsigned dimension, const char *kind, uint64_t seed) {
+    static struct pair pair;
+    struct answers answers = {{{0}}};
+    printf("random: a difference, dimension %u, %s, seed %llu; the calls that show it:\n", dimension, kind, (unsigned long long)seed);
+    shorten();
+    start(&pair);
+    for (size_t i = 0; i < calls; i++) {
+        print_call(&list[i]);
+        answers = run(&list[i], &pair);
+    }
+    for (int i = 0; i < 2; i++)
+        printf("%s answers %lu, hops %lu, receive channel %lu, scouts %lu\n", i == 0 ? "library" : "reference", answers.value[i][0],
+               answers.value[i][1], answers.value[i][2], answers.value[i][3]);
+    for (size_t i = 0, shown = 0; i < sizeof pair.table[0] && shown < 10; i++)
+        if (pair.table[0][i] != pair.table[1][i])
+            printf("byte %zu of the table: library %u, reference %u\n", i, pair.table[0][i], pair.table[1][i]), shown++;
+    for (size_t i = 0; i < sizeof pair.buffer[0]; i++)
+        if (pair.buffer[0][i] != pair.buffer[1][i])
+            printf("byte %zu of the buffer: library %u, reference %u\n", i, pair.buffer[0][i], pair.buffer[1][i]);
+}
+
+/* ---- what has occurred ---- */
+
+static struct {
+    unsigned long calls, answers[7][15], hops[10], rejected_1000, rejected_10000, most_scouts, second_accepted, second_rejected, through_source,
+        to_itself, first_hop_away, nearly_full, nearly_full_accepted, full, all_received, one_changed, one_changed_sound, several_changed,
+        several_changed_sound, moved, laid, laid_sound, wrong_length, short_buffer;
+} seen;
+
+static void count_held(unsigned long *held, unsigned long *links) {
+    const uint8_t *table = now.table[1];
+    *held = 0;
+    *links = MAZE_DIMENSION(table) > MAZE_DIMENSION_LARGEST ? 1 : (unsigned long)MAZE_DIMENSION(table) << MAZE_DIMENSION(table);
+    for (unsigned node = 0; node < MAZE_NODES; node++)
+        for (unsigned port = 0; port < MAZE_PORTS; port++) *held += MAZE_LINK_CIRCUIT(table, node, port) != 0;
+}
+
+static void tally(const struct call *call, const struct answers *answers, unsigned long held, unsigned long links) {
+    unsigned long number = answers->value[1][0], scouts = answers->value[1][3];
+    const uint16_t *a = call->argument;
+    seen.calls++;
+    seen.answers[letter_place(call->letter)][number]++;
+    seen.wrong_length += number == MAZE_BAD_LENGTH;
+    seen.short_buffer += number == MAZE_BUFFER_SHORT;
+    if (call->letter != 'S' || !(number == MAZE_ACCEPTED || number == MAZE_ROUTE_REJECTED || number == MAZE_RECEIVE_REJECTED)) return;
+    if (scouts > seen.most_scouts) seen.most_scouts = scouts;
+    if (10 * held >= 9 * links) {
+        seen.nearly_full++;
+        seen.nearly_full_accepted += number == MAZE_ACCEPTED;
+        seen.full += held == links;
+    }
+    if (ref_last_send.passes == 2) *(number == MAZE_ACCEPTED ? &seen.second_accepted : &seen.second_rejected) += 1;
+    if (number == MAZE_ACCEPTED) {
+        unsigned away = (a[0] ^ a[2]) >> ref_last_send.ports[0] & 1;
+        seen.hops[ref_last_send.hops]++;
+        seen.first_hop_away += !away;
+        seen.through_source += ref_last_send.hops > 2 && ref_last_send.ports[0] == ref_last_send.ports[1];
+        seen.to_itself += a[0] == a[2];
+    } else {
+        unsigned channel = 0;
+        while (channel < MAZE_CHANNELS && MAZE_RECEIVE_CIRCUIT(now.table[1], a[2], channel) != 0) channel++;
+        seen.all_received += channel == MAZE_CHANNELS;
+        seen.rejected_1000 += scouts >= 1000;
+        seen.rejected_10000 += scouts >= 10000;
+    }
+}
+
+/* Makes a call on both sides and keeps it in the list. */
+static int differs;
+static unsigned long last_number;
+
+static void make_call(struct call call) {
+    struct answers answers;
+    unsigned long held = 0, links = 1;
+    if (differs || calls == MOST_CALLS) return;
+    if (call.letter == 'S') count_held(&held, &links);
+    list[calls++] = call;
+    answers = run(&call, &now);
+    if (!same(&answers, &now)) {
+        differs = 1;
+        return;
+    }
+    last_number = answers.value[1][0];
+    if (call.letter != 'P') tally(&call, &answers, held, links);
+}
+
+/* ---- choosing calls ---- */
+
+static struct call plain(char letter, unsigned a, unsigned b) {
+    struct call call = {letter, {(uint16_t)a, (uint16_t)b, 0, 0, 0}, MAZE_TABLE_BYTES, BUFFER};
+    return call;
+}
+
+static struct call sending(unsigned node, unsigned channel, unsigned target, unsigned type, unsigned vector) {
+    struct call call = plain('S', node, channel);
+    call.argument[2] = (uint16_t)target;
+    call.argument[3] = (uint16_t)type;
+    call.argument[4] = (uint16_t)vector;
+    return call;
+}
+
+static unsigned any_node(unsigned dimension) {
+    return below(1u << dimension);
+}
+
+/* The lowest send channel of a node that has no circuit, or one that has. */
+static unsigned free_channel(unsigned node) {
+    unsigned used = 0, channel = 0;
+    for (unsigned port = 0; port < MAZE_PORTS; port++) {
+        unsigned circuit = MAZE_LINK_CIRCUIT(now.table[1], node, port);
+        if (circuit != 0 && MAZE_CIRCUIT_NODE(circuit) == node) used |= 1u << MAZE_CIRCUIT_CHANNEL(circuit);
+    }
+    while (channel < 7 && used >> channel & 1) channel++;
+    return channel;
+}
+
+static unsigned any_vector(unsigned dimension, unsigned node, unsigned target) {
+    unsigned all = (1u << dimension) - 1, uphill = node ^ target;
+    switch (below(5)) {
+    case 0: return all;
+    case 1: return uphill ? uphill : all;
+    case 2: return 1u << below(dimension);
+    case 3: return all & ~uphill ? all & ~uphill : all;
+    default: return 1 + below(all);
+    }
+}
+
+static struct call any_send(unsigned dimension) {
+    unsigned node = any_node(dimension), target = one_in(8) ? node : any_node(dimension);
+    return sending(node, one_in(8) ? below(8) : free_channel(node), target, one_in(3) ? 0 : 4, any_vector(dimension, node, target));
+}
+
+/* A circuit that is open, by chance; or any node and channel. */
+static void any_circuit(unsigned dimension, unsigned *node, unsigned *channel) {
+    for (int tries = 0; tries < 20; tries++) {
+        unsigned circuit = MAZE_LINK_CIRCUIT(now.table[1], any_node(dimension), below(dimension));
+        if (circuit != 0) {
+            *node = MAZE_CIRCUIT_NODE(circuit);
+            *channel = MAZE_CIRCUIT_CHANNEL(circuit);
+            return;
+        }
+    }
+    *node = any_node(dimension);
+    *channel = below(8);
+}
+
+static struct call on_circuit(char letter, unsigned dimension) {
+    unsigned node, channel;
+    any_circuit(dimension, &node, &channel);
+    return plain(letter, node, channel);
+}
+
+/* A number near a limit, or anywhere. */
+static unsigned odd_number(unsigned limit) {
+    switch (below(6)) {
+    case 0: return limit;
+    case 1: return limit - 1;
+    case 2: return limit + 1;
+    case 3: return 256 * (1 + below(255)) + below(limit); /* its low byte alone would pass */
+    case 4: return below(65536);
+    default: return below(limit);
+    }
+}
+
+/* A call some of whose numbers are out of range. */
+static struct call odd_call(unsigned dimension) {
+    static const uint16_t lengths[] = {0, 1, 256, MAZE_TABLE_BYTES - 1, MAZE_TABLE_BYTES + 1, MAZE_TABLE_BYTES + SPARE};
+    static const unsigned types[] = {0, 4, 1, 2, 3, 5, 8, 256, 260, 65535};
+    struct call call = any_send(dimension);
+    call.letter = "FBESSSCT"[below(8)];
+    if (call.letter == 'F') {
+        call.argument[0] = (uint16_t)(one_in(4) ? 256 + dimension : one_in(2) ? 0 : 9 + below(60000));
+    } else if (call.letter == 'S') {
+        if (one_in(3)) call.argument[0] = (uint16_t)odd_number(1u << dimension);
+        if (one_in(3)) call.argument[1] = (uint16_t)odd_number(8);
+        if (one_in(3)) call.argument[2] = (uint16_t)odd_number(1u << dimension);
+        if (one_in(3)) call.argument[3] = (uint16_t)types[below(sizeof types / sizeof *types)];
+        if (one_in(3)) call.argument[4] = (uint16_t)(one_in(4) ? 0 : odd_number(1u << dimension));
+    } else {
+        if (call.letter == 'C' || call.letter == 'T') call = on_circuit(call.letter, dimension);
+        if (one_in(2)) call.argument[0] = (uint16_t)odd_number(1u << dimension);
+        if (one_in(2)) call.argument[1] = (uint16_t)odd_number(call.letter == 'C' || call.letter == 'T' ? 8 : dimension);
+        if (call.letter == 'T' && one_in(2)) call.buffer_len = (uint16_t)below(12);
+    }
+    if (one_in(8)) call.table_len = lengths[below(sizeof lengths / sizeof *lengths)];
+    return call;
+}
+
+static struct call any_call(unsigned dimension) {
+    unsigned choice = below(100);
+    struct call call;
+    if (choice < 50) return any_send(dimension);
+    if (choice < 65) return on_circuit('C', dimension);
+    if (choice < 80) {
+        call = on_circuit('T', dimension);
+        call.buffer_len = (uint16_t)(one_in(3) ? MAZE_TRACE_BYTES : one_in(6) ? below(9) : BUFFER);
+        return call;
+    }
+    if (choice < 88) return plain('B', any_node(dimension), below(dimension));
+    if (choice < 95) return plain('E', any_node(dimension), below(dimension));
+    return odd_call(dimension);
+}
+
+/* ---- the kinds of stream; each begins after an accepted making ---- */
+
+static void mixed(unsigned dimension) {
+    unsigned count = 150 + 10 * dimension;
+    for (unsigned i = 0; i < count; i++) make_call(any_call(dimension));
+}
+
+static void refusals(unsigned dimension) {
+    for (unsigned i = 0; i < 20; i++) make_call(any_send(dimension));
+    for (unsigned i = 0; i < 100; i++) make_call(odd_call(dimension));
+}
+
+/* Sends until few links are free, then single hops until none is; then calls on what is so found. */
+static void filled(unsigned dimension) {
+    unsigned nodes = 1u << dimension, holes = one_in(2) ? 0 : 1 + below(nodes);
+    for (unsigned i = 0; i < nodes; i++) make_call(any_send(dimension));
+    for (unsigned node = 0; node < nodes; node++)
+        for (unsigned port = 0; port < dimension; port++)
+            if (MAZE_LINK_CIRCUIT(now.table[1], node, port) == 0)
+                make_call(sending(node, free_channel(node), node ^ 1u << port, one_in(2) ? 0 : 4, 1u << port));
+    for (unsigned i = 0; i < holes; i++) make_call(on_circuit('C', dimension));
+    for (unsigned i = 0; i < 40; i++) make_call(any_send(dimension));
+    for (unsigned i = 0; i < 60; i++) make_call(any_call(dimension));
+}
+
+/* Many links blocked, so that most searches come back. */
+static void thinned(unsigned dimension) {
+    unsigned nodes = 1u << dimension, share = 2 + below(4);
+    for (unsigned node = 0; node < nodes; node++)
+        for (unsigned port = 0; port < dimension; port++)
+            if (one_in(share)) make_call(plain('B', node, port));
+    for (unsigned i = 0; i < 60; i++) make_call(any_call(dimension));
+}
+
+/* The links into a target blocked or held, all or all but one, and sends from afar. */
+static void walled(unsigned dimension) {
+    unsigned all = (1u << dimension) - 1;
+    for (unsigned i = 0; i < 6; i++) {
+        unsigned target = any_node(dimension), gap = below(2 * dimension), node;
+        int hold = one_in(3);
+        for (unsigned port = 0; port < dimension; port++) {
+            node = target ^ 1u << port;
+            if (port == gap) continue;
+            if (hold) make_call(sending(node, free_channel(node), target, 0, 1u << port));
+            else make_call(plain('B', node, port));
+        }
+        for (unsigned j = 0; j < 3; j++) {
+            node = target ^ all;
+            if (!one_in(3)) node ^= 1u << below(dimension);
+            make_call(sending(node, free_channel(node), target, one_in(2) ? 0 : 4, one_in(2) ? all : any_vector(dimension, node, target)));
+        }
+        for (unsigned port = 0; port < dimension; port++) make_call(plain('E', target ^ 1u << port, port));
+    }
+}
+
+/* A place in the table where a change matters: mostly an entry that is held or one near it, of the links or of the receive channels. */
+static unsigned place(unsigned dimension) {
+    const uint8_t *table = now.table[1];
+    if (one_in(8)) return below(MAZE_TABLE_BYTES);
+    if (one_in(20)) return MAZE_DIMENSION_AT;
+    if (one_in(6)) return MAZE_ENABLED_AT + (one_in(4) ? below(MAZE_NODES) : any_node(dimension));
+    for (int tries = 0; tries < 40; tries++) {
+        unsigned node = any_node(dimension), slot = below(8), part = one_in(2) ? MAZE_LINKS_AT : MAZE_RECEIVES_AT;
+        unsigned at = part + 2 * (8 * node + slot);
+        if (table[at] != 0 || table[at + 1] != 0 || one_in(20)) return at + (one_in(4) ? 1 : 0);
+    }
+    return MAZE_LINKS_AT + below(2 * 2 * 8 * MAZE_NODES);
+}
+
+/* Changes some bytes, makes a call or two, and puts the bytes back. */
+static void changed(unsigned dimension, unsigned bytes) {
+    unsigned at[4], old[4];
+    struct call call;
+    for (unsigned i = 0; i < bytes; i++) {
+        at[i] = place(dimension);
+        old[i] = now.table[1][at[i]];
+        /* one bit, zero, the value of another place, or anything */
+        unsigned value = one_in(3) ? old[i] ^ 1u << below(8) : one_in(3) ? 0 : one_in(2) ? now.table[1][place(dimension)] : below(256);
+        make_call(plain('P', at[i], value));
+    }
+    if (bytes == 1 && now.table[1][at[0]] == old[0]) return;
+    do call = any_call(dimension);
+    while (call.letter == 'F' || call.table_len != MAZE_TABLE_BYTES);
+    make_call(call);
+    if (differs) return;
+    {
+        int table_sound = last_number != MAZE_BAD_DIMENSION && last_number != MAZE_NOT_SOUND;
+        if (bytes == 1) seen.one_changed++, seen.one_changed_sound += (unsigned)table_sound;
+        else seen.several_changed++, seen.several_changed_sound += (unsigned)table_sound;
+        /* A call that was accepted may have altered the table, so that what is put back would mean something else: begin anew instead. */
+        if (table_sound) {
+            make_call(plain('F', dimension, 0));
+            for (unsigned i = 0; i < 2 * dimension + 4; i++) make_call(any_send(dimension));
+            return;
+        }
+    }
+    for (unsigned i = bytes; i-- > 0;) make_call(plain('P', at[i], old[i]));
+}
+
+static void damaged(unsigned dimension) {
+    unsigned sends = 2 * dimension + 4 + below(1u << dimension);
+    for (unsigned i = 0; i < sends; i++) make_call(any_send(dimension));
+    for (unsigned i = 0; i < 200; i++) changed(dimension, one_in(2) ? 1 : 2 + below(3));
+}
+
+/* One entry written anew as a whole: a circuit more or less, or in another place. Two such changes may make another sound table. */
+static void rewritten(unsigned dimension) {
+    for (unsigned i = 0; i < 2 * dimension + 4; i++) make_call(any_send(dimension));
+    for (unsigned i = 0; i < 60; i++) {
+        const uint8_t *table = now.table[1];
+        unsigned node = any_node(dimension), slot = below(8), other = below(8), from = MAZE_RECEIVES_AT + 2 * (8 * node + slot), to;
+        for (int tries = 0; tries < 30 && MAZE_RECEIVE_CIRCUIT(table, node, slot) == 0; tries++)
+            node = any_node(dimension), slot = below(8), from = MAZE_RECEIVES_AT + 2 * (8 * node + slot);
+        to = MAZE_RECEIVES_AT + 2 * (8 * (one_in(10) ? any_node(dimension) : node) + other);
+        if (from != to && table[to] == 0 && table[to + 1] == 0) {
+            /* the receive channel moved: sound if it stays at its node */
+            make_call(plain('P', to, table[from]));
+            make_call(plain('P', to + 1, table[from + 1]));
+            if (one_in(4)) make_call(any_send(dimension)); /* held twice now */
+            make_call(plain('P', from, 0));
+            make_call(plain('P', from + 1, 0));
+            seen.moved++;
+        }
+        make_call(any_send(dimension));
+        if (last_number == MAZE_NOT_SOUND) {
+            make_call(plain('F', dimension, 0));
+            for (unsigned j = 0; j < 2 * dimension + 4; j++) make_call(any_send(dimension));
+        }
+        make_call(any_call(dimension));
+    }
+}
+
+static void write_entry(unsigned part, unsigned node, unsigned slot, unsigned circuit) {
+    unsigned at = part + 2 * (8 * node + slot);
+    make_call(plain('P', at, circuit % 256));
+    make_call(plain('P', at + 1, circuit / 256));
+}
+
+/* Circuits written into the table entry by entry: along any permitted path, not the first, and on any receive channel; or along one that is
+ * not quite permitted. */
+static void laid(unsigned dimension) {
+    for (unsigned i = 0; i < 40 && !differs; i++) {
+        const uint8_t *table = now.table[1];
+        unsigned source = any_node(dimension), circuit = MAZE_CIRCUIT(source, below(8)), hops = 1 + below(dimension + 1), walked = 0;
+        unsigned node[MAZE_HOPS_LARGEST + 1], port[MAZE_HOPS_LARGEST], channel = below(8), end, fault = one_in(3) ? 1 + below(5) : 0;
+        int clear = 1;
+        for (unsigned n = 0; n < MAZE_NODES; n++)
+            for (unsigned slot = 0; slot < 8; slot++)
+                if (MAZE_LINK_CIRCUIT(table, n, slot) == circuit || MAZE_RECEIVE_CIRCUIT(table, n, slot) == circuit) clear = 0;
+        node[0] = source;
+        for (unsigned hop = 0; hop < hops; hop++) {
+            do port[hop] = below(dimension);
+            while (hop > 0 && fault != 1 && walked >> port[hop] & 1);
+            if (hop > 0) walked |= 1u << port[hop];
+            if (hop == 1 && one_in(3) && fault != 1) walked = 1u << (port[hop] = port[0]); /* back through the source */
+            if (MAZE_LINK_CIRCUIT(table, node[hop], port[hop]) != 0 || !MAZE_LINK_ENABLED(table, node[hop], port[hop])) clear = 0;
+            node[hop + 1] = node[hop] ^ 1u << port[hop];
+        }
+        end = node[hops];
+        if (!clear || MAZE_RECEIVE_CIRCUIT(table, end, channel) != 0) continue;
+        seen.laid++;
+        for (unsigned hop = 0; hop < hops; hop++) write_entry(MAZE_LINKS_AT, node[hop], port[hop], circuit);
+        write_entry(MAZE_RECEIVES_AT, end, channel, circuit);
+        switch (fault) { /* 1 was a port walked twice */
+        case 2: write_entry(MAZE_LINKS_AT, node[below(hops)], port[below(hops)], 0); break;
+        case 3: write_entry(MAZE_LINKS_AT, any_node(dimension), below(8), circuit); break;
+        case 4: write_entry(MAZE_RECEIVES_AT, end, channel, 0), write_entry(MAZE_RECEIVES_AT, node[below(hops)], channel, circuit); break;
+        case 5: write_entry(MAZE_RECEIVES_AT, any_node(dimension), below(8), circuit); break;
+        default: break;
+        }
+        make_call(plain('T', source, MAZE_CIRCUIT_CHANNEL(circuit)));
+        if (last_number == MAZE_NOT_SOUND) {
+            make_call(any_call(dimension));
+            make_call(plain('F', dimension, 0));
+            continue;
+        }
+        seen.laid_sound++;
+        make_call(any_send(dimension));
+        if (one_in(2)) make_call(any_call(dimension));
+        if (one_in(3)) make_call(plain('C', source, MAZE_CIRCUIT_CHANNEL(circuit)));
+    }
+}
+
+static const struct {
+    const char *name;
+    void (*run)(unsigned);
+} kinds[] = {
+    {"mixed", mixed},   {"refusals", refusals}, {"filled", filled},       {"thinned", thinned},
+    {"walled", walled}, {"damaged", damaged},   {"rewritten", rewritten}, {"laid", laid},
+};
+
+static void print_seen(void) {
+    printf("calls compared: %lu\n", seen.calls);
+    for (int i = 0; i < 6; i++) {
+        printf("%c:", letters[i]);
+        for (int number = 0; number < 15; number++)
+            if (seen.answers[i][number]) printf("  %d: %lu", number, seen.answers[i][number]);
+        printf("\n");
+    }
+    printf("accepted opens by hops:");
+    for (int hops = 1; hops < 10; hops++) printf("  %d: %lu", hops, seen.hops[hops]);
+    printf("\nfirst hop away from the target: %lu; through the source: %lu; to the source itself: %lu\n", seen.first_hop_away,
+           seen.through_source, seen.to_itself);
+    printf("second pass accepted: %lu; second pass rejected: %lu\n", seen.second_accepted, seen.second_rejected);
+    printf("rejected after 1,000 scouts or more: %lu; after 10,000 or more: %lu; most scouts of a send: %lu\n", seen.rejected_1000,
+           seen.rejected_10000, seen.most_scouts);
+    printf("opens with nine tenths of the links held: %lu, accepted: %lu; with all held: %lu; with all receive channels held: %lu\n",
+           seen.nearly_full, seen.nearly_full_accepted, seen.full, seen.all_received);
+    printf("tables with one byte changed: %lu, still sound: %lu; with two to four: %lu, still sound: %lu; receive channels moved: %lu\n",
+           seen.one_changed, seen.one_changed_sound, seen.several_changed, seen.several_changed_sound, seen.moved);
+    printf("circuits written entry by entry: %lu, sound: %lu\n", seen.laid, seen.laid_sound);
+    printf("wrong lengths: %lu; short buffers: %lu\n", seen.wrong_length, seen.short_buffer);
+}
+
+int main(int count, char **arguments) {
+    unsigned long streams = count > 1 ? strtoul(arguments[1], NULL, 10) : 20;
+    uint64_t seed = count > 2 ? strtoull(arguments[2], NULL, 10) : 1;
+    unsigned long passed = 0;
+    for (unsigned long stream = 0; stream < streams; stream++)
+        for (size_t kind = 0; kind < sizeof kinds / sizeof *kinds; kind++)
+            for (unsigned dimension = 1; dimension <= MAZE_DIMENSION_LARGEST; dimension++) {
+                uint64_t own = seed * 1000000007u + stream * 1009 + kind * 16 + dimension;
+                random_state = own;
+                calls = 0;
+                start(&now);
+                make_call(plain('F', dimension, 0));
+                kinds[kind].run(dimension);
+                if (differs) {
+                    report(dimension, kinds[kind].name, own);
+                    printf("%lu passed, 1 failed\n", passed);
+                    return 1;
+                }
+                passed++;
+            }
+    print_seen();
+    printf("%lu passed, 0 failed\n", passed);
+    return passed == 0;
+}

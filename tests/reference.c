@@ -1,0 +1,384 @@
+/* The calls on a table once more, written for checking. Nothing here is quick, and nothing follows the library's method:
+ *
+ * - A call reads the table into a record of its own, works on that, and writes all 8,449 bytes back if it succeeds.
+ * - A pass lists every beginning of every permitted path, from the highest port down and without looking at the table. Then it looks which of
+ *   them are free, takes the first of the free paths by comparing paths as document 01 words it, and counts.
+ * - Soundness searches all the permitted paths that the links of a circuit allow, for one that uses them all. */
+#include "reference.h"
+
+#include <stdlib.h>
+#include <string.h>
+
+enum { NODES = 256, SLOTS = 8, CIRCUITS = 65536, MOST_HOPS = 9, MOST_BEGINNINGS = 123300 };
+
+struct ref_send ref_last_send;
+
+/* ---- what a table says ---- */
+
+struct cube {
+    unsigned dimension;
+    unsigned enabled[NODES];        /* bit p for the link out of port p */
+    unsigned link[NODES][SLOTS];    /* the circuit that holds it */
+    unsigned receive[NODES][SLOTS];
+};
+
+/* The bytes of a table in their order, read or written one after another. */
+static const uint8_t *take(const uint8_t *at, unsigned *number, int bytes) {
+    *number = 0;
+    for (int i = 0; i < bytes; i++) *number += (unsigned)*at++ << 8 * i;
+    return at;
+}
+
+static uint8_t *put(uint8_t *at, unsigned number, int bytes) {
+    for (int i = 0; i < bytes; i++) *at++ = (uint8_t)(number >> 8 * i & 255);
+    return at;
+}
+
+static void read_cube(struct cube *cube, const uint8_t *at) {
+    at = take(at, &cube->dimension, 1);
+    for (int n = 0; n < NODES; n++) at = take(at, &cube->enabled[n], 1);
+    for (int n = 0; n < NODES; n++)
+        for (int p = 0; p < SLOTS; p++) at = take(at, &cube->link[n][p], 2);
+    for (int n = 0; n < NODES; n++)
+        for (int c = 0; c < SLOTS; c++) at = take(at, &cube->receive[n][c], 2);
+}
+
+static void write_cube(const struct cube *cube, uint8_t *at) {
+    at = put(at, cube->dimension, 1);
+    for (int n = 0; n < NODES; n++) at = put(at, cube->enabled[n], 1);
+    for (int n = 0; n < NODES; n++)
+        for (int p = 0; p < SLOTS; p++) at = put(at, cube->link[n][p], 2);
+    for (int n = 0; n < NODES; n++)
+        for (int c = 0; c < SLOTS; c++) at = put(at, cube->receive[n][c], 2);
+}
+
+/* Of the numbers met here: dimensions, and ports and channels of a row. */
+static unsigned power(unsigned exponent) {
+    return 1u << exponent;
+}
+
+static int bit(unsigned number, unsigned place) {
+    return number / power(place) % 2 == 1;
+}
+
+/* The node that a port leads to. */
+static unsigned across(unsigned node, unsigned port) {
+    return bit(node, port) ? node - power(port) : node + power(port);
+}
+
+static int uphill(unsigned node, unsigned target, unsigned port) {
+    return bit(node, port) != bit(target, port);
+}
+
+/* ---- paths ---- */
+
+struct path {
+    unsigned char hops;
+    unsigned char ends; /* 1 if it is a permitted path, 0 if it is a beginning of longer ones only */
+    unsigned char port[MOST_HOPS];
+};
+
+static struct path beginnings[MOST_BEGINNINGS];
+static size_t listed;
+
+/* Lists the path so far, and those that go on from it: until the target is reached, by every port that is uphill there. */
+static void list_on(unsigned dimension, const struct path *so_far, unsigned node, unsigned target) {
+    struct path path = *so_far;
+    path.ends = node == target;
+    if (listed == MOST_BEGINNINGS) abort(); /* document 01: there are never more */
+    beginnings[listed++] = path;
+    if (path.ends) return;
+    path.hops++;
+    for (unsigned port = dimension; port-- > 0;) {
+        if (!uphill(node, target, port)) continue;
+        path.port[path.hops - 1] = (unsigned char)port;
+        list_on(dimension, &path, across(node, port), target);
+    }
+}
+
+/* Lists every beginning of a permitted path from a source: the first hop is any port in the send vector. */
+static void list_all(unsigned dimension, unsigned source, unsigned vector, unsigned target) {
+    struct path path = {1, 0, {0}};
+    listed = 0;
+    for (unsigned port = dimension; port-- > 0;) {
+        if (!bit(vector, port)) continue;
+        path.port[0] = (unsigned char)port;
+        list_on(dimension, &path, across(source, port), target);
+    }
+}
+
+/* How many ports are tried before this one. A send tries 0, 1 and so on; a scout that came in on port a tries a + 1, .., D - 1, 0, .., a. */
+static unsigned tried_before(unsigned dimension, const struct path *path, unsigned hop) {
+    unsigned arrival, count = 0;
+    if (hop == 0) return path->port[0];
+    arrival = path->port[hop - 1];
+    for (unsigned port = (arrival + 1) % dimension; port != path->port[hop]; port = (port + 1) % dimension) count++;
+    return count;
+}
+
+static int is_beginning(const struct path *a, const struct path *b) {
+    return a->hops <= b->hops && memcmp(a->port, b->port, a->hops) == 0;
+}
+
+static int comes_before(unsigned dimension, const struct path *a, const struct path *b) {
+    for (unsigned hop = 0; hop < a->hops && hop < b->hops; hop++)
+        if (a->port[hop] != b->port[hop]) return tried_before(dimension, a, hop) < tried_before(dimension, b, hop);
+    return a->hops < b->hops;
+}
+
+static int is_free(const struct cube *cube, unsigned node, const struct path *path) {
+    for (unsigned hop = 0; hop < path->hops; hop++) {
+        unsigned port = path->port[hop];
+        if (!bit(cube->enabled[node], port) || cube->link[node][port] != 0) return 0;
+        node = across(node, port);
+    }
+    return 1;
+}
+
+/* ---- a pass ---- */
+
+struct pass {
+    unsigned number; /* 0, 10 or 11 */
+    unsigned scouts;
+    unsigned receive;
+    struct path path;
+};
+
+static struct pass run_pass(const struct cube *cube, unsigned source, unsigned vector, unsigned target) {
+    struct pass pass = {MAZE_ROUTE_REJECTED, 0, 0, {0, 0, {0}}};
+    size_t free_ones = 0;
+    const struct path *found = NULL;
+
+    list_all(cube->dimension, source, vector, target);
+    for (size_t i = 0; i < listed; i++)
+        if (is_free(cube, source, &beginnings[i])) beginnings[free_ones++] = beginnings[i];
+    for (size_t i = 0; i < free_ones; i++)
+        if (beginnings[i].ends && (!found || comes_before(cube->dimension, &beginnings[i], found))) found = &beginnings[i];
+    for (size_t i = 0; i < free_ones; i++)
+        if (!found || comes_before(cube->dimension, &beginnings[i], found) || is_beginning(&beginnings[i], found)) pass.scouts++;
+    if (!found) return pass;
+    pass.path = *found;
+    pass.number = MAZE_RECEIVE_REJECTED;
+    for (unsigned channel = SLOTS; channel-- > 0;)
+        if (cube->receive[target][channel] == 0) pass.number = MAZE_ACCEPTED, pass.receive = channel;
+    return pass;
+}
+
+/* ---- soundness ---- */
+
+struct holding {
+    unsigned links, receives, target;
+};
+
+/* Is there a permitted path that goes on from a node after `hops` hops and ends on the target after `links` hops, all of them on links of the
+ * circuit? A permitted path uses no link twice, so these are then all its links. */
+static int goes_on(const struct cube *cube, unsigned circuit, const struct holding *held, unsigned node, unsigned hops) {
+    if (hops > 0 && node == held->target) return hops == held->links;
+    if (hops == held->links) return 0;
+    for (unsigned port = 0; port < cube->dimension; port++)
+        if (cube->link[node][port] == circuit && (hops == 0 || uphill(node, held->target, port)) &&
+            goes_on(cube, circuit, held, across(node, port), hops + 1))
+            return 1;
+    return 0;
+}
+
+static int is_sound(const struct cube *cube) {
+    static struct holding held[CIRCUITS];
+    unsigned nodes = power(cube->dimension);
+
+    for (unsigned node = 0; node < NODES; node++)
+        for (unsigned slot = 0; slot < SLOTS; slot++) {
+            int absent = node >= nodes || slot >= cube->dimension;
+            unsigned link = cube->link[node][slot], receive = cube->receive[node][slot];
+            if (absent && (bit(cube->enabled[node], slot) || link != 0)) return 0;
+            if (node >= nodes && receive != 0) return 0;
+            if (link != 0 && !bit(cube->enabled[node], slot)) return 0;
+            if (link > 8 * nodes || receive > 8 * nodes) return 0;
+        }
+
+    memset(held, 0, (8 * nodes + 1) * sizeof *held);
+    for (unsigned node = 0; node < nodes; node++)
+        for (unsigned slot = 0; slot < SLOTS; slot++) {
+            held[cube->link[node][slot]].links++;
+            held[cube->receive[node][slot]].receives++;
+            held[cube->receive[node][slot]].target = node;
+        }
+    for (unsigned node = 0; node < nodes; node++)
+        for (unsigned channel = 0; channel < SLOTS; channel++) {
+            unsigned circuit = 8 * node + channel + 1;
+            const struct holding *h = &held[circuit];
+            if (h->links == 0 && h->receives == 0) continue;
+            if (h->receives != 1 || !goes_on(cube, circuit, h, node, 0)) return 0;
+        }
+    return 1;
+}
+
+/* ---- the calls ---- */
+
+/* A call's tests in rising order, and what it reads. The first test that applies is kept. */
+struct call {
+    unsigned number;
+    struct cube cube;
+};
+
+static void test(struct call *call, int applies, unsigned number) {
+    if (call->number == MAZE_ACCEPTED && applies) call->number = number;
+}
+
+/* Tests 1 to 3. Only a table of the right length is read. */
+static void begin(struct call *call, const uint8_t *table, size_t table_len) {
+    call->number = MAZE_ACCEPTED;
+    memset(&call->cube, 0, sizeof call->cube);
+    test(call, table_len != 8449, MAZE_BAD_LENGTH);
+    if (call->number == MAZE_ACCEPTED) read_cube(&call->cube, table);
+    test(call, call->cube.dimension < 1 || call->cube.dimension > 8, MAZE_BAD_DIMENSION);
+    if (call->number == MAZE_ACCEPTED) test(call, !is_sound(&call->cube), MAZE_NOT_SOUND);
+}
+
+static void test_node(struct call *call, unsigned node) {
+    if (call->number == MAZE_ACCEPTED) test(call, node >= power(call->cube.dimension), MAZE_BAD_NODE);
+}
+
+/* Whether a circuit stands on any link. */
+static int is_open(const struct cube *cube, unsigned circuit) {
+    for (unsigned node = 0; node < NODES; node++)
+        for (unsigned port = 0; port < SLOTS; port++)
+            if (cube->link[node][port] == circuit) return 1;
+    return 0;
+}
+
+uint16_t ref_make(uint8_t *table, size_t table_len, uint16_t dimension) {
+    struct cube cube;
+    if (table_len != 8449) return MAZE_BAD_LENGTH;
+    if (dimension < 1 || dimension > 8) return MAZE_BAD_DIMENSION;
+    memset(&cube, 0, sizeof cube);
+    cube.dimension = dimension;
+    for (unsigned node = 0; node < power(dimension); node++)
+        for (unsigned port = 0; port < dimension; port++) cube.enabled[node] += power(port);
+    write_cube(&cube, table);
+    return MAZE_ACCEPTED;
+}
+
+/* Blocking and unblocking: `enable` is the bit that the link gets. */
+static uint16_t set_link(uint8_t *table, size_t table_len, unsigned node, unsigned port, int enable) {
+    struct call call;
+    begin(&call, table, table_len);
+    test_node(&call, node);
+    test(&call, port >= call.cube.dimension, MAZE_BAD_PORT);
+    if (call.number == MAZE_ACCEPTED) test(&call, !enable && call.cube.link[node][port] != 0, MAZE_LINK_HELD);
+    if (call.number == MAZE_ACCEPTED) {
+        if (bit(call.cube.enabled[node], port)) call.cube.enabled[node] -= power(port);
+        if (enable) call.cube.enabled[node] += power(port);
+        write_cube(&call.cube, table);
+    }
+    return (uint16_t)call.number;
+}
+
+uint16_t ref_block(uint8_t *table, size_t table_len, uint16_t node, uint16_t port) {
+    return set_link(table, table_len, node, port, 0);
+}
+
+uint16_t ref_unblock(uint8_t *table, size_t table_len, uint16_t node, uint16_t port) {
+    return set_link(table, table_len, node, port, 1);
+}
+
+maze_opened ref_open(uint8_t *table, size_t table_len, uint16_t node, uint16_t channel, uint16_t target, uint16_t type, uint16_t vector) {
+    maze_opened answer = {0, 0, 0, 0};
+    struct call call;
+    unsigned circuit, at;
+
+    begin(&call, table, table_len);
+    test_node(&call, node);
+    test_node(&call, target);
+    test(&call, channel > 7, MAZE_BAD_CHANNEL);
+    test(&call, type != 0 && type != 4, MAZE_BAD_ROUTING_TYPE);
+    if (call.number == MAZE_ACCEPTED) test(&call, vector == 0 || vector >= power(call.cube.dimension), MAZE_BAD_SEND_VECTOR);
+    circuit = 8u * node + channel + 1u;
+    if (call.number == MAZE_ACCEPTED) test(&call, is_open(&call.cube, circuit), MAZE_CHANNEL_IN_USE);
+    if (call.number == MAZE_ACCEPTED) {
+        struct pass pass = run_pass(&call.cube, node, vector, target);
+        answer.scouts = pass.scouts;
+        ref_last_send.passes = 1;
+        if (pass.number != MAZE_ACCEPTED && type == 4) {
+            unsigned others = 0;
+            for (unsigned port = 0; port < call.cube.dimension; port++)
+                if (!bit(vector, port)) others += power(port);
+            pass = run_pass(&call.cube, node, others, target);
+            answer.scouts += pass.scouts;
+            ref_last_send.passes = 2;
+        }
+        ref_last_send.hops = pass.path.hops;
+        memcpy(ref_last_send.ports, pass.path.port, sizeof ref_last_send.ports);
+        call.number = pass.number;
+        if (pass.number == MAZE_ACCEPTED) {
+            answer.hops = pass.path.hops;
+            answer.receive = (uint16_t)pass.receive;
+            at = node;
+            for (unsigned hop = 0; hop < pass.path.hops; hop++) {
+                call.cube.link[at][pass.path.port[hop]] = circuit;
+                at = across(at, pass.path.port[hop]);
+            }
+            call.cube.receive[at][pass.receive] = circuit;
+            write_cube(&call.cube, table);
+        }
+    }
+    answer.number = (uint16_t)call.number;
+    return answer;
+}
+
+uint16_t ref_close(uint8_t *table, size_t table_len, uint16_t node, uint16_t channel) {
+    struct call call;
+    unsigned circuit = 8u * node + channel + 1u;
+    begin(&call, table, table_len);
+    test_node(&call, node);
+    test(&call, channel > 7, MAZE_BAD_CHANNEL);
+    if (call.number == MAZE_ACCEPTED) test(&call, !is_open(&call.cube, circuit), MAZE_NO_CIRCUIT);
+    if (call.number == MAZE_ACCEPTED) {
+        for (unsigned n = 0; n < NODES; n++)
+            for (unsigned slot = 0; slot < SLOTS; slot++) {
+                if (call.cube.link[n][slot] == circuit) call.cube.link[n][slot] = 0;
+                if (call.cube.receive[n][slot] == circuit) call.cube.receive[n][slot] = 0;
+            }
+        write_cube(&call.cube, table);
+    }
+    return (uint16_t)call.number;
+}
+
+/* The permitted path of a sound circuit: of all permitted paths to the node of its receive channel, the one that stands on its links. */
+static struct path path_of(const struct cube *cube, unsigned source, unsigned circuit) {
+    unsigned target = 0, links = 0;
+    for (unsigned node = 0; node < NODES; node++)
+        for (unsigned slot = 0; slot < SLOTS; slot++) {
+            if (cube->receive[node][slot] == circuit) target = node;
+            links += cube->link[node][slot] == circuit;
+        }
+    list_all(cube->dimension, source, power(cube->dimension) - 1, target);
+    for (size_t i = 0; i < listed; i++) {
+        unsigned node = source, on = 0;
+        if (!beginnings[i].ends || beginnings[i].hops != links) continue;
+        for (unsigned hop = 0; hop < links; hop++) {
+            on += cube->link[node][beginnings[i].port[hop]] == circuit;
+            node = across(node, beginnings[i].port[hop]);
+        }
+        if (on == links) return beginnings[i];
+    }
+    abort(); /* the circuit was not sound */
+}
+
+maze_traced ref_trace(const uint8_t *table, size_t table_len, uint16_t node, uint16_t channel, uint8_t *buffer, size_t buffer_len) {
+    maze_traced answer = {0, 0};
+    struct call call;
+    unsigned circuit = 8u * node + channel + 1u;
+    begin(&call, table, table_len);
+    test_node(&call, node);
+    test(&call, channel > 7, MAZE_BAD_CHANNEL);
+    if (call.number == MAZE_ACCEPTED) test(&call, !is_open(&call.cube, circuit), MAZE_NO_CIRCUIT);
+    test(&call, buffer_len < 9, MAZE_BUFFER_SHORT);
+    if (call.number == MAZE_ACCEPTED) {
+        struct path path = path_of(&call.cube, node, circuit);
+        for (unsigned hop = 0; hop < path.hops; hop++) buffer[hop] = path.port[hop];
+        answer.hops = path.hops;
+    }
+    answer.number = (uint16_t)call.number;
+    return answer;
+}

@@ -1,0 +1,23 @@
+/* The calls on a table once more, written for checking: an independent reading of document 01 that shares nothing with the library but the
+ * header's names. Signatures and answers are those of maze.h. */
+#ifndef REFERENCE_H
+#define REFERENCE_H
+
+#include <maze.h>
+
+uint16_t ref_make(uint8_t *table, size_t table_len, uint16_t dimension);
+uint16_t ref_block(uint8_t *table, size_t table_len, uint16_t node, uint16_t port);
+uint16_t ref_unblock(uint8_t *table, size_t table_len, uint16_t node, uint16_t port);
+maze_opened ref_open(uint8_t *table, size_t table_len, uint16_t node, uint16_t channel, uint16_t target, uint16_t type, uint16_t vector);
+uint16_t ref_close(uint8_t *table, size_t table_len, uint16_t node, uint16_t channel);
+maze_traced ref_trace(const uint8_t *table, size_t table_len, uint16_t node, uint16_t channel, uint8_t *buffer, size_t buffer_len);
+
+/* What the last open that came to its search did; for counting which cases a test has seen. */
+struct ref_send {
+    unsigned passes;                  /* 1 or 2 */
+    unsigned hops;                    /* of the path found in the last pass; 0 if there is none */
+    uint8_t ports[MAZE_HOPS_LARGEST];
+};
+extern struct ref_send ref_last_send;
+
+#endif

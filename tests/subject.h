@@ -1,0 +1,32 @@
+/* What a test of the calls is compiled against: the library, or one of the two C versions, to try the tests on themselves. */
+#ifndef SUBJECT_H
+#define SUBJECT_H
+
+#include <maze.h>
+
+#if defined SUBJECT_BASELINE || defined SUBJECT_REFERENCE
+#include "../bench/baseline.h"
+#define maze_word_read base_word_read
+#define maze_word_write base_word_write
+#endif
+
+#ifdef SUBJECT_BASELINE
+#define maze_make base_make
+#define maze_block base_block
+#define maze_unblock base_unblock
+#define maze_open base_open
+#define maze_close base_close
+#define maze_trace base_trace
+#endif
+
+#ifdef SUBJECT_REFERENCE
+#include "reference.h"
+#define maze_make ref_make
+#define maze_block ref_block
+#define maze_unblock ref_unblock
+#define maze_open ref_open
+#define maze_close ref_close
+#define maze_trace ref_trace
+#endif
+
+#endif
