@@ -2,12 +2,15 @@
 -- Assumes nothing.
 use mathlib.Core.Path.{_≡_, refl, ap, ap₂, sym, _∙_, subst}
 use mathlib.Core.Logic.{_⊎_, inl, inr, ⊎-elim, _≢_}
+use mathlib.Core.Bool.{false, not, _&&_}
 use mathlib.Core.List.{List, [], _∷_}
 use Prim.Native.Nat.{ℕ, _^_, _≤_, _<_}
 use native.Mathlib.Omega.{arith}
+use lib.Dec.{leb}
 use lib.ListN.{length}
+use borrow.Author.Tests.{le-leb}
 use Rattle.common.specs.Tests.{refusal}
-use Rattle.common.proofs.Tests.{same?}
+use Rattle.common.proofs.Tests.{same?, passed, accepted}
 use Rattle.cube.specs.Cube.{circuitOf}
 use Rattle.paths.specs.Network.{Path}
 use Rattle.paths.specs.Send.{Sent, answered}
@@ -23,7 +26,7 @@ use Rattle.ownership.specs.History.{History, askedOn, stoppedOn, sendOn,
 use Rattle.ownership.specs.Lists.{tableAfter, tableGives, historyAfter, historyGives, viewOf, bytesOf, Valid, Covered, Agrees, Accepted}
 use Rattle.ownership.proofs.Update.{updated}
 use Rattle.ownership.proofs.Range.{Bytes}
-use Rattle.ownership.proofs.Stops.{Allowed, allowed, none-stops, tests-pass, stopped-is}
+use Rattle.ownership.proofs.Stops.{Allowed, allowed, none-stops, making-stopped, tests-pass, stopped-is}
 use Rattle.ownership.proofs.Carried.{called-carried, called-stopped, called-shows, called-bytes, made-shows}
 use Rattle.ownership.proofs.Sameness.{send-same}
 use Rattle.ownership.proofs.Standing.{valid-sound}
@@ -129,6 +132,14 @@ covered-agrees calls b h k =
 -- an accepted call is one that no test stops, or a send that goes through
 accepted-passes : (b : List ℕ) (a : Call) → Accepted b a → stoppedAt b a ≡ 0
 accepted-passes b a e = ⊎-elim (λ z. z) (λ f. absurd (f (sym (ap (λ (x : Done). x .given .answer .number) (called-stopped b a f)) ∙ e))) (same? (stoppedAt b a) 0)
+
+-- a making of a dimension from 1 to 8 is accepted on any table of the right length
+pub making-accepted : (b : List ℕ) (D : ℕ) → length b ≡ tableLength → 1 ≤ D → D ≤ 8 → Accepted b (making D)
+unfolding carriedOut callTests
+making-accepted b D long l m =
+    let inside : not (leb 1 D && leb D 8) ≡ false = ap not (ap₂ _&&_ (le-leb 1 D l) (le-leb D 8 m)) in
+    let z : stoppedAt b (making D) ≡ 0 = making-stopped b long D ∙ passed 2 [] inside ∙ accepted in
+    ap (λ (x : Done). x .given .answer .number) (called-carried b (making D) z)
 
 -- An accepted making covers any bytes, whatever the table and the history were.
 module _ (b : List ℕ) (h : History) (D : ℕ) (e : Accepted b (making D)) where

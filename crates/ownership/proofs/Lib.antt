@@ -15,3 +15,4 @@ pub mod Stops
 pub mod Carried
 pub mod Agreement
 pub mod Corollaries
+pub mod Rising

@@ -4,4 +4,3 @@ pub mod OnTable
 pub mod History
 pub mod Lists
 pub mod Gloss
-pub mod Examples

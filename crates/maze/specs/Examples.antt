@@ -1,0 +1,84 @@
+-- Document 01, "Examples at the edges": all those marked P, as a single list of inputs and results under one claim that computes. What a table gives is what the
+-- history gives (demand-3), so the calls are computed on the history.
+-- Assumes nothing.
+use mathlib.Core.Path.{_≡_, refl}
+use mathlib.Core.List.{List, [], _∷_, _++_, map}
+use Prim.Native.Nat.{ℕ}
+use lib.ListN.{drop}
+use Rattle.common.specs.Lists.{keep, from, any}
+use Rattle.common.specs.Tests.{refusal}
+use Rattle.cube.specs.Bits.{bitAt, has, flip}
+use Rattle.cube.specs.Cube.{uphill}
+use Rattle.cube.specs.Helical.{helical}
+use Rattle.paths.specs.Network.{offered, end, links, hasLink, freePath}
+use Rattle.paths.specs.Pass.{over, ways, beginnings, scan, whole, attempt, pass, scouts}
+use Rattle.paths.specs.Send.{received, outcome, goesOn, runs, answered}
+use Rattle.paths.specs.CubeNetwork.{network, sendPorts, otherPorts, maze, alternateMaze, send}
+use Rattle.table.specs.View.{lowest}
+use Rattle.command_word.specs.Commands.{commands, valuesIn, values, reserved}
+use Rattle.command_word.specs.Word.{readTests, carriedOf, reading, noReading, readWord, writeTests, writing, noWriting, writeWord}
+use Rattle.ownership.specs.Calls.{Call, making, blocking, unblocking, opening, closing, tracing, Given, written, callTests, lent}
+use Rattle.ownership.specs.History.{History, holdsLink, holdsReceive, belongs, enabledOn, heldOn, freeOn, takenOn, openOn, receiveOn, listed, askedOn, stoppedOn, sendOn, adds, follows, gives, told}
+use Rattle.ownership.specs.Lists.{historyGives}
+
+-- an input: a list of calls, a word to read, a command and a carried number to write
+pub data Input : Type 0 where
+  calls : List Call → Input
+  read : ℕ → Input
+  write : ℕ → ℕ → Input
+
+-- the history before a making does not matter
+abbrev before : History
+before = record { dimension = 0; blocked = []; circuits = [] }
+
+-- what a call gave: number, hops, receive channel, scouts, and the buffer
+abbrev shown : Given → List ℕ
+shown g = g .answer .number ∷ g .answer .hops ∷ g .answer .receive ∷ g .answer .scouts ∷ g .buffer
+
+abbrev result : Input → List (List ℕ)
+result (calls cs) = map shown (historyGives before cs)
+result (read w) = (readWord w .number ∷ readWord w .command ∷ readWord w .carried ∷ []) ∷ []
+result (write c k) = (writeWord c k .number ∷ writeWord c k .word ∷ []) ∷ []
+
+-- a trace of send channel c of node 0, into nine bytes that are 9
+abbrev trace : ℕ → Call
+trace c = tracing 0 c (9 ∷ 9 ∷ 9 ∷ 9 ∷ 9 ∷ 9 ∷ 9 ∷ 9 ∷ 9 ∷ [])
+
+abbrev inputs : List Input
+inputs =
+    -- 1: D 3, 0 to 7, vector 7, nothing blocked
+    calls (making 3 ∷ opening 0 0 7 0 7 ∷ trace 0 ∷ [])
+    -- 2: figure 7, links 1 to 5 and 3 to 7 blocked
+    ∷ calls (making 3 ∷ blocking 1 2 ∷ blocking 3 2 ∷ opening 0 0 7 0 7 ∷ trace 0 ∷ [])
+    -- 3: D 1, node 0 to itself, vector 1
+    ∷ calls (making 1 ∷ opening 0 0 0 0 1 ∷ trace 0 ∷ [])
+    -- 4: D 2, 0 to 1, vector 2
+    ∷ calls (making 2 ∷ opening 0 0 1 0 2 ∷ trace 0 ∷ [])
+    -- 5: as 4, link 2 to 3 blocked
+    ∷ calls (making 2 ∷ blocking 2 0 ∷ opening 0 0 1 0 2 ∷ trace 0 ∷ [])
+    -- 6: D 2, 0 to 1, vector 1, link 0 to 1 blocked; type 0, then type 4
+    ∷ calls (making 2 ∷ blocking 0 0 ∷ opening 0 0 1 0 1 ∷ opening 0 0 1 4 1 ∷ trace 0 ∷ [])
+    -- 7: D 1, 0 to 1, vector 1, on channel 0, then on channel 1; after closing channel 0, channel 1
+    ∷ calls (making 1 ∷ opening 0 0 1 0 1 ∷ opening 0 1 1 0 1 ∷ closing 0 0 ∷ opening 0 1 1 0 1 ∷ [])
+    -- 8: words read and written
+    ∷ read 2175 ∷ write 1 0 ∷ read 2437 ∷ read 3649 ∷ read 3136 ∷ read 2240
+    ∷ []
+
+abbrev done : List ℕ
+done = 0 ∷ 0 ∷ 0 ∷ 0 ∷ []
+
+abbrev results : List (List (List ℕ))
+results =
+    (done ∷ (0 ∷ 3 ∷ 0 ∷ 3 ∷ []) ∷ (0 ∷ 3 ∷ 0 ∷ 0 ∷ 0 ∷ 1 ∷ 2 ∷ 9 ∷ 9 ∷ 9 ∷ 9 ∷ 9 ∷ 9 ∷ []) ∷ [])
+    ∷ (done ∷ done ∷ done ∷ (0 ∷ 3 ∷ 0 ∷ 5 ∷ []) ∷ (0 ∷ 3 ∷ 0 ∷ 0 ∷ 1 ∷ 2 ∷ 0 ∷ 9 ∷ 9 ∷ 9 ∷ 9 ∷ 9 ∷ 9 ∷ []) ∷ [])
+    ∷ (done ∷ (0 ∷ 2 ∷ 0 ∷ 2 ∷ []) ∷ (0 ∷ 2 ∷ 0 ∷ 0 ∷ 0 ∷ 0 ∷ 9 ∷ 9 ∷ 9 ∷ 9 ∷ 9 ∷ 9 ∷ 9 ∷ []) ∷ [])
+    ∷ (done ∷ (0 ∷ 3 ∷ 0 ∷ 3 ∷ []) ∷ (0 ∷ 3 ∷ 0 ∷ 0 ∷ 1 ∷ 0 ∷ 1 ∷ 9 ∷ 9 ∷ 9 ∷ 9 ∷ 9 ∷ 9 ∷ []) ∷ [])
+    ∷ (done ∷ done ∷ (0 ∷ 3 ∷ 0 ∷ 3 ∷ []) ∷ (0 ∷ 3 ∷ 0 ∷ 0 ∷ 1 ∷ 1 ∷ 0 ∷ 9 ∷ 9 ∷ 9 ∷ 9 ∷ 9 ∷ 9 ∷ []) ∷ [])
+    ∷ (done ∷ done ∷ (10 ∷ 0 ∷ 0 ∷ 0 ∷ []) ∷ (0 ∷ 3 ∷ 0 ∷ 3 ∷ []) ∷ (0 ∷ 3 ∷ 0 ∷ 0 ∷ 1 ∷ 0 ∷ 1 ∷ 9 ∷ 9 ∷ 9 ∷ 9 ∷ 9 ∷ 9 ∷ []) ∷ [])
+    ∷ (done ∷ (0 ∷ 1 ∷ 0 ∷ 1 ∷ []) ∷ (10 ∷ 0 ∷ 0 ∷ 0 ∷ []) ∷ done ∷ (0 ∷ 1 ∷ 0 ∷ 1 ∷ []) ∷ [])
+    ∷ ((0 ∷ 1 ∷ 0 ∷ []) ∷ []) ∷ ((0 ∷ 2112 ∷ []) ∷ []) ∷ ((0 ∷ 6 ∷ 5 ∷ []) ∷ []) ∷ ((0 ∷ 9 ∷ 1 ∷ []) ∷ []) ∷ ((17 ∷ 0 ∷ 0 ∷ []) ∷ []) ∷ ((18 ∷ 0 ∷ 0 ∷ []) ∷ [])
+    ∷ []
+
+pub examples : map result inputs ≡ results
+unfolding historyGives told stoppedOn callTests refusal askedOn openOn heldOn takenOn any holdsLink holdsReceive belongs enabledOn freeOn receiveOn lowest listed sendOn adds follows gives written lent send maze alternateMaze network sendPorts otherPorts keep from has flip uphill helical offered end links hasLink freePath over ways beginnings scan whole attempt pass scouts received outcome goesOn runs answered commands valuesIn values reserved readTests reading readWord writeTests writing writeWord
+examples = refl

@@ -1,0 +1,38 @@
+-- "Within one call the tests run in rising order of number": the numbers of the tests of each call, in the order in which they are made.
+-- Assumes nothing.
+use mathlib.Core.Path.{_≡_, refl}
+use mathlib.Core.List.{List, [], _∷_, _++_, map}
+use Prim.Native.Nat.{ℕ}
+use Rattle.common.specs.Tests.{Test}
+use Rattle.table.specs.SoundTest.{tableTests}
+use Rattle.table.specs.View.{view}
+use Rattle.ownership.specs.Calls.{Call, making, blocking, unblocking, opening, closing, tracing, callTests}
+use Rattle.ownership.specs.OnTable.{askedOf, lentTests}
+
+abbrev numbers : List ℕ → Call → List ℕ
+numbers b a = map (λ (t : Test). t .number) (lentTests b a ++ callTests (askedOf (view b)) a)
+
+module _ (b : List ℕ) where
+  making-numbers : (D : ℕ) → numbers b (making D) ≡ 1 ∷ 2 ∷ []
+  unfolding lentTests callTests
+  making-numbers D = refl
+
+  blocking-numbers : (n p : ℕ) → numbers b (blocking n p) ≡ 1 ∷ 2 ∷ 3 ∷ 4 ∷ 6 ∷ 13 ∷ []
+  unfolding lentTests tableTests callTests
+  blocking-numbers n p = refl
+
+  unblocking-numbers : (n p : ℕ) → numbers b (unblocking n p) ≡ 1 ∷ 2 ∷ 3 ∷ 4 ∷ 6 ∷ []
+  unfolding lentTests tableTests callTests
+  unblocking-numbers n p = refl
+
+  opening-numbers : (s c t y v : ℕ) → numbers b (opening s c t y v) ≡ 1 ∷ 2 ∷ 3 ∷ 4 ∷ 5 ∷ 7 ∷ 8 ∷ 9 ∷ []
+  unfolding lentTests tableTests callTests
+  opening-numbers s c t y v = refl
+
+  closing-numbers : (s c : ℕ) → numbers b (closing s c) ≡ 1 ∷ 2 ∷ 3 ∷ 4 ∷ 5 ∷ 12 ∷ []
+  unfolding lentTests tableTests callTests
+  closing-numbers s c = refl
+
+  tracing-numbers : (s c : ℕ) (buffer : List ℕ) → numbers b (tracing s c buffer) ≡ 1 ∷ 2 ∷ 3 ∷ 4 ∷ 5 ∷ 12 ∷ 14 ∷ []
+  unfolding lentTests tableTests callTests
+  tracing-numbers s c buffer = refl
