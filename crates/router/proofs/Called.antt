@@ -8,7 +8,6 @@ use Prim.Native.Nat.{ℕ, _^_, _≤_, _<_}
 use native.Mathlib.Omega.{arith}
 use lib.Dec.{eqb, ltb, leb}
 use lib.ListN.{length}
-use lib.Pow.{pow-mono}
 use borrow.Author.Tests.{eq-eqb, ne-eqb, le-leb, lt-leb}
 use Rattle.common.specs.Tests.{Test, test, refusal}
 use Rattle.common.proofs.Tests.{refused, passed, accepted}
@@ -19,10 +18,9 @@ use Rattle.table.specs.View.{view}
 use Rattle.table.specs.SoundTest.{tableTests, pathOf, isEmpty}
 use Rattle.ownership.specs.Calls.{Call, making, blocking, unblocking, opening, closing, tracing, Asked, only, written, node, nodes, channel, port, noCircuit, linkHeld, shortBuffer, callTests, lent}
 use Rattle.search.specs.Settle.{Settled, settled}
-use Rattle.search.specs.Sent.{sentOn, sends, MaySend}
+use Rattle.search.specs.Sent.{sentOn, sends}
 use Rattle.ownership.specs.OnTable.{openIn, sendIn, askedOf, lentTests, stoppedAt, Done, done, carriedOut, called}
 use Rattle.ownership.proofs.Carried.{called-carried, called-stopped}
-use Rattle.router.proofs.Stopping.{Inside}
 use Rattle.router.specs.Portions.{askedAt, nodeTests, channelTests, linkTests, blockTests, closeTests, traceTests, typeTests, vectorTests, openTests}
 
 -- the test of one node is that of two which are the same
@@ -140,20 +138,6 @@ module _ (b : List ℕ) where
       → done b₁ (record { number = x; hops = h; receive = r; scouts = n }) [] ≡ called b (opening s c t y v)
   unfolding carriedOut sends sentOn sendIn shown
   call-opens s c t y v e z k q x r h n b₁ g = ap shown (g ∙ ap (λ i. sends b s t i y v) q) ∙ call-carried (opening s c t y v) (e ∙ open-tests s c t y v) z
-
-  pub may-send : (s c t v : ℕ) → Inside b s t × (c < 8) × (v < 2 ^ dimensionAt b) → (k : ℕ) → k ≡ circuitOf s c → MaySend b s t k v
-  may-send s c t v h k q =
-      let nodes : 2 ^ dimensionAt b ≤ 256 = pow-mono {i = dimensionAt b} {j = 8} (h .0 .most) in
-      rw q
-      record {
-        bytes = h .0 .long;
-        fits = h .0 .most;
-        source = h .0 .source;
-        target = h .0 .target;
-        ports = h .2;
-        circuit = λ z. omega arith;
-        small = omega (arith, nodes, h .0 .source, h .1);
-      }
 
   -- tracing
   pub trace-refused : (s c : ℕ) (buffer : List ℕ) {m : ℕ} → m ≡ refusal (traceTests b s c buffer) → m ≢ 0 → done b (only m) buffer ≡ called b (tracing s c buffer)

@@ -85,6 +85,7 @@ module _ (b : List ℕ) where
 -- What is known of a table and its nodes once the tests of the nodes have passed, of a channel, of a port.
 pub record Inside (b : List ℕ) (s t : ℕ) : Type 0 where
   pub long : length b ≡ tableLength
+  pub least : 1 ≤ dimensionAt b
   pub most : dimensionAt b ≤ 8
   pub source : s < 2 ^ dimensionAt b
   pub target : t < 2 ^ dimensionAt b
@@ -99,7 +100,7 @@ module _ (b : List ℕ) (s t : ℕ) where
       let r = refusal-both (tableTests b) (nodes (askedAt b) s t ∷ []) (table-numbered b) (sym e ∙ z) in
       let p = pass-tests b (r .0) in
       let q = neither (not (ltb s (2 ^ dimensionAt b))) (not (ltb t (2 ^ dimensionAt b))) (first-passed _ 4 [] (λ z. omega arith) (r .1) .0) in
-      record { long = p .0; most = p .2; source = below s _ (q .0); target = below t _ (q .1) }
+      record { long = p .0; least = p .1; most = p .2; source = below s _ (q .0); target = below t _ (q .1) }
 
   pub channel-passed : (c : ℕ) {n : ℕ} → n ≡ refusal (channelTests b s t c) → n ≡ 0 → Inside b s t × (c < 8)
   unfolding channelTests
@@ -112,6 +113,10 @@ unfolding linkTests askedAt askedOf view
 link-passed b m p e z =
     let r = refusal-both (nodeTests b m m) (port (askedAt b) p ∷ []) (node-numbered b m m) (sym e ∙ z) in
     (node-passed b m m refl (r .0), below p _ (first-passed (not (ltb p (dimensionAt b))) 6 [] (λ z. omega arith) (r .1) .0))
+
+-- A cube has 2 to 256 nodes.
+pub node-room : (b : List ℕ) (s t : ℕ) → Inside b s t → (2 ≤ 2 ^ dimensionAt b) × (2 ^ dimensionAt b ≤ 256)
+node-room b s t h = (pow-mono {i = 1} {j = dimensionAt b} (h .least), pow-mono {i = dimensionAt b} {j = 8} (h .most))
 
 -- A link of the cube lies in the table.
 pub link-within : (b : List ℕ) (m p : ℕ) → Inside b m m × (p < dimensionAt b) → Within b m p

@@ -1,7 +1,8 @@
 -- `router::calls::open` meets its contract: its tests, then the send of its routing type.
 -- Assumes nothing.
-use Rattle.router.proofs.Stopping.{open-passed, small-source}
-use Rattle.router.proofs.Called.{open-refused, call-opens, may-send}
+use native.Mathlib.Omega.{arith}
+use Rattle.router.proofs.Stopping.{open-passed, small-source, node-room}
+use Rattle.router.proofs.Called.{open-refused, call-opens}
 use borrow.Author.Needs.{needs}
 use Rattle.router.proofs.calls.open.Statement.{statement}
 use Rattle.router.proofs.calls.open.Tie as tie
@@ -30,7 +31,17 @@ send-requires c κs =
     let m = c .before in
     let k = m .before .before in
     let s = k .before .before .before in
-    may-send (s .args .t .now) (s .args .source .0) (s .args .channel) (s .args .target .0) (s .args .vector) (open-passed (s .args .t .now) (s .args .source .0) (s .args .channel) (s .args .target .0) (s .args .routing) (s .args .vector) (k .«open» .ensures) (m .before .if1 .left)) (m .circuit-of .result .0) (m .circuit-of .ensures)
+    let r = open-passed (s .args .t .now) (s .args .source .0) (s .args .channel) (s .args .target .0) (s .args .routing) (s .args .vector) (k .«open» .ensures) (m .before .if1 .left) in
+    let nodes = node-room (s .args .t .now) (s .args .source .0) (s .args .target .0) (r .0) in
+    record {
+      bytes = r .0 .long;
+      fits = r .0 .most;
+      source = r .0 .source;
+      target = r .0 .target;
+      ports = omega (arith, nodes .0, r .2);
+      circuit = λ z. omega (arith, m .circuit-of .ensures, z);
+      small = omega (arith, nodes .1, r .0 .source, r .1, m .circuit-of .ensures);
+    }
 
 same-length-2 : tie.Need-same-length-2
 same-length-2 c = search needs
