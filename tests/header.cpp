@@ -1,0 +1,35 @@
+/* The header as C++ sees it: it compiles there, and the calls link by their C names. */
+#include "maze.h"
+
+#include <cstdio>
+#include <vector>
+
+int main() {
+    std::vector<uint8_t> table(MAZE_TABLE_BYTES);
+    uint8_t ports[MAZE_TRACE_BYTES] = {0};
+    unsigned passed = 0, failed = 0;
+    auto check = [&](bool good, const char *what) {
+        if (good) {
+            ++passed;
+        } else {
+            ++failed;
+            std::printf("header.cpp: %s\n", what);
+        }
+    };
+
+    check(maze_make(table.data(), table.size(), 3) == MAZE_ACCEPTED, "make");
+    check(maze_block(table.data(), table.size(), 1, 2) == MAZE_ACCEPTED, "block");
+    check(maze_block(table.data(), table.size(), 3, 2) == MAZE_ACCEPTED, "block");
+    const maze_opened opened = maze_open(table.data(), table.size(), 0, 0, 7, MAZE_TYPE_MAZE, 7);
+    check(opened.number == MAZE_ACCEPTED && opened.hops == 3 && opened.receive == 0 && opened.scouts == 5, "open");
+    const maze_traced traced = maze_trace(table.data(), table.size(), 0, 0, ports, sizeof ports);
+    check(traced.number == MAZE_ACCEPTED && traced.hops == 3 && ports[0] == 1 && ports[1] == 2 && ports[2] == 0, "trace");
+    check(maze_close(table.data(), table.size(), 0, 0) == MAZE_ACCEPTED, "close");
+    check(maze_close(table.data(), table.size(), 0, 0) == MAZE_NO_CIRCUIT, "close again");
+    check(maze_unblock(table.data(), table.size(), 1, 2) == MAZE_ACCEPTED, "unblock");
+    check(maze_word_read(2437).command == 6, "read a word");
+    check(maze_word_write(1, 0).word == 2112, "write a word");
+
+    std::printf("%u passed, %u failed\n", passed, failed);
+    return failed != 0;
+}
