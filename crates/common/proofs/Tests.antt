@@ -2,8 +2,8 @@
 -- Assumes nothing.
 use mathlib.Core.Path.{_≡_, refl, sym, _∙_}
 use mathlib.Core.Logic.{_⊎_, inl, inr, _≢_}
-use mathlib.Core.Bool.{Bool, true, false, _&&_, and-eq-true-iff, true≢false}
-use mathlib.Core.List.{List, [], _∷_}
+use mathlib.Core.Bool.{Bool, true, false, cond, _&&_, _||_, and-eq-true-iff, true≢false}
+use mathlib.Core.List.{List, [], _∷_, _++_}
 use Prim.Native.Nat.{ℕ, _<_}
 use lib.Dec.{eqb, ltb}
 use borrow.Author.Tests.{eqb-true, eqb-false, ltb-true}
@@ -25,6 +25,11 @@ clash e f = true≢false (sym e ∙ f)
 pub is-false : (b : Bool) → (b ≡ true → ⊥) → b ≡ false
 is-false true h = absurd (h refl)
 is-false false h = refl
+
+-- neither of two tests applies
+pub neither : (a b : Bool) → a || b ≡ false → (a ≡ false) × (b ≡ false)
+neither true b e = absurd (true≢false e)
+neither false b e = (refl, e)
 
 -- two bounds tested together
 pub both-below : {n a p b : ℕ} → ltb n a && ltb p b ≡ true → (n < a) × (p < b)
@@ -48,3 +53,44 @@ passed n ts e = rw e
 pub accepted : refusal [] ≡ 0
 unfolding refusal
 accepted = mathlib.Core.Path.refl
+
+-- An answer of 0 comes only where no test with another number applies: of one test and those behind it,
+pub first-passed : (b : Bool) (n : ℕ) (ts : List Test) → n ≢ 0 → refusal (test b n ∷ ts) ≡ 0 → (b ≡ false) × (refusal ts ≡ 0)
+unfolding refusal
+first-passed true n ts h e = absurd (h e)
+first-passed false n ts h e = (refl, e)
+
+-- and of two lists one behind the other, where every test of the first has a number that is not 0.
+unfoldable pub Numbered : List Test → Type 0
+Numbered [] = Unit
+Numbered (x ∷ xs) = (x .number ≢ 0) × Numbered xs
+
+pub numbered-behind : (xs : List Test) (x : Test) → Numbered xs → x .number ≢ 0 → Numbered (xs ++ x ∷ [])
+unfolding Numbered
+numbered-behind [] x h f = (f, tt)
+numbered-behind (y ∷ ys) x h f = (h .0, numbered-behind ys x (h .1) f)
+
+pub refusal-behind : (xs ys : List Test) → Numbered xs → refusal xs ≡ 0 → refusal (xs ++ ys) ≡ refusal ys
+unfolding Numbered
+refusal-behind [] ys h e = refl
+refusal-behind (x ∷ xs) ys h e =
+    let r = first-passed (x .when) (x .number) xs (h .0) e in
+    passed (x .number) (xs ++ ys) (r .0) ∙ refusal-behind xs ys (h .1) (r .1)
+
+pub refusal-both : (xs ys : List Test) → Numbered xs → refusal (xs ++ ys) ≡ 0 → (refusal xs ≡ 0) × (refusal ys ≡ 0)
+unfolding Numbered
+refusal-both [] ys h e = (accepted, e)
+refusal-both (x ∷ xs) ys h e =
+    let r = first-passed (x .when) (x .number) (xs ++ ys) (h .0) e in
+    let s = refusal-both xs ys (h .1) (r .1) in
+    (passed (x .number) xs (r .0) ∙ s .0, s .1)
+
+-- Where one of the first list applies, those behind it do not matter.
+pub refusal-before : (xs ys : List Test) → refusal xs ≢ 0 → refusal (xs ++ ys) ≡ refusal xs
+unfolding refusal
+refusal-before [] ys f = absurd (f refl)
+refusal-before (x ∷ xs) ys f = go (x .when) refl (refusal-before xs ys)
+  where
+    go : (w : Bool) → x .when ≡ w → (refusal xs ≢ 0 → refusal (xs ++ ys) ≡ refusal xs) → cond (x .when) (x .number) (refusal (xs ++ ys)) ≡ cond (x .when) (x .number) (refusal xs)
+    go true e more = rw e
+    go false e more = rw e (more (λ z. f (rw e z)))

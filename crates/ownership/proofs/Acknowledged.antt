@@ -1,11 +1,12 @@
 -- A send that is acknowledged found a free permitted path, and took the target's receive channel.
 -- Assumes nothing.
-use mathlib.Core.Path.{_≡_, refl, _∙_, ap, subst}
-use mathlib.Core.Bool.{Bool, true, false}
+use mathlib.Core.Path.{_≡_, refl, sym, _∙_, ap, subst}
+use mathlib.Core.Bool.{Bool, true, false, cond, not}
 use mathlib.Core.List.{List, _∷_}
-use Prim.Native.Nat.{ℕ}
+use Prim.Native.Nat.{ℕ, _<_}
 use lib.Dec.{eqb}
 use native.Mathlib.Omega.{arith}
+use borrow.Author.Tests.{eqb-false, not-true}
 use Rattle.common.specs.Lists.{_∈_, from}
 use Rattle.paths.specs.Network.{Network, Path, Link, links}
 use Rattle.paths.specs.Permitted.{Permitted}
@@ -17,6 +18,9 @@ use Rattle.paths.proofs.CubeNetwork.{send-port, other-port, cube-says, cube-say
 use Rattle.paths.proofs.Send.{maze-answers, alternate-stops, alternate-goes-on}
 use Rattle.paths.proofs.Apart.{below-port}
 use Rattle.paths.proofs.Words.{free-links}
+use Rattle.table.specs.View.{lowest}
+use Rattle.table.proofs.Lowest.{lowest-most, lowest-passes}
+use Rattle.ownership.specs.History.{History, takenOn, receiveOn}
 
 -- more ports in the send vector, more permitted paths
 wider : (N : Network) (s : ℕ) (ps qs : List ℕ) (t : ℕ) (w : Path) → ((p : ℕ) → p ∈ ps → p ∈ qs) → Permitted N s ps t w → Permitted N s qs t w
@@ -68,3 +72,18 @@ module _ (S : Shape) (free : ℕ → ℕ → Bool) (r : Receive) (s t : ℕ) whe
         go : (b : Bool) → eqb type 4 ≡ b → Taken w k
         go true f = two _ refl (rw f at e)
         go false f = first-taken (rw (maze-answers S free r s vector t) at (rw f at e))
+
+-- In the history, the receive channel that a target takes is one of the eight, and no circuit holds it.
+pub receive-free : (h : History) (t k : ℕ) → receiveOn h t ≡ channel k → (k < 8) × (takenOn h t k ≡ false)
+unfolding receiveOn
+receive-free h t k e = go (eqb (lowest f 8 0) 8) refl e
+  where
+    f : ℕ → Bool
+    f j = not (takenOn h t j)
+
+    go : (x : Bool) → eqb (lowest f 8 0) 8 ≡ x → cond x all-held (channel (lowest f 8 0)) ≡ channel k → (k < 8) × (takenOn h t k ≡ false)
+    go true q z = let y : _≡_ {A = ℕ} 0 1 = cc in absurd (omega arith)
+    go false q z =
+        let u : lowest f 8 0 ≡ k = cc in
+        let l : lowest f 8 0 < 8 = omega (arith, lowest-most f 8 0, eqb-false (lowest f 8 0) 8 q) in
+        (omega (arith, u, l), not-true (takenOn h t k) (sym (ap f u) ∙ lowest-passes f 8 0 l))

@@ -17,14 +17,15 @@ use Rattle.paths.specs.CubeNetwork.{Shape, network, send}
 use Rattle.table.specs.View.{View, setAt, setOwner, setReceiver, setEnabled, freeing, fresh}
 use Rattle.table.proofs.Soundness.{both}
 use Rattle.ownership.specs.Calls.{Call, making, blocking, unblocking, opening, closing, tracing}
-use Rattle.ownership.specs.History.{Circuit, History, shapeOn, netOn, holdsLink, holdsReceive, belongs, enabledOn, heldOn, freeOn, takenOn, openOn, receiveOn, stoppedOn, sendOn, withBlocked, withCircuits, adds, follows}
+use Rattle.ownership.specs.History.{Circuit, History, shapeOn, netOn, holdsLink, holdsReceive, belongs, enabledOn, heldOn, freeOn, takenOn, openOn, receiveOn, askedOn, stoppedOn, sendOn, withBlocked, withCircuits, adds, follows}
 use Rattle.ownership.specs.Lists.{numberOf, viewOf, linksOf, Standing, Separate, Valid}
 use Rattle.ownership.proofs.Update.{holdLinks, marking, updated}
 use Rattle.ownership.proofs.Circuits.{some-any, parts-belong, number-drop}
 use Rattle.ownership.proofs.Sameness.{send-same}
 use Rattle.ownership.proofs.Standing.{link-holds, receive-holds, links-once, receives-once}
-use Rattle.ownership.proofs.Acknowledged.{Taken, send-taken}
-use Rattle.ownership.proofs.Passed.{making-passed, blocking-passed, unblocking-passed, Sends, opening-passed, closing-passed, receive-free, block-enabled, unblock-enabled}
+use Rattle.ownership.proofs.Acknowledged.{Taken, send-taken, receive-free}
+use Rattle.ownership.proofs.Allowed.{Allowed, allowed-on}
+use Rattle.ownership.proofs.Enabled.{block-enabled, unblock-enabled}
 
 -- a listed circuit holds its links and its receive channel and makes its send channel open, in the words of the history
 held-link : (h : History) (x : Circuit) → x ∈ h .circuits → (n p : ℕ) → (n, p) ∈ linksOf (netOn h) x → heldOn h n p ≡ true
@@ -53,8 +54,26 @@ pub made-view : (D : ℕ) → viewOf (record { dimension = D; blocked = []; circ
 unfolding viewOf fresh numberOf enabledOn hasLink
 made-view D = λ i. record { dimension = D; enabled = λ n p. and-true (ltb n (2 ^ D) && ltb p D) i; owner = λ n p. 0; receiver = λ n k. 0 }
 
+-- what the tests that have passed say of each call
+module _ (h : History) where
+  made-facts : (D : ℕ) → stoppedOn h (making D) ≡ 0 → (1 ≤ D) × (D ≤ 8)
+  unfolding Allowed
+  made-facts D e = allowed-on h (making D) e
+
+  block-facts : (n p : ℕ) → stoppedOn h (blocking n p) ≡ 0 → (n < 2 ^ h .dimension) × (p < h .dimension) × (heldOn h n p ≡ false)
+  unfolding Allowed askedOn
+  block-facts n p e = allowed-on h (blocking n p) e
+
+  unblock-facts : (n p : ℕ) → stoppedOn h (unblocking n p) ≡ 0 → (n < 2 ^ h .dimension) × (p < h .dimension)
+  unfolding Allowed askedOn
+  unblock-facts n p e = allowed-on h (unblocking n p) e
+
+  close-facts : (s c : ℕ) → stoppedOn h (closing s c) ≡ 0 → c < 8
+  unfolding Allowed askedOn
+  close-facts s c e = allowed-on h (closing s c) e .1
+
 module _ (h : History) (valid : Valid h) where
-  -- OTHER BLOCKED LINKS: those within the cube, where each held link stays enabled
+  -- other blocked links: those within the cube, where each held link stays enabled
   blocked-valid : (ls : List Link) → ((l : Link) → l ∈ ls → (l .0 < 2 ^ h .dimension) × (l .1 < h .dimension))
       → ((n p : ℕ) → heldOn h n p ≡ true → enabledOn h n p ≡ true → enabledOn (withBlocked h ls) n p ≡ true) → Valid (withBlocked h ls)
   blocked-valid ls inside on =
@@ -74,7 +93,7 @@ module _ (h : History) (valid : Valid h) where
         apart = valid .apart;
       }
 
-  -- OTHER CIRCUITS, each of them as it stood before
+  -- other circuits, each of them as it stood before
   standing-kept : (xs : List Circuit) (x : Circuit) → Standing h x → Standing (withCircuits h xs) x
   unfolding enabledOn
   standing-kept xs x s = record { source = s .source; channel = s .channel; permitted = s .permitted; enabled = s .enabled; receive = s .receive }
@@ -84,7 +103,7 @@ module _ (h : History) (valid : Valid h) where
       record { least = valid .least; most = valid .most; blocked = valid .blocked; stands = λ x m. standing-kept xs x (stand x m); apart = apart }
 
   -- an acknowledged open: its circuit stands, and is separate from each that is listed
-  module _ (s c t : ℕ) (sends : Sends h s c t) (w : Path) (k : ℕ) (taken : Taken (shapeOn h) (freeOn h) (receiveOn h t) s t w k) where
+  module _ (s c t : ℕ) (there : s < 2 ^ h .dimension) (small : c < 8) (shut : openOn h s c ≡ false) (w : Path) (k : ℕ) (taken : Taken (shapeOn h) (freeOn h) (receiveOn h t) s t w k) where
     abbrev new : Circuit
     new = record { source = s; channel = c; ports = w; target = t; receive = k }
 
@@ -95,8 +114,8 @@ module _ (h : History) (valid : Valid h) where
     new-stands : Standing h new
     new-stands =
         record {
-          source = sends .source;
-          channel = sends .channel;
+          source = there;
+          channel = small;
           permitted = taken .permitted;
           enabled = λ l m. free-facts (l .0) (l .1) m .0;
           receive = receive-free h t k (taken .receives) .0;
@@ -105,7 +124,7 @@ module _ (h : History) (valid : Valid h) where
     new-apart : (y : Circuit) → y ∈ h .circuits → Separate (netOn h) new y
     new-apart y m =
         record {
-          send = λ e f. clash (open-send h y m s c (sym e) (sym f)) (sends .shut);
+          send = λ e f. clash (open-send h y m s c (sym e) (sym f)) shut;
           link = λ l i j. clash (held-link h y m (l .0) (l .1) j) (free-facts (l .0) (l .1) i .1);
           receives = λ e f. clash (taken-receive h y m t k e f) (receive-free h t k (taken .receives) .1);
         }
@@ -115,19 +134,18 @@ module _ (h : History) (valid : Valid h) where
         circuits-valid (new ∷ h .circuits) (λ x m. ⊎-elim (λ e. subst (Standing h) (sym e) new-stands) (λ i. valid .stands x i) (List·Memᴰ·cases-cons m))
         (unfold Sorted in (new-apart, valid .apart))
 
-  opened-valid : (s c t y v : ℕ) → Sends h s c t → (o : Outcome) → sendOn h s t y v .outcome ≡ o → Valid (adds h s c t o)
-  unfolding adds sendOn
-  opened-valid s c t y v sends (acknowledged w k) e =
-      added-valid s c t sends w k (send-taken (shapeOn h) (freeOn h) (receiveOn h t) s t v (sends .source) (sends .target) w k y e)
-  opened-valid s c t y v sends route-rejected e = valid
-  opened-valid s c t y v sends receive-rejected e = valid
+  opened-valid : (s c t y v : ℕ) → Allowed (askedOn h) (opening s c t y v) → (o : Outcome) → sendOn h s t y v .outcome ≡ o → Valid (adds h s c t o)
+  unfolding adds sendOn Allowed askedOn
+  opened-valid s c t y v r (acknowledged w k) e = added-valid s c t (r .0) (r .2) (r .5) w k (send-taken (shapeOn h) (freeOn h) (receiveOn h t) s t v (r .0) (r .1) w k y e)
+  opened-valid s c t y v r route-rejected e = valid
+  opened-valid s c t y v r receive-rejected e = valid
 
   -- A call that no test stops keeps the history valid.
   pub follows-valid : (a : Call) → stoppedOn h a ≡ 0 → Valid (follows h a)
   unfolding follows
-  follows-valid (making D) e = let r = making-passed h D e in made-valid D (r .0) (r .1)
+  follows-valid (making D) e = let r = made-facts h D e in made-valid D (r .0) (r .1)
   follows-valid (blocking n p) e =
-      let r = blocking-passed h n p e in
+      let r = block-facts h n p e in
       blocked-valid ((n, p) ∷ h .blocked)
       (λ l m. ⊎-elim (λ q. subst (λ (x : Link). (x .0 < 2 ^ h .dimension) × (x .1 < h .dimension)) (sym q) (r .0, r .1)) (λ k. valid .blocked l k) (List·Memᴰ·cases-cons m))
       (λ m q held on. block-enabled h n p m q ∙ kept m q (r .2) held on (eqb m n && eqb q p) refl)
@@ -136,7 +154,7 @@ module _ (h : History) (valid : Valid h) where
       kept m q idle held on true u = let i = both (eqb m n) (eqb q p) u in absurd (clash held (rw (eqb-true m n (i .0), eqb-true q p (i .1)) idle))
       kept m q idle held on false u = unfold setAt in rw (u, on)
   follows-valid (unblocking n p) e =
-      let r = unblocking-passed h n p e in
+      let r = unblock-facts h n p e in
       blocked-valid (keep (λ (l : Link). not (eqb (l .0) n && eqb (l .1) p)) (h .blocked))
       (λ l m. valid .blocked l (keep-mem _ (h .blocked) m .0))
       (λ m q held on. unblock-enabled h n p (r .0) (r .1) m q ∙ kept m q on (eqb m n && eqb q p) refl)
@@ -144,7 +162,7 @@ module _ (h : History) (valid : Valid h) where
       kept : (m q : ℕ) → enabledOn h m q ≡ true → (b : Bool) → (eqb m n && eqb q p) ≡ b → setAt (enabledOn h) n p true m q ≡ true
       kept m q on true u = unfold setAt in rw u
       kept m q on false u = unfold setAt in rw (u, on)
-  follows-valid (opening s c t y v) e = opened-valid s c t y v (opening-passed h s c t y v e) (sendOn h s t y v .outcome) refl
+  follows-valid (opening s c t y v) e = opened-valid s c t y v (allowed-on h (opening s c t y v) e) (sendOn h s t y v .outcome) refl
   follows-valid (closing s c) e =
       circuits-valid (keep (λ x. not (belongs s c x)) (h .circuits)) (λ x m. valid .stands x (keep-mem _ (h .circuits) m .0))
       (keep-sorted _ (Separate (netOn h)) (h .circuits) (valid .apart))
@@ -175,14 +193,14 @@ module _ (h : History) (valid : Valid h) where
   follows-view (making D) e = made-view D
   follows-view (blocking n p) e = λ i. unfold setEnabled in record { dimension = h .dimension; enabled = λ m q. block-enabled h n p m q i; owner = viewOf h .owner; receiver = viewOf h .receiver }
   follows-view (unblocking n p) e = λ i. unfold setEnabled in
-      record { dimension = h .dimension; enabled = λ m q. unblock-enabled h n p (unblocking-passed h n p e .0) (unblocking-passed h n p e .1) m q i; owner = viewOf h .owner; receiver = viewOf h .receiver }
+      record { dimension = h .dimension; enabled = λ m q. unblock-enabled h n p (unblock-facts h n p e .0) (unblock-facts h n p e .1) m q i; owner = viewOf h .owner; receiver = viewOf h .receiver }
   follows-view (opening s c t y v) e =
       added-view s c t (sendOn h s t y v .outcome) ∙ ap (λ (x : Sent). marking (viewOf h) (circuitOf s c) s t (x .outcome)) (sym (send-same h s t y v))
   follows-view (closing s c) e = λ i. unfold freeing enabledOn in
       record {
         dimension = h .dimension;
         enabled = enabledOn h;
-        owner = λ n p. number-drop (holdsLink (netOn h) n p) s c (closing-passed h s c e .0) (h .circuits) (λ x m. valid .stands x m .channel) (links-once (netOn h) n p (h .circuits) (valid .apart)) i;
-        receiver = λ n k. number-drop (holdsReceive n k) s c (closing-passed h s c e .0) (h .circuits) (λ x m. valid .stands x m .channel) (receives-once (netOn h) n k (h .circuits) (valid .apart)) i;
+        owner = λ n p. number-drop (holdsLink (netOn h) n p) s c (close-facts h s c e) (h .circuits) (λ x m. valid .stands x m .channel) (links-once (netOn h) n p (h .circuits) (valid .apart)) i;
+        receiver = λ n k. number-drop (holdsReceive n k) s c (close-facts h s c e) (h .circuits) (λ x m. valid .stands x m .channel) (receives-once (netOn h) n k (h .circuits) (valid .apart)) i;
       }
   follows-view (tracing s c buffer) e = refl

@@ -5,7 +5,8 @@ pub mod Sameness
 pub mod Standing
 pub mod Stopped
 pub mod Acknowledged
-pub mod Passed
+pub mod Allowed
+pub mod Enabled
 pub mod Followed
 pub mod Told
 pub mod Gloss

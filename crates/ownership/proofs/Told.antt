@@ -10,7 +10,7 @@ use Rattle.ownership.specs.Calls.{Call, making, only, lent}
 use Rattle.ownership.specs.History.{History, stoppedOn, follows, gives, Told, told}
 use Rattle.ownership.specs.Lists.{Valid, historyAfter}
 use Rattle.ownership.proofs.Followed.{made-valid, follows-valid}
-use Rattle.ownership.proofs.Passed.{making-passed}
+use Rattle.ownership.proofs.Allowed.{Allowed, allowed-on}
 
 pub told-passed : (h : History) (a : Call) → stoppedOn h a ≡ 0 → told h a ≡ record { history = follows h a; given = gives h a }
 unfolding told
@@ -33,7 +33,7 @@ after-valid h valid (a ∷ more) = after-valid (told h a .history) (told-valid h
 
 -- After an accepted making and any list of calls the history is valid, whatever it was before.
 pub made-after-valid : (h : History) (D : ℕ) → stoppedOn h (making D) ≡ 0 → (calls : List Call) → Valid (historyAfter h (making D ∷ calls))
-unfolding historyAfter follows
+unfolding historyAfter follows Allowed
 made-after-valid h D e calls =
-    let r = making-passed h D e in
+    let r = allowed-on h (making D) e in
     after-valid (told h (making D) .history) (subst (λ (x : Told). Valid (x .history)) (sym (told-passed h (making D) e)) (made-valid D (r .0) (r .1))) calls

@@ -12,7 +12,7 @@ use lib.Pow.{pow-mono}
 use native.Mathlib.Nat.{lt-of-lt-of-le}
 use borrow.Author.Tests.{not-false, ltb-false, lt-ltb, le-ltb, eq-eqb, ne-eqb}
 use Rattle.common.specs.Tests.{Test, test, refusal}
-use Rattle.common.proofs.Tests.{refused, passed, accepted}
+use Rattle.common.proofs.Tests.{neither, refused, passed, accepted, first-passed, Numbered, numbered-behind, refusal-behind, refusal-both, refusal-before}
 use Rattle.table.specs.Layout.{tableLength, dimensionAt, Within}
 use Rattle.table.specs.View.{view}
 use Rattle.table.specs.Sound.{Sound}
@@ -22,28 +22,14 @@ use Rattle.table.specs.SoundTest.{tableTests}
 use Rattle.table.specs.Follow.{HasSource}
 use Rattle.ownership.specs.Calls.{Call, making, blocking, unblocking, opening, closing, tracing, Asked, nodes, channel, port, sendVector, noCircuit, shortBuffer, callTests}
 use Rattle.ownership.specs.OnTable.{heldIn, openIn, askedOf, lentTests, stoppedAt}
-use Rattle.ownership.proofs.Stops.{first-passed, neither, below, Numbered, refusal-behind, refusal-both, pass-tests}
+use Rattle.ownership.proofs.Allowed.{below}
+use Rattle.ownership.proofs.Stops.{pass-tests}
 use Rattle.router.specs.Portions.{askedAt, nodeTests, channelTests, linkTests, blockTests, closeTests, traceTests, typeTests, vectorTests, openTests}
 
--- one more test behind a list
-pub numbered-behind : (xs : List Test) (x : Test) → Numbered xs → x .number ≢ 0 → Numbered (xs ++ x ∷ [])
-unfolding Numbered
-numbered-behind [] x h f = (f, tt)
-numbered-behind (y ∷ ys) x h f = (h .0, numbered-behind ys x (h .1) f)
-
 -- an earlier test stops the call; the next one does; none does
-stops-before : (xs ys : List Test) → refusal xs ≢ 0 → refusal (xs ++ ys) ≡ refusal xs
-unfolding refusal
-stops-before [] ys f = absurd (f refl)
-stops-before (x ∷ xs) ys f = go (x .when) refl (stops-before xs ys)
-  where
-    go : (w : Bool) → x .when ≡ w → (refusal xs ≢ 0 → refusal (xs ++ ys) ≡ refusal xs) → cond (x .when) (x .number) (refusal (xs ++ ys)) ≡ cond (x .when) (x .number) (refusal xs)
-    go true e more = rw e
-    go false e more = rw e (more (λ z. f (rw e z)))
-
 module _ (xs : List Test) (w : Bool) (m : ℕ) where
   pub stopped-before : {n : ℕ} → n ≡ refusal xs → n ≢ 0 → n ≡ refusal (xs ++ test w m ∷ [])
-  stopped-before e f = e ∙ sym (stops-before xs (test w m ∷ []) (λ z. f (e ∙ z)))
+  stopped-before e f = e ∙ sym (refusal-before xs (test w m ∷ []) (λ z. f (e ∙ z)))
 
   module _ (numbered : Numbered xs) {n : ℕ} (e : n ≡ refusal xs) (z : n ≡ 0) where
     pub stopped-here : w ≡ true → m ≡ refusal (xs ++ test w m ∷ [])

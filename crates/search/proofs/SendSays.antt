@@ -9,7 +9,7 @@ use native.Mathlib.Omega.{arith}
 use lib.Dec.{eqb}
 use borrow.Author.Tests.{eqb-true, eqb-false, eq-eqb, ne-eqb}
 use Rattle.common.specs.Lists.{_∈_}
-use Rattle.common.proofs.Tests.{same?, clash}
+use Rattle.common.proofs.Tests.{clash}
 use Rattle.paths.specs.Network.{Network, Path}
 use Rattle.paths.specs.Pass.{Pass, pass, scouts}
 use Rattle.paths.specs.Send.{Receive, channel, all-held, Outcome, acknowledged, route-rejected, receive-rejected, Acknowledged, Sent, outcome, goesOn, answered}
@@ -20,30 +20,11 @@ use Rattle.paths.proofs.CubeNetwork.{cube-says, cube-says-other}
 use Rattle.table.specs.Layout.{dimensionAt}
 use Rattle.table.specs.View.{View, view, receive, lowest, lowestChannel, available}
 use Rattle.table.specs.Sound.{net, shapeOf}
+use Rattle.table.proofs.Lowest.{lowest-passes, lowest-before}
 use Rattle.search.specs.Settle.{freeIn, Settled, settled}
 use Rattle.search.specs.Sent.{marked, sentOn, sends, MaySend}
 use Rattle.search.specs.SendSays.{FreeRoute, Available, Lowest, passesOf, PassesSay, one-acknowledged, only-one, two, SendSays}
 use Rattle.search.proofs.Sends.{receive-small, sent-goes-on, sent-scouts}
-
--- the lowest number from i on that passes a test: it passes, and none from i on before it does
-lowest-passes : (f : ℕ → Bool) (k i : ℕ) → lowest f k i < i + k → f (lowest f k i) ≡ true
-unfolding lowest
-lowest-passes f zero i h = absurd (omega arith)
-lowest-passes f (suc k) i h = go (f i) refl h (lowest-passes f k (i + 1))
-  where
-    go : (x : Bool) → f i ≡ x → cond x i (lowest f k (i + 1)) < i + suc k → (lowest f k (i + 1) < i + 1 + k → f (lowest f k (i + 1)) ≡ true) → f (cond x i (lowest f k (i + 1))) ≡ true
-    go true e l more = e
-    go false e l more = more (omega arith)
-
-lowest-before : (f : ℕ → Bool) (k i j : ℕ) → i ≤ j → j < lowest f k i → f j ≡ false
-unfolding lowest
-lowest-before f zero i j a h = absurd (omega arith)
-lowest-before f (suc k) i j a h = go (f i) refl h (lowest-before f k (i + 1) j) (same? j i)
-  where
-    go : (x : Bool) → f i ≡ x → j < cond x i (lowest f k (i + 1)) → (i + 1 ≤ j → j < lowest f k (i + 1) → f j ≡ false) → (j ≡ i) ⊎ (j ≢ i) → f j ≡ false
-    go true e l more z = absurd (omega arith)
-    go false e l more (inl z) = ap f z ∙ e
-    go false e l more (inr z) = more (omega arith) l
 
 -- what the choice of a receive channel says
 module _ (v : View) (t : ℕ) where

@@ -32,6 +32,7 @@ use Rattle.table.specs.Layout.{Within, dimensionAt, putReceiver}
 use Rattle.table.specs.View.{View, view, receive, lowest, lowestChannel, available}
 use Rattle.table.specs.Sound.{net, shapeOf}
 use Rattle.table.proofs.Made.{ones}
+use Rattle.table.proofs.Lowest.{lowest-most}
 use Rattle.search.specs.Settle.{freeIn, hold, Settled, settled, settle, behindPort}
 use Rattle.search.specs.Turns.{farthest, reach, tries, Here, MayTry}
 use Rattle.search.specs.Sent.{marked, sentOn, sendsMaze, sendsAlternate, sends, MaySend}
@@ -73,16 +74,6 @@ module _ (b : List ℕ) (s t c vector : ℕ) (may : MaySend b s t c vector) wher
         hops = omega (arith, near);
         room = omega (arith, all, more, most);
       }
-
--- of k numbers from i on, the lowest that passes is at most i + k
-lowest-most : (f : ℕ → Bool) (k i : ℕ) → lowest f k i ≤ i + k
-unfolding lowest
-lowest-most f zero i = omega arith
-lowest-most f (suc k) i = go (f i) (lowest-most f k (i + 1))
-  where
-    go : (x : Bool) → lowest f k (i + 1) ≤ i + 1 + k → cond x i (lowest f k (i + 1)) ≤ i + suc k
-    go true h = omega arith
-    go false h = omega arith
 
 -- the receive channel that a target takes is one of its eight
 pub receive-small : (v : View) (t k : ℕ) → receive v t ≡ channel k → k < 8

@@ -1,10 +1,12 @@
--- The lowest number that passes a test, as a loop finds it.
+-- The lowest number that passes a test: as a loop finds it, and what it says.
 -- Assumes nothing.
 use mathlib.Core.Path.{_≡_, refl, ap, sym, _∙_}
+use mathlib.Core.Logic.{_⊎_, inl, inr, _≢_}
 use mathlib.Core.Bool.{Bool, true, false, cond}
 use Prim.Native.Nat.{ℕ, zero, suc, _+_, _-_, _≤_, _<_}
 use native.Mathlib.Omega.{arith}
 use borrow.Author.Tests.{eq-eqb, ne-eqb}
+use Rattle.common.proofs.Tests.{same?}
 use Rattle.table.specs.View.{View, available, lowest}
 
 module _ (f : ℕ → Bool) (n k : ℕ) (h : k < n) where
@@ -27,3 +29,32 @@ free-at v n k x e z = eq-eqb _ 0 (sym e ∙ z)
 pub held-at : (v : View) (n k x : ℕ) → x ≡ v .receiver n k → (x ≡ 0 → ⊥) → available v n k ≡ false
 unfolding available
 held-at v n k x e h = ne-eqb _ 0 (λ z. h (e ∙ z))
+
+-- of k numbers from i on: it is at most i + k, passes where it is below that, and none from i on before it passes
+pub lowest-most : (f : ℕ → Bool) (k i : ℕ) → lowest f k i ≤ i + k
+unfolding lowest
+lowest-most f zero i = omega arith
+lowest-most f (suc k) i = go (f i) (lowest-most f k (i + 1))
+  where
+    go : (x : Bool) → lowest f k (i + 1) ≤ i + 1 + k → cond x i (lowest f k (i + 1)) ≤ i + suc k
+    go true h = omega arith
+    go false h = omega arith
+
+pub lowest-passes : (f : ℕ → Bool) (k i : ℕ) → lowest f k i < i + k → f (lowest f k i) ≡ true
+unfolding lowest
+lowest-passes f zero i h = absurd (omega arith)
+lowest-passes f (suc k) i h = go (f i) refl h (lowest-passes f k (i + 1))
+  where
+    go : (x : Bool) → f i ≡ x → cond x i (lowest f k (i + 1)) < i + suc k → (lowest f k (i + 1) < i + 1 + k → f (lowest f k (i + 1)) ≡ true) → f (cond x i (lowest f k (i + 1))) ≡ true
+    go true e l more = e
+    go false e l more = more (omega arith)
+
+pub lowest-before : (f : ℕ → Bool) (k i j : ℕ) → i ≤ j → j < lowest f k i → f j ≡ false
+unfolding lowest
+lowest-before f zero i j a h = absurd (omega arith)
+lowest-before f (suc k) i j a h = go (f i) refl h (lowest-before f k (i + 1) j) (same? j i)
+  where
+    go : (x : Bool) → f i ≡ x → j < cond x i (lowest f k (i + 1)) → (i + 1 ≤ j → j < lowest f k (i + 1) → f j ≡ false) → (j ≡ i) ⊎ (j ≢ i) → f j ≡ false
+    go true e l more z = absurd (omega arith)
+    go false e l more (inl z) = ap f z ∙ e
+    go false e l more (inr z) = more (omega arith) l
