@@ -94,3 +94,17 @@ refusal-before (x ∷ xs) ys f = go (x .when) refl (refusal-before xs ys)
     go : (w : Bool) → x .when ≡ w → (refusal xs ≢ 0 → refusal (xs ++ ys) ≡ refusal xs) → cond (x .when) (x .number) (refusal (xs ++ ys)) ≡ cond (x .when) (x .number) (refusal xs)
     go true e more = rw e
     go false e more = rw e (more (λ z. f (rw e z)))
+
+-- A list of which no test has a number never answers it.
+unfoldable pub Avoids : ℕ → List Test → Type 0
+Avoids n [] = Unit
+Avoids n (x ∷ xs) = (x .number ≢ n) × Avoids n xs
+
+pub never-answered : (n : ℕ) (xs : List Test) → Avoids n xs → n ≢ 0 → refusal xs ≢ n
+unfolding Avoids refusal
+never-answered n [] h f e = f (sym e)
+never-answered n (x ∷ xs) h f e = go (x .when) refl (never-answered n xs (h .1) f)
+  where
+    go : (w : Bool) → x .when ≡ w → refusal xs ≢ n → ⊥
+    go true q more = h .0 (sym (refused (x .number) xs q) ∙ e)
+    go false q more = more (sym (passed (x .number) xs q) ∙ e)

@@ -28,14 +28,14 @@ pub data Input : Type 0 where
   write : ℕ → ℕ → Input
 
 -- the history before a making does not matter
-abbrev before : History
+abbrev pub before : History
 before = record { dimension = 0; blocked = []; circuits = [] }
 
 -- what a call gave: number, hops, receive channel, scouts, and the buffer
-abbrev shown : Given → List ℕ
+abbrev pub shown : Given → List ℕ
 shown g = g .answer .number ∷ g .answer .hops ∷ g .answer .receive ∷ g .answer .scouts ∷ g .buffer
 
-abbrev result : Input → List (List ℕ)
+abbrev pub result : Input → List (List ℕ)
 result (calls cs) = map shown (historyGives before cs)
 result (read w) = (readWord w .number ∷ readWord w .command ∷ readWord w .carried ∷ []) ∷ []
 result (write c k) = (writeWord c k .number ∷ writeWord c k .word ∷ []) ∷ []
@@ -44,7 +44,7 @@ result (write c k) = (writeWord c k .number ∷ writeWord c k .word ∷ []) ∷ 
 abbrev trace : ℕ → Call
 trace c = tracing 0 c (9 ∷ 9 ∷ 9 ∷ 9 ∷ 9 ∷ 9 ∷ 9 ∷ 9 ∷ 9 ∷ [])
 
-abbrev inputs : List Input
+abbrev pub inputs : List Input
 inputs =
     -- 1: D 3, 0 to 7, vector 7, nothing blocked
     calls (making 3 ∷ opening 0 0 7 0 7 ∷ trace 0 ∷ [])
@@ -67,7 +67,7 @@ inputs =
 abbrev done : List ℕ
 done = 0 ∷ 0 ∷ 0 ∷ 0 ∷ []
 
-abbrev results : List (List (List ℕ))
+abbrev pub results : List (List (List ℕ))
 results =
     (done ∷ (0 ∷ 3 ∷ 0 ∷ 3 ∷ []) ∷ (0 ∷ 3 ∷ 0 ∷ 0 ∷ 0 ∷ 1 ∷ 2 ∷ 9 ∷ 9 ∷ 9 ∷ 9 ∷ 9 ∷ 9 ∷ []) ∷ [])
     ∷ (done ∷ done ∷ done ∷ (0 ∷ 3 ∷ 0 ∷ 5 ∷ []) ∷ (0 ∷ 3 ∷ 0 ∷ 0 ∷ 1 ∷ 2 ∷ 0 ∷ 9 ∷ 9 ∷ 9 ∷ 9 ∷ 9 ∷ 9 ∷ []) ∷ [])

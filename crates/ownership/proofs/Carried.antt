@@ -30,7 +30,7 @@ module _ (b : List ℕ) (long : length b ≡ tableLength) (most : dimensionAt b 
   nodes : 2 ^ dimensionAt b ≤ 256
   nodes = pow-mono {i = dimensionAt b} {j = 8} most
 
-  circuit-small : (s c : ℕ) → s < 2 ^ dimensionAt b → c < 8 → circuitOf s c < 65536
+  pub circuit-small : (s c : ℕ) → s < 2 ^ dimensionAt b → c < 8 → circuitOf s c < 65536
   circuit-small s c h l = omega (arith, nodes)
 
   place : (n p : ℕ) → n < 2 ^ dimensionAt b → p < dimensionAt b → Within b n p

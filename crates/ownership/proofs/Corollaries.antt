@@ -21,11 +21,11 @@ use Rattle.ownership.specs.Calls.{Call, making, blocking, unblocking, op
 use Rattle.ownership.specs.OnTable.{stoppedAt, Done, sendIn, carriedOut, called}
 use Rattle.ownership.specs.History.{Circuit, History, netOn, openOn, told}
 use Rattle.ownership.specs.Lists.{tableAfter, tableGives, historyAfter, historyGives, viewOf, linksOf, Separate, Covered, Accepted}
-use Rattle.ownership.specs.Gloss.{numbered, StillOpen}
+use Rattle.ownership.specs.StillOpen.{numbered, StillOpen}
 use Rattle.ownership.proofs.Circuits.{sorted-one}
 use Rattle.ownership.proofs.Carried.{called-carried, called-stopped}
 use Rattle.ownership.proofs.Standing.{owner-exactly, receiver-exactly}
-use Rattle.ownership.proofs.Gloss.{open-exactly}
+use Rattle.ownership.proofs.StillOpen.{open-exactly}
 use Rattle.ownership.proofs.Agreement.{making-passes, made-covered, covered-after, covered-sound, covered-passes, demand-3}
 
 -- "No refusal alters any lent byte": of any call on any bytes. A rejected search leaves each byte of the table as it was.

@@ -9,11 +9,12 @@ pub mod Allowed
 pub mod Enabled
 pub mod Followed
 pub mod Told
-pub mod Gloss
+pub mod StillOpen
 pub mod Range
 pub mod Shows
 pub mod Stops
 pub mod Carried
 pub mod Agreement
+pub mod OnSound
 pub mod Corollaries
 pub mod Rising

@@ -22,7 +22,7 @@ use Rattle.ownership.specs.OnTable.{askedOf, lentTests, stoppedAt}
 use Rattle.ownership.proofs.Allowed.{both}
 
 -- the tests of the lent table are all three, but for a making, which is stopped by the length alone
-lent-is : (b : List ℕ) (a : Call) → ((D : ℕ) × (a ≡ making D)) ⊎ (lentTests b a ≡ tableTests b)
+pub lent-is : (b : List ℕ) (a : Call) → ((D : ℕ) × (a ≡ making D)) ⊎ (lentTests b a ≡ tableTests b)
 unfolding lentTests
 lent-is b (making D) = inl (D, refl)
 lent-is b (blocking n p) = inr refl
@@ -31,7 +31,7 @@ lent-is b (opening s c t y v) = inr refl
 lent-is b (closing s c) = inr refl
 lent-is b (tracing s c buffer) = inr refl
 
-lent-numbered : (b : List ℕ) (a : Call) → Numbered (lentTests b a)
+pub lent-numbered : (b : List ℕ) (a : Call) → Numbered (lentTests b a)
 lent-numbered b a = ⊎-elim (λ r. rw (r .1) (alone (r .0))) (λ e. rw e all-three) (lent-is b a)
   where
     alone : (D : ℕ) → Numbered (lentTests b (making D))

@@ -3,4 +3,4 @@ pub mod Calls
 pub mod OnTable
 pub mod History
 pub mod Lists
-pub mod Gloss
+pub mod StillOpen

@@ -1,5 +1,5 @@
 -- The laws of the calls' tests.
 pub mod Stopping
-pub mod Sites
+pub mod Returns
 pub mod Called
 pub mod Tracing

@@ -1,4 +1,4 @@
--- The tests of each call in the portions in which the code makes them: each list is the one before it and the tests behind it.
+-- The tests of each call in the portions in which the code makes them: each list is one before it and a test behind it.
 -- That the last of them are the tests of document 01's calls is proved (Stopping).
 -- Assumes nothing.
 use mathlib.Core.List.{List, [], _∷_, _++_}

@@ -178,6 +178,12 @@ module _ (b : List ℕ) (s t c vector : ℕ) (may : MaySend b s t c vector) (x k
   pub maze-rejected : x ≢ 0 → settled x k h n b₁ ≡ sendsMaze b s t c vector
   maze-rejected f = pass-rejected b c s t (receive (view b) t) (passOf b s t vector) x k h n b₁ passed f ∙ as-maze
 
+-- A rejected pass leaves each byte of the table as it was: so does the first pass of a type 4 send, before the second begins.
+pub first-pass-leaves : (b : List ℕ) (s t c vector x k h n : ℕ) (b₁ : List ℕ) → settled x k h n b₁ ≡ sendsMaze b s t c vector → x ≢ 0 → b₁ ≡ b
+unfolding sendsMaze
+first-pass-leaves b s t c vector x k h n b₁ q f =
+    sent-goes-on b c s t (maze (shapeOf (view b)) (freeIn (view b)) (receive (view b) t) s vector t .outcome) (maze (shapeOf (view b)) (freeIn (view b)) (receive (view b) t) s vector t .scouts) x k h n b₁ q f .1
+
 -- A send of routing type 4: after a rejection, a second pass over the other ports on the same bytes.
 module _ (b : List ℕ) (s t c vector : ℕ) (may : MaySend b s t c vector) (x k h n : ℕ) (b₁ : List ℕ) (got : settled x k h n b₁ ≡ sendsMaze b s t c vector) where
   S : Shape
@@ -206,7 +212,7 @@ module _ (b : List ℕ) (s t c vector : ℕ) (may : MaySend b s t c vector) (x k
   -- the vector of the second pass
   module _ (others : ℕ) (e : others ≡ bitXor (2 ^ dimensionAt b - 1) vector) (f : x ≢ 0) where
     pub same-bytes : b₁ ≡ b
-    same-bytes = sent-goes-on b c s t (outcome r first) (scouts first) x k h n b₁ first-is f .1
+    same-bytes = first-pass-leaves b s t c vector x k h n b₁ got f
 
     pub may-again : MaySend b₁ s t c others
     may-again =

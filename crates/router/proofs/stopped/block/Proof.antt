@@ -1,7 +1,7 @@
 -- `router::stopped::block` meets its contract: the tests of the link, then whether it is held.
 -- Assumes nothing.
 use Rattle.router.proofs.Stopping.{link-passed, link-within}
-use Rattle.router.proofs.Sites.{block-before, link-unheld, link-is-held}
+use Rattle.router.proofs.Returns.{block-before, link-unheld, link-is-held}
 use borrow.Author.Needs.{needs}
 use Rattle.router.proofs.stopped.block.Statement.{statement}
 use Rattle.router.proofs.stopped.block.Tie as tie

@@ -1,6 +1,6 @@
 -- `router::stopped::channel` meets its contract: the tests of the nodes, then the channel.
 -- Assumes nothing.
-use Rattle.router.proofs.Sites.{channel-before, channel-above, channel-is}
+use Rattle.router.proofs.Returns.{channel-before, channel-above, channel-is}
 use borrow.Author.Needs.{needs}
 use Rattle.router.proofs.stopped.channel.Statement.{statement}
 use Rattle.router.proofs.stopped.channel.Tie as tie

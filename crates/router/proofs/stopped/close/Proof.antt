@@ -1,7 +1,7 @@
 -- `router::stopped::close` meets its contract: the tests of node and channel, then whether a circuit is open.
 -- Assumes nothing.
 use Rattle.router.proofs.Stopping.{channel-passed, small-source, has-source}
-use Rattle.router.proofs.Sites.{close-before, close-open, close-shut}
+use Rattle.router.proofs.Returns.{close-before, close-open, close-shut}
 use borrow.Author.Needs.{needs}
 use Rattle.router.proofs.stopped.close.Statement.{statement}
 use Rattle.router.proofs.stopped.close.Tie as tie

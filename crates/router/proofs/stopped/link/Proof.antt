@@ -1,7 +1,7 @@
 -- `router::stopped::link` meets its contract: the tests of the node, then the port.
 -- Assumes nothing.
 use Rattle.router.proofs.Stopping.{node-passed}
-use Rattle.router.proofs.Sites.{link-before, port-is, no-port}
+use Rattle.router.proofs.Returns.{link-before, port-is, no-port}
 use borrow.Author.Needs.{needs}
 use Rattle.router.proofs.stopped.link.Statement.{statement}
 use Rattle.router.proofs.stopped.link.Tie as tie

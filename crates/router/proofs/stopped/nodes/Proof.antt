@@ -1,7 +1,7 @@
 -- `router::stopped::nodes` meets its contract: the tests of a lent table, then both nodes.
 -- Assumes nothing.
 use Rattle.router.proofs.Stopping.{table-passed}
-use Rattle.router.proofs.Sites.{nodes-before, nodes-inside, no-target, no-source}
+use Rattle.router.proofs.Returns.{nodes-before, nodes-inside, no-target, no-source}
 use native.Mathlib.Omega.{arith}
 use borrow.Author.Needs.{needs}
 use Rattle.router.proofs.stopped.nodes.Statement.{statement}

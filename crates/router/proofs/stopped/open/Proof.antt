@@ -1,7 +1,7 @@
 -- `router::stopped::open` meets its contract: the tests up to the send vector, then whether the send channel is in use.
 -- Assumes nothing.
 use Rattle.router.proofs.Stopping.{vector-passed, small-source, has-source}
-use Rattle.router.proofs.Sites.{open-before, open-used, open-unused}
+use Rattle.router.proofs.Returns.{open-before, open-used, open-unused}
 use borrow.Author.Needs.{needs}
 use Rattle.router.proofs.stopped.open.Statement.{statement}
 use Rattle.router.proofs.stopped.open.Tie as tie

@@ -1,6 +1,6 @@
 -- `router::stopped::routing_type` meets its contract: the tests of nodes and channel, then the routing type.
 -- Assumes nothing.
-use Rattle.router.proofs.Sites.{type-before, type-zero, type-four, type-neither}
+use Rattle.router.proofs.Returns.{type-before, type-zero, type-four, type-neither}
 use borrow.Author.Needs.{needs}
 use Rattle.router.proofs.stopped.routing_type.Statement.{statement}
 use Rattle.router.proofs.stopped.routing_type.Tie as tie

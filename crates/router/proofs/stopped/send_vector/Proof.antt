@@ -2,7 +2,7 @@
 -- Assumes nothing.
 use native.Mathlib.Omega.{arith}
 use Rattle.router.proofs.Stopping.{type-passed}
-use Rattle.router.proofs.Sites.{vector-before, vector-zero, vector-inside, vector-outside}
+use Rattle.router.proofs.Returns.{vector-before, vector-zero, vector-inside, vector-outside}
 use borrow.Author.Needs.{needs}
 use Rattle.router.proofs.stopped.send_vector.Statement.{statement}
 use Rattle.router.proofs.stopped.send_vector.Tie as tie

@@ -1,6 +1,6 @@
 -- `router::stopped::trace` meets its contract: the tests of closing, then the buffer.
 -- Assumes nothing.
-use Rattle.router.proofs.Sites.{trace-before, trace-short, trace-long}
+use Rattle.router.proofs.Returns.{trace-before, trace-short, trace-long}
 use borrow.Author.Needs.{needs}
 use Rattle.router.proofs.stopped.trace.Statement.{statement}
 use Rattle.router.proofs.stopped.trace.Tie as tie

@@ -17,7 +17,7 @@ use Rattle.table.proofs.Soundness.{both, and, either, or-left, or-right}
 use Rattle.ownership.specs.Calls.{Call, making, blocking, unblocking, opening, closing, tracing}
 use Rattle.ownership.specs.History.{Circuit, History, belongs, openOn, stoppedOn, sendOn, withCircuits, adds, follows, gives, Told, told}
 use Rattle.ownership.specs.Lists.{historyAfter, historyGives}
-use Rattle.ownership.specs.Gloss.{numbered, Ends, Lasts, StillOpen}
+use Rattle.ownership.specs.StillOpen.{numbered, Ends, Lasts, StillOpen}
 use Rattle.ownership.proofs.Circuits.{any-some, some-any, belongs-parts, parts-belong}
 use Rattle.ownership.proofs.Told.{told-passed, told-stopped}
 

@@ -1,0 +1,150 @@
+-- What the calls say of any table that passes the tests of a lent table, whether a history covers it or not.
+-- Assumes nothing.
+use mathlib.Core.Path.{_≡_, refl, ap, sym, _∙_, subst}
+use mathlib.Core.Logic.{_⊎_, inl, inr, ⊎-elim, _≢_, _↔_}
+use mathlib.Core.Bool.{Bool, true, false, cond, not, _&&_, false≢true, and-eq-true-iff}
+use mathlib.Core.List.{List, [], _∷_, _++_}
+use Prim.Native.Nat.{ℕ, _^_, _≤_, _<_}
+use native.Mathlib.Omega.{arith}
+use lib.Dec.{eqb, ltb, leb}
+use lib.ListN.{length}
+use borrow.Author.Tests.{eqb-true, eq-eqb, lt-ltb, leb-true}
+use Rattle.common.specs.Tests.{Test, test, refusal}
+use Rattle.common.proofs.Tests.{clash, same?, refused, passed, accepted, refusal-before, refusal-behind, Avoids, never-answered}
+use Rattle.cube.specs.Cube.{circuitOf, sourceOf}
+use Rattle.paths.specs.Network.{Path}
+use Rattle.paths.proofs.Links.{on-first}
+use Rattle.paths.proofs.Trail.{trail-owned}
+use Rattle.table.specs.Layout.{tableLength, dimensionAt, enabledAt, ownerAt}
+use Rattle.table.specs.View.{View, view}
+use Rattle.table.specs.Sound.{shapeOf, net, heldBy, Stands, Sound}
+use Rattle.table.specs.SoundTest.{pathOf, isEmpty, soundTest, tableTests}
+use Rattle.table.proofs.Soundness.{path-is, some-hop}
+use Rattle.table.proofs.Passing.{tested, view-framed}
+use Rattle.search.specs.Settle.{settled}
+use Rattle.search.specs.Sent.{sentOn, sends, MaySend}
+use Rattle.search.specs.SendSays.{SendSays}
+use Rattle.search.proofs.SendSays.{demand-2}
+use Rattle.ownership.specs.Calls.{Call, making, blocking, unblocking, opening, closing, tracing, only, callTests}
+use Rattle.ownership.specs.OnTable.{heldIn, openIn, askedOf, lentTests, stoppedAt, Done, done, sendIn, carriedOut, called}
+use Rattle.ownership.proofs.Allowed.{Allowed, allowed}
+use Rattle.ownership.proofs.Stops.{lent-is, lent-numbered, none-stops, none-stops-lent, pass-tests, stopped-is}
+use Rattle.ownership.proofs.Carried.{circuit-small, called-carried, blocking-again, unblocking-again}
+
+-- what the tests that have passed say of an open
+may-open : (b : List ℕ) (s c t y v : ℕ) → stoppedAt b (opening s c t y v) ≡ 0 → MaySend b s t (circuitOf s c) v
+unfolding Allowed askedOf view
+may-open b s c t y v e =
+    let p = pass-tests b (none-stops-lent b (opening s c t y v) (λ D q. let z : _≡_ {A = ℕ} 0 1 = cc in omega arith) e) in
+    let r = allowed (askedOf (view b)) (opening s c t y v) (none-stops b (opening s c t y v) e) in
+    record {
+      bytes = p .0;
+      fits = p .2;
+      source = r .0;
+      target = r .1;
+      ports = r .4;
+      circuit = λ z. omega arith;
+      small = circuit-small b (p .0) (p .2) s c (r .0) (r .2);
+    }
+
+-- The mission's second demand of the open call: one that no test stops before the search says what a send says.
+pub open-says : (b : List ℕ) (s c t y v : ℕ) → stoppedAt b (opening s c t y v) ≡ 0
+    → SendSays b s t (circuitOf s c) y v (called b (opening s c t y v) .given .answer .number) (called b (opening s c t y v) .given .answer .receive)
+    (called b (opening s c t y v) .given .answer .hops) (called b (opening s c t y v) .given .answer .scouts) (called b (opening s c t y v) .table)
+unfolding carriedOut sendIn sends sentOn
+open-says b s c t y v e =
+    subst (λ (d : Done). SendSays b s t (circuitOf s c) y v (d .given .answer .number) (d .given .answer .receive) (d .given .answer .hops) (d .given .answer .scouts) (d .table))
+    (sym (called-carried b (opening s c t y v) e))
+    (demand-2 b s t (circuitOf s c) y v (may-open b s c t y v e) (carriedOut b (opening s c t y v) .given .answer .number) (carriedOut b (opening s c t y v) .given .answer .receive)
+    (carriedOut b (opening s c t y v) .given .answer .hops) (carriedOut b (opening s c t y v) .given .answer .scouts) (carriedOut b (opening s c t y v) .table) refl)
+
+-- On a sound table a send channel has an open circuit exactly where its number stands on a path and a receive channel.
+module _ (w : View) (sound : Sound w) (s c : ℕ) where
+  first-held : (p : ℕ) (u : Path) → pathOf w (circuitOf s c) ≡ p ∷ u → heldBy w (circuitOf s c) (sourceOf (circuitOf s c)) p ≡ true
+  unfolding pathOf
+  first-held p u q =
+      trail-owned (shapeOf w) (heldBy w (circuitOf s c)) (sourceOf (circuitOf s c)) (sourceOf (circuitOf s c)) p (rw q (on-first (net w) (sourceOf (circuitOf s c)) p u))
+
+  some-path : (u : Path) → pathOf w (circuitOf s c) ≡ u → openIn w s c ≡ true → Stands w (circuitOf s c)
+  unfolding openIn isEmpty
+  some-path [] q e = absurd (false≢true (sym (ap (λ x. not (isEmpty x)) q) ∙ e))
+  some-path (p ∷ u) q e =
+      ⊎-elim (λ z. absurd (z .0 (sourceOf (circuitOf s c)) p (eqb-true _ (circuitOf s c) (first-held p u q)))) (λ z. z) (sound .numbers (circuitOf s c) (λ z. omega arith))
+
+  pub open-stands : (openIn w s c ≡ true) ↔ Stands w (circuitOf s c)
+  open-stands = (some-path (pathOf w (circuitOf s c)) refl, stood)
+    where
+      stood : Stands w (circuitOf s c) → openIn w s c ≡ true
+      stood k = unfold openIn in rw (path-is w (circuitOf s c) k) (some-hop (net w) (sourceOf (circuitOf s c)) _ _ (k .path) (k .permitted))
+
+-- Number 3 says that the table is not sound, of every call that is stopped by it.
+no-three : (b : List ℕ) (a : Call) → refusal (callTests (askedOf (view b)) a) ≢ 3
+no-three b a = never-answered 3 (callTests (askedOf (view b)) a) (others a) (λ z. omega arith)
+  where
+    others : (a : Call) → Avoids 3 (callTests (askedOf (view b)) a)
+    others (making D) = unfold Avoids callTests in ((λ z. omega arith), tt)
+    others (blocking n p) = unfold Avoids callTests in ((λ z. omega arith), ((λ z. omega arith), ((λ z. omega arith), tt)))
+    others (unblocking n p) = unfold Avoids callTests in ((λ z. omega arith), ((λ z. omega arith), tt))
+    others (opening s c t y v) = unfold Avoids callTests in ((λ z. omega arith), ((λ z. omega arith), ((λ z. omega arith), ((λ z. omega arith), ((λ z. omega arith), tt)))))
+    others (closing s c) = unfold Avoids callTests in ((λ z. omega arith), ((λ z. omega arith), ((λ z. omega arith), tt)))
+    others (tracing s c buffer) = unfold Avoids callTests in ((λ z. omega arith), ((λ z. omega arith), ((λ z. omega arith), ((λ z. omega arith), tt))))
+
+-- a sound table passes the third test, so what is left of the tests of the lent table is 1 and 2
+lent-three : (b : List ℕ) → Sound (view b) → refusal (tableTests b) ≢ 3
+unfolding tableTests
+lent-three b sound = go (not (eqb (length b) tableLength)) (leb 1 (dimensionAt b) && leb (dimensionAt b) 8) refl
+  where
+    go : (w u : Bool) → (leb 1 (dimensionAt b) && leb (dimensionAt b) 8) ≡ u → refusal (test w 1 ∷ test (not u) 2 ∷ test (not (soundTest (view b))) 3 ∷ []) ≢ 3
+    go true u q e = omega (arith, refused {b = true} 1 (test (not u) 2 ∷ test (not (soundTest (view b))) 3 ∷ []) refl, e)
+    go false false q e = omega (arith, passed {b = false} 1 (test true 2 ∷ test (not (soundTest (view b))) 3 ∷ []) refl, refused {b = true} 2 (test (not (soundTest (view b))) 3 ∷ []) refl, e)
+    go false true q e = rest (soundTest (view b)) refl
+      where
+        most : dimensionAt b ≤ 8
+        most = leb-true (dimensionAt b) 8 (and-eq-true-iff (leb 1 (dimensionAt b)) (leb (dimensionAt b) 8) .0 q .1)
+
+        rest : (x : Bool) → soundTest (view b) ≡ x → ⊥
+        rest false z = tested (view b) (unfold view in most) (view-framed b) .fails z sound
+        rest true z =
+            let a : refusal (test false 1 ∷ test false 2 ∷ test (not (soundTest (view b))) 3 ∷ []) ≡ refusal (test (not (soundTest (view b))) 3 ∷ []) = passed {b = false} 1 _ refl ∙ passed {b = false} 2 _ refl in
+            omega (arith, a, passed 3 [] (ap not z), accepted, e)
+
+pub stopped-three : (b : List ℕ) (a : Call) → stoppedAt b a ≡ 3 → Sound (view b) → ⊥
+unfolding stoppedAt
+stopped-three b a e sound =
+    ⊎-elim (λ z. no-three b a (sym (refusal-behind (lentTests b a) (callTests (askedOf (view b)) a) (lent-numbered b a) z) ∙ e))
+    (λ f. lent (sym (refusal-before (lentTests b a) (callTests (askedOf (view b)) a) f) ∙ e)) (same? (refusal (lentTests b a)) 0)
+  where
+    lent : refusal (lentTests b a) ≢ 3
+    lent q = ⊎-elim (λ r. made (r .0) (rw (r .1) at q)) (λ r. lent-three b sound (rw r at q)) (lent-is b a)
+      where
+        made : (D : ℕ) → refusal (lentTests b (making D)) ≢ 3
+        made D = unfold lentTests in never-answered 3 (test (not (eqb (length b) tableLength)) 1 ∷ []) (unfold Avoids in ((λ z. omega arith), tt)) (λ z. omega arith)
+
+-- Blocking a blocked link, or unblocking an enabled one, succeeds and changes nothing, on any table that passes its tests.
+module _ (b : List ℕ) (pass : refusal (tableTests b) ≡ 0) (n p : ℕ) (i : n < 2 ^ dimensionAt b) (l : p < dimensionAt b) where
+  node-there : not (ltb n (2 ^ dimensionAt b)) ≡ false
+  node-there = ap not (lt-ltb n (2 ^ dimensionAt b) i)
+
+  port-there : not (ltb p (dimensionAt b)) ≡ false
+  port-there = ap not (lt-ltb p (dimensionAt b) l)
+
+  stops-as : (a : Call) → stoppedAt b a ≡ refusal (callTests (askedOf (view b)) a)
+  stops-as a = let r = pass-tests b pass in stopped-is b (r .0) (r .1) (r .2) (r .3) a
+
+  idle : enabledAt b n p ≡ false → heldIn (view b) n p ≡ false
+  unfolding heldIn view
+  idle e = ⊎-elim (λ z. ap not (eq-eqb (ownerAt b n p) 0 z)) (λ f. absurd (clash (unfold view in pass-tests b pass .3 .held-enabled n p f) e)) (same? (ownerAt b n p) 0)
+
+  pub blocked-again : enabledAt b n p ≡ false → called b (blocking n p) ≡ done b (only 0) []
+  unfolding callTests askedOf view carriedOut
+  blocked-again e =
+      let z : stoppedAt b (blocking n p) ≡ 0 = stops-as (blocking n p) ∙ passed 4 _ node-there ∙ passed 6 _ port-there ∙ passed 13 [] (idle e) ∙ accepted in
+      let c = called-carried b (blocking n p) z in
+      c ∙ ap (λ x. done x (only 0) []) (sym (ap (λ (d : Done). d .table) c) ∙ blocking-again b n p e)
+
+  pub enabled-again : enabledAt b n p ≡ true → called b (unblocking n p) ≡ done b (only 0) []
+  unfolding callTests askedOf view carriedOut
+  enabled-again e =
+      let z : stoppedAt b (unblocking n p) ≡ 0 = stops-as (unblocking n p) ∙ passed 4 _ node-there ∙ passed 6 [] port-there ∙ accepted in
+      let c = called-carried b (unblocking n p) z in
+      c ∙ ap (λ x. done x (only 0) []) (sym (ap (λ (d : Done). d .table) c) ∙ unblocking-again b n p e)
