@@ -152,6 +152,10 @@ module _ (b : List ℕ) (h : History) (D : ℕ) (e : Accepted b (making D)) wher
   unfolding carriedOut gives
   made-given = ap (λ (x : Done). x .given) (called-carried b (making D) (accepted-passes b (making D) e)) ∙ sym (ap (λ (x : Told). x .given) (told-passed h (making D) making-passes))
 
+  pub made-clears : told h (making D) .history .circuits ≡ []
+  unfolding follows
+  made-clears = ap (λ (x : Told). x .history .circuits) (told-passed h (making D) making-passes)
+
   pub made-covered : Covered (called b (making D) .table) (told h (making D) .history)
   unfolding follows
   made-covered =

@@ -3,14 +3,15 @@
 use mathlib.Core.Path.{_≡_, refl, ap, sym, _∙_, subst}
 use mathlib.Core.Logic.{⊎-elim, _≢_, _↔_}
 use mathlib.Core.Bool.{true}
-use mathlib.Core.List.{List, [], _∷_}
+use mathlib.Core.List.{List, [], _∷_, List·Memᴰ·head, List·Memᴰ·not-nil}
 use Prim.Native.Nat.{ℕ, _<_}
 use native.Mathlib.Omega.{arith}
-use Rattle.common.specs.Lists.{_∈_}
+use Rattle.common.specs.Lists.{_∈_, any, from}
 use Rattle.common.specs.Tests.{refusal}
 use Rattle.common.proofs.Tests.{same?}
 use Rattle.cube.specs.Cube.{circuitOf}
-use Rattle.paths.specs.Network.{Link}
+use Rattle.paths.specs.Network.{Network, Path, Link, links}
+use Rattle.paths.specs.Permitted.{Permitted}
 use Rattle.paths.specs.Send.{Outcome, acknowledged, route-rejected, receive-rejected, answered}
 use Rattle.table.specs.Layout.{ownerAt, receiverAt}
 use Rattle.table.specs.View.{View, view}
@@ -19,14 +20,16 @@ use Rattle.table.specs.SoundTest.{tableTests}
 use Rattle.search.specs.Sent.{marked}
 use Rattle.ownership.specs.Calls.{Call, making, blocking, unblocking, opening, closing, tracing, lent}
 use Rattle.ownership.specs.OnTable.{stoppedAt, Done, sendIn, carriedOut, called}
-use Rattle.ownership.specs.History.{Circuit, History, netOn, openOn, told}
+use Rattle.ownership.specs.History.{Circuit, History, netOn, belongs, openOn, told}
 use Rattle.ownership.specs.Lists.{tableAfter, tableGives, historyAfter, historyGives, viewOf, linksOf, Separate, Covered, Accepted}
-use Rattle.ownership.specs.StillOpen.{numbered, StillOpen}
-use Rattle.ownership.proofs.Circuits.{sorted-one}
+use Rattle.ownership.specs.StillOpen.{numbered, StillOpen, OpenedBy}
+use Rattle.ownership.proofs.Circuits.{sorted-one, any-some, belongs-parts}
+use Rattle.ownership.proofs.Followed.{open-send}
+use Rattle.ownership.proofs.OpenedBy.{opened-later, listed-by}
 use Rattle.ownership.proofs.Carried.{called-carried, called-stopped}
 use Rattle.ownership.proofs.Standing.{owner-exactly, receiver-exactly}
 use Rattle.ownership.proofs.StillOpen.{open-exactly}
-use Rattle.ownership.proofs.Agreement.{making-passes, made-covered, covered-after, covered-sound, covered-passes, demand-3}
+use Rattle.ownership.proofs.Agreement.{making-passes, made-clears, made-covered, covered-after, covered-sound, covered-passes, demand-3}
 
 -- "No refusal alters any lent byte": of any call on any bytes. A rejected search leaves each byte of the table as it was.
 module _ (b : List ℕ) where
@@ -49,6 +52,11 @@ module _ (b : List ℕ) where
   refused-leaves a f =
       ⊎-elim (λ z. let e = called-carried b a z in rw e (carried-leaves a (rw e at f)))
       (λ z. let e = called-stopped b a z in (ap (λ (x : Done). x .table) e, ap (λ (x : Done). x .given .buffer) e)) (same? (stoppedAt b a) 0)
+
+-- a permitted path has a link out of its source
+first-link : (N : Network) (s : ℕ) (vector : List ℕ) (t : ℕ) (w : Path) → Permitted N s vector t w → (p : ℕ) × ((s, p) ∈ links N s w)
+unfolding Permitted links
+first-link N s vector t (p ∷ w) o = (p, List·Memᴰ·head refl)
 
 -- From any bytes, after an accepted making and any list of calls:
 module _ (b : List ℕ) (h : History) (D : ℕ) (e : Accepted b (making D)) (calls : List Call) where
@@ -77,6 +85,28 @@ module _ (b : List ℕ) (h : History) (D : ℕ) (e : Accepted b (making D)) (cal
   -- it is listed "exactly when the list has an acknowledged open of it with no accepted making and no accepted close of it afterwards", by the table's own answers
   pub listed-exactly : (s c : ℕ) → (openOn history s c ≡ true) ↔ StillOpen s c (numbered (making D ∷ calls) (tableGives b (making D ∷ calls)))
   listed-exactly s c = rw (demand-3 b h D e calls .gives) (open-exactly s c h D (making-passes b h D e) calls)
+
+  -- each listed circuit has the path and the receive channel with which an open of the list was acknowledged
+  pub listed-opened : (x : Circuit) → x ∈ history .circuits → OpenedBy h (making D ∷ calls) x
+  unfolding historyAfter
+  listed-opened x m =
+      ⊎-elim (λ k. absurd (List·Memᴰ·not-nil (subst (λ (u : List Circuit). x ∈ u) (made-clears b h D e) k))) (λ z. opened-later h (making D) calls x z) (listed-by calls (told h (making D) .history) x m)
+
+  -- so a circuit shows in the table exactly when the list has an acknowledged open of it that nothing accepted has ended since
+  pub shown-exactly : (s c : ℕ) → c < 8 → ((n : ℕ) × ((p : ℕ) × (ownerAt table n p ≡ circuitOf s c))) ↔ StillOpen s c (numbered (making D ∷ calls) (tableGives b (making D ∷ calls)))
+  shown-exactly s c l = ((λ r. listed-exactly s c .0 (open-from (table-holds-link s c l (r .0) (r .1 .0) .0 (r .1 .1)))), (λ k. shows-first (any-some (belongs s c) (history .circuits) (is-open (listed-exactly s c .1 k)))))
+    where
+      is-open : openOn history s c ≡ true → any (belongs s c) (history .circuits) ≡ true
+      is-open e = unfold openOn in e
+
+      open-from : {n p : ℕ} → (x : Circuit) × (x ∈ history .circuits) × ((x .source ≡ s) × (x .channel ≡ c)) × ((n, p) ∈ linksOf (netOn history) x) → openOn history s c ≡ true
+      open-from r = open-send history (r .0) (r .1) s c (r .2 .0) (r .2 .1)
+
+      shows-first : (x : Circuit) × (x ∈ history .circuits) × (belongs s c x ≡ true) → (n : ℕ) × ((p : ℕ) × (ownerAt table n p ≡ circuitOf s c))
+      shows-first r =
+          let parts = belongs-parts s c (r .0) (r .2) in
+          let first = first-link (netOn history) (r .0 .source) (from 0 (history .dimension)) (r .0 .target) (r .0 .ports) (reached-covered .valid .stands (r .0) (r .1) .permitted) in
+          (r .0 .source, (first .0, table-holds-link s c l (r .0 .source) (first .0) .1 (r .0, r .1, parts, first .1)))
 
   -- "no two open circuits share a link or a receive channel"
   pub no-link-shared : (x y : Circuit) → x ∈ history .circuits → y ∈ history .circuits → (l : Link) → l ∈ linksOf (netOn history) x → l ∈ linksOf (netOn history) y → x ≡ y

@@ -10,6 +10,7 @@ pub mod Enabled
 pub mod Followed
 pub mod Told
 pub mod StillOpen
+pub mod OpenedBy
 pub mod Range
 pub mod Shows
 pub mod Stops

@@ -36,8 +36,8 @@ send-requires c κs =
     record {
       bytes = r .0 .long;
       fits = r .0 .most;
-      source = r .0 .source;
-      target = r .0 .target;
+      source = omega (arith, r .0 .source);
+      target = omega (arith, r .0 .source, r .0 .target);
       ports = omega (arith, nodes .0, r .2);
       circuit = λ z. omega (arith, m .circuit-of .ensures, z);
       small = omega (arith, nodes .1, r .0 .source, r .1, m .circuit-of .ensures);
