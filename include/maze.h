@@ -55,11 +55,17 @@ extern "C" {
  * send channel c at node s has the number 8 * s + c + 1; zero means no circuit.
  *
  * The table is MAZE_TABLE_BYTES bytes of the caller's, first written by maze_make:
- *   1 byte                        the dimension
- *   256 bytes from ENABLED_AT     for each node, bit p set where the link out of port p is enabled
- *   4,096 bytes from LINKS_AT     for each node and port 0 to 7, the circuit that holds the link, two bytes, low byte first
- *   4,096 bytes from RECEIVES_AT  for each node and receive channel, the circuit that holds it, two bytes, low byte first
- * Rows run node by node. A link is free if it is enabled and held by no circuit. */
+ *   1 byte                             the dimension
+ *   256 bytes from MAZE_ENABLED_AT     for each node, bit p set where the link out of port p is enabled
+ *   4,096 bytes from MAZE_LINKS_AT     for each node and port 0 to 7, the circuit that holds the link, two bytes, low byte first
+ *   4,096 bytes from MAZE_RECEIVES_AT  for each node and receive channel, the circuit that holds it, two bytes, low byte first
+ * Rows run node by node. A link is free if it is enabled and held by no circuit.
+ *
+ * A table is sound if everything in it for absent nodes and ports is zero, held links are enabled, no circuit number is above 8 * 2^D, and each
+ * circuit number either occurs nowhere or stands on exactly the links of one permitted path from its source and on exactly one receive channel,
+ * at that path's end. A permitted path leaves its source by any port below D; each later hop is over a port in whose bit the node and the path's
+ * end differ; and it ends where it first arrives at its end, after at least one hop. Every call but maze_make refuses a table that is not
+ * sound, and leaves a sound one sound. */
 #define MAZE_TABLE_BYTES 8449
 #define MAZE_NODES 256         /* nodes that have a row, present in the cube or not */
 #define MAZE_PORTS 8           /* ports in a row */
@@ -120,9 +126,12 @@ uint16_t maze_block(uint8_t *table, size_t table_len, uint16_t node, uint16_t po
 uint16_t maze_unblock(uint8_t *table, size_t table_len, uint16_t node, uint16_t port);
 
 /* Opens the circuit of a send channel of a node: looks for the first free permitted path to the target, in helical order, beginning with a port
- * of the send vector (bit p for port p). An accepted open holds the links of that path and the target's lowest receive channel that no
- * circuit holds; maze_trace tells the path. Alters the entries of those and leaves the rest alone.
- * Answers 0 with hops, receive channel and scouts, or the first of 1, 2, 3, 4, 5, 7, 8, 9, 10 and 11 that applies; 10 and 11 with scouts. */
+ * of the send vector (bit p for port p). With MAZE_TYPE_ALTERNATE_MAZE, if that is rejected, a second pass begins with the ports below the
+ * dimension that the vector left out; the answer is then that of the second pass, with the scouts of both. An accepted open holds the links
+ * of that path and the target's lowest receive channel that no circuit holds; maze_trace tells the path. Alters the entries of those and leaves
+ * the rest alone.
+ * Answers 0 with hops, receive channel and scouts, or the first of 1, 2, 3, 4, 5, 7, 8, 9, 10 and 11 that applies; 10 and 11 with scouts. On a
+ * sound table a target whose eight receive channels are held has no free link into it, so 10 comes in place of 11. */
 maze_opened maze_open(uint8_t *table, size_t table_len, uint16_t node, uint16_t channel, uint16_t target, uint16_t type, uint16_t vector);
 
 /* Closes the circuit of a send channel of a node: frees its links and its receive channel and leaves the rest alone.
