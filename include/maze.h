@@ -65,7 +65,7 @@ extern "C" {
  * circuit number either occurs nowhere or stands on exactly the links of one permitted path from its source and on exactly one receive channel,
  * at that path's end. A permitted path leaves its source by any port below D; each later hop is over a port in whose bit the node and the path's
  * end differ; and it ends where it first arrives at its end, after at least one hop. Every call but maze_make refuses a table that is not
- * sound, and leaves a sound one sound. */
+ * sound. */
 #define MAZE_TABLE_BYTES 8449
 #define MAZE_NODES 256         /* nodes that have a row, present in the cube or not */
 #define MAZE_PORTS 8           /* ports in a row */
