@@ -2,14 +2,14 @@
 -- Assumes nothing.
 use mathlib.Core.Path.{_≡_, refl, ap, sym, _∙_}
 use mathlib.Core.Logic.{⊎-elim, _≢_}
-use mathlib.Core.Bool.{Bool, true, false, cond, not, Bool·beq}
+use mathlib.Core.Bool.{Bool, true, false, cond, not, _&&_, Bool·beq}
 use Prim.Native.Nat.{ℕ, zero, suc, _+_, _-_, _*_, _/_, _%_, _^_, _≤_, _<_}
 use native.Mathlib.Omega.{arith}
 use native.Mathlib.Nat.{div-eq-of-lt, div-self, lt-of-lt-of-le, pow-succ', div-div-eq-div-mul, div-one}
 use lib.Arith.{lt-of-le-ne}
 use lib.Dec.{eqb, ltb}
 use lib.Pow.{pow-pos, pow-mono, pow-lt, pow-add, shl-shr}
-use lib.Bits.{bitXor, bitAnd, and-high, xor-add-and, xor-shr, xor-mod, xor-lt, xor-zero-r, and-le-l}
+use lib.Bits.{bitXor, bitAnd, and-high, and-shr, and-mod, xor-add-and, xor-shr, xor-mod, xor-lt, xor-zero-r, and-le-l}
 use borrow.Author.Tests.{ltb-true, ltb-false, eqb-true, eqb-false, eq-eqb, ne-eqb}
 use Rattle.cube.specs.Bits.{bitAt, has, flip, withBit}
 
@@ -43,6 +43,22 @@ bit-power-other p q h = go (ltb q p) refl
 pub bit-xor : (n m p : ℕ) → bitAt (bitXor n m) p ≡ bitXor (bitAt n p) (bitAt m p)
 unfolding bitAt
 bit-xor n m p = rw (xor-shr n m p) (xor-mod (n / 2 ^ p) (m / 2 ^ p) 1)
+
+-- the bits of `&`
+bit-and : (n m p : ℕ) → bitAt (bitAnd n m) p ≡ bitAnd (bitAt n p) (bitAt m p)
+unfolding bitAt
+bit-and n m p = rw (and-shr n m p) (and-mod (n / 2 ^ p) (m / 2 ^ p) 1)
+
+pub has-and : (n m p : ℕ) → has (bitAnd n m) p ≡ (has n p && has m p)
+unfolding has
+has-and n m p = rw (bit-and n m p) (go (bitAt n p) (bitAt m p) (bit-lt n p) (bit-lt m p))
+  where
+    go : (x y : ℕ) → x < 2 → y < 2 → eqb (bitAnd x y) 1 ≡ (eqb x 1 && eqb y 1)
+    go zero y h l = refl
+    go (suc zero) zero h l = refl
+    go (suc zero) (suc zero) h l = refl
+    go (suc zero) (suc (suc y)) h l = absurd (omega arith)
+    go (suc (suc x)) y h l = absurd (omega arith)
 
 -- to change a bit is `^` with a power of two
 and-power : (n p : ℕ) → bitAnd n (2 ^ p) ≡ bitAt n p * 2 ^ p

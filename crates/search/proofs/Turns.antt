@@ -19,7 +19,7 @@ use Rattle.cube.specs.Bits.{has}
 use Rattle.cube.specs.Cube.{next}
 use Rattle.cube.proofs.Bits.{high-has, flip-inside}
 use Rattle.cube.specs.Helical.{helical, portsOf, firstPort, FirstTried}
-use Rattle.cube.proofs.Order.{first-tried, mem-ports, length-helical, helical-mem, mem-helical, helical-zero, length-ports}
+use Rattle.cube.proofs.Order.{first-tried, mem-ports, ports-mem, length-helical, helical-mem, mem-helical, helical-zero, length-ports}
 use Rattle.paths.specs.Network.{Network, offered}
 use Rattle.paths.specs.CubeNetwork.{network}
 use Rattle.paths.specs.Search.{trying, arriving}
@@ -33,8 +33,9 @@ use Rattle.table.specs.View.{View, view, setOwner, receive, lowestChannel}
 use Rattle.table.specs.Sound.{net, shapeOf}
 use Rattle.table.proofs.Views.{view-put-owner}
 use Rattle.search.specs.Settle.{freeIn, Settled, settled, settle, behindPort}
-use Rattle.search.specs.Turns.{farthest, distance, reach, tries, arrived, Here, MayTry, MayArrive, Turn}
+use Rattle.search.specs.Turns.{farthest, distance, reach, tries, arrived, Narrowed, Enabled, Here, MayTry, MayArrive, Turn}
 use Rattle.search.proofs.Settle.{at-target, arrives, target-receives, target-full, behind, receive-same, given-back, free-owner, port-busy, port-acknowledged, port-receive-rejected, port-route-rejected, three-answers, settled-scouts, ports-over}
+use Rattle.search.proofs.Narrow.{narrow-fewer, narrow-mem, narrow-tries}
 
 -- every node behind a port of the list is within the farthest
 pub farthest-mem : (N : Network) (t n : ℕ) (ps : List ℕ) (p : ℕ) → p ∈ ps → N .far t (N .next n p) ≤ farthest N t n ps
@@ -125,6 +126,9 @@ module _ (b : List ℕ) (t c n a h v left p sent s : ℕ) (may : MayTry b t c n 
 
   here-member : p ∈ portsOf 8 left
   here-member = mem-ports 8 left p (here-tried .small) (here-tried .offered)
+
+  pub here-enabled : Enabled (view b) n v → view b .enabled n p ≡ true
+  here-enabled on = let m = ports-mem 8 v (inv .sub p here-member) in on p (m .0) (m .1)
 
   here-reach : distance b t (next n p) ≤ reach b t n v
   unfolding distance reach network
@@ -245,6 +249,27 @@ turn-over b t c n v a h s now left sent inv z =
     ∙ ap (λ ps. settle b c n h (receive (view b) t) (trying (freeIn (view b) n) (behindPort (net (view b)) (freeIn (view b)) t n) ps sent)) (sym none)
     ∙ inv .rest
 
+-- ports that are not free are dropped from a vector: there is room for the rest
+narrow-reach : (b : List ℕ) (t n v left : ℕ) → Narrowed (view b) n v left → reach b t n left ≤ reach b t n v
+unfolding reach
+narrow-reach b t n v left narrow =
+    farthest-most (net (view b)) t n (farthest (net (view b)) t n (portsOf 8 v)) (portsOf 8 left) (λ p m. farthest-mem (net (view b)) t n (portsOf 8 v) p (narrow-mem narrow p m))
+
+pub narrow-may : (b : List ℕ) (t c n v left a h s : ℕ) → MayTry b t c n v a h s → Narrowed (view b) n v left → MayTry b t c n left a h s
+narrow-may b t c n v left a h s may narrow =
+    let near = narrow-reach b t n v left narrow in
+    let ways = ways-more (reach b t n left) (reach b t n v) near in
+    let all = mul-le-mul (narrow-fewer narrow) (let w = ways in add-le-one w) in
+    record {
+      here = may .here;
+      ports = (let l = narrow .most in omega (arith, may .ports));
+      hops = omega (arith, may .hops, near);
+      room = omega (arith, may .room, all);
+    }
+  where
+    add-le-one : {x y : ℕ} → x ≤ y → 1 + x ≤ 1 + y
+    add-le-one h = omega arith
+
 -- An arrival.
 module _ (b : List ℕ) (t c n a h s : ℕ) (may : MayArrive b t c n a h s) where
   pub arrive-receives : (k : ℕ) → n ≡ t → k ≡ lowestChannel (view b) n → k ≢ 8 → settled 0 k h s b ≡ arrived b t c n a h s
@@ -264,9 +289,9 @@ module _ (b : List ℕ) (t c n a h s : ℕ) (may : MayArrive b t c n a h s) wher
     unfolding view
     offers = offered-vector (shapeOf (view b)) 8 n t (may .here .fits) (may .here .node) (may .here .target) ∙ ap (portsOf 8) (sym uphill)
 
-    pub arrive-tries : tries b t c n v a h s ≡ arrived b t c n a h s
+    all-tried : tries b t c n v a h s ≡ arrived b t c n a h s
     unfolding tries arrived distance
-    arrive-tries =
+    all-tried =
         ap (settle b c n h (receive (view b) t))
         (ap (λ ps. trying (freeIn (view b) n) (behindPort (net (view b)) (freeIn (view b)) t n) (helical a ps) s) (sym offers) ∙ arrives (net (view b)) (freeIn (view b)) t n a s (cube-nearing (shapeOf (view b)) t) away)
 
@@ -284,9 +309,9 @@ module _ (b : List ℕ) (t c n a h s : ℕ) (may : MayArrive b t c n a h s) wher
         farthest-most (net (view b)) t n _ (portsOf 8 v) (λ p m. let z = nearer p m in omega (arith, e)) in
         omega (arith, e, most)
 
-    pub arrive-may : MayTry b t c n v a h s
+    all-may : MayTry b t c n v a h s
     unfolding distance network
-    arrive-may =
+    all-may =
         let degree : length (portsOf 8 v) ≡ distance b t n = ap length (sym offers) ∙ cube-cubical (shapeOf (view b)) t .degree n in
         let ports = one-further (length (portsOf 8 v)) (reach b t n v) (distance b t n) arrive-reach (omega (arith, degree)) in
         record {
@@ -296,5 +321,16 @@ module _ (b : List ℕ) (t c n a h s : ℕ) (may : MayArrive b t c n a h s) wher
           room = omega (arith, may .room, ports);
         }
 
-    pub arrive-falls : 2 * reach b t n v + 1 < 2 * distance b t n
-    arrive-falls = omega (arith, arrive-reach)
+    -- the enabled ones of them
+    module _ (left : ℕ) (narrow : Narrowed (view b) n v left) where
+      pub arrive-may : MayTry b t c n left a h s
+      arrive-may = narrow-may b t c n v left a h s all-may narrow
+
+      pub arrive-tries : tries b t c n left a h s ≡ arrived b t c n a h s
+      arrive-tries = narrow-tries b t c n v left a h s narrow ∙ all-tried
+
+      pub arrive-none : left ≡ 0 → settled 10 0 0 s b ≡ arrived b t c n a h s
+      arrive-none z = turn-over b t c n left a h s b left s (first-turn b t c n left a h s arrive-may) z ∙ arrive-tries
+
+      pub arrive-falls : 2 * reach b t n left + 1 < 2 * distance b t n
+      arrive-falls = omega (arith, arrive-reach, narrow-reach b t n v left narrow)

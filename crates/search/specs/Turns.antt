@@ -2,12 +2,13 @@
 -- Assumes nothing.
 use mathlib.Core.Path.{_≡_}
 use mathlib.Core.Logic.{_≢_}
-use mathlib.Core.Bool.{Bool, cond}
+use mathlib.Core.Bool.{Bool, true, false, cond}
 use mathlib.Core.List.{List, [], _∷_}
 use Prim.Native.Nat.{ℕ, _+_, _*_, _^_, _≤_, _<_}
 use lib.Dec.{leb}
 use lib.ListN.{length}
 use Rattle.common.specs.Lists.{_∈_}
+use Rattle.cube.specs.Bits.{has}
 use Rattle.cube.specs.Helical.{helical, portsOf}
 use Rattle.paths.specs.Network.{Network}
 use Rattle.paths.specs.CubeNetwork.{network}
@@ -37,6 +38,16 @@ tries b t c n vector a h s =
 
 unfoldable pub arrived : List ℕ → ℕ → ℕ → ℕ → ℕ → ℕ → ℕ → Settled
 arrived b t c n a h s = settle b c n h (receive (view b) t) (arriving (distance b t n) (net (view b)) (freeIn (view b)) t n a s)
+
+-- the ports left of a vector once some that are not free at node n are dropped from it
+pub record Narrowed (v : View) (n vector left : ℕ) : Type 0 where
+  pub most : left ≤ vector
+  pub among : (p : ℕ) → has left p ≡ true → has vector p ≡ true
+  pub dropped : (p : ℕ) → p < 8 → has vector p ≡ true → has left p ≡ false → freeIn v n p ≡ false
+
+-- the ports of a vector are all enabled at node n
+abbrev pub Enabled : View → ℕ → ℕ → Type 0
+Enabled v n vector = (p : ℕ) → p < 8 → has vector p ≡ true → v .enabled n p ≡ true
 
 -- what both ask: a table of a cube up to dimension 8, a node and a target of it, a port, a circuit
 pub record Here (b : List ℕ) (t c n a : ℕ) : Type 0 where

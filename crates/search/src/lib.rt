@@ -1,26 +1,32 @@
 // The search for a free permitted path on a lent table.
 ghost use mathlib.Core.Path.{_≡_};
+ghost use mathlib.Core.Bool.{true};
 ghost use Rattle.table.specs.Layout.{Within};
 ghost use Rattle.table.specs.View.{view};
 ghost use Rattle.cube.specs.Helical.{FirstPorts};
 ghost use Rattle.search.specs.Settle.{freeIn, settled};
-ghost use Rattle.search.specs.Turns.{tries, arrived, MayTry, MayArrive};
+ghost use Rattle.search.specs.Turns.{Narrowed, Enabled, tries, arrived, MayTry, MayArrive};
 ghost use Rattle.search.specs.Sent.{MaySend, sendsMaze, sendsAlternate, sends};
 use common::refusal;
 use cube::Circuit;
 use cube::Node;
 use cube::Port;
 
-// Whether a link is enabled and held by nobody.
-pub fn is_free(t: &[u8], n: Node, p: Port) -> bool
+// The ports of a vector that are enabled at a node: no scout leaves by another.
+fn enabled_ports(t: &[u8], n: Node, vector: u16) -> u16
+    requires { ⌜ Within (now t) (n .0) 0 ⌝ }
+    ensures { λ r. ⌜ Narrowed (view (now (t .entry))) (n .0) vector r × Enabled (view (now (t .entry))) (n .0) r ⌝ }
+{
+    vector & table::enable_bits(t, n)
+}
+
+// Whether an enabled link is free: held by nobody.
+fn is_free(t: &[u8], n: Node, p: Port) -> bool
     requires { ⌜ Within (now t) (n .0) (p .0) ⌝ }
+    requires { ⌜ view (now t) .enabled (n .0) (p .0) ≡ true ⌝ }
     ensures { λ r. ⌜ r ≡ freeIn (view (now (t .entry))) (n .0) (p .0) ⌝ }
 {
-    if table::enabled(t, n, p) {
-        table::owner(t, n, p).0 == 0
-    } else {
-        false
-    }
+    table::owner(t, n, p).0 == 0
 }
 
 // What a pass comes to: 0 with the receive channel and the hops, or the refusal; and the scouts sent.
@@ -31,7 +37,8 @@ pub struct Pass {
     pub scouts: u32,
 }
 
-// A node tries the ports of a vector in the helical order. Each hop is held as the scout goes, and given back when it is rejected.
+// A node tries the ports of a vector, all of them enabled, in the helical order. Each hop is held as the scout goes, and given back when it is
+// rejected.
 pub fn try_ports(
     t: &mut [u8],
     at: Node,
@@ -45,6 +52,7 @@ pub fn try_ports(
 ) -> Pass
     requires { ⌜ FirstPorts (now first) ⌝ }
     requires { ⌜ MayTry (now t) (target .0) (c .0) (at .0) vector (arrival .0) hops scouts ⌝ }
+    requires { ⌜ Enabled (view (now t)) (at .0) vector ⌝ }
     ensures { λ r. ⌜ settled (r .refused) (r .channel) (r .hops) (r .scouts) (now (t .exit)) ≡ tries (now (t .entry)) (target .0) (c .0) (at .0) vector (arrival .0) hops scouts ⌝ }
 {
     let mut left = vector;
@@ -82,7 +90,8 @@ pub fn try_ports(
     }
 }
 
-// A scout arrives: at the target, whose lowest receive channel that nobody holds is answered, or at a node that tries its uphill ports.
+// A scout arrives: at the target, whose lowest receive channel that nobody holds is answered, or at a node that tries its uphill ports, if any is
+// enabled.
 pub fn arrive(
     t: &mut [u8],
     at: Node,
@@ -115,17 +124,17 @@ pub fn arrive(
             }
         }
     } else {
-        try_ports(
-            t,
-            at,
-            target,
-            c,
-            cube::uphill_vector(at, target),
-            arrival,
-            hops,
-            scouts,
-            first,
-        )
+        let vector = enabled_ports(t, at, cube::uphill_vector(at, target));
+        if vector == 0 {
+            Pass {
+                refused: refusal::ROUTE_REJECTED,
+                channel: 0,
+                hops: 0,
+                scouts,
+            }
+        } else {
+            try_ports(t, at, target, c, vector, arrival, hops, scouts, first)
+        }
     }
 }
 
@@ -143,7 +152,8 @@ pub fn maze(
     requires { ⌜ MaySend (now t) (source .0) (target .0) (c .0) vector ⌝ }
     ensures { λ r. ⌜ settled (r .refused) (r .channel) (r .hops) (r .scouts) (now (t .exit)) ≡ sendsMaze (now (t .entry)) (source .0) (target .0) (c .0) vector ⌝ }
 {
-    let got = try_ports(t, source, target, c, vector, Port(7), 0, 0, first);
+    let ports = enabled_ports(t, source, vector);
+    let got = try_ports(t, source, target, c, ports, Port(7), 0, 0, first);
     if got.refused == refusal::ACCEPTED {
         table::set_receiver(t, target, got.channel, c);
     }

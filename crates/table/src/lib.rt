@@ -7,6 +7,7 @@ pub use layout::BYTES;
 pub use layout::dimension;
 pub use layout::disable;
 pub use layout::enable;
+pub use layout::enable_bits;
 pub use layout::enabled;
 pub use layout::free_channel;
 pub use layout::make;

@@ -11,7 +11,7 @@ use Rattle.table.specs.Layout.{putOwner}
 use Rattle.table.specs.View.{view}
 use Rattle.search.specs.Settle.{freeIn, settled}
 use Rattle.search.specs.Turns.{distance, reach, arrived, tries, Turn}
-use Rattle.search.proofs.Turns.{turned, first-turn, byte-vector, owner-length, here-tried, here-within, here-room, here-arrives, here-falls, here-answer, turn-busy, turn-acknowledged, turn-full, turn-next, turn-over, arrive-receives, arrive-full, arrive-tries, arrive-may, arrive-falls}
+use Rattle.search.proofs.Turns.{turned, first-turn, byte-vector, owner-length, here-tried, here-within, here-enabled, here-room, here-arrives, here-falls, here-answer, turn-busy, turn-acknowledged, turn-full, turn-next, turn-over, arrive-receives, arrive-full, arrive-tries, arrive-none, arrive-may, arrive-falls}
 use borrow.Fn.Kinds.{In, Out}
 use borrow.Fn.PlainCycle.{Measures, is, falls, and}
 use Rattle.search.proofs.arrive.Reads as arrive
@@ -24,6 +24,7 @@ use Rattle.cube.proofs.first_port.Reads as first-port-reads
 use Rattle.cube.proofs.neighbour.Reads as neighbour-reads
 use Rattle.cube.proofs.uphill_vector.Reads as uphill-vector-reads
 use Rattle.cube.proofs.without.Reads as without-reads
+use Rattle.search.proofs.enabled_ports.Reads as enabled-ports-reads
 use Rattle.search.proofs.is_free.Reads as is-free-reads
 use Rattle.table.proofs.free_channel.Reads as free-channel-reads
 use Rattle.table.proofs.set_owner.Reads as set-owner-reads
@@ -62,6 +63,8 @@ arrive-in t = (
   free-channel-reads.Learnt,
   uphill-vector-reads.Asked,
   uphill-vector-reads.Learnt,
+  enabled-ports-reads.Asked,
+  enabled-ports-reads.Learnt,
   try-ports-below t,
   try-ports.Post,
 )
@@ -97,13 +100,19 @@ arrive-free-channel-requires t c κs =
 arrive-uphill-vector-requires : (t : ℕ) → arrive-At arrive-lts.Need-uphill-vector-requires t
 arrive-uphill-vector-requires t c κs = search needs
 
+arrive-enabled-ports-requires : (t : ℕ) → arrive-At arrive-lts.Need-enabled-ports-requires t
+arrive-enabled-ports-requires t c κs =
+    let s = c .before .before .before .before .before .before in
+    record { bytes = s .pre .1 .1 .here .bytes; node = byte-vector (s .args .t .now) (s .args .at .0) (s .pre .1 .1 .here .fits) (s .pre .1 .1 .here .node); port = lit< tt }
+
 arrive-try-ports-requires : (t : ℕ) → arrive-At arrive-lts.Need-try-ports-requires t
 arrive-try-ports-requires t c κs =
-    let e = c .before .before in
-    let s = e .before .before .before .before in
-    let v = c .uphill-vector .result in (
-      (let less = arrive-falls (s .args .t .now) (s .args .target .0) (s .args .c .0) (s .args .at .0) (s .args .arrival .0) (s .args .hops) (s .args .scouts) (s .pre .1 .1) (e .if1 .left) v (c .uphill-vector .ensures .value) in omega (arith, less, s .pre .0)),
-      (s .pre .1 .0, arrive-may (s .args .t .now) (s .args .target .0) (s .args .c .0) (s .args .at .0) (s .args .arrival .0) (s .args .hops) (s .args .scouts) (s .pre .1 .1) (e .if1 .left) v (c .uphill-vector .ensures .value)),
+    let g = c .before .before in
+    let u = g .before in
+    let e = u .before .before in
+    let s = e .before .before .before .before in (
+      (let less = arrive-falls (s .args .t .now) (s .args .target .0) (s .args .c .0) (s .args .at .0) (s .args .arrival .0) (s .args .hops) (s .args .scouts) (s .pre .1 .1) (e .if1 .left) (u .uphill-vector .result) (u .uphill-vector .ensures .value) (g .enabled-ports .result) (g .enabled-ports .ensures .0) in omega (arith, less, s .pre .0)),
+      (s .pre .1 .0, (arrive-may (s .args .t .now) (s .args .target .0) (s .args .c .0) (s .args .at .0) (s .args .arrival .0) (s .args .hops) (s .args .scouts) (s .pre .1 .1) (e .if1 .left) (u .uphill-vector .result) (u .uphill-vector .ensures .value) (g .enabled-ports .result) (g .enabled-ports .ensures .0), g .enabled-ports .ensures .1)),
     )
 
 arrive-same-length : (t : ℕ) → arrive-At arrive-lts.Need-same-length t
@@ -131,29 +140,41 @@ arrive-same-length-3 t c = search needs
 
 arrive-returns-3 : (t : ℕ) → arrive-At arrive-lts.Need-returns-3 t
 arrive-returns-3 t c =
-    let y = c .before .before in
-    let u = y .before in
+    let g = c .before in
+    let u = g .before in
     let e = u .before .before in
     let s = e .before .before .before .before in
-    y .try-ports .ensures ∙ arrive-tries (s .args .t .now) (s .args .target .0) (s .args .c .0) (s .args .at .0) (s .args .arrival .0) (s .args .hops) (s .args .scouts) (s .pre .1 .1) (e .if1 .left) (u .uphill-vector .result) (u .uphill-vector .ensures .value)
+    arrive-none (s .args .t .now) (s .args .target .0) (s .args .c .0) (s .args .at .0) (s .args .arrival .0) (s .args .hops) (s .args .scouts) (s .pre .1 .1) (e .if1 .left) (u .uphill-vector .result) (u .uphill-vector .ensures .value) (g .enabled-ports .result) (g .enabled-ports .ensures .0) (c .if3 .taken)
+
+arrive-same-length-4 : (t : ℕ) → arrive-At arrive-lts.Need-same-length-4 t
+arrive-same-length-4 t c = search needs
+
+arrive-returns-4 : (t : ℕ) → arrive-At arrive-lts.Need-returns-4 t
+arrive-returns-4 t c =
+    let y = c .before .before in
+    let g = y .before .before .before in
+    let u = g .before in
+    let e = u .before .before in
+    let s = e .before .before .before .before in
+    y .try-ports .ensures ∙ arrive-tries (s .args .t .now) (s .args .target .0) (s .args .c .0) (s .args .at .0) (s .args .arrival .0) (s .args .hops) (s .args .scouts) (s .pre .1 .1) (e .if1 .left) (u .uphill-vector .result) (u .uphill-vector .ensures .value) (g .enabled-ports .result) (g .enabled-ports .ensures .0)
 
 try-ports-loop-holds : (t : ℕ) → try-ports-At try-ports-lts.Need-loop-holds t
 try-ports-loop-holds t c =
     let s = c .before in
-    first-turn (s .args .t .now) (s .args .target .0) (s .args .c .0) (s .args .at .0) (s .args .vector) (s .args .arrival .0) (s .args .hops) (s .args .scouts) (s .pre .1 .1)
+    first-turn (s .args .t .now) (s .args .target .0) (s .args .c .0) (s .args .at .0) (s .args .vector) (s .args .arrival .0) (s .args .hops) (s .args .scouts) (s .pre .1 .1 .0)
 
 try-ports-first-port-requires : (t : ℕ) → try-ports-At try-ports-lts.Need-first-port-requires t
 try-ports-first-port-requires t c κs =
     let l = c .before in
     let s = l .before .before in
-    (byte-vector (s .args .t .now) (l .loop .left) (s .pre .1 .1 .here .fits) (l .loop .inv .ports), s .pre .1 .1 .here .port, s .pre .1 .0)
+    (byte-vector (s .args .t .now) (l .loop .left) (s .pre .1 .1 .0 .here .fits) (l .loop .inv .ports), s .pre .1 .1 .0 .here .port, s .pre .1 .0)
 
 try-ports-without-requires : (t : ℕ) → try-ports-At try-ports-lts.Need-without-requires t
 try-ports-without-requires t c κs =
     let f = c in
     let l = f .before .before in
     let s = l .before .before in
-    let r = here-tried (s .args .t .now) (s .args .target .0) (s .args .c .0) (s .args .at .0) (s .args .arrival .0) (s .args .hops) (s .args .vector) (l .loop .left) (f .first-port .result .0) (l .loop .sent) (s .args .scouts) (s .pre .1 .1) (turned (l .loop .inv)) (f .before .loop-test .taken) (f .first-port .ensures) in
+    let r = here-tried (s .args .t .now) (s .args .target .0) (s .args .c .0) (s .args .at .0) (s .args .arrival .0) (s .args .hops) (s .args .vector) (l .loop .left) (f .first-port .result .0) (l .loop .sent) (s .args .scouts) (s .pre .1 .1 .0) (turned (l .loop .inv)) (f .before .loop-test .taken) (f .first-port .ensures) in
     (let q = r .small in omega arith, r .offered)
 
 try-ports-is-free-requires : (t : ℕ) → try-ports-At try-ports-lts.Need-is-free-requires t
@@ -161,14 +182,17 @@ try-ports-is-free-requires t c κs =
     let f = c .before .before in
     let l = f .before .before in
     let s = l .before .before in
-    rw (l .loop .inv .same) (here-within (s .args .t .now) (s .args .target .0) (s .args .c .0) (s .args .at .0) (s .args .arrival .0) (s .args .hops) (s .args .vector) (l .loop .left) (f .first-port .result .0) (l .loop .sent) (s .args .scouts) (s .pre .1 .1) (turned (l .loop .inv)) (f .before .loop-test .taken) (f .first-port .ensures))
+    rw (l .loop .inv .same) (
+      here-within (s .args .t .now) (s .args .target .0) (s .args .c .0) (s .args .at .0) (s .args .arrival .0) (s .args .hops) (s .args .vector) (l .loop .left) (f .first-port .result .0) (l .loop .sent) (s .args .scouts) (s .pre .1 .1 .0) (turned (l .loop .inv)) (f .before .loop-test .taken) (f .first-port .ensures),
+      here-enabled (s .args .t .now) (s .args .target .0) (s .args .c .0) (s .args .at .0) (s .args .arrival .0) (s .args .hops) (s .args .vector) (l .loop .left) (f .first-port .result .0) (l .loop .sent) (s .args .scouts) (s .pre .1 .1 .0) (turned (l .loop .inv)) (f .before .loop-test .taken) (f .first-port .ensures) (s .pre .1 .1 .1),
+    )
 
 try-ports-set-owner-requires : (t : ℕ) → try-ports-At try-ports-lts.Need-set-owner-requires t
 try-ports-set-owner-requires t c κs =
     let f = c .before .before .before .before .before in
     let l = f .before .before in
     let s = l .before .before in
-    rw (l .loop .inv .same) (here-within (s .args .t .now) (s .args .target .0) (s .args .c .0) (s .args .at .0) (s .args .arrival .0) (s .args .hops) (s .args .vector) (l .loop .left) (f .first-port .result .0) (l .loop .sent) (s .args .scouts) (s .pre .1 .1) (turned (l .loop .inv)) (f .before .loop-test .taken) (f .first-port .ensures))
+    rw (l .loop .inv .same) (here-within (s .args .t .now) (s .args .target .0) (s .args .c .0) (s .args .at .0) (s .args .arrival .0) (s .args .hops) (s .args .vector) (l .loop .left) (f .first-port .result .0) (l .loop .sent) (s .args .scouts) (s .pre .1 .1 .0) (turned (l .loop .inv)) (f .before .loop-test .taken) (f .first-port .ensures))
 
 try-ports-neighbour-requires : (t : ℕ) → try-ports-At try-ports-lts.Need-neighbour-requires t
 try-ports-neighbour-requires t c κs =
@@ -176,7 +200,7 @@ try-ports-neighbour-requires t c κs =
     let f = i .before .before .before in
     let l = f .before .before in
     let s = l .before .before in
-    let r = here-tried (s .args .t .now) (s .args .target .0) (s .args .c .0) (s .args .at .0) (s .args .arrival .0) (s .args .hops) (s .args .vector) (l .loop .left) (f .first-port .result .0) (l .loop .sent) (s .args .scouts) (s .pre .1 .1) (turned (l .loop .inv)) (f .before .loop-test .taken) (f .first-port .ensures) in
+    let r = here-tried (s .args .t .now) (s .args .target .0) (s .args .c .0) (s .args .at .0) (s .args .arrival .0) (s .args .hops) (s .args .vector) (l .loop .left) (f .first-port .result .0) (l .loop .sent) (s .args .scouts) (s .pre .1 .1 .0) (turned (l .loop .inv)) (f .before .loop-test .taken) (f .first-port .ensures) in
     (let q = r .small in omega arith)
 
 try-ports-add-arrive : (t : ℕ) → try-ports-At try-ports-lts.Need-add-arrive t
@@ -188,7 +212,7 @@ try-ports-add-arrive-2 t c =
     let f = i .before .before .before in
     let l = f .before .before in
     let s = l .before .before in
-    let r = here-room (s .args .t .now) (s .args .target .0) (s .args .c .0) (s .args .at .0) (s .args .arrival .0) (s .args .hops) (s .args .vector) (l .loop .left) (f .first-port .result .0) (l .loop .sent) (s .args .scouts) (s .pre .1 .1) (turned (l .loop .inv)) (f .before .loop-test .taken) (f .first-port .ensures) in
+    let r = here-room (s .args .t .now) (s .args .target .0) (s .args .c .0) (s .args .at .0) (s .args .arrival .0) (s .args .hops) (s .args .vector) (l .loop .left) (f .first-port .result .0) (l .loop .sent) (s .args .scouts) (s .pre .1 .1 .0) (turned (l .loop .inv)) (f .before .loop-test .taken) (f .first-port .ensures) in
     omega (arith, r)
 
 try-ports-arrive-requires : (t : ℕ) → try-ports-At try-ports-lts.Need-arrive-requires t
@@ -198,8 +222,8 @@ try-ports-arrive-requires t c κs =
     let f = i .before .before .before in
     let l = f .before .before in
     let s = l .before .before in (
-      (let less = here-falls (s .args .t .now) (s .args .target .0) (s .args .c .0) (s .args .at .0) (s .args .arrival .0) (s .args .hops) (s .args .vector) (l .loop .left) (f .first-port .result .0) (l .loop .sent) (s .args .scouts) (s .pre .1 .1) (turned (l .loop .inv)) (f .before .loop-test .taken) (f .first-port .ensures) (s .pre .1 .1 .here .small) (o .set-owner .last .0) (c .neighbour .result .0) (o .set-owner .ensures ∙ ap (λ y. putOwner y (s .args .at .0) (f .first-port .result .0) (s .args .c .0)) (l .loop .inv .same)) (c .neighbour .ensures) in omega (arith, less, s .pre .0)),
-      (s .pre .1 .0, here-arrives (s .args .t .now) (s .args .target .0) (s .args .c .0) (s .args .at .0) (s .args .arrival .0) (s .args .hops) (s .args .vector) (l .loop .left) (f .first-port .result .0) (l .loop .sent) (s .args .scouts) (s .pre .1 .1) (turned (l .loop .inv)) (f .before .loop-test .taken) (f .first-port .ensures) (s .pre .1 .1 .here .small) (o .set-owner .last .0) (c .neighbour .result .0) (o .set-owner .ensures ∙ ap (λ y. putOwner y (s .args .at .0) (f .first-port .result .0) (s .args .c .0)) (l .loop .inv .same)) (c .neighbour .ensures)),
+      (let less = here-falls (s .args .t .now) (s .args .target .0) (s .args .c .0) (s .args .at .0) (s .args .arrival .0) (s .args .hops) (s .args .vector) (l .loop .left) (f .first-port .result .0) (l .loop .sent) (s .args .scouts) (s .pre .1 .1 .0) (turned (l .loop .inv)) (f .before .loop-test .taken) (f .first-port .ensures) (s .pre .1 .1 .0 .here .small) (o .set-owner .last .0) (c .neighbour .result .0) (o .set-owner .ensures ∙ ap (λ y. putOwner y (s .args .at .0) (f .first-port .result .0) (s .args .c .0)) (l .loop .inv .same)) (c .neighbour .ensures) in omega (arith, less, s .pre .0)),
+      (s .pre .1 .0, here-arrives (s .args .t .now) (s .args .target .0) (s .args .c .0) (s .args .at .0) (s .args .arrival .0) (s .args .hops) (s .args .vector) (l .loop .left) (f .first-port .result .0) (l .loop .sent) (s .args .scouts) (s .pre .1 .1 .0) (turned (l .loop .inv)) (f .before .loop-test .taken) (f .first-port .ensures) (s .pre .1 .1 .0 .here .small) (o .set-owner .last .0) (c .neighbour .result .0) (o .set-owner .ensures ∙ ap (λ y. putOwner y (s .args .at .0) (f .first-port .result .0) (s .args .c .0)) (l .loop .inv .same)) (c .neighbour .ensures)),
     )
 
 try-ports-same-length : (t : ℕ) → try-ports-At try-ports-lts.Need-same-length t
@@ -220,7 +244,7 @@ try-ports-returns t c =
     let f = i .before .before .before in
     let l = f .before .before in
     let s = l .before .before in
-    turn-acknowledged (s .args .t .now) (s .args .target .0) (s .args .c .0) (s .args .at .0) (s .args .arrival .0) (s .args .hops) (s .args .vector) (l .loop .left) (f .first-port .result .0) (l .loop .sent) (s .args .scouts) (s .pre .1 .1) (turned (l .loop .inv)) (f .before .loop-test .taken) (f .first-port .ensures) (ap (λ y. freeIn (view y) (s .args .at .0) (f .first-port .result .0)) (sym (l .loop .inv .same)) ∙ sym (i .is-free .ensures) ∙ o .before .before .if1 .taken) (y .arrive .result .refused) (y .arrive .result .channel) (y .arrive .result .hops) (y .arrive .result .scouts) (y .arrive .last .0) (here-answer (s .args .t .now) (s .args .target .0) (s .args .c .0) (s .args .at .0) (s .args .arrival .0) (s .args .hops) (s .args .vector) (l .loop .left) (f .first-port .result .0) (l .loop .sent) (s .args .scouts) (s .pre .1 .1) (turned (l .loop .inv)) (f .before .loop-test .taken) (f .first-port .ensures) (s .pre .1 .1 .here .small) (y .arrive .result .refused) (y .arrive .result .channel) (y .arrive .result .hops) (y .arrive .result .scouts) (o .set-owner .last .0) (y .arrive .last .0) (y .before .neighbour .result .0) (o .set-owner .ensures ∙ ap (λ y. putOwner y (s .args .at .0) (f .first-port .result .0) (s .args .c .0)) (l .loop .inv .same)) (y .before .neighbour .ensures) (y .arrive .ensures)) (c .if2 .taken)
+    turn-acknowledged (s .args .t .now) (s .args .target .0) (s .args .c .0) (s .args .at .0) (s .args .arrival .0) (s .args .hops) (s .args .vector) (l .loop .left) (f .first-port .result .0) (l .loop .sent) (s .args .scouts) (s .pre .1 .1 .0) (turned (l .loop .inv)) (f .before .loop-test .taken) (f .first-port .ensures) (ap (λ y. freeIn (view y) (s .args .at .0) (f .first-port .result .0)) (sym (l .loop .inv .same)) ∙ sym (i .is-free .ensures) ∙ o .before .before .if1 .taken) (y .arrive .result .refused) (y .arrive .result .channel) (y .arrive .result .hops) (y .arrive .result .scouts) (y .arrive .last .0) (here-answer (s .args .t .now) (s .args .target .0) (s .args .c .0) (s .args .at .0) (s .args .arrival .0) (s .args .hops) (s .args .vector) (l .loop .left) (f .first-port .result .0) (l .loop .sent) (s .args .scouts) (s .pre .1 .1 .0) (turned (l .loop .inv)) (f .before .loop-test .taken) (f .first-port .ensures) (s .pre .1 .1 .0 .here .small) (y .arrive .result .refused) (y .arrive .result .channel) (y .arrive .result .hops) (y .arrive .result .scouts) (o .set-owner .last .0) (y .arrive .last .0) (y .before .neighbour .result .0) (o .set-owner .ensures ∙ ap (λ y. putOwner y (s .args .at .0) (f .first-port .result .0) (s .args .c .0)) (l .loop .inv .same)) (y .before .neighbour .ensures) (y .arrive .ensures)) (c .if2 .taken)
 
 try-ports-set-owner-requires-2 : (t : ℕ) → try-ports-At try-ports-lts.Need-set-owner-requires-2 t
 try-ports-set-owner-requires-2 t c κs =
@@ -230,8 +254,8 @@ try-ports-set-owner-requires-2 t c κs =
     let f = i .before .before .before in
     let l = f .before .before in
     let s = l .before .before in
-    let w = here-within (s .args .t .now) (s .args .target .0) (s .args .c .0) (s .args .at .0) (s .args .arrival .0) (s .args .hops) (s .args .vector) (l .loop .left) (f .first-port .result .0) (l .loop .sent) (s .args .scouts) (s .pre .1 .1) (turned (l .loop .inv)) (f .before .loop-test .taken) (f .first-port .ensures) in
-    record { bytes = omega (arith, y .arrive .kept .0, o .set-owner .kept .0, ap length (l .loop .inv .same), s .pre .1 .1 .here .bytes); node = w .node; port = w .port }
+    let w = here-within (s .args .t .now) (s .args .target .0) (s .args .c .0) (s .args .at .0) (s .args .arrival .0) (s .args .hops) (s .args .vector) (l .loop .left) (f .first-port .result .0) (l .loop .sent) (s .args .scouts) (s .pre .1 .1 .0) (turned (l .loop .inv)) (f .before .loop-test .taken) (f .first-port .ensures) in
+    record { bytes = omega (arith, y .arrive .kept .0, o .set-owner .kept .0, ap length (l .loop .inv .same), s .pre .1 .1 .0 .here .bytes); node = w .node; port = w .port }
 
 try-ports-same-length-2 : (t : ℕ) → try-ports-At try-ports-lts.Need-same-length-2 t
 try-ports-same-length-2 t c =
@@ -251,7 +275,7 @@ try-ports-returns-2 t c =
     let f = i .before .before .before in
     let l = f .before .before in
     let s = l .before .before in
-    turn-full (s .args .t .now) (s .args .target .0) (s .args .c .0) (s .args .at .0) (s .args .arrival .0) (s .args .hops) (s .args .vector) (l .loop .left) (f .first-port .result .0) (l .loop .sent) (s .args .scouts) (s .pre .1 .1) (turned (l .loop .inv)) (f .before .loop-test .taken) (f .first-port .ensures) (ap (λ y. freeIn (view y) (s .args .at .0) (f .first-port .result .0)) (sym (l .loop .inv .same)) ∙ sym (i .is-free .ensures) ∙ o .before .before .if1 .taken) (y .arrive .result .refused) (y .arrive .result .channel) (y .arrive .result .hops) (y .arrive .result .scouts) (y .arrive .last .0) (here-answer (s .args .t .now) (s .args .target .0) (s .args .c .0) (s .args .at .0) (s .args .arrival .0) (s .args .hops) (s .args .vector) (l .loop .left) (f .first-port .result .0) (l .loop .sent) (s .args .scouts) (s .pre .1 .1) (turned (l .loop .inv)) (f .before .loop-test .taken) (f .first-port .ensures) (s .pre .1 .1 .here .small) (y .arrive .result .refused) (y .arrive .result .channel) (y .arrive .result .hops) (y .arrive .result .scouts) (o .set-owner .last .0) (y .arrive .last .0) (y .before .neighbour .result .0) (o .set-owner .ensures ∙ ap (λ y. putOwner y (s .args .at .0) (f .first-port .result .0) (s .args .c .0)) (l .loop .inv .same)) (y .before .neighbour .ensures) (y .arrive .ensures)) (c .if3 .taken) (c .before .before .before .before .set-owner2 .last .0) (c .before .before .before .before .set-owner2 .ensures)
+    turn-full (s .args .t .now) (s .args .target .0) (s .args .c .0) (s .args .at .0) (s .args .arrival .0) (s .args .hops) (s .args .vector) (l .loop .left) (f .first-port .result .0) (l .loop .sent) (s .args .scouts) (s .pre .1 .1 .0) (turned (l .loop .inv)) (f .before .loop-test .taken) (f .first-port .ensures) (ap (λ y. freeIn (view y) (s .args .at .0) (f .first-port .result .0)) (sym (l .loop .inv .same)) ∙ sym (i .is-free .ensures) ∙ o .before .before .if1 .taken) (y .arrive .result .refused) (y .arrive .result .channel) (y .arrive .result .hops) (y .arrive .result .scouts) (y .arrive .last .0) (here-answer (s .args .t .now) (s .args .target .0) (s .args .c .0) (s .args .at .0) (s .args .arrival .0) (s .args .hops) (s .args .vector) (l .loop .left) (f .first-port .result .0) (l .loop .sent) (s .args .scouts) (s .pre .1 .1 .0) (turned (l .loop .inv)) (f .before .loop-test .taken) (f .first-port .ensures) (s .pre .1 .1 .0 .here .small) (y .arrive .result .refused) (y .arrive .result .channel) (y .arrive .result .hops) (y .arrive .result .scouts) (o .set-owner .last .0) (y .arrive .last .0) (y .before .neighbour .result .0) (o .set-owner .ensures ∙ ap (λ y. putOwner y (s .args .at .0) (f .first-port .result .0) (s .args .c .0)) (l .loop .inv .same)) (y .before .neighbour .ensures) (y .arrive .ensures)) (c .if3 .taken) (c .before .before .before .before .set-owner2 .last .0) (c .before .before .before .before .set-owner2 .ensures)
 
 try-ports-loop-less : (t : ℕ) → try-ports-At try-ports-lts.Need-loop-less t
 try-ports-loop-less t c =
@@ -272,7 +296,7 @@ try-ports-loop-again t c =
     let f = i .before .before .before in
     let l = f .before .before in
     let s = l .before .before in
-    turn-next (s .args .t .now) (s .args .target .0) (s .args .c .0) (s .args .at .0) (s .args .arrival .0) (s .args .hops) (s .args .vector) (l .loop .left) (f .first-port .result .0) (l .loop .sent) (s .args .scouts) (s .pre .1 .1) (turned (l .loop .inv)) (f .before .loop-test .taken) (f .first-port .ensures) (ap (λ y. freeIn (view y) (s .args .at .0) (f .first-port .result .0)) (sym (l .loop .inv .same)) ∙ sym (i .is-free .ensures) ∙ o .before .before .if1 .taken) (y .arrive .result .refused) (y .arrive .result .channel) (y .arrive .result .hops) (y .arrive .result .scouts) (y .arrive .last .0) (here-answer (s .args .t .now) (s .args .target .0) (s .args .c .0) (s .args .at .0) (s .args .arrival .0) (s .args .hops) (s .args .vector) (l .loop .left) (f .first-port .result .0) (l .loop .sent) (s .args .scouts) (s .pre .1 .1) (turned (l .loop .inv)) (f .before .loop-test .taken) (f .first-port .ensures) (s .pre .1 .1 .here .small) (y .arrive .result .refused) (y .arrive .result .channel) (y .arrive .result .hops) (y .arrive .result .scouts) (o .set-owner .last .0) (y .arrive .last .0) (y .before .neighbour .result .0) (o .set-owner .ensures ∙ ap (λ y. putOwner y (s .args .at .0) (f .first-port .result .0) (s .args .c .0)) (l .loop .inv .same)) (y .before .neighbour .ensures) (y .arrive .ensures)) (c .before .before .before .before .before .before .if2 .left) (c .if3 .left) (i .before .before .without .result) (let e = i .before .before .without .ensures .value in omega arith) (c .before .before .before .before .set-owner2 .last .0) (c .before .before .before .before .set-owner2 .ensures)
+    turn-next (s .args .t .now) (s .args .target .0) (s .args .c .0) (s .args .at .0) (s .args .arrival .0) (s .args .hops) (s .args .vector) (l .loop .left) (f .first-port .result .0) (l .loop .sent) (s .args .scouts) (s .pre .1 .1 .0) (turned (l .loop .inv)) (f .before .loop-test .taken) (f .first-port .ensures) (ap (λ y. freeIn (view y) (s .args .at .0) (f .first-port .result .0)) (sym (l .loop .inv .same)) ∙ sym (i .is-free .ensures) ∙ o .before .before .if1 .taken) (y .arrive .result .refused) (y .arrive .result .channel) (y .arrive .result .hops) (y .arrive .result .scouts) (y .arrive .last .0) (here-answer (s .args .t .now) (s .args .target .0) (s .args .c .0) (s .args .at .0) (s .args .arrival .0) (s .args .hops) (s .args .vector) (l .loop .left) (f .first-port .result .0) (l .loop .sent) (s .args .scouts) (s .pre .1 .1 .0) (turned (l .loop .inv)) (f .before .loop-test .taken) (f .first-port .ensures) (s .pre .1 .1 .0 .here .small) (y .arrive .result .refused) (y .arrive .result .channel) (y .arrive .result .hops) (y .arrive .result .scouts) (o .set-owner .last .0) (y .arrive .last .0) (y .before .neighbour .result .0) (o .set-owner .ensures ∙ ap (λ y. putOwner y (s .args .at .0) (f .first-port .result .0) (s .args .c .0)) (l .loop .inv .same)) (y .before .neighbour .ensures) (y .arrive .ensures)) (c .before .before .before .before .before .before .if2 .left) (c .if3 .left) (i .before .before .without .result) (let e = i .before .before .without .ensures .value in omega arith) (c .before .before .before .before .set-owner2 .last .0) (c .before .before .before .before .set-owner2 .ensures)
 
 try-ports-loop-less-2 : (t : ℕ) → try-ports-At try-ports-lts.Need-loop-less-2 t
 try-ports-loop-less-2 t c =
@@ -289,7 +313,7 @@ try-ports-loop-again-2 t c =
     let l = f .before .before in
     let s = l .before .before in
     rw (l .loop .inv .same)
-    (turn-busy (s .args .t .now) (s .args .target .0) (s .args .c .0) (s .args .at .0) (s .args .arrival .0) (s .args .hops) (s .args .vector) (l .loop .left) (f .first-port .result .0) (l .loop .sent) (s .args .scouts) (s .pre .1 .1) (turned (l .loop .inv)) (f .before .loop-test .taken) (f .first-port .ensures) (ap (λ y. freeIn (view y) (s .args .at .0) (f .first-port .result .0)) (sym (l .loop .inv .same)) ∙ sym (i .is-free .ensures) ∙ c .if1 .left) (i .before .before .without .result) (let e = i .before .before .without .ensures .value in omega arith))
+    (turn-busy (s .args .t .now) (s .args .target .0) (s .args .c .0) (s .args .at .0) (s .args .arrival .0) (s .args .hops) (s .args .vector) (l .loop .left) (f .first-port .result .0) (l .loop .sent) (s .args .scouts) (s .pre .1 .1 .0) (turned (l .loop .inv)) (f .before .loop-test .taken) (f .first-port .ensures) (ap (λ y. freeIn (view y) (s .args .at .0) (f .first-port .result .0)) (sym (l .loop .inv .same)) ∙ sym (i .is-free .ensures) ∙ c .if1 .left) (i .before .before .without .result) (let e = i .before .before .without .ensures .value in omega arith))
 
 try-ports-same-length-3 : (t : ℕ) → try-ports-At try-ports-lts.Need-same-length-3 t
 try-ports-same-length-3 t c = search needs
@@ -306,13 +330,16 @@ pub +arrive+try-ports-spec : {M : Type 1} → statement M
     arrive.Post
     (arrive-free-channel-requires t)
     (arrive-uphill-vector-requires t)
+    (arrive-enabled-ports-requires t)
     (arrive-try-ports-requires t)
     (arrive-same-length t)
     (arrive-returns t)
     (arrive-same-length-2 t)
     (arrive-returns-2 t)
     (arrive-same-length-3 t)
-    (arrive-returns-3 t))
+    (arrive-returns-3 t)
+    (arrive-same-length-4 t)
+    (arrive-returns-4 t))
     λ t. try-ports-lts.spec (try-ports-in t)
     (try-ports-at t)
     try-ports.Post

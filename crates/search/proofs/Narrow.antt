@@ -1,0 +1,79 @@
+-- Ports that are not free may be dropped from a vector before it is tried.
+-- Assumes nothing.
+use mathlib.Core.Path.{_≡_, refl, ap, sym, _∙_, fun-ext}
+use mathlib.Core.Bool.{Bool, true, false, _&&_, and-false, and-eq-true-iff}
+use mathlib.Core.List.{List, [], _∷_, List·Memᴰ·head, List·Memᴰ·tail}
+use Prim.Native.Nat.{ℕ, suc, _≤_, _<_}
+use lib.ListN.{length}
+use lib.Bits.{bitAnd, and-le-l}
+use Rattle.common.specs.Lists.{_∈_, keep, from}
+use Rattle.common.proofs.Lists.{keep-yes, keep-no, keep-keep, keep-same, length-keep}
+use Rattle.common.proofs.Tests.{clash, is-false}
+use Rattle.cube.specs.Bits.{has}
+use Rattle.cube.specs.Helical.{helical, portsOf}
+use Rattle.cube.proofs.Bits.{has-and}
+use Rattle.cube.proofs.Order.{helical-keep, helical-mem, ports-mem, mem-ports}
+use Rattle.paths.specs.Pass.{Pass}
+use Rattle.paths.specs.Search.{trying}
+use Rattle.paths.proofs.Depth.{trying-cons}
+use Rattle.table.specs.Layout.{Within, enableBits, enabledAt}
+use Rattle.table.specs.View.{View, view, receive}
+use Rattle.table.specs.Sound.{net}
+use Rattle.table.proofs.Entries.{enabled-has}
+use Rattle.search.specs.Settle.{freeIn, settle, behindPort}
+use Rattle.search.specs.Turns.{Narrowed, Enabled, tries}
+use Rattle.search.proofs.Settle.{free-off}
+
+-- trying the ports of a list that pass a test, where those that do not pass are not free
+trying-kept : (f free : ℕ → Bool) (on : ℕ → ℕ → Pass) (ps : List ℕ) → ((p : ℕ) → p ∈ ps → f p ≡ false → free p ≡ false) → (s : ℕ)
+    → trying free on (keep f ps) s ≡ trying free on ps s
+trying-kept f free on [] h s = unfold keep in refl
+trying-kept f free on (p ∷ ps) h s = go (f p) refl (trying-kept f free on ps (λ q m. h q (List·Memᴰ·tail m)))
+  where
+    go : (x : Bool) → f p ≡ x → ((d : ℕ) → trying free on (keep f ps) d ≡ trying free on ps d) → trying free on (keep f (p ∷ ps)) s ≡ trying free on (p ∷ ps) s
+    go true e ih = rw (keep-yes f p ps e, trying-cons free on p (keep f ps) s, trying-cons free on p ps s, fun-ext ih)
+    go false e ih = rw (keep-no f p ps e, trying-cons free on p ps s, h p (List·Memᴰ·head refl) e) (ih s)
+
+module _ {v : View} {n vector left : ℕ} (narrow : Narrowed v n vector left) where
+  ports-kept : portsOf 8 left ≡ keep (has left) (portsOf 8 vector)
+  unfolding portsOf
+  ports-kept =
+      keep-same (has left) (λ q. has vector q && has left q) (from 0 8) (λ q m. go q (has left q) refl) ∙ sym (keep-keep (has left) (has vector) (from 0 8))
+    where
+      go : (q : ℕ) (x : Bool) → has left q ≡ x → x ≡ (has vector q && x)
+      go q true e = rw (narrow .among q e)
+      go q false e = sym (and-false (has vector q))
+
+  pub narrow-fewer : length (portsOf 8 left) ≤ length (portsOf 8 vector)
+  narrow-fewer = rw ports-kept (length-keep (has left) (portsOf 8 vector))
+
+  pub narrow-mem : (p : ℕ) → p ∈ portsOf 8 left → p ∈ portsOf 8 vector
+  narrow-mem p m = let r = ports-mem 8 left m in mem-ports 8 vector p (r .0) (narrow .among p (r .1))
+
+-- the answer is that of the whole vector
+pub narrow-tries : (b : List ℕ) (t c n vector left a h s : ℕ) → Narrowed (view b) n vector left → tries b t c n left a h s ≡ tries b t c n vector a h s
+unfolding tries
+narrow-tries b t c n vector left a h s narrow =
+    let on : ℕ → ℕ → Pass = behindPort (net (view b)) (freeIn (view b)) t n in
+    ap (settle b c n h (receive (view b) t))
+    (ap (λ ps. trying (freeIn (view b) n) on (helical a ps) s) (ports-kept narrow)
+    ∙ ap (λ ps. trying (freeIn (view b) n) on ps s) (helical-keep a (has left) (portsOf 8 vector))
+    ∙ trying-kept (has left) (freeIn (view b) n) on (helical a (portsOf 8 vector))
+    (λ p m e. let r = ports-mem 8 vector (helical-mem a (portsOf 8 vector) m) in narrow .dropped p (r .0) (r .1) e) s)
+
+-- the ports of a vector that are enabled at a node: x is the byte that the code found there
+module _ (b : List ℕ) (n vector x : ℕ) (within : Within b n 0) (byte : x ≡ enableBits b n) where
+  read : (p : ℕ) → p < 8 → view b .enabled n p ≡ has x p
+  unfolding view enableBits
+  read p l = enabled-has b n p (within .node) l ∙ ap (λ y. has y p) (sym byte)
+
+  pub enabled-narrow : Narrowed (view b) n vector (bitAnd vector x)
+  enabled-narrow =
+      record {
+        most = and-le-l vector x;
+        among = λ p e. and-eq-true-iff (has vector p) (has x p) .0 (sym (has-and vector x p) ∙ e) .0;
+        dropped = λ p l e f. sym (free-off (view b) n p (has x p) (sym (read p l)) (is-false (has x p) (λ y. clash (has-and vector x p ∙ (rw (e, y))) f)));
+      }
+
+  pub enabled-all : Enabled (view b) n (bitAnd vector x)
+  enabled-all p l e = read p l ∙ and-eq-true-iff (has vector p) (has x p) .0 (sym (has-and vector x p) ∙ e) .1
