@@ -259,16 +259,13 @@ pub narrow-may : (b : List ℕ) (t c n v left a h s : ℕ) → MayTry b t c n v 
 narrow-may b t c n v left a h s may narrow =
     let near = narrow-reach b t n v left narrow in
     let ways = ways-more (reach b t n left) (reach b t n v) near in
-    let all = mul-le-mul (narrow-fewer narrow) (let w = ways in add-le-one w) in
+    let all : length (portsOf 8 left) * (1 + waysFrom (reach b t n left)) ≤ length (portsOf 8 v) * (1 + waysFrom (reach b t n v)) = mul-le-mul (narrow-fewer narrow) (let w = ways in omega arith) in
     record {
       here = may .here;
       ports = (let l = narrow .most in omega (arith, may .ports));
       hops = omega (arith, may .hops, near);
       room = omega (arith, may .room, all);
     }
-  where
-    add-le-one : {x y : ℕ} → x ≤ y → 1 + x ≤ 1 + y
-    add-le-one h = omega arith
 
 -- An arrival.
 module _ (b : List ℕ) (t c n a h s : ℕ) (may : MayArrive b t c n a h s) where
@@ -321,7 +318,10 @@ module _ (b : List ℕ) (t c n a h s : ℕ) (may : MayArrive b t c n a h s) wher
           room = omega (arith, may .room, ports);
         }
 
-    -- the enabled ones of them
+    pub arrive-byte : v < 256
+    arrive-byte = byte-vector b v (may .here .fits) (all-may .ports)
+
+    -- those of them that are left
     module _ (left : ℕ) (narrow : Narrowed (view b) n v left) where
       pub arrive-may : MayTry b t c n left a h s
       arrive-may = narrow-may b t c n v left a h s all-may narrow

@@ -11,7 +11,7 @@ use Rattle.table.specs.Layout.{putOwner}
 use Rattle.table.specs.View.{view}
 use Rattle.search.specs.Settle.{freeIn, settled}
 use Rattle.search.specs.Turns.{distance, reach, arrived, tries, Turn}
-use Rattle.search.proofs.Turns.{turned, first-turn, byte-vector, owner-length, here-tried, here-within, here-enabled, here-room, here-arrives, here-falls, here-answer, turn-busy, turn-acknowledged, turn-full, turn-next, turn-over, arrive-receives, arrive-full, arrive-tries, arrive-none, arrive-may, arrive-falls}
+use Rattle.search.proofs.Turns.{turned, first-turn, byte-vector, owner-length, here-tried, here-within, here-enabled, here-room, here-arrives, here-falls, here-answer, turn-busy, turn-acknowledged, turn-full, turn-next, turn-over, arrive-receives, arrive-full, arrive-tries, arrive-none, arrive-byte, arrive-may, arrive-falls}
 use borrow.Fn.Kinds.{In, Out}
 use borrow.Fn.PlainCycle.{Measures, is, falls, and}
 use Rattle.search.proofs.arrive.Reads as arrive
@@ -24,7 +24,7 @@ use Rattle.cube.proofs.first_port.Reads as first-port-reads
 use Rattle.cube.proofs.neighbour.Reads as neighbour-reads
 use Rattle.cube.proofs.uphill_vector.Reads as uphill-vector-reads
 use Rattle.cube.proofs.without.Reads as without-reads
-use Rattle.search.proofs.enabled_ports.Reads as enabled-ports-reads
+use Rattle.search.proofs.ways_on.Reads as ways-on-reads
 use Rattle.search.proofs.is_free.Reads as is-free-reads
 use Rattle.table.proofs.free_channel.Reads as free-channel-reads
 use Rattle.table.proofs.set_owner.Reads as set-owner-reads
@@ -63,8 +63,8 @@ arrive-in t = (
   free-channel-reads.Learnt,
   uphill-vector-reads.Asked,
   uphill-vector-reads.Learnt,
-  enabled-ports-reads.Asked,
-  enabled-ports-reads.Learnt,
+  ways-on-reads.Asked,
+  ways-on-reads.Learnt,
   try-ports-below t,
   try-ports.Post,
 )
@@ -100,10 +100,17 @@ arrive-free-channel-requires t c κs =
 arrive-uphill-vector-requires : (t : ℕ) → arrive-At arrive-lts.Need-uphill-vector-requires t
 arrive-uphill-vector-requires t c κs = search needs
 
-arrive-enabled-ports-requires : (t : ℕ) → arrive-At arrive-lts.Need-enabled-ports-requires t
-arrive-enabled-ports-requires t c κs =
-    let s = c .before .before .before .before .before .before in
-    record { bytes = s .pre .1 .1 .here .bytes; node = byte-vector (s .args .t .now) (s .args .at .0) (s .pre .1 .1 .here .fits) (s .pre .1 .1 .here .node); port = lit< tt }
+arrive-ways-on-requires : (t : ℕ) → arrive-At arrive-lts.Need-ways-on-requires t
+arrive-ways-on-requires t c κs =
+    let e = c .before .before in
+    let s = e .before .before .before .before in
+    let h = s .pre .1 .1 .here in (
+      s .pre .1 .0,
+      (
+        record { bytes = h .bytes; node = byte-vector (s .args .t .now) (s .args .at .0) (h .fits) (h .node); port = h .port },
+        arrive-byte (s .args .t .now) (s .args .target .0) (s .args .c .0) (s .args .at .0) (s .args .arrival .0) (s .args .hops) (s .args .scouts) (s .pre .1 .1) (e .if1 .left) (c .uphill-vector .result) (c .uphill-vector .ensures .value),
+      ),
+    )
 
 arrive-try-ports-requires : (t : ℕ) → arrive-At arrive-lts.Need-try-ports-requires t
 arrive-try-ports-requires t c κs =
@@ -111,8 +118,8 @@ arrive-try-ports-requires t c κs =
     let u = g .before in
     let e = u .before .before in
     let s = e .before .before .before .before in (
-      (let less = arrive-falls (s .args .t .now) (s .args .target .0) (s .args .c .0) (s .args .at .0) (s .args .arrival .0) (s .args .hops) (s .args .scouts) (s .pre .1 .1) (e .if1 .left) (u .uphill-vector .result) (u .uphill-vector .ensures .value) (g .enabled-ports .result) (g .enabled-ports .ensures .0) in omega (arith, less, s .pre .0)),
-      (s .pre .1 .0, (arrive-may (s .args .t .now) (s .args .target .0) (s .args .c .0) (s .args .at .0) (s .args .arrival .0) (s .args .hops) (s .args .scouts) (s .pre .1 .1) (e .if1 .left) (u .uphill-vector .result) (u .uphill-vector .ensures .value) (g .enabled-ports .result) (g .enabled-ports .ensures .0), g .enabled-ports .ensures .1)),
+      (let less = arrive-falls (s .args .t .now) (s .args .target .0) (s .args .c .0) (s .args .at .0) (s .args .arrival .0) (s .args .hops) (s .args .scouts) (s .pre .1 .1) (e .if1 .left) (u .uphill-vector .result) (u .uphill-vector .ensures .value) (g .ways-on .result) (g .ways-on .ensures .0) in omega (arith, less, s .pre .0)),
+      (s .pre .1 .0, (arrive-may (s .args .t .now) (s .args .target .0) (s .args .c .0) (s .args .at .0) (s .args .arrival .0) (s .args .hops) (s .args .scouts) (s .pre .1 .1) (e .if1 .left) (u .uphill-vector .result) (u .uphill-vector .ensures .value) (g .ways-on .result) (g .ways-on .ensures .0), g .ways-on .ensures .1)),
     )
 
 arrive-same-length : (t : ℕ) → arrive-At arrive-lts.Need-same-length t
@@ -144,7 +151,7 @@ arrive-returns-3 t c =
     let u = g .before in
     let e = u .before .before in
     let s = e .before .before .before .before in
-    arrive-none (s .args .t .now) (s .args .target .0) (s .args .c .0) (s .args .at .0) (s .args .arrival .0) (s .args .hops) (s .args .scouts) (s .pre .1 .1) (e .if1 .left) (u .uphill-vector .result) (u .uphill-vector .ensures .value) (g .enabled-ports .result) (g .enabled-ports .ensures .0) (c .if3 .taken)
+    arrive-none (s .args .t .now) (s .args .target .0) (s .args .c .0) (s .args .at .0) (s .args .arrival .0) (s .args .hops) (s .args .scouts) (s .pre .1 .1) (e .if1 .left) (u .uphill-vector .result) (u .uphill-vector .ensures .value) (g .ways-on .result) (g .ways-on .ensures .0) (c .if3 .taken)
 
 arrive-same-length-4 : (t : ℕ) → arrive-At arrive-lts.Need-same-length-4 t
 arrive-same-length-4 t c = search needs
@@ -156,7 +163,7 @@ arrive-returns-4 t c =
     let u = g .before in
     let e = u .before .before in
     let s = e .before .before .before .before in
-    y .try-ports .ensures ∙ arrive-tries (s .args .t .now) (s .args .target .0) (s .args .c .0) (s .args .at .0) (s .args .arrival .0) (s .args .hops) (s .args .scouts) (s .pre .1 .1) (e .if1 .left) (u .uphill-vector .result) (u .uphill-vector .ensures .value) (g .enabled-ports .result) (g .enabled-ports .ensures .0)
+    y .try-ports .ensures ∙ arrive-tries (s .args .t .now) (s .args .target .0) (s .args .c .0) (s .args .at .0) (s .args .arrival .0) (s .args .hops) (s .args .scouts) (s .pre .1 .1) (e .if1 .left) (u .uphill-vector .result) (u .uphill-vector .ensures .value) (g .ways-on .result) (g .ways-on .ensures .0)
 
 try-ports-loop-holds : (t : ℕ) → try-ports-At try-ports-lts.Need-loop-holds t
 try-ports-loop-holds t c =
@@ -330,7 +337,7 @@ pub +arrive+try-ports-spec : {M : Type 1} → statement M
     arrive.Post
     (arrive-free-channel-requires t)
     (arrive-uphill-vector-requires t)
-    (arrive-enabled-ports-requires t)
+    (arrive-ways-on-requires t)
     (arrive-try-ports-requires t)
     (arrive-same-length t)
     (arrive-returns t)
