@@ -1,4 +1,5 @@
 // Runs document 01's examples through the library and prints what it gets; the gate compares that with the stored answers.
+mod calls;
 mod print;
 mod refusals;
 mod words;
@@ -8,4 +9,5 @@ fn main() {
     words::names();
     words::carried();
     words::examples();
+    calls::examples();
 }

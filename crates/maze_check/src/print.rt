@@ -11,6 +11,25 @@ pub fn number(n: u16) {
     io::print_decimal(STDOUT_FILENO, n as u64);
 }
 
+// The same of a number of 32 bits.
+pub fn large(n: u32) {
+    io::write_all(STDOUT_FILENO, b" ");
+    io::print_decimal(STDOUT_FILENO, n as u64);
+}
+
+// Bytes as numbers, each after a space.
+fn byte(x: u8) {
+    number(x as u16);
+}
+
+pub fn bytes(list: &[u8]) {
+    let mut i: usize = 0;
+    while i < list.len() {
+        byte(list[i]);
+        i += 1;
+    }
+}
+
 pub fn end() {
     io::write_all(STDOUT_FILENO, b"\n");
 }

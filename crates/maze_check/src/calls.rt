@@ -1,0 +1,137 @@
+// Document 01's examples 1 to 7 and 9 through the router's calls: each line is a call with its numbers, a colon, and what it answered.
+use crate::print;
+use cube::Node;
+use cube::Port;
+
+fn make(t: &mut [u8], dimension: u16) {
+    print::text(b"make");
+    print::number(dimension);
+    print::text(b":");
+    print::number(router::make(t, dimension));
+    print::end();
+}
+
+fn block(t: &mut [u8], node: u16, port: u16) {
+    print::text(b"block");
+    print::number(node);
+    print::number(port);
+    print::text(b":");
+    print::number(router::block(t, Node(node), Port(port)));
+    print::end();
+}
+
+fn open(t: &mut [u8], channel: u16, target: u16, routing: u16, vector: u16) {
+    print::text(b"open 0");
+    print::number(channel);
+    print::number(target);
+    print::number(routing);
+    print::number(vector);
+    print::text(b":");
+    let r = router::open(t, Node(0), channel, Node(target), routing, vector);
+    print::number(r.number);
+    print::number(r.hops);
+    print::number(r.receive);
+    print::large(r.scouts);
+    print::end();
+}
+
+fn close(t: &mut [u8], channel: u16) {
+    print::text(b"close 0");
+    print::number(channel);
+    print::text(b":");
+    print::number(router::close(t, Node(0), channel));
+    print::end();
+}
+
+// The nine bytes of the buffer follow the hops; those behind the path stay 9.
+fn trace(t: &[u8], channel: u16) {
+    print::text(b"trace 0");
+    print::number(channel);
+    print::text(b":");
+    let mut buffer = [9u8; 9];
+    let r = router::trace(t, Node(0), channel, &mut buffer);
+    print::number(r.number);
+    print::number(r.hops);
+    print::bytes(&buffer);
+    print::end();
+}
+
+// 1: nothing blocked.
+fn nothing_blocked(t: &mut [u8]) {
+    make(t, 3);
+    open(t, 0, 7, 0, 7);
+    trace(t, 0);
+}
+
+// 2: figure 7, with two links blocked.
+fn figure_7(t: &mut [u8]) {
+    make(t, 3);
+    block(t, 1, 2);
+    block(t, 3, 2);
+    open(t, 0, 7, 0, 7);
+    trace(t, 0);
+}
+
+// 3 and 4: back to the source, and away from the target first.
+fn detours(t: &mut [u8]) {
+    make(t, 1);
+    open(t, 0, 0, 0, 1);
+    trace(t, 0);
+    make(t, 2);
+    open(t, 0, 1, 0, 2);
+    trace(t, 0);
+}
+
+// 5: through the source.
+fn through_the_source(t: &mut [u8]) {
+    make(t, 2);
+    block(t, 2, 0);
+    open(t, 0, 1, 0, 2);
+    trace(t, 0);
+}
+
+// 6: the second pass.
+fn second_pass(t: &mut [u8]) {
+    make(t, 2);
+    block(t, 0, 0);
+    open(t, 0, 1, 0, 1);
+    open(t, 0, 1, 4, 1);
+    trace(t, 0);
+}
+
+// 7: a link that is held and freed.
+fn link_freed(t: &mut [u8]) {
+    make(t, 1);
+    open(t, 0, 1, 0, 1);
+    open(t, 1, 1, 0, 1);
+    close(t, 0);
+    open(t, 1, 1, 0, 1);
+}
+
+// 9: the edges of dimension, node, vector and length.
+fn edges(t: &mut [u8]) {
+    make(t, 8);
+    make(t, 9);
+    make(t, 3);
+    open(t, 0, 7, 0, 7);
+    open(t, 1, 8, 0, 7);
+    open(t, 1, 7, 0, 8);
+}
+
+fn too_short(t: &mut [u8]) {
+    make(t, 3);
+    open(t, 0, 7, 0, 7);
+}
+
+pub fn examples() {
+    let mut t = [0u8; 8449];
+    let mut short = [0u8; 8448];
+    nothing_blocked(&mut t);
+    figure_7(&mut t);
+    detours(&mut t);
+    through_the_source(&mut t);
+    second_pass(&mut t);
+    link_freed(&mut t);
+    edges(&mut t);
+    too_short(&mut short);
+}
