@@ -1,6 +1,7 @@
 -- The laws of the table.
 pub mod Entries
 pub mod Views
+pub mod Gathered
 pub mod Freed
 pub mod Lowest
 pub mod Fills

@@ -3,7 +3,7 @@
 use mathlib.Core.Bool.{Bool, true, false, cond, _&&_}
 use mathlib.Core.Path.{_≡_}
 use mathlib.Core.List.{List, _∷_, _++_}
-use Prim.Native.Nat.{ℕ, zero, suc, _+_, _-_, _*_, _/_, _%_, _^_, _<_}
+use Prim.Native.Nat.{ℕ, zero, suc, _+_, _-_, _*_, _/_, _%_, _^_, _<_, _≤_}
 use lib.Dec.{eqb, ltb}
 use lib.ListN.{length, take, drop, getD, set, replicate}
 use Rattle.cube.specs.Bits.{has, flip, withBit}
@@ -103,6 +103,11 @@ freeFrom c b i (suc k) = freeFrom c (freeWord c b i) (i + 2) k
 -- the bytes after all entries of a circuit are freed
 unfoldable pub freed : List ℕ → ℕ → List ℕ
 freed b c = freeFrom c b linkPart 4096
+
+-- a number that no byte of a run is above, and that is below a power of two where they all are
+pub record Gathered (b : List ℕ) (i count : ℕ) (all : ℕ) : Type 0 where
+  pub none-above : (j : ℕ) → j < count → getD b (i + j) 0 ≤ all
+  pub fits : (k : ℕ) → ((j : ℕ) → j < count → getD b (i + j) 0 < 2 ^ k) → all < 2 ^ k
 
 -- what the functions over one entry ask: a table's bytes, a node and a port or channel within them
 pub record Within (b : List ℕ) (n p : ℕ) : Type 0 where

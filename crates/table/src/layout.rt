@@ -3,7 +3,7 @@ ghost use mathlib.Core.Path.{_≡_};
 ghost use mathlib.Core.Bool.{true, false};
 ghost use Prim.Native.Nat.{ℕ, _+_, _<_, _≤_};
 ghost use lib.ListN.{length, getD};
-ghost use Rattle.table.specs.Layout.{Within, enableBits, wordAt, putWord, enablePlace, linkPlace, receivePlace, dimensionAt, enabledAt, ownerAt, receiverAt, putOwner, putReceiver, putEnabled, changed, freeWord, freed, filled, made};
+ghost use Rattle.table.specs.Layout.{Within, enableBits, wordAt, putWord, enablePlace, linkPlace, receivePlace, dimensionAt, enabledAt, ownerAt, receiverAt, putOwner, putReceiver, putEnabled, changed, freeWord, freeFrom, freed, filled, made, Gathered};
 ghost use Rattle.table.specs.View.{view, lowestChannel};
 use cube::Circuit;
 use cube::Node;
@@ -23,8 +23,12 @@ const ROW: usize = 16;
 
 const ENTRY: usize = 2;
 
-// Links and receive channels together.
-const ENTRIES: usize = 4096;
+// Entries are looked at in groups, of links and then of receive channels.
+const GROUP: usize = 128;
+
+const GROUP_BYTES: usize = 256;
+
+const GROUPS: usize = 32;
 
 fn wide(x: u8) -> u16
     ensures { λ r. ⌜ (r ≡ x) × (r < 256) ⌝ }
@@ -91,6 +95,20 @@ pub fn enable_bits(t: &[u8], n: Node) -> u16
     ensures { λ r. ⌜ (r ≡ enableBits (now (t .entry)) (n .0)) × (r < 256) ⌝ }
 {
     wide(t[enable_place(n)])
+}
+
+// The or of some bytes: none of them is above it, so all are 0 where it is. It has no early exit, so that many can be read in one go.
+fn gathered(t: &[u8], from: usize, count: usize) -> u8
+    requires { ⌜ from + count ≤ length (now t) ⌝ }
+    ensures { λ r. ⌜ Gathered (now (t .entry)) from count r ⌝ }
+{
+    let mut all: u8 = 0;
+    let mut i: usize = 0;
+    while i < count {
+        all = all | t[from + i];
+        i += 1;
+    }
+    all
 }
 
 // The sum of the bytes of a row: 0 where nobody holds anything of it. It has no early exit, so that it can be added up in one go.
@@ -204,14 +222,35 @@ fn free_entry(t: &mut [u8], at: usize, c: Circuit)
     }
 }
 
+fn free_entries(t: &mut [u8], from: usize, c: Circuit)
+    requires { ⌜ from + 256 ≤ length (now t) ⌝ }
+    ensures { λ _. ⌜ now (t .exit) ≡ freeFrom (c .0) (now (t .entry)) from 128 ⌝ }
+{
+    let mut i: usize = 0;
+    while i < GROUP {
+        free_entry(t, from + ENTRY * i, c);
+        i += 1;
+    }
+}
+
+// Of a group of which nothing is held, nothing is to be freed.
+fn free_group(t: &mut [u8], from: usize, c: Circuit)
+    requires { ⌜ from + 256 ≤ length (now t) ⌝ }
+    ensures { λ _. ⌜ now (t .exit) ≡ freeFrom (c .0) (now (t .entry)) from 128 ⌝ }
+{
+    if gathered(t, from, GROUP_BYTES) > 0 {
+        free_entries(t, from, c);
+    }
+}
+
 // Frees every link and receive channel that a circuit holds.
 pub fn release(t: &mut [u8], c: Circuit)
     requires { ⌜ length (now t) ≡ 8449 ⌝ }
     ensures { λ _. ⌜ now (t .exit) ≡ freed (now (t .entry)) (c .0) ⌝ }
 {
     let mut i: usize = 0;
-    while i < ENTRIES {
-        free_entry(t, LINKS + ENTRY * i, c);
+    while i < GROUPS {
+        free_group(t, LINKS + GROUP_BYTES * i, c);
         i += 1;
     }
 }
