@@ -3,7 +3,7 @@
 use mathlib.Core.Path.{_≡_, refl, ap, sym, _∙_}
 use mathlib.Core.Bool.{Bool, true, false, cond, _&&_, Bool·beq}
 use mathlib.Core.List.{List}
-use Prim.Native.Nat.{ℕ, _+_, _*_, _/_, _%_, _^_, _<_}
+use Prim.Native.Nat.{ℕ, _+_, _-_, _*_, _/_, _%_, _^_, _≤_, _<_}
 use native.Mathlib.Omega.{arith}
 use native.Mathlib.Nat.{mod-eq-of-lt}
 use lib.Dec.{eqb, ltb}
@@ -52,23 +52,23 @@ module _ (b : List ℕ) (n p : ℕ) (h : n < 256) (l : p < 8) where
   unfolding putEnabled withBit changed
   put-is on off e d = rw (sym enabled-has ∙ e, d)
 
--- a row whose bytes are zero holds nothing
-pub row-zero : (b : List ℕ) (part n : ℕ) → ((i : ℕ) → i < 16 → getD b (entryPlace part n 0 + i) 0 ≡ 0) → (k : ℕ) → k < 8 → entryAt part b n k ≡ 0
+-- rows whose bytes are zero hold nothing
+pub rows-zero : (b : List ℕ) (part n rows : ℕ) → ((i : ℕ) → i < 16 * rows → getD b (entryPlace part n 0 + i) 0 ≡ 0) → (m k : ℕ) → n ≤ m → m < n + rows → k < 8 → entryAt part b m k ≡ 0
 unfolding entryAt
-row-zero b part n z k h = go (inTable n k)
+rows-zero b part n rows z m k g l h = go (inTable m k)
   where
-    place : entryPlace part n 0 + 2 * k ≡ entryPlace part n k
+    place : entryPlace part n 0 + (16 * (m - n) + 2 * k) ≡ entryPlace part m k
     place = omega arith
 
-    after : entryPlace part n 0 + (2 * k + 1) ≡ entryPlace part n k + 1
+    after : entryPlace part n 0 + (16 * (m - n) + 2 * k + 1) ≡ entryPlace part m k + 1
     after = omega arith
 
-    low : getD b (entryPlace part n k) 0 ≡ 0
-    low = rw place at (z (2 * k) (omega arith))
+    low : getD b (entryPlace part m k) 0 ≡ 0
+    low = rw place at (z (16 * (m - n) + 2 * k) (omega arith))
 
-    high : getD b (entryPlace part n k + 1) 0 ≡ 0
-    high = rw after at (z (2 * k + 1) (omega arith))
+    high : getD b (entryPlace part m k + 1) 0 ≡ 0
+    high = rw after at (z (16 * (m - n) + 2 * k + 1) (omega arith))
 
-    go : (x : Bool) → cond x (wordAt b (entryPlace part n k)) 0 ≡ 0
+    go : (x : Bool) → cond x (wordAt b (entryPlace part m k)) 0 ≡ 0
     go true = rw (low, high)
     go false = refl

@@ -1,13 +1,13 @@
 -- Looking at a circuit, and the tests of one entry, as the code's branches meet them.
 -- Assumes nothing.
-use mathlib.Core.Path.{_≡_, refl, ap, ap₂, sym, _∙_}
+use mathlib.Core.Path.{_≡_, refl, ap, ap₂, sym, _∙_, subst}
 use mathlib.Core.Logic.{⊎-elim, _≢_}
-use mathlib.Core.Bool.{Bool, true, false, cond, _&&_, _||_, not}
+use mathlib.Core.Bool.{Bool, true, false, cond, _&&_, _||_, not, and-false, and-true, or-assoc}
 use mathlib.Core.List.{List, [], _∷_, _++_, List·Memᴰ·append-cases}
 use Prim.Native.Nat.{ℕ, _+_, _-_, _*_, _^_, _≤_, _<_}
 use native.Mathlib.Omega.{arith}
 use lib.Dec.{eqb, ltb, leb, lit<}
-use lib.ListN.{length}
+use lib.ListN.{length, set}
 use borrow.Author.Tests.{ltb-true, ltb-false, lt-ltb, le-ltb, le-leb, lt-leb, eq-eqb, ne-eqb}
 use Rattle.common.specs.Lists.{_∈_, keep, from}
 use Rattle.common.proofs.Lists.{keep-same, keep-wider, keep-all, from-mem, length-from}
@@ -21,8 +21,12 @@ use Rattle.paths.proofs.Trail.{course-fuel}
 use Rattle.table.specs.Layout.{Within, dimensionAt}
 use Rattle.table.specs.View.{View}
 use Rattle.table.specs.Sound.{shapeOf, net, heldBy, endFor}
-use Rattle.table.specs.SoundTest.{pathOf, isEmpty, channelsHeld, reaches, Examined, linkTest, receiveTest}
+use Rattle.table.specs.SoundTest.{pathOf, isEmpty, channelsHeld, reaches, passes, Reached, linkTest, receiveTest, ReceivesPass, Receives, PathsMarked}
+use Rattle.table.specs.Marks.{marked, markPlace, Adds}
 use Rattle.table.specs.Follow.{followed, firstHop, Follows, HasSource}
+use Rattle.common.proofs.Tests.{clash}
+use Rattle.table.proofs.Soundness.{Framed, both}
+use Rattle.table.proofs.Marks.{mark-one, marked-is, below-or, received-free, received-one, received-yes, received-no}
 use Rattle.table.proofs.Made.{ones}
 use Rattle.table.proofs.Follow.{first-none, first-is, hop-port}
 
@@ -61,28 +65,43 @@ module _ (v : View) (h : v .dimension < 9) (c : ℕ) where
   path-none a e l =
       path-over ∙ ap (λ ps. hop ps (λ a. course (v .dimension) (net v) (portsOf 8 (allPorts v)) (heldBy v c) (net v .next (sourceOf c) a))) (first-none hops (λ p m. hop-port v c (sourceOf c) (allPorts v) p m) (omega arith))
 
-  -- the three ends of looking at it
-  pub examined-large : (n p : ℕ) → 8 * 2 ^ v .dimension < c → Examined v c n p false 0 false
-  examined-large n p l = record { does-reach = unfold reaches in rw (lt-leb c (8 * 2 ^ v .dimension) l); ends = λ e. absurd (mathlib.Core.Bool.false≢true e); link = λ e. absurd (mathlib.Core.Bool.false≢true e) }
+  -- the ends of looking at it
+  pub reached-large : (n : ℕ) (m after : List ℕ) → 8 * 2 ^ v .dimension < c → Reached v c n m after false
+  reached-large n m after l = record { ends-here = unfold reaches in rw (lt-leb c (8 * 2 ^ v .dimension) l); marks = λ e. absurd (mathlib.Core.Bool.false≢true e) }
 
-  pub examined-none : (n p a : ℕ) → c ≤ 8 * 2 ^ v .dimension → a ≡ firstHop v c (sourceOf c) (allPorts v) → 8 ≤ a → Examined v c n p false 0 false
-  examined-none n p a l e g =
-      record { does-reach = unfold reaches isEmpty in rw (le-leb c (8 * 2 ^ v .dimension) l, path-none a e g); ends = λ e. absurd (mathlib.Core.Bool.false≢true e); link = λ e. absurd (mathlib.Core.Bool.false≢true e) }
+  pub reached-none : (n a : ℕ) (m after : List ℕ) → c ≤ 8 * 2 ^ v .dimension → a ≡ firstHop v c (sourceOf c) (allPorts v) → 8 ≤ a → Reached v c n m after false
+  reached-none n a m after l e g = record { ends-here = unfold reaches isEmpty in rw (le-leb c (8 * 2 ^ v .dimension) l, path-none a e g); marks = λ e. absurd (mathlib.Core.Bool.false≢true e) }
 
-  pub examined : (n p a at count : ℕ) (first passes : Bool) → c ≤ 8 * 2 ^ v .dimension → a ≡ firstHop v c (sourceOf c) (allPorts v) → a < 8
-      → Follows v c (next (sourceOf c) a) (allPorts v) n p at passes → count ≡ channelsHeld v c at → first ≡ (eqb n (sourceOf c) && eqb p a) → Examined v c n p (eqb count 1) at (first || passes)
-  examined n p a at count first passes l e g f k q =
-      record {
-        does-reach = unfold reaches in rw (le-leb c (8 * 2 ^ v .dimension) l, not-empty) (ap (λ x. eqb x 1) (k ∙ ap (channelsHeld v c) ends-at));
-        ends = λ z. ends-at;
-        link = λ z. unfold links hasLink network in rw (path-first a e g, q, f .link);
-      }
-    where
-      not-empty : isEmpty (pathOf v c) ≡ false
-      not-empty = rw (path-first a e g) (unfold isEmpty in refl)
+  module _ (a at : ℕ) (m₀ m₁ m₂ : List ℕ) (e : a ≡ firstHop v c (sourceOf c) (allPorts v)) (g : a < 8) (f : Follows v c (next (sourceOf c) a) (allPorts v) m₁ m₂ at) where
+    ends-at : at ≡ endFor v c (pathOf v c)
+    ends-at = unfold end network in rw (path-first a e g) (f .ends)
 
-      ends-at : at ≡ endFor v c (pathOf v c)
-      ends-at = unfold end network in rw (path-first a e g) (f .ends)
+    reaches-is : (count : ℕ) → c ≤ 8 * 2 ^ v .dimension → count ≡ channelsHeld v c at → eqb count 1 ≡ reaches v c
+    unfolding reaches
+    reaches-is count l k = rw (le-leb c (8 * 2 ^ v .dimension) l, not-empty) (ap (λ x. eqb x 1) (k ∙ ap (channelsHeld v c) ends-at))
+      where
+        not-empty : isEmpty (pathOf v c) ≡ false
+        not-empty = rw (path-first a e g) (unfold isEmpty in refl)
+
+    path-passes : (x y : ℕ) → passes v c x y ≡ ((eqb x (sourceOf c) && eqb y a) || hasLink (links (net v) (next (sourceOf c) a) (followed v c (next (sourceOf c) a) (allPorts v))) x y)
+    unfolding passes links hasLink network
+    path-passes x y = rw (path-first a e g)
+
+    path-marks : Adds (λ x y. eqb x (sourceOf c) && eqb y a) m₀ m₁ → Adds (passes v c) m₀ m₂
+    path-marks first =
+        record {
+          adds = λ x y h l.
+              f .marks .adds x y h l ∙ ap (_|| hasLink (links (net v) (next (sourceOf c) a) (followed v c (next (sourceOf c) a) (allPorts v))) x y) (first .adds x y h l)
+              ∙ or-assoc (marked m₀ x y) (eqb x (sourceOf c) && eqb y a) _ ∙ ap (marked m₀ x y ||_) (sym (path-passes x y));
+        }
+
+    pub reached-here : (n count : ℕ) → c ≤ 8 * 2 ^ v .dimension → n ≡ at → count ≡ channelsHeld v c at → Adds (λ x y. eqb x (sourceOf c) && eqb y a) m₀ m₁ → Reached v c n m₀ m₂ (eqb count 1)
+    reached-here n count l q k first =
+        record { ends-here = reaches-is count l k ∙ sym (and-true (reaches v c)) ∙ ap (reaches v c &&_) (sym (eq-eqb n _ (q ∙ ends-at))); marks = λ z. path-marks first }
+
+    pub reached-elsewhere : (n : ℕ) → n ≢ at → Reached v c n m₀ m₂ false
+    reached-elsewhere n q =
+        record { ends-here = sym (ap (reaches v c &&_) (ne-eqb n _ (λ z. q (z ∙ sym ends-at))) ∙ and-false (reaches v c)); marks = λ z. absurd (mathlib.Core.Bool.false≢true z) }
 
 -- the same, of the numbers that the code has: the dimension, the count of nodes and the source
 module _ (v : View) (c D nodes : ℕ) (d : D ≡ v .dimension) (h : D < 9) (m : nodes ≡ 2 ^ D) where
@@ -109,18 +128,23 @@ module _ (v : View) (c D nodes : ℕ) (d : D ≡ v .dimension) (h : D < 9) (m : 
   path-behind s a start q e g to =
       path-first v below c a (every-port s a q e) g ∙ ap (a ∷_) (ap₂ (followed v c) (sym (to ∙ ap (λ x. next x a) q)) (sym (ap (_- 1) counted)))
 
-  pub looked-large : (n p : ℕ) → 8 * nodes < c → Examined v c n p false 0 false
-  looked-large n p l = examined-large v below c n p (omega (arith, counted))
+  pub looked-large : (n : ℕ) (before after : List ℕ) → 8 * nodes < c → Reached v c n before after false
+  looked-large n before after l = reached-large v below c n before after (omega (arith, counted))
 
-  pub looked-none : (n p s a : ℕ) → s ≡ sourceOf c → c ≤ 8 * nodes → a ≡ firstHop v c s (nodes - 1) → 8 ≤ a → Examined v c n p false 0 false
-  looked-none n p s a q l e g = examined-none v below c n p a (omega (arith, counted)) (every-port s a q e) g
+  pub looked-none : (n s a : ℕ) (before after : List ℕ) → s ≡ sourceOf c → c ≤ 8 * nodes → a ≡ firstHop v c s (nodes - 1) → 8 ≤ a → Reached v c n before after false
+  looked-none n s a before after q l e g = reached-none v below c n a before after (omega (arith, counted)) (every-port s a q e) g
 
-  pub looked : (n p s a start at count : ℕ) (first passes : Bool) → s ≡ sourceOf c → c ≤ 8 * nodes → a ≡ firstHop v c s (nodes - 1) → a < 8 → start ≡ next s a
-      → Follows v c start (nodes - 1) n p at passes → count ≡ channelsHeld v c at → first ≡ (eqb n s && eqb p a) → Examined v c n p (eqb count 1) at (first || passes)
-  looked n p s a start at count first passes q l e g to f k r =
-      examined v below c n p a at count first passes (omega (arith, counted)) (every-port s a q e) g
-      (mathlib.Core.Path.transport (ap₂ (λ x y. Follows v c x y n p at passes) (to ∙ ap (λ x. next x a) q) (ap (_- 1) counted)) f)
-      k (r ∙ ap (λ x. eqb n x && eqb p a) q)
+  module _ (s a start at : ℕ) (m₀ m₁ m₂ : List ℕ) (q : s ≡ sourceOf c) (e : a ≡ firstHop v c s (nodes - 1)) (g : a < 8) (to : start ≡ next s a) (f : Follows v c start (nodes - 1) m₁ m₂ at) where
+    on-all : Follows v c (next (sourceOf c) a) (allPorts v) m₁ m₂ at
+    on-all = mathlib.Core.Path.transport (ap₂ (λ x y. Follows v c x y m₁ m₂ at) (to ∙ ap (λ x. next x a) q) (ap (_- 1) counted)) f
+
+    pub looked-here : (n count : ℕ) → c ≤ 8 * nodes → s < 256 → length m₀ ≡ 2048 → m₁ ≡ set m₀ (markPlace s a) 1 → n ≡ at → count ≡ channelsHeld v c at → Reached v c n m₀ m₂ (eqb count 1)
+    looked-here n count l small size mark here k =
+        reached-here v below c a at m₀ m₁ m₂ (every-port s a q e) g on-all n count (omega (arith, counted)) here k
+        record { adds = λ x y h i. ap (λ m. marked m x y) mark ∙ mark-one m₀ s a x y size small g h i ∙ ap (λ z. marked m₀ x y || (eqb x z && eqb y a)) q }
+
+    pub looked-elsewhere : (n : ℕ) → n ≢ at → Reached v c n m₀ m₂ false
+    looked-elsewhere n h = reached-elsewhere v below c a at m₀ m₁ m₂ (every-port s a q e) g on-all n h
 
 -- a circuit's source is a node within the bytes
 pub source-within : (b : List ℕ) (c D nodes s : ℕ) → HasSource b c → D ≡ dimensionAt b → NodeCount D nodes → s ≡ sourceOf c → Within b s 0
@@ -149,11 +173,9 @@ module _ (v : View) (n p D c : ℕ) (b : Bool) (d : D ≡ v .dimension) (held : 
   pub link-disabled : b ≡ true → c ≢ 0 → v .enabled n p ≡ false → false ≡ linkTest v n p
   link-disabled e z a = rw (← within e, ne-eqb c 0 z, a)
 
-  pub link-stands : {stands passes : Bool} {at : ℕ} → b ≡ true → c ≢ 0 → v .enabled n p ≡ true → Examined v c n p stands at passes → stands ≡ true → passes ≡ linkTest v n p
-  link-stands e z a x s = x .link s ∙ rw (← within e, ne-eqb c 0 z, a, ← x .does-reach, s)
-
-  pub link-falls : {stands passes : Bool} {at : ℕ} → b ≡ true → c ≢ 0 → v .enabled n p ≡ true → Examined v c n p stands at passes → stands ≡ false → false ≡ linkTest v n p
-  link-falls e z a x s = rw (← within e, ne-eqb c 0 z, a, ← x .does-reach, s)
+  pub link-marked : (m : List ℕ) → Framed v → PathsMarked v m → n < 256 → p < 8 → b ≡ true → c ≢ 0 → v .enabled n p ≡ true → marked m n p ≡ linkTest v n p
+  unfolding passes
+  link-marked m framed marks h l e z a = marked-is v m framed marks n p h l (λ y. z (held ∙ y)) ∙ ap (λ x. reaches v x && hasLink (links (net v) (sourceOf x) (pathOf v x)) n p) (sym held) ∙ rw (← within e, ne-eqb c 0 z, a)
 
 -- the test of one receive channel, branch by branch
 module _ (v : View) (n k D c nodes : ℕ) (d : D ≡ v .dimension) (held : c ≡ v .receiver n k) (m : nodes ≡ 2 ^ D) where
@@ -168,8 +190,27 @@ module _ (v : View) (n k D c nodes : ℕ) (d : D ≡ v .dimension) (held : c ≡
   pub receive-free : n < nodes → c ≡ 0 → true ≡ receiveTest v n k
   receive-free l z = rw (← present l, eq-eqb c 0 z)
 
-  pub receive-stands : {stands passes : Bool} {at q : ℕ} → n < nodes → c ≢ 0 → Examined v c n q stands at passes → stands ≡ true → eqb n at ≡ receiveTest v n k
-  receive-stands l z x s = rw (← present l, ne-eqb c 0 z, ← x .does-reach, s) (ap (eqb n) (x .ends s))
+  pub receive-ends : {before after : List ℕ} {answer : Bool} → n < nodes → c ≢ 0 → Reached v c n before after answer → answer ≡ receiveTest v n k
+  receive-ends l z x = x .ends-here ∙ rw (← present l, ne-eqb c 0 z)
 
-  pub receive-falls : {stands passes : Bool} {at q : ℕ} → n < nodes → c ≢ 0 → Examined v c n q stands at passes → stands ≡ false → false ≡ receiveTest v n k
-  receive-falls l z x s = rw (← present l, ne-eqb c 0 z, ← x .does-reach, s)
+  -- what the code finds of the channel, and what it answers for it
+  pub channel-free : (m : List ℕ) → c ≡ 0 → Receives v n (n + 1) k (k + 1) m m true
+  channel-free m z =
+      received-yes v n (n + 1) k (k + 1) m m (received-free v m n (n + 1) k (k + 1)
+      (λ a b i. here a b i (λ x y. receiveTest v x y ≡ true) free) (λ a b i. here a b i (λ x y. v .receiver x y ≡ 0) (sym held ∙ z)))
+    where
+      here : (a b : ℕ) → (n ≤ a) × (a < n + 1) × (k ≤ b) × (b < k + 1) → (P : ℕ → ℕ → Type 0) → P n k → P a b
+      here a b i P x = let e : n ≡ a = omega arith in let f : k ≡ b = omega arith in subst (λ (y : ℕ). P y b) e (subst (λ (y : ℕ). P n y) f x)
+
+      free : receiveTest v n k ≡ true
+      free = ⊎-elim (λ l. sym (receive-free l z)) (λ l. sym (receive-absent l) ∙ eq-eqb c 0 z) (below-or nodes n)
+
+  pub channel-absent : (m : List ℕ) → nodes ≤ n → c ≢ 0 → Receives v n (n + 1) k (k + 1) m m false
+  channel-absent m l z = received-no v n (n + 1) k (k + 1) m m (unfold ReceivesPass in λ h. clash (h n k (omega arith) (omega arith) (omega arith) (omega arith)) (sym (receive-absent l) ∙ ne-eqb c 0 z))
+
+  pub channel-held : (before after : List ℕ) (answer : Bool) → n < nodes → c ≢ 0 → Reached v c n before after answer → Receives v n (n + 1) k (k + 1) before after answer
+  channel-held before after answer l z x =
+      record {
+        holds = λ e. received-one v before c n k after held (sym (receive-ends l z x) ∙ e) (both (reaches v c) _ (sym (x .ends-here) ∙ e) .0) (x .marks e);
+        fails = λ e. unfold ReceivesPass in λ h. clash (h n k (omega arith) (omega arith) (omega arith) (omega arith)) (sym (receive-ends l z x) ∙ e);
+      }

@@ -8,7 +8,7 @@ use Prim.Native.Nat.{ℕ, zero, suc, _+_, _/_, _%_, _^_, _≤_, _<_}
 use native.Mathlib.Omega.{arith}
 use native.Mathlib.Numerals.{add-one}
 use lib.Dec.{eqb}
-use lib.ListN.{length, length-append}
+use lib.ListN.{length, set, length-append}
 use borrow.Author.Tests.{eq-eqb, ne-eqb}
 use Rattle.common.specs.Lists.{_∈_, keep, from}
 use Rattle.common.proofs.Lists.{keep-append, keep-yes, keep-no, keep-nil, keep-mem, keep-keep, from-last}
@@ -22,6 +22,8 @@ use Rattle.paths.specs.Trail.{dropPort, course, firstHops}
 use Rattle.paths.proofs.Trail.{course-fuel, course-none, course-some, drop-shorter}
 use Rattle.table.specs.View.{View, lowest}
 use Rattle.table.specs.Sound.{net, heldBy}
+use Rattle.table.specs.Marks.{marked, markPlace}
+use Rattle.table.proofs.Marks.{mark-one}
 use Rattle.table.specs.Follow.{takes, comesBack, followed, firstHop}
 
 module _ (v : View) (c n vector p : ℕ) where
@@ -163,6 +165,11 @@ module _ (v : View) (c n vector q rest m : ℕ) (e : q ≡ lowest (takes v c n v
       → ((passes || x) || hasLink (links (net v) m (followed v c m rest)) a b) ≡ (passes || hasLink (links (net v) n (followed v c n vector)) a b)
   unfolding links hasLink network
   hop-links a b passes x f = rw (follow-on v c n vector q rest e h w, to, f) (or-assoc passes (eqb a n && eqb b q) _)
+
+  pub hop-marks : (marks after : List ℕ) → length marks ≡ 2048 → n < 256 → after ≡ set marks (markPlace n q) 1 → (a b : ℕ) → a < 256 → b < 8
+      → (marked after a b || hasLink (links (net v) m (followed v c m rest)) a b) ≡ (marked marks a b || hasLink (links (net v) n (followed v c n vector)) a b)
+  hop-marks marks after size small on a b g k =
+      ap (_|| hasLink (links (net v) m (followed v c m rest)) a b) (ap (λ x. marked x a b) on ∙ mark-one marks n q a b size small h g k) ∙ hop-links a b (marked marks a b) (eqb a n && eqb b q) refl
 
 pub walk-ends : (v : View) (c n vector q : ℕ) → q ≡ lowest (takes v c n vector) 8 0 → 8 ≤ q → n ≡ end (net v) n (followed v c n vector)
 unfolding end

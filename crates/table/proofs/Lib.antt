@@ -7,6 +7,7 @@ pub mod Lowest
 pub mod Fills
 pub mod Made
 pub mod Soundness
+pub mod Marks
 pub mod Follow
 pub mod Examine
 pub mod Passing

@@ -1,10 +1,10 @@
 -- The test of a whole table from the tests of its nodes, and what its answer says.
 -- Assumes nothing.
-use mathlib.Core.Path.{_≡_, refl, sym, _∙_, ap}
+use mathlib.Core.Path.{_≡_, refl, sym, _∙_, ap, subst}
 use mathlib.Core.Bool.{Bool, true, false, cond, _&&_, not, and-false, and-eq-true-iff}
 use mathlib.Core.List.{List, [], _∷_}
-use mathlib.Core.Logic.{_≢_}
-use Prim.Native.Nat.{ℕ, _^_, _≤_, _<_}
+use mathlib.Core.Logic.{_≢_, ⊎-elim}
+use Prim.Native.Nat.{ℕ, _+_, _^_, _≤_, _<_}
 use native.Mathlib.Omega.{arith}
 use lib.Dec.{eqb, ltb, leb}
 use lib.ListN.{length}
@@ -17,72 +17,90 @@ use Rattle.common.specs.Lists.{every}
 use Rattle.common.proofs.Every.{at, all}
 use Rattle.cube.specs.Bits.{has}
 use Rattle.cube.proofs.Bits.{high-has}
-use Rattle.table.specs.Layout.{dimensionAt, enabledAt, enableBits, enablePlace, ownerAt, receiverAt, entryAt, inTable, tableLength}
+use Rattle.table.specs.Layout.{dimensionAt, enabledAt, enableBits, EnablesFit, enablePlace, ownerAt, receiverAt, entryAt, inTable, tableLength}
 use Rattle.table.specs.View.{View, view}
 use Rattle.table.specs.Sound.{Sound}
-use Rattle.table.specs.SoundTest.{linkTest, receiveTest, soundTest, LinksPass, ReceivesPass, NodePasses, tableTests, TableAnswer}
+use Rattle.table.specs.SoundTest.{linkTest, receiveTest, soundTest, LinksPass, ReceivesPass, Received, tableTests, TableAnswer}
+use Rattle.table.proofs.Marks.{below-or, received-free}
 use Rattle.table.proofs.Soundness.{Framed, EntriesPass}
 use Rattle.table.proofs.Soundness.{sound-entries, entries-sound}
 use Rattle.table.proofs.Examine.{link-free, link-held-outside, receive-free, receive-absent}
 
--- a node of which nothing is held, and whose enable bits are below its limit, passes
-module _ (b : List ℕ) (n D limit : ℕ) (d : D ≡ dimensionAt b) (lim : limit ≡ cond (ltb n (2 ^ D)) (2 ^ D) 1) (low : enableBits b n < limit) where
-  off : (p : ℕ) → (ltb n (2 ^ D) && ltb p D) ≡ false → enabledAt b n p ≡ false
-  unfolding enabledAt enableBits
-  off p e = rw (bits (ltb n (2 ^ D)) refl e) (and-false (inTable n p))
+-- nodes of which nothing is held pass; for the links their enable bits must fit
+module _ (b : List ℕ) (D : ℕ) (d : D ≡ dimensionAt b) where
+  off : (n p : ℕ) → n < 256 → EnablesFit b D → (ltb n (2 ^ D) && ltb p D) ≡ false → enabledAt b n p ≡ false
+  unfolding enabledAt enableBits EnablesFit
+  off n p h fit e = rw (bits (ltb n (2 ^ D)) refl e) (and-false (inTable n p))
     where
       bits : (x : Bool) → ltb n (2 ^ D) ≡ x → (x && ltb p D) ≡ false → has (enableBits b n) p ≡ false
-      bits true y z = high-has D (enableBits b n) p (let q : limit ≡ 2 ^ D = lim ∙ ap (λ x. cond x (2 ^ D) 1) y in omega (arith, q)) (ltb-false p D z)
-      bits false y z = high-has 0 (enableBits b n) p (let q : limit ≡ 1 = lim ∙ ap (λ x. cond x (2 ^ D) 1) y in omega (arith, q)) (omega arith)
+      bits true y z = high-has D (enableBits b n) p (subst (λ (x : Bool). enableBits b n < cond x (2 ^ D) 1) y (fit n h)) (ltb-false p D z)
+      bits false y z = high-has 0 (enableBits b n) p (subst (λ (x : Bool). enableBits b n < cond x (2 ^ D) 1) y (fit n h)) (omega arith)
 
-  idle-links : ((p : ℕ) → p < 8 → ownerAt b n p ≡ 0) → LinksPass (view b) n
+  pub idle-links : (n₀ n₁ : ℕ) → n₁ ≤ 256 → EnablesFit b D → ((n p : ℕ) → n₀ ≤ n → n < n₁ → p < 8 → ownerAt b n p ≡ 0) → LinksPass (view b) n₀ n₁ 0 8
   unfolding LinksPass view
-  idle-links free p l = go (ltb n (2 ^ D) && ltb p D) refl
+  idle-links n₀ n₁ most fit free n p g h z l = go (ltb n (2 ^ D) && ltb p D) refl
     where
       go : (x : Bool) → (ltb n (2 ^ D) && ltb p D) ≡ x → linkTest (view b) n p ≡ true
-      go true e = sym (link-free (view b) n p D 0 true d (sym (free p l)) (sym e) refl refl)
-      go false e = sym (link-held-outside (view b) n p D 0 false d (sym (free p l)) (sym e) refl (off p e))
+      go true e = sym (link-free (view b) n p D 0 true d (sym (free n p g h l)) (sym e) refl refl)
+      go false e = sym (link-held-outside (view b) n p D 0 false d (sym (free n p g h l)) (sym e) refl (off n p (omega arith) fit e))
 
-  idle-receives : ((k : ℕ) → k < 8 → receiverAt b n k ≡ 0) → ReceivesPass (view b) n
-  unfolding ReceivesPass view
-  idle-receives free k l = go (ltb n (2 ^ D)) refl
+  pub idle-receives : (m : List ℕ) (n₀ n₁ : ℕ) → ((n k : ℕ) → n₀ ≤ n → n < n₁ → k < 8 → receiverAt b n k ≡ 0) → Received (view b) n₀ n₁ 0 8 m m
+  unfolding view
+  idle-receives m n₀ n₁ free = received-free (view b) m n₀ n₁ 0 8 (λ n k i. go n k i (ltb n (2 ^ D)) refl) (λ n k i. free n k (i .0) (i .1) (i .3))
     where
-      go : (x : Bool) → ltb n (2 ^ D) ≡ x → receiveTest (view b) n k ≡ true
-      go true e = sym (receive-free (view b) n k D 0 (2 ^ D) d (sym (free k l)) refl (ltb-true n _ e) refl)
-      go false e = sym (receive-absent (view b) n k D 0 (2 ^ D) d (sym (free k l)) refl (ltb-false n _ e))
+      go : (n k : ℕ) → (n₀ ≤ n) × (n < n₁) × (0 ≤ k) × (k < 8) → (x : Bool) → ltb n (2 ^ D) ≡ x → receiveTest (view b) n k ≡ true
+      go n k i true e = sym (receive-free (view b) n k D 0 (2 ^ D) d (sym (free n k (i .0) (i .1) (i .3))) refl (ltb-true n _ e) refl)
+      go n k i false e = sym (receive-absent (view b) n k D 0 (2 ^ D) d (sym (free n k (i .0) (i .1) (i .3))) refl (ltb-false n _ e))
 
-  pub idle-passes : ((p : ℕ) → p < 8 → ownerAt b n p ≡ 0) → ((k : ℕ) → k < 8 → receiverAt b n k ≡ 0) → NodePasses (view b) n
-  idle-passes f g = record { of-links = idle-links f; of-receives = idle-receives g }
-
--- the whole test, from the nodes
+-- links of one port more, and of some nodes more
 module _ (v : View) where
-  pub nodes-pass : ((n : ℕ) → n < 256 → NodePasses v n) → true ≡ soundTest v
-  unfolding soundTest LinksPass ReceivesPass
-  nodes-pass h = sym (all 256 (λ n. every 8 (linkTest v n) && every 8 (receiveTest v n)) (λ n l.
-      and-eq-true-iff (every 8 (linkTest v n)) (every 8 (receiveTest v n)) .1 (all 8 (linkTest v n) (h n l .of-links), all 8 (receiveTest v n) (h n l .of-receives))))
+  pub more-ports : (n p : ℕ) → LinksPass v n (n + 1) 0 p → linkTest v n p ≡ true → LinksPass v n (n + 1) 0 (p + 1)
+  unfolding LinksPass
+  more-ports n p r t a b g h i j = ⊎-elim (λ l. r a b g h i l) (λ l. let e : n ≡ a = omega arith in let f : p ≡ b = omega arith in subst (λ (y : ℕ). linkTest v y b ≡ true) e (subst (λ (y : ℕ). linkTest v n y ≡ true) f t)) (below-or p b)
 
-  pass-nodes : soundTest v ≡ true → (n : ℕ) → n < 256 → NodePasses v n
-  unfolding soundTest LinksPass ReceivesPass
-  pass-nodes t n l =
-      let r = and-eq-true-iff (every 8 (linkTest v n)) (every 8 (receiveTest v n)) .0 (at 256 (λ n. every 8 (linkTest v n) && every 8 (receiveTest v n)) t n l) in
-      record { of-links = at 8 (linkTest v n) (r .0); of-receives = at 8 (receiveTest v n) (r .1) }
+  pub more-links : (from n to : ℕ) → LinksPass v from n 0 8 → LinksPass v n to 0 8 → LinksPass v from to 0 8
+  unfolding LinksPass
+  more-links from n to r s a b g h i j = ⊎-elim (λ l. r a b g l i j) (λ l. s a b l h i j) (below-or n a)
 
-  pub node-fails : (n : ℕ) → n < 256 → (NodePasses v n → ⊥) → false ≡ soundTest v
-  node-fails n l h = go (soundTest v) refl
+  pub no-links : (a b c d : ℕ) → b ≤ a → LinksPass v a b c d
+  unfolding LinksPass
+  no-links a b c d l n p g h i j = absurd (omega arith)
+
+  pub fewer-links : (a b c d e f g h : ℕ) → a ≤ e → f ≤ b → c ≤ g → h ≤ d → LinksPass v a b c d → LinksPass v e f g h
+  unfolding LinksPass
+  fewer-links a b c d e f g h i j k l all x y p q s t = all x y (omega arith) (omega arith) (omega arith) (omega arith)
+
+-- the whole test, from the links and the receive channels
+module _ (v : View) where
+  pub all-pass : LinksPass v 0 256 0 8 → ReceivesPass v 0 256 0 8 → true ≡ soundTest v
+  unfolding soundTest LinksPass ReceivesPass
+  all-pass f g = sym (all 256 (λ n. every 8 (linkTest v n) && every 8 (receiveTest v n)) (λ n l.
+      and-eq-true-iff (every 8 (linkTest v n)) (every 8 (receiveTest v n)) .1
+      (all 8 (linkTest v n) (λ p h. f n p (omega arith) l (omega arith) h), all 8 (receiveTest v n) (λ k h. g n k (omega arith) l (omega arith) h))))
+
+  pass-all : soundTest v ≡ true → LinksPass v 0 256 0 8 × ReceivesPass v 0 256 0 8
+  unfolding soundTest LinksPass ReceivesPass
+  pass-all t = (λ n p g l h i. at 8 (linkTest v n) (node n l .0) p i, λ n k g l h i. at 8 (receiveTest v n) (node n l .1) k i)
     where
-      go : (b : Bool) → soundTest v ≡ b → false ≡ b
-      go true e = absurd (h (pass-nodes e n l))
-      go false e = refl
+      node : (n : ℕ) → n < 256 → (every 8 (linkTest v n) ≡ true) × (every 8 (receiveTest v n) ≡ true)
+      node n l = and-eq-true-iff (every 8 (linkTest v n)) (every 8 (receiveTest v n)) .0 (at 256 (λ n. every 8 (linkTest v n) && every 8 (receiveTest v n)) t n l)
+
+  pub some-fails : (LinksPass v 0 256 0 8 × ReceivesPass v 0 256 0 8 → ⊥) → false ≡ soundTest v
+  some-fails h = sym (is-false (soundTest v) (λ t. h (pass-all t)))
+
+  pub links-decide : (answer : Bool) → Decides (LinksPass v 0 256 0 8) answer → ReceivesPass v 0 256 0 8 → answer ≡ soundTest v
+  links-decide true d r = all-pass (d .holds refl) r
+  links-decide false d r = some-fails (λ h. d .fails refl (h .0))
 
   -- the test answers whether the table is sound
   pub tested : v .dimension ≤ 8 → Framed v → Decides (Sound v) (soundTest v)
   unfolding LinksPass ReceivesPass
   tested fits framed =
       record {
-        holds = λ t. entries-sound v fits framed record { links-pass = λ n p l. pass-nodes t n l .of-links p; receives-pass = λ n k l. pass-nodes t n l .of-receives k };
-        fails = λ t s.
-            let e = sound-entries v s in
-            clash (sym (nodes-pass (λ n l. record { of-links = λ p. e .links-pass n p l; of-receives = λ k. e .receives-pass n k l }))) t;
+        holds = λ t. let r = pass-all t in
+            entries-sound v fits framed record { links-pass = λ n p l h. r .0 n p (omega arith) l (omega arith) h; receives-pass = λ n k l h. r .1 n k (omega arith) l (omega arith) h };
+        fails = λ t s. let e = sound-entries v s in
+            clash (sym (all-pass (λ n p g l h i. e .links-pass n p l i) (λ n k g l h i. e .receives-pass n k l i))) t;
       }
 
 -- nothing lies outside 256 nodes and 8 ports or channels

@@ -80,7 +80,7 @@ one-kept f k h e u = only (keep f (from 0 8)) (keep-sorted f _<_ (from 0 8) (fro
     only (x ∷ []) s m g = refl
     only (x ∷ y ∷ xs) s m g = unfold Sorted in absurd (omega (arith, s .0 y (List·Memᴰ·head refl), g x (List·Memᴰ·head refl), g y (List·Memᴰ·tail (List·Memᴰ·head refl))))
 
-kept-one : (f : ℕ → Bool) → length (keep f (from 0 8)) ≡ 1 → (k : ℕ) × (k < 8) × (f k ≡ true) × ((j : ℕ) → j < 8 → f j ≡ true → j ≡ k)
+pub kept-one : (f : ℕ → Bool) → length (keep f (from 0 8)) ≡ 1 → (k : ℕ) × (k < 8) × (f k ≡ true) × ((j : ℕ) → j < 8 → f j ≡ true → j ≡ k)
 kept-one f e = go (keep f (from 0 8)) refl e
   where
     go : (xs : List ℕ) → keep f (from 0 8) ≡ xs → length xs ≡ 1 → (k : ℕ) × (k < 8) × (f k ≡ true) × ((j : ℕ) → j < 8 → f j ≡ true → j ≡ k)

@@ -13,6 +13,7 @@ use Rattle.paths.specs.Trail.{course, firstHops}
 use Rattle.table.specs.Layout.{tableLength, dimensionAt}
 use Rattle.table.specs.View.{View, lowest}
 use Rattle.table.specs.Sound.{net, heldBy}
+use Rattle.table.specs.Marks.{Adds}
 
 -- port p is in the vector, and circuit c holds the link out of it
 unfoldable pub takes : View → ℕ → ℕ → ℕ → ℕ → Bool
@@ -30,10 +31,10 @@ followed v c n vector = course 8 (net v) (portsOf 8 vector) (heldBy v c) n
 unfoldable pub firstHop : View → ℕ → ℕ → ℕ → ℕ
 firstHop v c s vector = firstOr 8 (firstHops (net v) (portsOf 8 vector) (heldBy v c) s)
 
--- what following gives: where it ends, and whether it passes the link out of port p of node n
-pub record Follows (v : View) (c start vector n p : ℕ) (at : ℕ) (passes : Bool) : Type 0 where
+-- what following gives: where it ends, and the marks of the links that it passes
+pub record Follows (v : View) (c start vector : ℕ) (before after : List ℕ) (at : ℕ) : Type 0 where
   pub ends : at ≡ end (net v) start (followed v c start vector)
-  pub link : passes ≡ hasLink (links (net v) start (followed v c start vector)) n p
+  pub marks : Adds (hasLink (links (net v) start (followed v c start vector))) before after
   pub small : at < 256
 
 -- what looking for the path of a circuit asks: a table of a cube up to dimension 8, and a circuit whose source is in it

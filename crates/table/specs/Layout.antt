@@ -104,10 +104,13 @@ freeFrom c b i (suc k) = freeFrom c (freeWord c b i) (i + 2) k
 unfoldable pub freed : List ℕ → ℕ → List ℕ
 freed b c = freeFrom c b linkPart 4096
 
--- a number that no byte of a run is above, and that is below a power of two where they all are
+-- a number that no byte of a run is above
 pub record Gathered (b : List ℕ) (i count : ℕ) (all : ℕ) : Type 0 where
   pub none-above : (j : ℕ) → j < count → getD b (i + j) 0 ≤ all
-  pub fits : (k : ℕ) → ((j : ℕ) → j < count → getD b (i + j) 0 < 2 ^ k) → all < 2 ^ k
+
+-- the enable bits of every node are below its limit: it has links of a cube of dimension D, or none where that cube does not have the node
+unfoldable pub EnablesFit : List ℕ → ℕ → Type 0
+EnablesFit b D = (n : ℕ) → n < 256 → enableBits b n < cond (ltb n (2 ^ D)) (2 ^ D) 1
 
 -- what the functions over one entry ask: a table's bytes, a node and a port or channel within them
 pub record Within (b : List ℕ) (n p : ℕ) : Type 0 where

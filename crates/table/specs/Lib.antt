@@ -2,6 +2,7 @@
 pub mod Layout
 pub mod View
 pub mod Sound
+pub mod Marks
 pub mod SoundTest
 pub mod Follow
 pub mod Encode

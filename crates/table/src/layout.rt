@@ -1,9 +1,9 @@
 // Where each value lies in the 8,449 bytes of a table, and the only code that reads and writes there.
 ghost use mathlib.Core.Path.{_≡_};
 ghost use mathlib.Core.Bool.{true, false};
-ghost use Prim.Native.Nat.{ℕ, _+_, _<_, _≤_};
-ghost use lib.ListN.{length, getD};
-ghost use Rattle.table.specs.Layout.{Within, enableBits, wordAt, putWord, enablePlace, linkPlace, receivePlace, dimensionAt, enabledAt, ownerAt, receiverAt, putOwner, putReceiver, putEnabled, changed, freeWord, freeFrom, freed, filled, made, Gathered};
+ghost use Prim.Native.Nat.{ℕ, _+_, _*_, _<_, _≤_};
+ghost use lib.ListN.{length};
+ghost use Rattle.table.specs.Layout.{Within, wordAt, putWord, enablePlace, linkPlace, receivePlace, dimensionAt, enabledAt, ownerAt, receiverAt, putOwner, putReceiver, putEnabled, changed, freeWord, freeFrom, freed, filled, made, Gathered, EnablesFit};
 ghost use Rattle.table.specs.View.{view, lowestChannel};
 use cube::Circuit;
 use cube::Node;
@@ -14,6 +14,8 @@ use cube::Port;
 pub const BYTES: usize = 8449;
 
 const ENABLE: usize = 1;
+
+const NODES: usize = 256;
 
 const LINKS: usize = 257;
 
@@ -89,14 +91,6 @@ pub fn enabled(t: &[u8], n: Node, p: Port) -> bool
     (wide(t[enable_place(n)]) >> q) % 2 == 1
 }
 
-// All enable bits of a node.
-pub fn enable_bits(t: &[u8], n: Node) -> u16
-    requires { ⌜ Within (now t) (n .0) 0 ⌝ }
-    ensures { λ r. ⌜ (r ≡ enableBits (now (t .entry)) (n .0)) × (r < 256) ⌝ }
-{
-    wide(t[enable_place(n)])
-}
-
 // The or of some bytes: none of them is above it, so all are 0 where it is. It has no early exit, so that many can be read in one go.
 fn gathered(t: &[u8], from: usize, count: usize) -> u8
     requires { ⌜ from + count ≤ length (now t) ⌝ }
@@ -111,33 +105,33 @@ fn gathered(t: &[u8], from: usize, count: usize) -> u8
     all
 }
 
-// The sum of the bytes of a row: 0 where nobody holds anything of it. It has no early exit, so that it can be added up in one go.
-fn row_sum(t: &[u8], from: usize) -> u16
-    requires { ⌜ from + 16 ≤ length (now t) ⌝ }
-    ensures { λ r. ⌜ (r ≡ 0 → (i : ℕ) → i < 16 → getD (now (t .entry)) (from + i) 0 ≡ 0) ⌝ }
+// Whether every node has the enable bits of links of its cube alone, and the nodes that the cube lacks have none.
+pub fn enables_fit(t: &[u8], dimension: u16) -> bool
+    requires { ⌜ (length (now t) ≡ 8449) × (dimension < 9) ⌝ }
+    ensures { λ r. ⌜ (r ≡ true → EnablesFit (now (t .entry)) dimension) ⌝ }
 {
-    let mut sum: u16 = 0;
-    let mut i = 0;
-    while i < 16 {
-        sum += wide(t[from + i]);
-        i += 1;
+    let nodes = cube::node_count(dimension);
+    let count = nodes as usize;
+    if wide(gathered(t, ENABLE, count)) < nodes {
+        gathered(t, ENABLE + count, NODES - count) == 0
+    } else {
+        false
     }
-    sum
 }
 
-// Whether a node's links, or its receive channels, are all held by nobody. Where it says no, look at each.
-pub fn links_clear(t: &[u8], n: Node) -> bool
-    requires { ⌜ Within (now t) (n .0) 0 ⌝ }
-    ensures { λ r. ⌜ (r ≡ true → (p : ℕ) → p < 8 → ownerAt (now (t .entry)) (n .0) p ≡ 0) ⌝ }
+// Whether the links, or the receive channels, of so many nodes from one on are all held by nobody. Where it says no, look at each.
+pub fn links_clear(t: &[u8], n: Node, nodes: u16) -> bool
+    requires { ⌜ (length (now t) ≡ 8449) × (n .0 + nodes ≤ 256) × (0 < nodes) ⌝ }
+    ensures { λ r. ⌜ (r ≡ true → (m p : ℕ) → n .0 ≤ m → m < n .0 + nodes → p < 8 → ownerAt (now (t .entry)) m p ≡ 0) ⌝ }
 {
-    row_sum(t, link_place(n, Port(0))) == 0
+    gathered(t, link_place(n, Port(0)), ROW * (nodes as usize)) == 0
 }
 
-pub fn receives_clear(t: &[u8], n: Node) -> bool
-    requires { ⌜ Within (now t) (n .0) 0 ⌝ }
-    ensures { λ r. ⌜ (r ≡ true → (k : ℕ) → k < 8 → receiverAt (now (t .entry)) (n .0) k ≡ 0) ⌝ }
+pub fn receives_clear(t: &[u8], n: Node, nodes: u16) -> bool
+    requires { ⌜ (length (now t) ≡ 8449) × (n .0 + nodes ≤ 256) × (0 < nodes) ⌝ }
+    ensures { λ r. ⌜ (r ≡ true → (m k : ℕ) → n .0 ≤ m → m < n .0 + nodes → k < 8 → receiverAt (now (t .entry)) m k ≡ 0) ⌝ }
 {
-    row_sum(t, receive_place(n, 0)) == 0
+    gathered(t, receive_place(n, 0), ROW * (nodes as usize)) == 0
 }
 
 // Changes one enable bit.

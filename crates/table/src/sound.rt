@@ -1,12 +1,13 @@
 // Whether a table may be used at all: its length, its dimension, and whether it is sound.
 ghost use mathlib.Core.Path.{_≡_};
-ghost use mathlib.Core.Bool.{true, cond, _&&_};
-ghost use Prim.Native.Nat.{_<_, _^_};
+ghost use mathlib.Core.Bool.{true, _&&_};
+ghost use Prim.Native.Nat.{ℕ, _+_, _<_, _≤_, _^_};
 ghost use lib.Dec.{ltb};
+ghost use lib.ListN.{length};
 ghost use Rattle.common.specs.Decides.{Decides};
-ghost use Rattle.table.specs.Layout.{Within};
+ghost use Rattle.table.specs.Layout.{Within, ownerAt};
 ghost use Rattle.table.specs.View.{view};
-ghost use Rattle.table.specs.SoundTest.{Examined, linkTest, receiveTest, LinksPass, ReceivesPass, NodePasses, soundTest, TableAnswer, Usable};
+ghost use Rattle.table.specs.SoundTest.{Reached, Receives, linkTest, LinksPass, soundTest, PathsMarked, Marked, TableAnswer, Usable};
 use crate::layout;
 use crate::trail;
 use common::refusal;
@@ -14,41 +15,118 @@ use cube::Circuit;
 use cube::Node;
 use cube::Port;
 
-// What looking at a circuit comes to: whether it reaches the end of its path, where that is, and whether it passes one link.
-struct Examination {
-    reached: bool,
-    end: Node,
-    passes: bool,
-}
+// Nodes are looked at in groups.
+const GROUP: u16 = 16;
 
-fn examine(t: &[u8], dimension: u16, c: Circuit, n: Node, p: Port) -> Examination
-    requires { ⌜ (0 < c .0) × Usable (now t) dimension ⌝ }
-    ensures { λ r. ⌜ Examined (view (now (t .entry))) (c .0) (n .0) (p .0) (r .reached) (r .end .0) (r .passes) ⌝ }
+const GROUPS: u16 = 16;
+
+// Whether the path of a circuit ends at a node, on one receive channel; its links are marked then.
+fn ends_at(t: &[u8], dimension: u16, c: Circuit, n: Node, marks: &mut [u8]) -> bool
+    requires { ⌜ (0 < c .0) × Usable (now t) dimension × (length (now marks) ≡ 2048) ⌝ }
+    ensures { λ r. ⌜ Reached (view (now (t .entry))) (c .0) (n .0) (now (marks .entry)) (now (marks .exit)) r ⌝ }
 {
     let nodes = cube::node_count(dimension);
     if c.0 > 8 * nodes {
-        return Examination {
-            reached: false,
-            end: Node(0),
-            passes: false,
-        };
+        return false;
     }
     let source = cube::source_of(c);
     let first = trail::first_hop(t, c, source, nodes - 1);
     if first.0 >= 8 {
-        return Examination {
-            reached: false,
-            end: Node(0),
-            passes: false,
-        };
+        return false;
     }
-    let w = trail::follow(t, c, cube::neighbour(source, first), nodes - 1, n, p);
-    let end = w.end;
-    Examination {
-        reached: trail::channels_held(t, c, end) == 1,
-        end,
-        passes: trail::same_link(source, first, n, p) | w.passes,
+    trail::mark(source, first, marks);
+    let end = trail::follow(t, c, cube::neighbour(source, first), nodes - 1, marks);
+    if n.0 == end.0 {
+        trail::channels_held(t, c, end) == 1
+    } else {
+        false
     }
+}
+
+// The test of one receive channel.
+fn receive_sound(t: &[u8], dimension: u16, n: Node, channel: u16, marks: &mut [u8]) -> bool
+    requires { ⌜ Within (now t) (n .0) channel × Usable (now t) dimension × (length (now marks) ≡ 2048) ⌝ }
+    ensures { λ r. ⌜ Receives (view (now (t .entry))) (n .0) (n .0 + 1) channel (channel + 1) (now (marks .entry)) (now (marks .exit)) r ⌝ }
+{
+    let c = layout::receiver(t, n, channel);
+    if c.0 == 0 {
+        return true;
+    }
+    let nodes = cube::node_count(dimension);
+    if n.0 < nodes {
+        ends_at(t, dimension, c, n, marks)
+    } else {
+        false
+    }
+}
+
+// The tests of a node's receive channels.
+fn receives_sound(t: &[u8], dimension: u16, n: Node, marks: &mut [u8]) -> bool
+    requires { ⌜ Within (now t) (n .0) 0 × Usable (now t) dimension × (length (now marks) ≡ 2048) ⌝ }
+    ensures { λ r. ⌜ Receives (view (now (t .entry))) (n .0) (n .0 + 1) 0 8 (now (marks .entry)) (now (marks .exit)) r ⌝ }
+{
+    let mut k: u16 = 0;
+    while k < 8 {
+        if receive_sound(t, dimension, n, k, marks) {
+            k += 1;
+        } else {
+            return false;
+        }
+    }
+    true
+}
+
+// Most nodes of most tables hold nothing: they are passed over, in groups or else one by one.
+fn receives_of(t: &[u8], dimension: u16, n: Node, marks: &mut [u8]) -> bool
+    requires { ⌜ Within (now t) (n .0) 0 × Usable (now t) dimension × (length (now marks) ≡ 2048) ⌝ }
+    ensures { λ r. ⌜ Receives (view (now (t .entry))) (n .0) (n .0 + 1) 0 8 (now (marks .entry)) (now (marks .exit)) r ⌝ }
+{
+    if layout::receives_clear(t, n, 1) {
+        return true;
+    }
+    receives_sound(t, dimension, n, marks)
+}
+
+fn receives_from(t: &[u8], dimension: u16, from: u16, marks: &mut [u8]) -> bool
+    requires { ⌜ (from + 16 ≤ 256) × Usable (now t) dimension × (length (now marks) ≡ 2048) ⌝ }
+    ensures { λ r. ⌜ Receives (view (now (t .entry))) from (from + 16) 0 8 (now (marks .entry)) (now (marks .exit)) r ⌝ }
+{
+    let mut i: u16 = 0;
+    while i < GROUP {
+        let n = from + i;
+        if receives_of(t, dimension, Node(n), marks) {
+            i += 1;
+        } else {
+            return false;
+        }
+    }
+    true
+}
+
+fn receive_group(t: &[u8], dimension: u16, from: u16, marks: &mut [u8]) -> bool
+    requires { ⌜ (from + 16 ≤ 256) × Usable (now t) dimension × (length (now marks) ≡ 2048) ⌝ }
+    ensures { λ r. ⌜ Receives (view (now (t .entry))) from (from + 16) 0 8 (now (marks .entry)) (now (marks .exit)) r ⌝ }
+{
+    if layout::receives_clear(t, Node(from), GROUP) {
+        return true;
+    }
+    receives_from(t, dimension, from, marks)
+}
+
+// The tests of all receive channels.
+fn all_receives(t: &[u8], dimension: u16, marks: &mut [u8]) -> bool
+    requires { ⌜ Usable (now t) dimension × (length (now marks) ≡ 2048) ⌝ }
+    ensures { λ r. ⌜ Receives (view (now (t .entry))) 0 256 0 8 (now (marks .entry)) (now (marks .exit)) r ⌝ }
+{
+    let mut i: u16 = 0;
+    while i < GROUPS {
+        if receive_group(t, dimension, GROUP * i, marks) {
+            i += 1;
+        } else {
+            return false;
+        }
+    }
+    true
 }
 
 // Whether a link is one of the cube's.
@@ -63,9 +141,9 @@ fn inside(dimension: u16, n: Node, p: Port) -> bool
     }
 }
 
-// The test of one link.
-fn link_sound(t: &[u8], dimension: u16, n: Node, p: Port) -> bool
-    requires { ⌜ Within (now t) (n .0) (p .0) × Usable (now t) dimension ⌝ }
+// The test of one link: a circuit that holds it passes it.
+fn link_sound(t: &[u8], dimension: u16, n: Node, p: Port, marks: &[u8]) -> bool
+    requires { ⌜ Within (now t) (n .0) (p .0) × Usable (now t) dimension × PathsMarked (view (now t)) (now marks) ⌝ }
     ensures { λ r. ⌜ r ≡ linkTest (view (now (t .entry))) (n .0) (p .0) ⌝ }
 {
     let c = layout::owner(t, n, p);
@@ -75,8 +153,7 @@ fn link_sound(t: &[u8], dimension: u16, n: Node, p: Port) -> bool
             return true;
         }
         if on {
-            let e = examine(t, dimension, c, n, p);
-            if e.reached { e.passes } else { false }
+            trail::is_marked(n, p, marks)
         } else {
             false
         }
@@ -85,30 +162,14 @@ fn link_sound(t: &[u8], dimension: u16, n: Node, p: Port) -> bool
     }
 }
 
-// The test of one receive channel.
-fn receive_sound(t: &[u8], dimension: u16, n: Node, channel: u16) -> bool
-    requires { ⌜ Within (now t) (n .0) channel × Usable (now t) dimension ⌝ }
-    ensures { λ r. ⌜ r ≡ receiveTest (view (now (t .entry))) (n .0) channel ⌝ }
-{
-    let c = layout::receiver(t, n, channel);
-    if n.0 >= cube::node_count(dimension) {
-        return c.0 == 0;
-    }
-    if c.0 == 0 {
-        return true;
-    }
-    let e = examine(t, dimension, c, n, Port(0));
-    if e.reached { n.0 == e.end.0 } else { false }
-}
-
-// The tests of a node's links, and of its receive channels.
-fn links_sound(t: &[u8], dimension: u16, n: Node) -> bool
-    requires { ⌜ Within (now t) (n .0) 0 × Usable (now t) dimension ⌝ }
-    ensures { λ r. ⌜ Decides (LinksPass (view (now (t .entry))) (n .0)) r ⌝ }
+// The tests of a node's links.
+fn links_sound(t: &[u8], dimension: u16, n: Node, marks: &[u8]) -> bool
+    requires { ⌜ Within (now t) (n .0) 0 × Usable (now t) dimension × PathsMarked (view (now t)) (now marks) ⌝ }
+    ensures { λ r. ⌜ Decides (LinksPass (view (now (t .entry))) (n .0) (n .0 + 1) 0 8) r ⌝ }
 {
     let mut p: u16 = 0;
     while p < 8 {
-        if link_sound(t, dimension, n, Port(p)) {
+        if link_sound(t, dimension, n, Port(p), marks) {
             p += 1;
         } else {
             return false;
@@ -117,14 +178,37 @@ fn links_sound(t: &[u8], dimension: u16, n: Node) -> bool
     true
 }
 
-fn receives_sound(t: &[u8], dimension: u16, n: Node) -> bool
-    requires { ⌜ Within (now t) (n .0) 0 × Usable (now t) dimension ⌝ }
-    ensures { λ r. ⌜ Decides (ReceivesPass (view (now (t .entry))) (n .0)) r ⌝ }
+// Whether so many nodes from one on have nothing to look at: no link of theirs is held, and they have none that the cube lacks.
+fn idle(t: &[u8], fits: bool, n: Node, nodes: u16) -> bool
+    requires { ⌜ (n .0 + nodes ≤ 256) × (0 < nodes) × (length (now t) ≡ 8449) ⌝ }
+    ensures { λ r. ⌜ (r ≡ true → (fits ≡ true) × ((m p : ℕ) → n .0 ≤ m → m < n .0 + nodes → p < 8 → ownerAt (now (t .entry)) m p ≡ 0)) ⌝ }
 {
-    let mut k: u16 = 0;
-    while k < 8 {
-        if receive_sound(t, dimension, n, k) {
-            k += 1;
+    if fits {
+        layout::links_clear(t, n, nodes)
+    } else {
+        false
+    }
+}
+
+fn links_of(t: &[u8], dimension: u16, fits: bool, n: Node, marks: &[u8]) -> bool
+    requires { ⌜ (n .0 < 256) × Marked (now t) dimension fits (now marks) ⌝ }
+    ensures { λ r. ⌜ Decides (LinksPass (view (now (t .entry))) (n .0) (n .0 + 1) 0 8) r ⌝ }
+{
+    if idle(t, fits, n, 1) {
+        return true;
+    }
+    links_sound(t, dimension, n, marks)
+}
+
+fn links_from(t: &[u8], dimension: u16, fits: bool, from: u16, marks: &[u8]) -> bool
+    requires { ⌜ (from + 16 ≤ 256) × Marked (now t) dimension fits (now marks) ⌝ }
+    ensures { λ r. ⌜ Decides (LinksPass (view (now (t .entry))) from (from + 16) 0 8) r ⌝ }
+{
+    let mut i: u16 = 0;
+    while i < GROUP {
+        let n = from + i;
+        if links_of(t, dimension, fits, Node(n), marks) {
+            i += 1;
         } else {
             return false;
         }
@@ -132,59 +216,44 @@ fn receives_sound(t: &[u8], dimension: u16, n: Node) -> bool
     true
 }
 
-// The enable bits of a node are below this number: it has the links of its cube, or none where the cube does not have the node.
-fn enable_limit(dimension: u16, n: Node) -> u16
-    requires { ⌜ dimension < 9 ⌝ }
-    ensures { λ r. ⌜ r ≡ cond (ltb (n .0) (2 ^ dimension)) (2 ^ dimension) 1 ⌝ }
+fn link_group(t: &[u8], dimension: u16, fits: bool, from: u16, marks: &[u8]) -> bool
+    requires { ⌜ (from + 16 ≤ 256) × Marked (now t) dimension fits (now marks) ⌝ }
+    ensures { λ r. ⌜ Decides (LinksPass (view (now (t .entry))) from (from + 16) 0 8) r ⌝ }
 {
-    let nodes = cube::node_count(dimension);
-    if n.0 < nodes { nodes } else { 1 }
-}
-
-// Whether a node has nothing to look at: nothing of it is held, and it has no links that the cube lacks. Most nodes of most tables are such.
-fn idle(t: &[u8], dimension: u16, n: Node) -> bool
-    requires { ⌜ Within (now t) (n .0) 0 × Usable (now t) dimension ⌝ }
-    ensures { λ r. ⌜ (r ≡ true → NodePasses (view (now (t .entry))) (n .0)) ⌝ }
-{
-    if layout::enable_bits(t, n) < enable_limit(dimension, n) {
-        if layout::links_clear(t, n) {
-            layout::receives_clear(t, n)
-        } else {
-            false
-        }
-    } else {
-        false
-    }
-}
-
-fn node_sound(t: &[u8], dimension: u16, n: Node) -> bool
-    requires { ⌜ Within (now t) (n .0) 0 × Usable (now t) dimension ⌝ }
-    ensures { λ r. ⌜ Decides (NodePasses (view (now (t .entry))) (n .0)) r ⌝ }
-{
-    if idle(t, dimension, n) {
+    if idle(t, fits, Node(from), GROUP) {
         return true;
     }
-    if links_sound(t, dimension, n) {
-        receives_sound(t, dimension, n)
-    } else {
-        false
-    }
+    links_from(t, dimension, fits, from, marks)
 }
 
-// The test of a whole table: one look at each entry, and for a held one the path of its circuit.
+// The tests of all links.
+fn all_links(t: &[u8], dimension: u16, fits: bool, marks: &[u8]) -> bool
+    requires { ⌜ Marked (now t) dimension fits (now marks) ⌝ }
+    ensures { λ r. ⌜ Decides (LinksPass (view (now (t .entry))) 0 256 0 8) r ⌝ }
+{
+    let mut i: u16 = 0;
+    while i < GROUPS {
+        if link_group(t, dimension, fits, GROUP * i, marks) {
+            i += 1;
+        } else {
+            return false;
+        }
+    }
+    true
+}
+
+// The test of a whole table: the path of each circuit that holds a receive channel is followed once, and every held link must be on one.
 fn entries_sound(t: &[u8], dimension: u16) -> bool
     requires { ⌜ Usable (now t) dimension ⌝ }
     ensures { λ r. ⌜ r ≡ soundTest (view (now (t .entry))) ⌝ }
 {
-    let mut n: u16 = 0;
-    while n < 256 {
-        if node_sound(t, dimension, Node(n)) {
-            n += 1;
-        } else {
-            return false;
-        }
+    let fits = layout::enables_fit(t, dimension);
+    let mut marks = [0u8; 2048];
+    if all_receives(t, dimension, &mut marks) {
+        all_links(t, dimension, fits, &marks)
+    } else {
+        false
     }
-    true
 }
 
 // Whether a table may be used: 0, or the refusal of the first test that it fails.

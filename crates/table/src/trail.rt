@@ -1,11 +1,12 @@
 // The path of a circuit, recovered from the links that it holds.
 ghost use mathlib.Core.Path.{_≡_};
-ghost use mathlib.Core.Bool.{_&&_, not};
-ghost use lib.Dec.{eqb};
+ghost use mathlib.Core.Bool.{not};
 ghost use Prim.Native.Nat.{_<_};
+ghost use lib.ListN.{length, set};
 ghost use Rattle.table.specs.Layout.{Within};
 ghost use Rattle.table.specs.View.{view, lowest};
 ghost use Rattle.table.specs.Sound.{heldBy};
+ghost use Rattle.table.specs.Marks.{markPlace, marked};
 ghost use Rattle.table.specs.SoundTest.{channelsHeld, pathOf, isEmpty};
 ghost use Rattle.table.specs.Follow.{takes, comesBack, firstHop, Follows, HasSource};
 use crate::layout;
@@ -19,13 +20,6 @@ fn holds(t: &[u8], c: Circuit, n: Node, p: Port) -> bool
     ensures { λ r. ⌜ r ≡ heldBy (view (now (t .entry))) (c .0) (n .0) (p .0) ⌝ }
 {
     layout::owner(t, n, p).0 == c.0
-}
-
-// Whether two links are one.
-pub fn same_link(n: Node, p: Port, m: Node, q: Port) -> bool
-    ensures { λ r. ⌜ r ≡ (eqb (m .0) (n .0) && eqb (q .0) (p .0)) ⌝ }
-{
-    if m.0 == n.0 { q.0 == p.0 } else { false }
 }
 
 // Whether a port is in a vector and a circuit holds the link out of it.
@@ -106,31 +100,43 @@ pub fn is_open(t: &[u8], c: Circuit) -> bool
     first.0 < 8
 }
 
-// Where following a circuit's links ends, and whether it passes one link.
-pub struct Walk {
-    pub end: Node,
-    pub passes: bool,
+fn mark_place(n: Node, p: Port) -> usize
+    requires { ⌜ (n .0 < 256) × (p .0 < 8) ⌝ }
+    ensures { λ r. ⌜ (r ≡ markPlace (n .0) (p .0)) × (r < 2048) ⌝ }
+{
+    8 * (n.0 as usize) + (p.0 as usize)
 }
 
-// Follows the links of a circuit from a node over the ports of a vector, each once.
-pub fn follow(t: &[u8], c: Circuit, start: Node, vector: u16, n: Node, p: Port) -> Walk
-    requires { ⌜ (vector < 256) × Within (now t) (start .0) 0 ⌝ }
-    ensures { λ r. ⌜ Follows (view (now (t .entry))) (c .0) (start .0) vector (n .0) (p .0) (r .end .0) (r .passes) ⌝ }
+// Marks a link.
+pub fn mark(n: Node, p: Port, marks: &mut [u8])
+    requires { ⌜ (n .0 < 256) × (p .0 < 8) × (length (now marks) ≡ 2048) ⌝ }
+    ensures { λ _. ⌜ now (marks .exit) ≡ set (now (marks .entry)) (markPlace (n .0) (p .0)) 1 ⌝ }
+{
+    marks[mark_place(n, p)] = 1;
+}
+
+pub fn is_marked(n: Node, p: Port, marks: &[u8]) -> bool
+    requires { ⌜ (n .0 < 256) × (p .0 < 8) × (length (now marks) ≡ 2048) ⌝ }
+    ensures { λ r. ⌜ r ≡ marked (now (marks .entry)) (n .0) (p .0) ⌝ }
+{
+    marks[mark_place(n, p)] == 1
+}
+
+// Follows the links of a circuit from a node over the ports of a vector, each once, and marks them. Answers where that ends.
+pub fn follow(t: &[u8], c: Circuit, start: Node, vector: u16, marks: &mut [u8]) -> Node
+    requires { ⌜ (vector < 256) × Within (now t) (start .0) 0 × (length (now marks) ≡ 2048) ⌝ }
+    ensures { λ r. ⌜ Follows (view (now (t .entry))) (c .0) (start .0) vector (now (marks .entry)) (now (marks .exit)) (r .0) ⌝ }
 {
     let mut at = start.0;
     let mut left = vector;
-    let mut passes = false;
     let mut q = held_port(t, c, Node(at), left).0;
     while q < 8 {
-        passes = passes | same_link(Node(at), Port(q), n, p);
+        mark(Node(at), Port(q), marks);
         left = cube::without(left, Port(q));
         at = cube::neighbour(Node(at), Port(q)).0;
         q = held_port(t, c, Node(at), left).0;
     }
-    Walk {
-        end: Node(at),
-        passes,
-    }
+    Node(at)
 }
 
 // How many receive channels of a node a circuit holds.

@@ -1,65 +1,54 @@
--- `table::sound::entries_sound` meets its contract: every node is tried, up to one that fails.
+-- `table::sound::entries_sound` meets its contract: once every receive channel has passed, its marks decide for the links.
 -- Assumes nothing.
-use mathlib.Core.Path.{_≡_}
-use Prim.Native.Nat.{ℕ, _-_, _≤_, _<_}
-use native.Mathlib.Omega.{arith}
-use native.Mathlib.Nat.{not-suc-le-zero}
-use lib.Dec.{lit<}
-use Rattle.common.proofs.Every.{one-more}
+use mathlib.Core.Path.{_≡_, _∙_}
 use Rattle.table.specs.View.{view}
-use Rattle.table.specs.SoundTest.{NodePasses}
-use Rattle.table.proofs.Passing.{nodes-pass, node-fails}
+use Rattle.table.proofs.Marks.{paths-marked}
+use Rattle.table.proofs.Passing.{links-decide, some-fails}
+use borrow.Author.Needs.{needs}
 use Rattle.table.proofs.sound.entries_sound.Statement.{statement}
 use Rattle.table.proofs.sound.entries_sound.Tie as tie
 
-abbrev Inv-loop : tie.InvT-loop
-Inv-loop t dimension n₀ n = (n ≤ 256) × ((j : ℕ) → j < n → NodePasses (view t) j)
+enables-fit-requires : tie.Need-enables-fit-requires
+enables-fit-requires c κs = search needs
 
-abbrev μ-loop : tie.MeasureT-loop
-μ-loop t dimension n₀ n = 256 - n
+slice-aggregate-all-receives : tie.Need-slice-aggregate-all-receives
+slice-aggregate-all-receives c = search needs
 
-loop-holds : tie.Need-loop-holds Inv-loop μ-loop
-loop-holds c = (omega arith, λ j h. absurd (not-suc-le-zero h))
+all-receives-requires : tie.Need-all-receives-requires
+all-receives-requires c κs = search needs
 
-node-sound-requires : tie.Need-node-sound-requires Inv-loop μ-loop
-node-sound-requires c κs =
-    let s = c .before .before .before in
-    (record { bytes = s .pre .bytes; node = omega (arith, c .loop-test .taken); port = lit< tt }, s .pre)
+slice-aggregate-all-links : tie.Need-slice-aggregate-all-links
+slice-aggregate-all-links c = search needs
 
-add-n : tie.Need-add-n Inv-loop μ-loop
-add-n c = omega arith
+all-links-requires : tie.Need-all-links-requires
+all-links-requires c κs =
+    let i = c .before in
+    let r = i .before .before in
+    let e = r .before .before in
+    let s = e .before .before in
+    record { usable = s .pre; fit = e .enables-fit .ensures; paths = paths-marked (view (s .args .t .now)) _ (r .all-receives .kept .1 .1 .0) (r .all-receives .ensures .holds (i .if1 .taken)) }
 
-loop-less : tie.Need-loop-less Inv-loop μ-loop
-loop-less c = omega arith
-
-loop-again : tie.Need-loop-again Inv-loop μ-loop
-loop-again c =
-    let l = c .before .before .before in
-    let s = l .before .before in
-    (omega arith, one-more {P = NodePasses (view (s .args .t .now))} (l .loop .n) (l .loop .inv .1) (c .before .node-sound .ensures .holds (c .if1 .taken)))
-
-returns : tie.Need-returns Inv-loop μ-loop
+returns : tie.Need-returns
 returns c =
-    let l = c .before .before .before in
-    let s = l .before .before in
-    node-fails (view (s .args .t .now)) (l .loop .n) (omega (arith, c .before .before .loop-test .taken)) (c .before .node-sound .ensures .fails (c .if1 .left))
+    let i = c .before .before in
+    let r = i .before .before in
+    let s = r .before .before .before .before in
+    links-decide (view (s .args .t .now)) _ (c .all-links .ensures) (r .all-receives .ensures .holds (i .if1 .taken) .pass)
 
-returns-2 : tie.Need-returns-2 Inv-loop μ-loop
+returns-2 : tie.Need-returns-2
 returns-2 c =
-    let l = c .before in
-    let s = l .before .before in
-    nodes-pass (view (s .args .t .now)) (λ n h. l .loop .inv .1 n (omega arith))
+    let r = c .before .before in
+    let s = r .before .before .before .before in
+    some-fails (view (s .args .t .now)) (λ h. r .all-receives .ensures .fails (c .if1 .left) (h .1))
 
 pub entries-sound-spec : {M : Type 1} → statement M
 entries-sound-spec =
     tie.close
     (tie.spec
-    Inv-loop
-    μ-loop
-    loop-holds
-    node-sound-requires
-    add-n
-    loop-less
-    loop-again
+    enables-fit-requires
+    slice-aggregate-all-receives
+    all-receives-requires
+    slice-aggregate-all-links
+    all-links-requires
     returns
     returns-2)

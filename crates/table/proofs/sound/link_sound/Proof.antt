@@ -2,7 +2,8 @@
 -- Assumes nothing.
 use mathlib.Core.Path.{_≡_, sym, _∙_}
 use Rattle.table.specs.View.{view}
-use Rattle.table.proofs.Examine.{link-enabled-outside, link-held-outside, link-free, link-disabled, link-stands, link-falls}
+use Rattle.table.proofs.Examine.{link-enabled-outside, link-held-outside, link-free, link-disabled, link-marked}
+use Rattle.table.proofs.Passing.{view-framed}
 use borrow.Author.Needs.{needs}
 use Rattle.table.proofs.sound.link_sound.Statement.{statement}
 use Rattle.table.proofs.sound.link_sound.Tie as tie
@@ -21,51 +22,51 @@ returns c =
     let i = c .before .before .before in
     let e = i .before in
     let o = e .before in
-    let s = o .before .before in
+    let s = o .before .before .before in
     unfold view in link-free (view (s .args .t .now)) (s .args .n .0) (s .args .p .0) (s .args .dimension) (o .owner .result .0) (i .inside .result) (s .pre .1 .stored) (o .owner .ensures) (i .inside .ensures) (c .before .before .if1 .taken) (c .if2 .taken)
 
-examine-requires : tie.Need-examine-requires
-examine-requires c κs = search needs
+is-marked-requires : tie.Need-is-marked-requires
+is-marked-requires c κs = search needs
 
 returns-2 : tie.Need-returns-2
 returns-2 c =
-    let i = c .before .before .before .before .before .before in
+    let t = c .before in
+    let z = t .before in
+    let y = z .before .before in
+    let i = y .before in
     let e = i .before in
     let o = e .before in
-    let s = o .before .before in
-    unfold view in link-stands (view (s .args .t .now)) (s .args .n .0) (s .args .p .0) (s .args .dimension) (o .owner .result .0) (i .inside .result) (s .pre .1 .stored) (o .owner .ensures) (i .inside .ensures) (c .before .before .before .before .before .if1 .taken) (c .before .before .before .if2 .left) (sym (e .enabled .ensures) ∙ c .before .before .if3 .taken) (c .before .examine .ensures) (c .if4 .taken)
+    let s = o .before .before .before in
+    c .is-marked .ensures ∙ (unfold view in link-marked (view (s .args .t .now)) (s .args .n .0) (s .args .p .0) (s .args .dimension) (o .owner .result .0) (i .inside .result) (s .pre .1 .stored) (o .owner .ensures) (i .inside .ensures) (s .args .marks .now) (view-framed (s .args .t .now)) (s .pre .2) (s .pre .0 .node) (s .pre .0 .port) (y .if1 .taken) (z .if2 .left) (sym (e .enabled .ensures) ∙ t .if3 .taken))
 
 returns-3 : tie.Need-returns-3
 returns-3 c =
-    let i = c .before .before .before .before .before .before in
+    let z = c .before in
+    let y = z .before .before in
+    let i = y .before in
     let e = i .before in
     let o = e .before in
-    let s = o .before .before in
-    unfold view in link-falls (view (s .args .t .now)) (s .args .n .0) (s .args .p .0) (s .args .dimension) (o .owner .result .0) (i .inside .result) (s .pre .1 .stored) (o .owner .ensures) (i .inside .ensures) (c .before .before .before .before .before .if1 .taken) (c .before .before .before .if2 .left) (sym (e .enabled .ensures) ∙ c .before .before .if3 .taken) (c .before .examine .ensures) (c .if4 .left)
+    let s = o .before .before .before in
+    unfold view in link-disabled (view (s .args .t .now)) (s .args .n .0) (s .args .p .0) (s .args .dimension) (o .owner .result .0) (i .inside .result) (s .pre .1 .stored) (o .owner .ensures) (i .inside .ensures) (y .if1 .taken) (z .if2 .left) (sym (e .enabled .ensures) ∙ c .if3 .left)
 
 returns-4 : tie.Need-returns-4
 returns-4 c =
-    let i = c .before .before .before .before in
+    let y = c .before in
+    let i = y .before in
     let e = i .before in
     let o = e .before in
-    let s = o .before .before in
-    unfold view in link-disabled (view (s .args .t .now)) (s .args .n .0) (s .args .p .0) (s .args .dimension) (o .owner .result .0) (i .inside .result) (s .pre .1 .stored) (o .owner .ensures) (i .inside .ensures) (c .before .before .before .if1 .taken) (c .before .if2 .left) (sym (e .enabled .ensures) ∙ c .if3 .left)
+    let s = o .before .before .before in
+    unfold view in link-enabled-outside (view (s .args .t .now)) (s .args .n .0) (s .args .p .0) (s .args .dimension) (o .owner .result .0) (i .inside .result) (s .pre .1 .stored) (o .owner .ensures) (i .inside .ensures) (y .if1 .left) (sym (e .enabled .ensures) ∙ c .if4 .taken)
 
 returns-5 : tie.Need-returns-5
 returns-5 c =
-    let i = c .before .before in
+    let z = c .before in
+    let y = z .before in
+    let i = y .before in
     let e = i .before in
     let o = e .before in
-    let s = o .before .before in
-    unfold view in link-enabled-outside (view (s .args .t .now)) (s .args .n .0) (s .args .p .0) (s .args .dimension) (o .owner .result .0) (i .inside .result) (s .pre .1 .stored) (o .owner .ensures) (i .inside .ensures) (c .before .if1 .left) (sym (e .enabled .ensures) ∙ c .if5 .taken)
-
-returns-6 : tie.Need-returns-6
-returns-6 c =
-    let i = c .before .before .before in
-    let e = i .before in
-    let o = e .before in
-    let s = o .before .before in
-    unfold view in link-held-outside (view (s .args .t .now)) (s .args .n .0) (s .args .p .0) (s .args .dimension) (o .owner .result .0) (i .inside .result) (s .pre .1 .stored) (o .owner .ensures) (i .inside .ensures) (c .before .before .if1 .left) (sym (e .enabled .ensures) ∙ c .before .if5 .left)
+    let s = o .before .before .before in
+    unfold view in link-held-outside (view (s .args .t .now)) (s .args .n .0) (s .args .p .0) (s .args .dimension) (o .owner .result .0) (i .inside .result) (s .pre .1 .stored) (o .owner .ensures) (i .inside .ensures) (y .if1 .left) (sym (e .enabled .ensures) ∙ z .if4 .left)
 
 pub link-sound-spec : {M : Type 1} → statement M
 link-sound-spec =
@@ -75,9 +76,8 @@ link-sound-spec =
     enabled-requires
     inside-requires
     returns
-    examine-requires
+    is-marked-requires
     returns-2
     returns-3
     returns-4
-    returns-5
-    returns-6)
+    returns-5)
