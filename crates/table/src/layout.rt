@@ -3,7 +3,7 @@ ghost use mathlib.Core.Path.{_≡_};
 ghost use mathlib.Core.Bool.{true, false};
 ghost use Prim.Native.Nat.{ℕ, _+_, _*_, _<_, _≤_};
 ghost use lib.ListN.{length};
-ghost use Rattle.table.specs.Layout.{Within, wordAt, putWord, enablePlace, linkPlace, receivePlace, dimensionAt, enabledAt, ownerAt, receiverAt, putOwner, putReceiver, putEnabled, changed, freeWord, freeFrom, freed, filled, made, Gathered, EnablesFit};
+ghost use Rattle.table.specs.Layout.{Within, enableBits, wordAt, putWord, enablePlace, linkPlace, receivePlace, dimensionAt, enabledAt, ownerAt, receiverAt, putOwner, putReceiver, putEnabled, changed, freeWord, freeFrom, freed, filled, made, Gathered, EnablesFit};
 ghost use Rattle.table.specs.View.{view, lowestChannel};
 use cube::Circuit;
 use cube::Node;
@@ -89,6 +89,14 @@ pub fn enabled(t: &[u8], n: Node, p: Port) -> bool
 {
     let q = p.0;
     (wide(t[enable_place(n)]) >> q) % 2 == 1
+}
+
+// All enable bits of a node.
+pub fn enable_bits(t: &[u8], n: Node) -> u16
+    requires { ⌜ Within (now t) (n .0) 0 ⌝ }
+    ensures { λ r. ⌜ (r ≡ enableBits (now (t .entry)) (n .0)) × (r < 256) ⌝ }
+{
+    wide(t[enable_place(n)])
 }
 
 // The or of some bytes: none of them is above it, so all are 0 where it is. It has no early exit, so that many can be read in one go.
