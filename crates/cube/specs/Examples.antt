@@ -1,10 +1,11 @@
--- Document 01's entries of the table of first ports: any table that keeps the rule has them.
+-- Document 01's entries of the table of first ports, which any table that keeps the rule has; and one circuit number.
 -- Assumes nothing.
-use mathlib.Core.Path.{_≡_}
+use mathlib.Core.Path.{_≡_, refl}
 use mathlib.Core.List.{List}
 use Prim.Native.Nat.{ℕ}
 use lib.Dec.{lit<}
 use lib.ListN.{getD}
+use Rattle.cube.specs.Cube.{circuitOf}
 use Rattle.cube.specs.Helical.{firstPort, FirstPorts}
 
 -- "Entry 40 is 2 (vector 5, arrival 0), entry 42 is 0, entry 8 is 0."
@@ -20,3 +21,7 @@ module _ (table : List ℕ) (rule : FirstPorts table) where
   entry-8 : getD table 8 0 ≡ 0
   unfolding firstPort
   entry-8 = rule .entry 1 0 (lit< tt) (lit< tt)
+
+-- "The circuit of send channel c at node s has the number 8·s + c + 1": send channel 3 of node 200
+circuit-1604 : circuitOf 200 3 ≡ 1604
+circuit-1604 = refl

@@ -56,7 +56,7 @@ pub extern "C" fn maze_close(table: &mut [u8], node: u16, channel: u16) -> u16
 
 #[no_mangle]
 pub extern "C" fn maze_trace(table: &[u8], node: u16, channel: u16, buffer: &mut [u8]) -> Traced
-    ensures { λ r. ⌜ done (now (table .entry)) (record { number = r .number; hops = r .hops; receive = 0; scouts = 0 }) (now (buffer .exit)) ≡ called (now (table .entry)) (tracing node channel (now (buffer .entry))) ⌝ }
+    ensures { λ r. ⌜ done (now (table .exit)) (record { number = r .number; hops = r .hops; receive = 0; scouts = 0 }) (now (buffer .exit)) ≡ called (now (table .entry)) (tracing node channel (now (buffer .entry))) ⌝ }
 {
     router::trace(table, Node(node), channel, buffer)
 }

@@ -26,7 +26,8 @@ use Rattle.ownership.specs.History.{History, askedOn, stoppedOn, sendOn,
 use Rattle.ownership.specs.Lists.{tableAfter, tableGives, historyAfter, historyGives, viewOf, bytesOf, Valid, Covered, Agrees, Accepted}
 use Rattle.ownership.proofs.Update.{updated}
 use Rattle.ownership.proofs.Range.{Bytes}
-use Rattle.ownership.proofs.Allowed.{Allowed, allowed}
+use Rattle.ownership.specs.Allowed.{Allowed}
+use Rattle.ownership.proofs.Allowed.{allowed}
 use Rattle.ownership.proofs.Stops.{none-stops, making-stopped, tests-pass, stopped-is}
 use Rattle.ownership.proofs.Carried.{called-carried, called-stopped, called-shows, called-bytes, made-shows}
 use Rattle.ownership.proofs.Sameness.{send-same}

@@ -1,17 +1,18 @@
--- What is known of a call's arguments where no test of the call applies, on whatever the call is made: a table, or the history.
+-- No test of a call applies exactly where its arguments are allowed, on whatever the call is made: a table, or the history.
 -- Assumes nothing.
-use mathlib.Core.Path.{_≡_, refl}
-use mathlib.Core.Logic.{_≢_}
-use mathlib.Core.Bool.{Bool, true, false, not, _&&_, _||_, true≢false}
+use mathlib.Core.Path.{_≡_, refl, ap, ap₂, _∙_}
+use mathlib.Core.Logic.{_⊎_, inl, inr, ⊎-elim, _≢_}
+use mathlib.Core.Bool.{Bool, true, false, not, _&&_, _||_, true≢false, and-false}
 use mathlib.Core.List.{List, [], _∷_}
 use Prim.Native.Nat.{ℕ, _^_, _≤_, _<_}
 use native.Mathlib.Omega.{arith}
 use lib.Dec.{eqb, ltb, leb}
 use lib.ListN.{length}
-use borrow.Author.Tests.{eqb-false, ltb-true, ltb-false, leb-true, not-false}
+use borrow.Author.Tests.{eqb-true, eqb-false, eq-eqb, ne-eqb, ltb-true, ltb-false, lt-ltb, le-ltb, leb-true, le-leb, not-false}
 use Rattle.common.specs.Tests.{Test, test, refusal}
-use Rattle.common.proofs.Tests.{neither, first-passed}
+use Rattle.common.proofs.Tests.{neither, passed, accepted, first-passed}
 use Rattle.ownership.specs.Calls.{Call, making, blocking, unblocking, opening, closing, tracing, Asked, callTests}
+use Rattle.ownership.specs.Allowed.{Allowed}
 use Rattle.ownership.specs.History.{History, askedOn, stoppedOn}
 
 -- what the tests say where they do not apply
@@ -22,14 +23,23 @@ pub both : (a b : Bool) → not (a && b) ≡ false → (a ≡ true) × (b ≡ tr
 both true b e = (refl, not-false b e)
 both false b e = absurd (true≢false e)
 
--- what is known of a call's arguments where no test of the call applies, on whatever the call is made
-unfoldable pub Allowed : Asked → Call → Type 0
-Allowed a (making D) = (1 ≤ D) × (D ≤ 8)
-Allowed a (blocking n p) = (n < 2 ^ a .dimension) × (p < a .dimension) × (a .held n p ≡ false)
-Allowed a (unblocking n p) = (n < 2 ^ a .dimension) × (p < a .dimension)
-Allowed a (opening s c t y v) = (s < 2 ^ a .dimension) × (t < 2 ^ a .dimension) × (c < 8) × (v ≢ 0) × (v < 2 ^ a .dimension) × (a .isOpen s c ≡ false)
-Allowed a (closing s c) = (s < 2 ^ a .dimension) × (c < 8) × (a .isOpen s c ≡ true)
-Allowed a (tracing s c buffer) = (s < 2 ^ a .dimension) × (c < 8) × (a .isOpen s c ≡ true) × (9 ≤ length buffer)
+-- a routing type that is 0 or 4
+a-type : (y : ℕ) → (not (eqb y 0) && not (eqb y 4)) ≡ false → (y ≡ 0) ⊎ (y ≡ 4)
+a-type y e = go (eqb y 0) refl (eqb y 4) refl
+  where
+    go : (u : Bool) → eqb y 0 ≡ u → (w : Bool) → eqb y 4 ≡ w → (y ≡ 0) ⊎ (y ≡ 4)
+    go true f w g = inl (eqb-true y 0 f)
+    go false f true g = inr (eqb-true y 4 g)
+    go false f false g = absurd (true≢false (rw (f, g) at e))
+
+type-is : (y : ℕ) → (y ≡ 0) ⊎ (y ≡ 4) → (not (eqb y 0) && not (eqb y 4)) ≡ false
+type-is y = ⊎-elim (λ h. ap (λ w. not w && not (eqb y 4)) (eq-eqb y 0 h)) (λ h. ap (λ w. not (eqb y 0) && not w) (eq-eqb y 4 h) ∙ and-false (not (eqb y 0)))
+
+is-below : (n m : ℕ) → n < m → not (ltb n m) ≡ false
+is-below n m h = ap not (lt-ltb n m h)
+
+channel-is : (c : ℕ) → c < 8 → ltb 7 c ≡ false
+channel-is c h = le-ltb 7 c (omega (arith, h))
 
 channel-below : (c : ℕ) → ltb 7 c ≡ false → c < 8
 channel-below c e = let h = ltb-false 7 c e in omega arith
@@ -56,7 +66,7 @@ allowed a (opening s c t y v) e =
     let x₅ = first-passed _ 9 _ (λ z. omega arith) (x₄ .1) in
     let ends = neither (not (ltb s (2 ^ a .dimension))) _ (x₁ .0) in
     let vector = neither (eqb v 0) _ (x₄ .0) in
-    (below s _ (ends .0), below t _ (ends .1), channel-below c (x₂ .0), eqb-false v 0 (vector .0), below v _ (vector .1), x₅ .0)
+    (below s _ (ends .0), below t _ (ends .1), channel-below c (x₂ .0), eqb-false v 0 (vector .0), below v _ (vector .1), x₅ .0, a-type y (x₃ .0))
 allowed a (closing s c) e =
     let x = first-passed _ 4 _ (λ z. omega arith) e in
     let y = first-passed _ 5 _ (λ z. omega arith) (x .1) in
@@ -68,6 +78,19 @@ allowed a (tracing s c buffer) e =
     let z = first-passed _ 12 _ (λ z. omega arith) (y .1) in
     let u = first-passed _ 14 _ (λ z. omega arith) (z .1) in
     (below s _ (x .0), channel-below c (y .0), not-false _ (z .0), ltb-false (length buffer) 9 (u .0))
+
+-- and where they are allowed, no test of the call stops it
+pub allowed-passes : (a : Asked) (x : Call) → Allowed a x → refusal (callTests a x) ≡ 0
+unfolding callTests Allowed
+allowed-passes a (making D) h = passed 2 [] (ap not (ap₂ _&&_ (le-leb 1 D (h .0)) (le-leb D 8 (h .1)))) ∙ accepted
+allowed-passes a (blocking n p) h = passed 4 _ (is-below n _ (h .0)) ∙ passed 6 _ (is-below p _ (h .1)) ∙ passed 13 _ (h .2) ∙ accepted
+allowed-passes a (unblocking n p) h = passed 4 _ (is-below n _ (h .0)) ∙ passed 6 _ (is-below p _ (h .1)) ∙ accepted
+allowed-passes a (opening s c t y v) h =
+    passed 4 _ (ap₂ _||_ (is-below s _ (h .0)) (is-below t _ (h .1))) ∙ passed 5 _ (channel-is c (h .2)) ∙ passed 7 _ (type-is y (h .6))
+    ∙ passed 8 _ (ap₂ _||_ (ne-eqb v 0 (h .3)) (is-below v _ (h .4))) ∙ passed 9 _ (h .5) ∙ accepted
+allowed-passes a (closing s c) h = passed 4 _ (is-below s _ (h .0)) ∙ passed 5 _ (channel-is c (h .1)) ∙ passed 12 _ (ap not (h .2)) ∙ accepted
+allowed-passes a (tracing s c buffer) h =
+    passed 4 _ (is-below s _ (h .0)) ∙ passed 5 _ (channel-is c (h .1)) ∙ passed 12 _ (ap not (h .2)) ∙ passed 14 _ (le-ltb (length buffer) 9 (h .3)) ∙ accepted
 
 -- the same of a call that no test stops in the history
 pub allowed-on : (h : History) (x : Call) → stoppedOn h x ≡ 0 → Allowed (askedOn h) x

@@ -23,7 +23,8 @@ use Rattle.ownership.specs.OnTable.{askedOf, sendIn, stoppedAt, Done, do
 use Rattle.ownership.proofs.Update.{updated}
 use Rattle.ownership.proofs.Range.{Bytes, enabled-bytes, freed-bytes, made-bytes, marked-bytes}
 use Rattle.ownership.proofs.Shows.{view-marked, sent-fits}
-use Rattle.ownership.proofs.Allowed.{Allowed, allowed}
+use Rattle.ownership.specs.Allowed.{Allowed}
+use Rattle.ownership.proofs.Allowed.{allowed}
 use Rattle.ownership.proofs.Stops.{none-stops, none-stops-lent, pass-tests}
 
 module _ (b : List ℕ) (long : length b ≡ tableLength) (most : dimensionAt b ≤ 8) where

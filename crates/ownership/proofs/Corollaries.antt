@@ -12,7 +12,7 @@ use Rattle.common.proofs.Tests.{same?}
 use Rattle.cube.specs.Cube.{circuitOf}
 use Rattle.paths.specs.Network.{Network, Path, Link, links}
 use Rattle.paths.specs.Permitted.{Permitted}
-use Rattle.paths.specs.Send.{Outcome, acknowledged, route-rejected, receive-rejected, answered}
+use Rattle.paths.specs.Send.{Outcome, acknowledged, route-rejected, receive-rejected, Answer, answered}
 use Rattle.table.specs.Layout.{ownerAt, receiverAt}
 use Rattle.table.specs.View.{View, view}
 use Rattle.table.specs.Sound.{Sound}
@@ -52,6 +52,31 @@ module _ (b : List ℕ) where
   refused-leaves a f =
       ⊎-elim (λ z. let e = called-carried b a z in rw e (carried-leaves a (rw e at f)))
       (λ z. let e = called-stopped b a z in (ap (λ (x : Done). x .table) e, ap (λ (x : Done). x .given .buffer) e)) (same? (stoppedAt b a) 0)
+
+-- "When refused, all but the number are 0, except that 10 and 11 carry their scouts": of any call on any bytes.
+abbrev pub Zero : Answer → Type 0
+Zero x = (x .hops ≡ 0) × (x .receive ≡ 0) × (x .number ≢ 10 → x .number ≢ 11 → x .scouts ≡ 0)
+
+send-zero : (o : Outcome) (n : ℕ) → answered o n .number ≢ 0 → Zero (answered o n)
+unfolding answered
+send-zero (acknowledged w k) n f = absurd (f refl)
+send-zero route-rejected n f = (refl, refl, λ g h. absurd (g refl))
+send-zero receive-rejected n f = (refl, refl, λ g h. absurd (h refl))
+
+module _ (b : List ℕ) where
+  carried-zero : (a : Call) → carriedOut b a .given .answer .number ≢ 0 → Zero (carriedOut b a .given .answer)
+  unfolding carriedOut
+  carried-zero (making D) f = absurd (f refl)
+  carried-zero (blocking n p) f = absurd (f refl)
+  carried-zero (unblocking n p) f = absurd (f refl)
+  carried-zero (opening s c t y v) f = send-zero (sendIn (view b) s t y v .outcome) (sendIn (view b) s t y v .scouts) f
+  carried-zero (closing s c) f = absurd (f refl)
+  carried-zero (tracing s c buffer) f = absurd (f refl)
+
+  pub refused-zero : (a : Call) → called b a .given .answer .number ≢ 0 → Zero (called b a .given .answer)
+  refused-zero a f =
+      ⊎-elim (λ z. let e = called-carried b a z in rw e (carried-zero a (rw e at f)))
+      (λ z. let e = called-stopped b a z in rw e (refl, refl, λ g h. refl)) (same? (stoppedAt b a) 0)
 
 -- a permitted path has a link out of its source
 first-link : (N : Network) (s : ℕ) (vector : List ℕ) (t : ℕ) (w : Path) → Permitted N s vector t w → (p : ℕ) × ((s, p) ∈ links N s w)

@@ -24,7 +24,8 @@ use Rattle.ownership.proofs.Circuits.{some-any, parts-belong, number-dr
 use Rattle.ownership.proofs.Sameness.{send-same}
 use Rattle.ownership.proofs.Standing.{link-holds, receive-holds, links-once, receives-once}
 use Rattle.ownership.proofs.Acknowledged.{Taken, send-taken, receive-free}
-use Rattle.ownership.proofs.Allowed.{Allowed, allowed-on}
+use Rattle.ownership.specs.Allowed.{Allowed}
+use Rattle.ownership.proofs.Allowed.{allowed-on}
 use Rattle.ownership.proofs.Enabled.{block-enabled, unblock-enabled}
 
 -- a listed circuit holds its links and its receive channel and makes its send channel open, in the words of the history

@@ -27,7 +27,8 @@ use Rattle.search.specs.SendSays.{SendSays}
 use Rattle.search.proofs.SendSays.{demand-2}
 use Rattle.ownership.specs.Calls.{Call, making, blocking, unblocking, opening, closing, tracing, only, callTests}
 use Rattle.ownership.specs.OnTable.{heldIn, openIn, askedOf, lentTests, stoppedAt, Done, done, sendIn, carriedOut, called}
-use Rattle.ownership.proofs.Allowed.{Allowed, allowed}
+use Rattle.ownership.specs.Allowed.{Allowed}
+use Rattle.ownership.proofs.Allowed.{allowed}
 use Rattle.ownership.proofs.Stops.{lent-is, lent-numbered, none-stops, none-stops-lent, pass-tests, stopped-is}
 use Rattle.ownership.proofs.Carried.{circuit-small, called-carried, blocking-again, unblocking-again}
 

@@ -10,7 +10,8 @@ use Rattle.ownership.specs.Calls.{Call, making, only, lent}
 use Rattle.ownership.specs.History.{History, stoppedOn, follows, gives, Told, told}
 use Rattle.ownership.specs.Lists.{Valid, historyAfter}
 use Rattle.ownership.proofs.Followed.{made-valid, follows-valid}
-use Rattle.ownership.proofs.Allowed.{Allowed, allowed-on}
+use Rattle.ownership.specs.Allowed.{Allowed}
+use Rattle.ownership.proofs.Allowed.{allowed-on}
 
 pub told-passed : (h : History) (a : Call) → stoppedOn h a ≡ 0 → told h a ≡ record { history = follows h a; given = gives h a }
 unfolding told

@@ -110,7 +110,7 @@ pub struct Traced {
 
 // Writes the ports of a send channel's circuit to a buffer, one byte a hop in path order from its start. Later bytes keep their content.
 pub fn trace(t: &[u8], source: Node, channel: u16, buffer: &mut [u8]) -> Traced
-    ensures { λ r. ⌜ done (now (t .entry)) (record { number = r .number; hops = r .hops; receive = 0; scouts = 0 }) (now (buffer .exit)) ≡ called (now (t .entry)) (tracing (source .0) channel (now (buffer .entry))) ⌝ }
+    ensures { λ r. ⌜ done (now (t .exit)) (record { number = r .number; hops = r .hops; receive = 0; scouts = 0 }) (now (buffer .exit)) ≡ called (now (t .entry)) (tracing (source .0) channel (now (buffer .entry))) ⌝ }
 {
     let refused = stopped::trace(t, source, channel, buffer);
     if refused != refusal::ACCEPTED {
