@@ -39,6 +39,10 @@ static int unaltered(void) {
     return memcmp(kept_table, table, sizeof table) == 0 && memcmp(kept_buffer, buffer, sizeof buffer) == 0;
 }
 
+static int unaltered_table(void) {
+    return memcmp(kept_table, table, sizeof table) == 0;
+}
+
 static void fresh(unsigned dimension) {
     for (size_t i = 0; i < sizeof table; i++) table[i] = (uint8_t)(i % 251 + 1);
     for (size_t i = 0; i < sizeof buffer; i++) buffer[i] = (uint8_t)(0xc0 + i);
@@ -382,11 +386,75 @@ static void ranges(void) {
     }
 }
 
+/* Every 16-bit value of each argument, on a table of dimension 3 with an open circuit: refused wherever document 01 says so, and nowhere else. One
+ * check for each argument; where it fails, the first wrong value is named. */
+static void sweeps(void) {
+    enum { ARGUMENTS = 12 };
+    unsigned long wrong[ARGUMENTS], first[ARGUMENTS];
+    memset(wrong, 0, sizeof wrong);
+    memset(first, 0, sizeof first);
+    fresh(3);
+    expect(maze_open(table, BYTES, 0, 0, 7, 0, 7).number == 0, "open for the sweeps", 0, 0);
+    keep();
+    for (unsigned long value = 0; value < 65536; value++) {
+        const uint16_t v = (uint16_t)value;
+        uint16_t got[ARGUMENTS], want[ARGUMENTS];
+        got[0] = maze_block(table, BYTES, v, 1), want[0] = v > 7 ? 4 : v == 1 ? 13 : 0;
+        if (got[0] == 0) maze_unblock(table, BYTES, v, 1);
+        got[1] = maze_block(table, BYTES, 4, v), want[1] = v > 2 ? 6 : 0;
+        if (got[1] == 0) maze_unblock(table, BYTES, 4, v);
+        got[2] = maze_unblock(table, BYTES, v, 0), want[2] = v > 7 ? 4 : 0;
+        got[3] = maze_unblock(table, BYTES, 0, v), want[3] = v > 2 ? 6 : 0;
+        got[4] = maze_open(table, BYTES, v, 0, 5, 0, 1).number, want[4] = v > 7 ? 4 : v == 0 ? 9 : 0;
+        if (got[4] == 0) maze_close(table, BYTES, v, 0);
+        got[5] = maze_open(table, BYTES, 0, v, 2, 0, 2).number, want[5] = v > 7 ? 5 : v == 0 ? 9 : 0;
+        if (got[5] == 0) maze_close(table, BYTES, 0, v);
+        got[6] = maze_open(table, BYTES, 6, 0, v, 0, 7).number, want[6] = v > 7 ? 4 : 0;
+        if (got[6] == 0) maze_close(table, BYTES, 6, 0);
+        got[7] = maze_open(table, BYTES, 6, 0, 7, v, 1).number, want[7] = v == 0 || v == 4 ? 0 : 7;
+        if (got[7] == 0) maze_close(table, BYTES, 6, 0);
+        got[8] = maze_open(table, BYTES, 6, 0, 7, 0, v).number, want[8] = v == 0 || v > 7 ? 8 : 0;
+        if (got[8] == 0) maze_close(table, BYTES, 6, 0);
+        got[9] = maze_close(table, BYTES, 0, (uint16_t)(v == 0 ? 1 : v)), want[9] = v > 7 ? 5 : 12;
+        got[10] = maze_trace(table, BYTES, v, 0, buffer, 8).number, want[10] = v > 7 ? 4 : v == 0 ? 14 : 12;
+        got[11] = maze_make(table, BYTES + 1, v), want[11] = 1;
+        for (unsigned i = 0; i < ARGUMENTS; i++)
+            if (got[i] != want[i] && wrong[i]++ == 0) first[i] = value;
+        if (!unaltered() && wrong[11]++ == 0) first[11] = value;
+    }
+    for (unsigned i = 0; i < ARGUMENTS; i++) expect(wrong[i] == 0, "sweep of argument, first wrong value", i, first[i]);
+    for (unsigned long value = 9; value <= 65536; value++) {
+        const uint16_t dimension = (uint16_t)(value & 65535);
+        if (maze_make(table, BYTES, dimension) != 2 || !unaltered()) expect(0, "made with dimension", dimension, 0);
+    }
+    expect(unaltered(), "the sweep of dimensions altered the table", 0, 0);
+}
+
+/* Lengths that would be the right one if they were cut to 16 bits, and buffers whose length would be short if it were cut to 8 or 16 bits. */
+static void long_ones(void) {
+    static uint8_t large[BYTES + 65536], ports[65536 + 8];
+    static const size_t lengths_of_buffer[] = {256 + 8, 512, 65536, 65536 + 8};
+    fresh(3);
+    expect(maze_open(table, BYTES, 0, 0, 7, 0, 7).number == 0, "open for the long ones", 0, 0);
+    memcpy(large, table, BYTES);
+    expect(maze_trace(large, BYTES + 65536, 0, 0, ports, 9).number == 1, "a table 65,536 bytes too long", 0, 0);
+    expect(maze_make(large, BYTES + 65536, 3) == 1 && maze_close(large, BYTES + 65536, 0, 0) == 1, "a table 65,536 bytes too long", 1, 0);
+    for (size_t i = 0; i < sizeof lengths_of_buffer / sizeof *lengths_of_buffer; i++) {
+        maze_traced got;
+        int kept = 1;
+        memset(ports, 0xc5, sizeof ports);
+        got = maze_trace(table, BYTES, 0, 0, ports, lengths_of_buffer[i]);
+        for (size_t j = 3; j < sizeof ports; j++) kept &= ports[j] == 0xc5;
+        expect(got.number == 0 && got.hops == 3 && kept && ports[0] == 0 && ports[1] == 1 && ports[2] == 2, "trace into a long buffer", i, got.number);
+    }
+}
+
 /* A buffer of exactly nine bytes, and longer ones; the length of the path does not matter. */
 static void buffers(void) {
     fresh(8);
     expect(maze_open(table, BYTES, 0, 0, 254, 0, 1).number == 0, "open nine hops", 0, 0);
     expect(maze_open(table, BYTES, 7, 2, 3, 0, 4).number == 0, "open one hop", 0, 0);
+    refused_trace(14, BYTES, 0, 0, 8);
     for (size_t length = 9; length <= BUFFER; length++) {
         static const uint8_t nine[] = {0, 1, 2, 3, 4, 5, 6, 7, 0};
         maze_traced got;
@@ -483,8 +551,12 @@ static void soundness(void) {
         for (const struct place *place = tables[i].places; place->at; place++) table[place->at] = (uint8_t)place->value;
         if (tables[i].ports) {
             expect_trace(tables[i].what, 0, 0, tables[i].ports);
+            keep();
             expect(maze_close(table, BYTES, 0, 0) == 0, tables[i].what, i, 0);
-            expect(memchr(table + 257, 1, BYTES - 257) == NULL, tables[i].what, i, 1);
+            /* what was circuit 1's is free, and nothing else has changed */
+            for (size_t at = 257; at < BYTES; at += 2)
+                if (kept_table[at] == 1 && kept_table[at + 1] == 0) kept_table[at] = 0;
+            expect(unaltered_table(), tables[i].what, i, 1);
         } else {
             all_refused(3, BYTES);
             expect(maze_make(table, BYTES, 3) == 0, "make over an unsound table", i, 0);
@@ -504,6 +576,8 @@ int main(void) {
     lengths();
     dimensions();
     ranges();
+    sweeps();
+    long_ones();
     buffers();
     alignments();
     soundness();

@@ -584,6 +584,18 @@ int main(int count, char **arguments) {
                 passed++;
             }
     print_seen();
+    /* Streams that no longer reach the edges compare nothing worth comparing. */
+    if (streams >= 20) {
+        const unsigned long edges[] = {seen.first_hop_away, seen.through_source, seen.to_itself, seen.second_accepted, seen.second_rejected,
+                                       seen.rejected_1000, seen.rejected_10000, seen.nearly_full_accepted, seen.full, seen.all_received,
+                                       seen.one_changed_sound, seen.several_changed, seen.moved, seen.laid_sound, seen.wrong_length,
+                                       seen.short_buffer, seen.hops[9], seen.answers[letter_place('S')][MAZE_CHANNEL_IN_USE]};
+        for (size_t i = 0; i < sizeof edges / sizeof *edges; i++)
+            if (edges[i] == 0) {
+                printf("edge %zu never occurred\n%lu passed, 1 failed\n", i, passed);
+                return 1;
+            }
+    }
     printf("%lu passed, 0 failed\n", passed);
     return passed == 0;
 }
