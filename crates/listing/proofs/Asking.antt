@@ -1,0 +1,217 @@
+-- Laws of what a line asks.
+-- Assumes nothing.
+use mathlib.Core.Path.{_≡_, refl, ap, sym, _∙_}
+use mathlib.Core.Logic.{_≢_, ⊎-elim}
+use mathlib.Core.Bool.{Bool, true, false, cond}
+use mathlib.Core.List.{List, [], _∷_, _++_, append-nil}
+use mathlib.Core.Option.{Option, none, some}
+use Prim.Native.Nat.{ℕ, suc, _+_, _≤_, _<_}
+use native.Mathlib.Omega.{arith}
+use native.Mathlib.Numerals.{add-one}
+use lib.Dec.{eqb}
+use lib.ListN.{length, getD, take, drop, set}
+use lib.Seq.{take-suc-set, append-snoc, length-take-le}
+use borrow.Author.Tests.{eq-eqb, ne-eqb, le-leb, lt-leb}
+use Rattle.common.proofs.Tests.{same?}
+use Rattle.ownership.specs.Calls.{making, blocking, unblocking, opening, closing}
+use Rattle.listing.specs.Text.{letterB, letterC, letterE, letterF, letterS, space, number}
+use Rattle.listing.specs.Lines.{onFirst, cut, fields}
+use Rattle.listing.specs.Line.{inFront, numbers, one, two, five, byLetter, withNumbers, ofFields, longest, asks}
+use Rattle.listing.specs.Printed.{numbersOf, asked, ReadNumbers}
+
+-- numbers that were read, in front of those of the fields that are left
+unfoldable pub joined : List ℕ → Option (List ℕ) → Option (List ℕ)
+joined ns none = none
+joined ns (some ms) = some (ns ++ ms)
+
+pub joined-none : (m : Option (List ℕ)) → m ≡ joined [] m
+unfolding joined
+joined-none none = refl
+joined-none (some ms) = refl
+
+-- one number more, put behind the others
+joined-more : (vs : List ℕ) (k n : ℕ) → k < length vs → (m : Option (List ℕ)) → joined (take k vs) (inFront (some n) m) ≡ joined (take (k + 1) (set vs k n)) m
+unfolding joined inFront
+joined-more vs k n h none = refl
+joined-more vs k n h (some ms) =
+    ap some (sym (append-snoc (take k vs) n ms) ∙ ap (_++ ms) (sym (ap (λ j. take j (set vs k n)) (add-one k) ∙ take-suc-set vs k n h)))
+
+-- a field that is no number, one that is, and the last one
+module _ (vs : List ℕ) (k : ℕ) (fs : List (List ℕ)) (f : List ℕ) (rest : List (List ℕ)) (cut : fs ≡ f ∷ rest) where
+  pub numbers-none : number f ≡ none → joined (take k vs) (numbers fs) ≡ none
+  unfolding numbers inFront joined
+  numbers-none e = ap (λ x. joined (take k vs) (numbers x)) cut ∙ ap (λ o. joined (take k vs) (inFront o (numbers rest))) e
+
+  pub numbers-more : (n : ℕ) → k < length vs → number f ≡ some n → joined (take k vs) (numbers fs) ≡ joined (take (k + 1) (set vs k n)) (numbers rest)
+  unfolding numbers
+  numbers-more n h e =
+      ap (λ x. joined (take k vs) (numbers x)) cut ∙ ap (λ o. joined (take k vs) (inFront o (numbers rest))) e ∙ joined-more vs k n h (numbers rest)
+
+pub numbers-last : (vs : List ℕ) (k : ℕ) → joined (take k vs) (numbers []) ≡ some (take k vs)
+unfolding numbers joined
+numbers-last vs k = ap some (append-nil (take k vs))
+
+pub unread : (x : ℕ) (m : Option (List ℕ)) → m ≡ none → withNumbers x m ≡ none
+unfolding withNumbers
+unread x m e = ap (withNumbers x) e
+
+-- more than five numbers go with no letter
+over-five : (x : ℕ) (ns : List ℕ) → 5 < length ns → byLetter x ns ≡ none
+unfolding byLetter one two five
+over-five x ns h =
+    go (eqb x letterF) (eqb x letterB) (eqb x letterE) (eqb x letterS) (eqb x letterC)
+    (ne-eqb (length ns) 1 (λ e. absurd (omega arith))) (ne-eqb (length ns) 2 (λ e. absurd (omega arith))) (ne-eqb (length ns) 5 (λ e. absurd (omega arith)))
+  where
+    go : (p q r s t : Bool) → eqb (length ns) 1 ≡ false → eqb (length ns) 2 ≡ false → eqb (length ns) 5 ≡ false
+        → cond p (one making ns) (cond q (two blocking ns) (cond r (two unblocking ns) (cond s (five opening ns) (cond t (two closing ns) none)))) ≡ none
+    go true q r s t a b c = rw a
+    go false true r s t a b c = rw b
+    go false false true s t a b c = rw b
+    go false false false true t a b c = rw c
+    go false false false false true a b c = rw b
+    go false false false false false a b c = refl
+
+numbers-length : (fs : List (List ℕ)) (ns : List ℕ) → numbers fs ≡ some ns → length ns ≡ length fs
+unfolding numbers inFront
+numbers-length [] ns e = let z : ns ≡ [] = cc in ap length z
+numbers-length (f ∷ fs) ns e = go (number f) (numbers fs) refl e (numbers-length fs)
+  where
+    go : (o : Option ℕ) (m : Option (List ℕ)) → numbers fs ≡ m → inFront o m ≡ some ns → ((ms : List ℕ) → numbers fs ≡ some ms → length ms ≡ length fs) → length ns ≡ suc (length fs)
+    go none m a b ih = let z : _≡_ {A = Option (List ℕ)} none (some ns) = b in let y : _≡_ {A = ℕ} 0 1 = cc in absurd (omega arith)
+    go (some n) none a b ih = let z : _≡_ {A = Option (List ℕ)} none (some ns) = b in let y : _≡_ {A = ℕ} 0 1 = cc in absurd (omega arith)
+    go (some n) (some ms) a b ih = let z : some (n ∷ ms) ≡ some ns = b in let y : n ∷ ms ≡ ns = cc in ap length (sym y) ∙ ap suc (ih ms a)
+
+pub many : (fs : List (List ℕ)) → 5 < length fs → (x : ℕ) → withNumbers x (numbers fs) ≡ none
+unfolding withNumbers
+many fs h x = go (numbers fs) refl
+  where
+    go : (m : Option (List ℕ)) → numbers fs ≡ m → withNumbers x m ≡ none
+    go none e = refl
+    go (some ns) e = over-five x ns (let l = numbers-length fs ns e in omega arith)
+
+-- a letter with as many numbers as it has, and with another count
+module _ (x : ℕ) where
+  pub other-count : (ns : List ℕ) → length ns ≢ numbersOf x → byLetter x ns ≡ none
+  unfolding byLetter numbersOf one two five
+  other-count ns h = go (eqb x letterF) (eqb x letterB) (eqb x letterE) (eqb x letterS) (eqb x letterC) h
+    where
+      go : (p q r s t : Bool) → length ns ≢ cond p 1 (cond q 2 (cond r 2 (cond s 5 (cond t 2 0))))
+          → cond p (one making ns) (cond q (two blocking ns) (cond r (two unblocking ns) (cond s (five opening ns) (cond t (two closing ns) none)))) ≡ none
+      go true q r s t k = rw (ne-eqb (length ns) 1 k)
+      go false true r s t k = rw (ne-eqb (length ns) 2 k)
+      go false false true s t k = rw (ne-eqb (length ns) 2 k)
+      go false false false true t k = rw (ne-eqb (length ns) 5 k)
+      go false false false false true k = rw (ne-eqb (length ns) 2 k)
+      go false false false false false k = refl
+
+  pub own-count : (k : ℕ) (vs : List ℕ) → length vs ≡ 5 → k ≡ numbersOf x
+      → byLetter x (take k vs) ≡ asked x (getD vs 0 0) (getD vs 1 0) (getD vs 2 0) (getD vs 3 0) (getD vs 4 0)
+  unfolding byLetter numbersOf asked one two five
+  own-count k [] l e = absurd (omega arith)
+  own-count k (a ∷ []) l e = absurd (omega arith)
+  own-count k (a ∷ b ∷ []) l e = absurd (omega arith)
+  own-count k (a ∷ b ∷ c ∷ []) l e = absurd (omega arith)
+  own-count k (a ∷ b ∷ c ∷ d ∷ []) l e = absurd (omega arith)
+  own-count k (a ∷ b ∷ c ∷ d ∷ f ∷ []) l e = rw e (go (eqb x letterF) (eqb x letterB) (eqb x letterE) (eqb x letterS) (eqb x letterC))
+    where
+      go : (p q r s t : Bool) → let ns = take (cond p 1 (cond q 2 (cond r 2 (cond s 5 (cond t 2 0))))) (a ∷ b ∷ c ∷ d ∷ f ∷ []) in
+          cond p (one making ns) (cond q (two blocking ns) (cond r (two unblocking ns) (cond s (five opening ns) (cond t (two closing ns) none))))
+          ≡ cond p (some (making a)) (cond q (some (blocking a b)) (cond r (some (unblocking a b)) (cond s (some (opening a b c d f)) (cond t (some (closing a b)) none))))
+      go true q r s t = refl
+      go false true r s t = refl
+      go false false true s t = refl
+      go false false false true t = refl
+      go false false false false true = refl
+      go false false false false false = refl
+  own-count k (a ∷ b ∷ c ∷ d ∷ f ∷ g ∷ vs) l e = absurd (omega arith)
+
+-- the lines that a first look refuses
+pub too-long-line : (l : List ℕ) → longest < length l → asks l ≡ none
+unfolding asks
+too-long-line l h = rw (lt-leb (length l) longest h)
+
+of-line : (l : List ℕ) → length l ≤ longest → asks l ≡ ofFields (fields l)
+unfolding asks
+of-line l h = rw (le-leb (length l) longest h)
+
+-- a letter with no number behind it
+letter-alone : (x : ℕ) → ofFields ((x ∷ []) ∷ []) ≡ none
+unfolding ofFields withNumbers numbers byLetter one two five
+letter-alone x = go (eqb x letterF) (eqb x letterB) (eqb x letterE) (eqb x letterS) (eqb x letterC)
+  where
+    go : (p q r s t : Bool) → cond p (one making []) (cond q (two blocking []) (cond r (two unblocking []) (cond s (five opening []) (cond t (two closing []) none)))) ≡ none
+    go true q r s t = refl
+    go false true r s t = refl
+    go false false true s t = refl
+    go false false false true t = refl
+    go false false false false true = refl
+    go false false false false false = refl
+
+pub short-line : (l : List ℕ) → length l < 2 → asks l ≡ none
+unfolding fields cut onFirst ofFields
+short-line [] h = of-line [] (omega arith)
+short-line (x ∷ []) h = of-line (x ∷ []) (omega arith) ∙ go (eqb x space)
+  where
+    go : (b : Bool) → ofFields (cond b ([] ∷ [] ∷ []) ((x ∷ []) ∷ [])) ≡ none
+    go true = refl
+    go false = letter-alone x
+short-line (x ∷ y ∷ l) h = absurd (omega arith)
+
+-- a first field that is longer than a letter
+long-field : (x y : ℕ) (fs : List (List ℕ)) → ofFields (onFirst x (onFirst y fs)) ≡ none
+unfolding onFirst ofFields
+long-field x y [] = refl
+long-field x y (f ∷ fs) = refl
+
+pub second-byte : (l : List ℕ) → 2 ≤ length l → length l ≤ longest → getD l 1 0 ≢ space → asks l ≡ none
+unfolding fields cut onFirst ofFields
+second-byte [] h s e = absurd (omega arith)
+second-byte (x ∷ []) h s e = absurd (omega arith)
+second-byte (x ∷ y ∷ l) h s e = of-line (x ∷ y ∷ l) s ∙ go (eqb x space) (eqb y space) (ne-eqb y space e)
+  where
+    go : (b c : Bool) → c ≡ false → ofFields (cond b ([] ∷ cond c ([] ∷ cut space ([] ∷ []) l) (onFirst y (cut space ([] ∷ []) l))) (onFirst x (cond c ([] ∷ cut space ([] ∷ []) l) (onFirst y (cut space ([] ∷ []) l))))) ≡ none
+    go true c k = refl
+    go false c k = rw k (long-field x y (cut space ([] ∷ []) l))
+
+pub no-letter : (l : List ℕ) → 2 ≤ length l → length l ≤ longest → getD l 0 0 ≡ space → asks l ≡ none
+unfolding fields cut ofFields
+no-letter [] h s e = absurd (omega arith)
+no-letter (x ∷ l) h s e = of-line (x ∷ l) s ∙ rw (eq-eqb x space e)
+
+-- a letter alone, a space, and the rest
+pub letter-line : (l : List ℕ) → 2 ≤ length l → length l ≤ longest → getD l 1 0 ≡ space → getD l 0 0 ≢ space → asks l ≡ withNumbers (getD l 0 0) (numbers (fields (drop 2 l)))
+unfolding fields cut onFirst ofFields
+letter-line [] h s e f = absurd (omega arith)
+letter-line (x ∷ []) h s e f = absurd (omega arith)
+letter-line (x ∷ y ∷ l) h s e f = of-line (x ∷ y ∷ l) s ∙ rw (ne-eqb x space f, eq-eqb y space e)
+
+pub asked-none : (x a b c d e : ℕ) → x ≡ 0 → asked x a b c d e ≡ none
+unfolding asked
+asked-none x a b c d e z = rw z
+
+-- Lines that a look at their numbers decides: what was read of the numbers behind the second byte, a space, and of the first.
+module _ (l vs : List ℕ) (k : ℕ) (least : 2 ≤ length l) (most : length l ≤ longest) (gap : getD l 1 0 ≡ space) (numbered : ReadNumbers (fields (drop 2 l)) vs k) where
+  by-count : k ≢ 0 → getD l 0 0 ≢ space → asks l ≡ byLetter (getD l 0 0) (take k vs)
+  unfolding withNumbers
+  by-count z s = letter-line l least most gap s ∙ ap (withNumbers (getD l 0 0)) (numbered .read z)
+
+  pub unread-line : k ≡ 0 → asks l ≡ none
+  unread-line z = ⊎-elim (λ e. no-letter l least most e) (λ e. letter-line l least most gap e ∙ numbered .unread z (getD l 0 0)) (same? (getD l 0 0) space)
+
+  count-length : length (take k vs) ≡ k
+  count-length = length-take-le k vs (let r = numbered .room in let f = numbered .few in omega arith)
+
+  pub other-line : k ≢ 0 → k ≢ numbersOf (getD l 0 0) → asks l ≡ none
+  other-line z h =
+      ⊎-elim (λ e. no-letter l least most e) (λ e. by-count z e ∙ other-count (getD l 0 0) (take k vs) (λ n. h (sym count-length ∙ n))) (same? (getD l 0 0) space)
+
+  space-has-none : getD l 0 0 ≡ space → numbersOf (getD l 0 0) ≡ 0
+  unfolding numbersOf
+  space-has-none e = rw e
+
+  pub own-line : k ≢ 0 → k ≡ numbersOf (getD l 0 0) → asked (getD l 0 0) (getD vs 0 0) (getD vs 1 0) (getD vs 2 0) (getD vs 3 0) (getD vs 4 0) ≡ asks l
+  own-line z h = sym (by-count z (λ e. z (h ∙ space-has-none e)) ∙ own-count (getD l 0 0) k vs (numbered .room) h)
+
+-- the answer of a line that cannot be read
+pub refused-line : (l : List ℕ) (x a b c d e : ℕ) → x ≡ 0 → asks l ≡ none → (asked x a b c d e ≡ asks l) × (x ≢ 0 → 2 ≤ length l)
+refused-line l x a b c d e z n = (asked-none x a b c d e z ∙ sym n, λ f. absurd (f z))

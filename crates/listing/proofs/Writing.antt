@@ -1,0 +1,51 @@
+-- Texts written one behind the other.
+-- Assumes nothing.
+use mathlib.Core.Path.{_≡_, ap, sym, _∙_}
+use mathlib.Core.List.{List, [], _∷_, _++_}
+use Prim.Native.Nat.{ℕ, suc, _+_, _≤_, _<_}
+use native.Mathlib.Nat.{add-zero}
+use native.Mathlib.Numerals.{add-one}
+use native.Mathlib.Omega.{arith}
+use lib.ListN.{length, getD, set, drop, length-append, drop-of-length-le}
+use lib.Seq.{sets, length-sets, drop-cons}
+use Rattle.listing.specs.Printed.{Wrote}
+
+-- two texts, the second behind the first, are one
+pub sets-append : (b : List ℕ) (i : ℕ) (xs ys : List ℕ) → sets b i (xs ++ ys) ≡ sets (sets b i xs) (i + length xs) ys
+sets-append b i [] ys = ap (λ j. sets b j ys) (sym (add-zero i))
+sets-append b i (x ∷ xs) ys =
+    let e : suc i + length xs ≡ i + suc (length xs) = omega arith in
+    sets-append (set b i x) (suc i) xs ys ∙ ap (λ j. sets (sets (set b i x) (suc i) xs) j ys) e
+
+pub followed : (k m : ℕ) {b c d xs ys : List ℕ} {i j n : ℕ} → Wrote k b i xs c j → Wrote m c j ys d n → Wrote (k + m) b i (xs ++ ys) d n
+followed k m {b} {c} {d} {xs} {ys} {i} {j} {n} u v =
+    record {
+      bytes = v .bytes ∙ ap (λ (l : List ℕ). sets l j ys) (u .bytes) ∙ ap (λ p. sets (sets b i xs) p ys) (u .place) ∙ sym (sets-append b i xs ys);
+      place = v .place ∙ ap (_+ length ys) (u .place) ∙ (let e = length-append xs ys in omega arith);
+      most = let p = u .most in let q = v .most in omega arith;
+    }
+
+-- the same text, within more places
+pub within : (k m : ℕ) {b c xs : List ℕ} {i j : ℕ} → k ≤ m → Wrote k b i xs c j → Wrote m b i xs c j
+within k m h u = record { bytes = u .bytes; place = u .place; most = let p = u .most in omega arith }
+
+-- what was written keeps the length of the output
+pub wrote-length : (k : ℕ) {b c xs : List ℕ} {i j : ℕ} → Wrote k b i xs c j → length c ≡ length b
+wrote-length k {b} {c} {xs} {i} u = ap length (u .bytes) ∙ length-sets b i xs
+
+-- one byte of a text, and all of them
+module _ (b text : List ℕ) (at i : ℕ) where
+  pub text-step : i < length text → sets (set b (at + i) (getD text i 0)) (at + (i + 1)) (drop (i + 1) text) ≡ sets b (at + i) (drop i text)
+  text-step h =
+      let e : at + (i + 1) ≡ suc (at + i) = omega arith in
+      rw (e, add-one i, drop-cons text i 0 h)
+
+  pub text-end : length text ≤ i → sets b (at + i) (drop i text) ≡ b
+  text-end h = ap (λ (xs : List ℕ). sets b (at + i) xs) (drop-of-length-le text h)
+
+-- what is left to write behind a text that was written
+pub carries : (k : ℕ) (ys : List ℕ) {b c xs : List ℕ} {i j : ℕ} → Wrote k b i xs c j → sets c j ys ≡ sets b i (xs ++ ys)
+carries k ys {b} {c} {xs} {i} {j} u = ap (λ (l : List ℕ). sets l j ys) (u .bytes) ∙ ap (λ p. sets (sets b i xs) p ys) (u .place) ∙ sym (sets-append b i xs ys)
+
+pub carries-place : (k : ℕ) (ys : List ℕ) {b c xs : List ℕ} {i j : ℕ} → Wrote k b i xs c j → j + length ys ≡ i + length (xs ++ ys)
+carries-place k ys {b} {c} {xs} {i} {j} u = let e = length-append xs ys in let p = u .place in omega arith

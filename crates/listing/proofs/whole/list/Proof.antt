@@ -1,0 +1,85 @@
+-- `listing::whole::list` meets its contract: the header and the lines behind it are the printed list.
+-- Assumes nothing.
+use mathlib.Core.List.{_++_}
+use Prim.Native.Nat.{_+_, _*_}
+use native.Mathlib.Omega.{arith}
+use lib.Dec.{lit≤}
+use Rattle.listing.specs.Lines.{lines}
+use Rattle.listing.specs.Row.{spaced, ended, rowsText}
+use Rattle.listing.specs.Listing.{header, tooLong, onTable, rows}
+use Rattle.listing.proofs.Writing.{followed}
+use Rattle.listing.proofs.Remaining.{printed-long, printed-rows, lists-short, lists-all}
+use borrow.Author.Needs.{needs}
+use Rattle.listing.proofs.whole.list.Statement.{statement}
+use Rattle.listing.proofs.whole.list.Tie as tie
+
+returns : tie.Need-returns
+returns c = let s = c .before .before .before in lists-short (s .args .input .now) (s .args .output .now) (c .if1 .taken)
+
+slice-aggregate-text : tie.Need-slice-aggregate-text
+slice-aggregate-text c = search needs
+
+text-requires : tie.Need-text-requires
+text-requires c κs = search needs
+
+same-length : tie.Need-same-length
+same-length c = search needs
+
+returns-2 : tie.Need-returns-2
+unfolding tooLong ended spaced
+returns-2 c =
+    let w = c .before .before in
+    let i = w .before .before .before in
+    let s = i .before .before .before .before in
+    lists-all 9 (s .args .input .now) (s .args .output .now) tooLong (w .text .last .0) (w .text .result) (omega (arith, i .before .if1 .left)) (lit≤ tt) (printed-long (s .args .input .now) (i .if2 .taken)) (w .text .ensures)
+
+slice-aggregate-make : tie.Need-slice-aggregate-make
+slice-aggregate-make c = search needs
+
+make-requires : tie.Need-make-requires
+make-requires c κs = search needs
+
+slice-aggregate-text-2 : tie.Need-slice-aggregate-text-2
+slice-aggregate-text-2 c = search needs
+
+text-requires-2 : tie.Need-text-requires-2
+text-requires-2 c κs = search needs
+
+slice-aggregate-rows : tie.Need-slice-aggregate-rows
+slice-aggregate-rows c = search needs
+
+rows-requires : tie.Need-rows-requires
+rows-requires c κs = search needs
+
+same-length-2 : tie.Need-same-length-2
+same-length-2 c = search needs
+
+returns-3 : tie.Need-returns-3
+unfolding header ended spaced
+returns-3 c =
+    let w = c .before .before .before in
+    let h = w .before .before .before .before .before in
+    let m = h .before .before .before .before in
+    let i = m .before .before in
+    let s = i .before .before .before .before in
+    let input = s .args .input .now in
+    let t = m .make .last .0 in
+    lists-all (51 + 24 * 60001) input (s .args .output .now) (header ++ rowsText (rows onTable t 1 (lines input))) (w .rows .last .1 .1 .0) (w .rows .result) (omega (arith, i .before .if1 .left)) (lit≤ tt) (printed-rows input t (omega (arith, i .if2 .left)) (m .make .ensures)) (followed 51 (24 * 60001) (h .text2 .ensures) (w .rows .ensures))
+
+pub list-spec : {M : Type 1} → statement M
+list-spec =
+    tie.close
+    (tie.spec
+    returns
+    slice-aggregate-text
+    text-requires
+    same-length
+    returns-2
+    slice-aggregate-make
+    make-requires
+    slice-aggregate-text-2
+    text-requires-2
+    slice-aggregate-rows
+    rows-requires
+    same-length-2
+    returns-3)

@@ -1,0 +1,60 @@
+-- The printed example of document 01, computed: the bytes of its input, and the bytes of its output.
+-- Assumes nothing.
+use mathlib.Core.Path.{_≡_, refl}
+use mathlib.Core.List.{List, [], _∷_}
+use Prim.Native.Nat.{ℕ}
+use Rattle.common.specs.Lists.{keep, from, any}
+use Rattle.common.specs.Tests.{refusal}
+use Rattle.cube.specs.Bits.{has, flip}
+use Rattle.cube.specs.Cube.{uphill}
+use Rattle.cube.specs.Helical.{helical}
+use Rattle.paths.specs.Network.{offered, end, links, hasLink, freePath}
+use Rattle.paths.specs.Pass.{over, ways, beginnings, scan, whole, attempt, pass, scouts}
+use Rattle.paths.specs.Send.{received, outcome, goesOn, runs, answered}
+use Rattle.paths.specs.CubeNetwork.{network, sendPorts, otherPorts, maze, alternateMaze, send}
+use Rattle.table.specs.View.{lowest}
+use Rattle.ownership.specs.Calls.{written, callTests, lent}
+use Rattle.ownership.specs.History.{holdsLink, holdsReceive, belongs, enabledOn, heldOn, freeOn, takenOn, openOn, receiveOn, listed, askedOn, stoppedOn, sendOn, adds, follows, gives, told}
+use Rattle.listing.specs.Text.{digits, decimal, allDigits, value, leadingZero, number}
+use Rattle.listing.specs.Lines.{onFirst, cut, lines, fields}
+use Rattle.listing.specs.Line.{inFront, numbers, one, two, five, byLetter, withNumbers, ofFields, asks}
+use Rattle.listing.specs.Row.{inTurn, bytesOf, inOrder, spaced, ended, rowText, rowsText}
+use Rattle.listing.specs.Listing.{letterOf, nodeOf, channelOf, receiveOf, scoutsOf, portsOf, callRow, unreadable, traced, rowFor, behind, rows, header, tooLong, listing, inHistory, recorded}
+
+abbrev input : List ℕ
+input =
+    -- F 3
+    70 ∷ 32 ∷ 51 ∷ 10 ∷
+    -- B 1 2
+    66 ∷ 32 ∷ 49 ∷ 32 ∷ 50 ∷ 10 ∷
+    -- B 3 2
+    66 ∷ 32 ∷ 51 ∷ 32 ∷ 50 ∷ 10 ∷
+    -- S 0 0 7 0 7
+    83 ∷ 32 ∷ 48 ∷ 32 ∷ 48 ∷ 32 ∷ 55 ∷ 32 ∷ 48 ∷ 32 ∷ 55 ∷ 10 ∷
+    -- C 0 0
+    67 ∷ 32 ∷ 48 ∷ 32 ∷ 48 ∷ 10 ∷
+    -- C 0 0
+    67 ∷ 32 ∷ 48 ∷ 32 ∷ 48 ∷ 10 ∷
+    []
+
+abbrev output : List ℕ
+output =
+    -- line call answer node channel receive scouts ports
+    108 ∷ 105 ∷ 110 ∷ 101 ∷ 32 ∷ 99 ∷ 97 ∷ 108 ∷ 108 ∷ 32 ∷ 97 ∷ 110 ∷ 115 ∷ 119 ∷ 101 ∷ 114 ∷ 32 ∷ 110 ∷ 111 ∷ 100 ∷ 101 ∷ 32 ∷ 99 ∷ 104 ∷ 97 ∷ 110 ∷ 110 ∷ 101 ∷ 108 ∷ 32 ∷ 114 ∷ 101 ∷ 99 ∷ 101 ∷ 105 ∷ 118 ∷ 101 ∷ 32 ∷ 115 ∷ 99 ∷ 111 ∷ 117 ∷ 116 ∷ 115 ∷ 32 ∷ 112 ∷ 111 ∷ 114 ∷ 116 ∷ 115 ∷ 10 ∷
+    -- 1 F 0 - - - - -
+    49 ∷ 32 ∷ 70 ∷ 32 ∷ 48 ∷ 32 ∷ 45 ∷ 32 ∷ 45 ∷ 32 ∷ 45 ∷ 32 ∷ 45 ∷ 32 ∷ 45 ∷ 10 ∷
+    -- 2 B 0 1 - - - 2
+    50 ∷ 32 ∷ 66 ∷ 32 ∷ 48 ∷ 32 ∷ 49 ∷ 32 ∷ 45 ∷ 32 ∷ 45 ∷ 32 ∷ 45 ∷ 32 ∷ 50 ∷ 10 ∷
+    -- 3 B 0 3 - - - 2
+    51 ∷ 32 ∷ 66 ∷ 32 ∷ 48 ∷ 32 ∷ 51 ∷ 32 ∷ 45 ∷ 32 ∷ 45 ∷ 32 ∷ 45 ∷ 32 ∷ 50 ∷ 10 ∷
+    -- 4 S 0 0 0 0 5 120
+    52 ∷ 32 ∷ 83 ∷ 32 ∷ 48 ∷ 32 ∷ 48 ∷ 32 ∷ 48 ∷ 32 ∷ 48 ∷ 32 ∷ 53 ∷ 32 ∷ 49 ∷ 50 ∷ 48 ∷ 10 ∷
+    -- 5 C 0 0 0 - - -
+    53 ∷ 32 ∷ 67 ∷ 32 ∷ 48 ∷ 32 ∷ 48 ∷ 32 ∷ 48 ∷ 32 ∷ 45 ∷ 32 ∷ 45 ∷ 32 ∷ 45 ∷ 10 ∷
+    -- 6 C 12 0 0 - - -
+    54 ∷ 32 ∷ 67 ∷ 32 ∷ 49 ∷ 50 ∷ 32 ∷ 48 ∷ 32 ∷ 48 ∷ 32 ∷ 45 ∷ 32 ∷ 45 ∷ 32 ∷ 45 ∷ 10 ∷
+    []
+
+pub printed-example : recorded input ≡ output
+unfolding told stoppedOn callTests refusal askedOn openOn heldOn takenOn any holdsLink holdsReceive belongs enabledOn freeOn receiveOn lowest listed sendOn adds follows gives written lent send maze alternateMaze network sendPorts otherPorts keep from has flip uphill helical offered end links hasLink freePath over ways beginnings scan whole attempt pass scouts received outcome goesOn runs answered digits decimal allDigits value leadingZero number onFirst cut lines fields inFront numbers one two five byLetter withNumbers ofFields asks inTurn bytesOf inOrder spaced ended rowText rowsText letterOf nodeOf channelOf receiveOf scoutsOf portsOf callRow unreadable traced rowFor behind rows header tooLong listing inHistory recorded
+printed-example = refl

@@ -1,0 +1,59 @@
+-- What an input line asks for.
+-- Assumes nothing.
+use mathlib.Core.Bool.{cond}
+use mathlib.Core.List.{List, [], _∷_}
+use mathlib.Core.Option.{Option, none, some}
+use Prim.Native.Nat.{ℕ}
+use lib.Dec.{eqb, leb}
+use lib.ListN.{length, getD}
+use Rattle.ownership.specs.Calls.{Call, making, blocking, unblocking, opening, closing}
+use Rattle.listing.specs.Text.{letterB, letterC, letterE, letterF, letterS, number}
+use Rattle.listing.specs.Lines.{fields}
+
+-- the numbers that fields say, where each of them is one
+unfoldable pub inFront : Option ℕ → Option (List ℕ) → Option (List ℕ)
+inFront none ns = none
+inFront (some n) none = none
+inFront (some n) (some ns) = some (n ∷ ns)
+
+unfoldable pub numbers : List (List ℕ) → Option (List ℕ)
+numbers [] = some []
+numbers (f ∷ fs) = inFront (number f) (numbers fs)
+
+-- a call of one, two or five numbers
+unfoldable pub one : (ℕ → Call) → List ℕ → Option Call
+one f ns = cond (eqb (length ns) 1) (some (f (getD ns 0 0))) none
+
+unfoldable pub two : (ℕ → ℕ → Call) → List ℕ → Option Call
+two f ns = cond (eqb (length ns) 2) (some (f (getD ns 0 0) (getD ns 1 0))) none
+
+unfoldable pub five : (ℕ → ℕ → ℕ → ℕ → ℕ → Call) → List ℕ → Option Call
+five f ns = cond (eqb (length ns) 5) (some (f (getD ns 0 0) (getD ns 1 0) (getD ns 2 0) (getD ns 3 0) (getD ns 4 0))) none
+
+-- "`F D` make, `B node port` block, `E node port` unblock, `S node channel target type vector` open, `C node channel` close"
+unfoldable pub byLetter : ℕ → List ℕ → Option Call
+byLetter x ns =
+    cond (eqb x letterF) (one making ns)
+    (cond (eqb x letterB) (two blocking ns)
+    (cond (eqb x letterE) (two unblocking ns)
+    (cond (eqb x letterS) (five opening ns)
+    (cond (eqb x letterC) (two closing ns) none))))
+
+-- a letter that stands alone in its field, and the numbers behind it
+unfoldable pub withNumbers : ℕ → Option (List ℕ) → Option Call
+withNumbers x none = none
+withNumbers x (some ns) = byLetter x ns
+
+unfoldable pub ofFields : List (List ℕ) → Option Call
+ofFields [] = none
+ofFields ([] ∷ fs) = none
+ofFields ((x ∷ []) ∷ fs) = withNumbers x (numbers fs)
+ofFields ((x ∷ y ∷ xs) ∷ fs) = none
+
+-- "lines of at most 40 bytes"
+abbrev pub longest : ℕ
+longest = 40
+
+-- the call that a line asks for, where it can be read
+unfoldable pub asks : List ℕ → Option Call
+asks l = cond (leb (length l) longest) (ofFields (fields l)) none

@@ -1,0 +1,39 @@
+-- What the theorems about the printed list say.
+-- Assumes nothing.
+use mathlib.Core.Path.{_≡_}
+use mathlib.Core.Logic.{_⊎_}
+use mathlib.Core.List.{List, [], _∷_}
+use Prim.Native.Nat.{ℕ, _<_}
+use Rattle.paths.specs.Send.{Answer}
+use Rattle.ownership.specs.Calls.{Call, making, blocking, unblocking, opening, closing, tracing}
+use Rattle.listing.specs.Row.{Field, nothing, shows, letter, path}
+
+-- every byte of a text is above b: above 32, it has no space and no newline
+unfoldable pub Above : ℕ → List ℕ → Type 0
+Above b [] = Unit
+Above b (x ∷ xs) = (b < x) × Above b xs
+
+-- a field that shows a number
+unfoldable pub Shown : Field → Type 0
+Shown nothing = ⊥
+Shown (shows n) = Unit
+Shown (letter x) = ⊥
+Shown (path ps) = ⊥
+
+-- a call that is an open
+unfoldable pub IsOpen : Call → Type 0
+IsOpen (making D) = ⊥
+IsOpen (blocking n p) = ⊥
+IsOpen (unblocking n p) = ⊥
+IsOpen (opening s c t y v) = Unit
+IsOpen (closing s c) = ⊥
+IsOpen (tracing s c buffer) = ⊥
+
+-- "S answered 0, 10 or 11"
+abbrev pub WasSent : Call → Answer → Type 0
+WasSent a x = IsOpen a × ((x .number ≡ 0) ⊎ ((x .number ≡ 10) ⊎ (x .number ≡ 11)))
+
+-- each of some texts is
+unfoldable pub AllAbove : ℕ → List (List ℕ) → Type 0
+AllAbove b [] = Unit
+AllAbove b (f ∷ fs) = Above b f × AllAbove b fs

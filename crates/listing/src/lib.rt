@@ -1,0 +1,12 @@
+// The printed list: from the bytes of an input to the bytes of its list.
+mod call;
+mod line;
+mod number;
+mod put;
+mod row;
+mod whole;
+
+pub use whole::INPUT_LIMIT;
+pub use whole::Listed;
+pub use whole::OUTPUT_BYTES;
+pub use whole::list;
