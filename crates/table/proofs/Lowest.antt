@@ -5,7 +5,8 @@ use mathlib.Core.Logic.{_⊎_, inl, inr, _≢_}
 use mathlib.Core.Bool.{Bool, true, false, cond}
 use Prim.Native.Nat.{ℕ, zero, suc, _+_, _-_, _≤_, _<_}
 use native.Mathlib.Omega.{arith}
-use borrow.Author.Tests.{eq-eqb, ne-eqb}
+use lib.Dec.{ltb}
+use borrow.Author.Tests.{eq-eqb, ne-eqb, lt-ltb, le-ltb, ltb-true, ltb-false}
 use Rattle.common.proofs.Tests.{same?}
 use Rattle.table.specs.View.{View, available, lowest}
 
@@ -21,6 +22,30 @@ module _ (f : ℕ → Bool) (n k : ℕ) (h : k < n) where
 
 pub lowest-end : (f : ℕ → Bool) (n k : ℕ) → k ≡ n → lowest f (n - k) k ≡ k
 lowest-end f n k e = let z : n - k ≡ 0 = omega arith in rw z (unfold lowest in refl)
+
+-- the lowest of all is what was found below k, or else the lowest from k on
+pub found-on : (f : ℕ → Bool) (n k found next : ℕ) → k < n → next ≡ cond (ltb found n) found (cond (f k) k n) → cond (ltb found n) found (lowest f (n - k) k) ≡ cond (ltb next n) next (lowest f (n - (k + 1)) (k + 1))
+found-on f n k found next h e = go (ltb found n) refl (f k) refl e
+  where
+    go : (x : Bool) → ltb found n ≡ x → (y : Bool) → f k ≡ y → next ≡ cond x found (cond y k n) → cond x found (lowest f (n - k) k) ≡ cond (ltb next n) next (lowest f (n - (k + 1)) (k + 1))
+    go true l y m q = rw (q, l)
+    go false l true m q = rw (q, lt-ltb k n h) (lowest-here f n k h m)
+    go false l false m q = rw (q, le-ltb n n (omega arith)) (lowest-on f n k h m)
+
+pub found-end : (f : ℕ → Bool) (n k found : ℕ) → k ≡ n → found ≤ n → cond (ltb found n) found (lowest f (n - k) k) ≡ found
+found-end f n k found e h = go (ltb found n) refl
+  where
+    go : (x : Bool) → ltb found n ≡ x → cond x found (lowest f (n - k) k) ≡ found
+    go true l = refl
+    go false l = lowest-end f n k e ∙ (let g = ltb-false found n l in omega arith)
+
+pub found-most : (n k found next : ℕ) (taken : Bool) → k < n → next ≡ cond (ltb found n) found (cond taken k n) → next ≤ n
+found-most n k found next taken h e = go (ltb found n) refl taken e
+  where
+    go : (x : Bool) → ltb found n ≡ x → (y : Bool) → next ≡ cond x found (cond y k n) → next ≤ n
+    go true l y q = let g = ltb-true found n l in omega arith
+    go false l true q = omega arith
+    go false l false q = omega arith
 
 pub free-at : (v : View) (n k x : ℕ) → x ≡ v .receiver n k → x ≡ 0 → available v n k ≡ true
 unfolding available

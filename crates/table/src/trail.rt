@@ -1,6 +1,7 @@
 // The path of a circuit, recovered from the links that it holds.
 ghost use mathlib.Core.Path.{_≡_};
-ghost use mathlib.Core.Bool.{not};
+ghost use mathlib.Core.Bool.{cond, not};
+ghost use lib.Dec.{ltb};
 ghost use Prim.Native.Nat.{_<_};
 ghost use lib.ListN.{length, set};
 ghost use Rattle.table.specs.Layout.{Within};
@@ -62,19 +63,14 @@ pub fn held_port(t: &[u8], c: Circuit, n: Node, vector: u16) -> Port
     Port(p)
 }
 
-// The same among those whose way back it holds too.
-pub fn returning_port(t: &[u8], c: Circuit, n: Node, vector: u16) -> Port
-    requires { ⌜ Within (now t) (n .0) 0 ⌝ }
-    ensures { λ r. ⌜ r .0 ≡ lowest (comesBack (view (now (t .entry))) (c .0) (n .0) vector) 8 0 ⌝ }
+// The first of some ports that was found, 8 standing for none: what was found before, or else a port that is taken.
+fn first_of(found: u16, taken: bool, p: u16) -> u16
+    ensures { λ r. ⌜ r ≡ cond (ltb found 8) found (cond taken p 8) ⌝ }
 {
-    let mut p: u16 = 0;
-    while p < 8 {
-        if comes_back(t, c, n, vector, Port(p)) {
-            return Port(p);
-        }
-        p += 1;
+    if found < 8 {
+        return found;
     }
-    Port(p)
+    if taken { p } else { 8 }
 }
 
 // The first hop of a circuit's path from its source: one whose way back it holds too, or else the lowest. 8 where it holds none.
@@ -82,12 +78,16 @@ pub fn first_hop(t: &[u8], c: Circuit, s: Node, vector: u16) -> Port
     requires { ⌜ Within (now t) (s .0) 0 ⌝ }
     ensures { λ r. ⌜ r .0 ≡ firstHop (view (now (t .entry))) (c .0) (s .0) vector ⌝ }
 {
-    let p = returning_port(t, c, s, vector);
-    if p.0 < 8 {
-        p
-    } else {
-        held_port(t, c, s, vector)
+    let mut found: u16 = 8;
+    let mut p: u16 = 0;
+    while p < 8 {
+        if comes_back(t, c, s, vector, Port(p)) {
+            return Port(p);
+        }
+        found = first_of(found, takes(t, c, s, vector, Port(p)), p);
+        p += 1;
     }
+    Port(found)
 }
 
 // Whether a circuit is open: whether its path has a first hop. Only the links at its source and the ways back over them are looked at.
