@@ -77,7 +77,7 @@ free-words c b i (suc k) (suc j) h l =
     ap2 : {a x y z : ℕ} → a ≡ x → y ≡ z → a + 256 * y ≡ x + 256 * z
     ap2 e f = mathlib.Core.Path.ap₂ (λ u w. u + 256 * w) e f
 
--- the loops of the code: i entries done of n, and i groups of 32
+-- the loops of the code: i entries done of n, i rows of 16 and i groups of 32
 pub free-step : (c : ℕ) (b : List ℕ) (from n i : ℕ) → i < n → freeFrom c (freeWord c b (from + 2 * i)) (from + 2 * (i + 1)) (n - (i + 1)) ≡ freeFrom c b (from + 2 * i) (n - i)
 free-step c b from n i h =
     let left : n - i ≡ suc (n - (i + 1)) = omega arith in
@@ -100,6 +100,12 @@ free-group-step c b i h =
     let left : 4096 - 128 * i ≡ 128 + (4096 - 128 * (i + 1)) = omega arith in
     let on : 257 + 256 * (i + 1) ≡ 257 + 256 * i + 2 * 128 = omega arith in
     rw (left, on) (free-append c b (257 + 256 * i) 128 (4096 - 128 * (i + 1)))
+
+pub free-row-step : (c : ℕ) (b : List ℕ) (from i : ℕ) → i < 16 → freeFrom c (freeFrom c b (from + 16 * i) 8) (from + 16 * (i + 1)) (128 - 8 * (i + 1)) ≡ freeFrom c b (from + 16 * i) (128 - 8 * i)
+free-row-step c b from i h =
+    let left : 128 - 8 * i ≡ 8 + (128 - 8 * (i + 1)) = omega arith in
+    let on : from + 16 * (i + 1) ≡ from + 16 * i + 2 * 8 = omega arith in
+    rw (left, on) (free-append c b (from + 16 * i) 8 (128 - 8 * (i + 1)))
 
 -- of bytes that are zero nothing is freed
 free-zero : (c : ℕ) (b : List ℕ) (i : ℕ) → getD b i 0 ≡ 0 → getD b (i + 1) 0 ≡ 0 → freeWord c b i ≡ b

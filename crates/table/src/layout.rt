@@ -25,8 +25,10 @@ const ROW: usize = 16;
 
 const ENTRY: usize = 2;
 
-// Entries are looked at in groups, of links and then of receive channels.
-const GROUP: usize = 128;
+const ROW_ENTRIES: usize = 8;
+
+// Rows are freed in groups, those of links and then those of receive channels.
+const GROUP: usize = 16;
 
 const GROUP_BYTES: usize = 256;
 
@@ -225,23 +227,43 @@ fn free_entry(t: &mut [u8], at: usize, c: Circuit)
 }
 
 fn free_entries(t: &mut [u8], from: usize, c: Circuit)
-    requires { ⌜ from + 256 ≤ length (now t) ⌝ }
-    ensures { λ _. ⌜ now (t .exit) ≡ freeFrom (c .0) (now (t .entry)) from 128 ⌝ }
+    requires { ⌜ from + 16 ≤ length (now t) ⌝ }
+    ensures { λ _. ⌜ now (t .exit) ≡ freeFrom (c .0) (now (t .entry)) from 8 ⌝ }
 {
     let mut i: usize = 0;
-    while i < GROUP {
+    while i < ROW_ENTRIES {
         free_entry(t, from + ENTRY * i, c);
         i += 1;
     }
 }
 
-// Of a group of which nothing is held, nothing is to be freed.
+// Of a row, or a group of rows, of which nothing is held, nothing is to be freed.
+fn free_row(t: &mut [u8], from: usize, c: Circuit)
+    requires { ⌜ from + 16 ≤ length (now t) ⌝ }
+    ensures { λ _. ⌜ now (t .exit) ≡ freeFrom (c .0) (now (t .entry)) from 8 ⌝ }
+{
+    if gathered(t, from, ROW) > 0 {
+        free_entries(t, from, c);
+    }
+}
+
+fn free_rows(t: &mut [u8], from: usize, c: Circuit)
+    requires { ⌜ from + 256 ≤ length (now t) ⌝ }
+    ensures { λ _. ⌜ now (t .exit) ≡ freeFrom (c .0) (now (t .entry)) from 128 ⌝ }
+{
+    let mut i: usize = 0;
+    while i < GROUP {
+        free_row(t, from + ROW * i, c);
+        i += 1;
+    }
+}
+
 fn free_group(t: &mut [u8], from: usize, c: Circuit)
     requires { ⌜ from + 256 ≤ length (now t) ⌝ }
     ensures { λ _. ⌜ now (t .exit) ≡ freeFrom (c .0) (now (t .entry)) from 128 ⌝ }
 {
     if gathered(t, from, GROUP_BYTES) > 0 {
-        free_entries(t, from, c);
+        free_rows(t, from, c);
     }
 }
 

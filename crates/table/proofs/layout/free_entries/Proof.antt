@@ -10,13 +10,13 @@ use Rattle.table.proofs.layout.free_entries.Statement.{statement}
 use Rattle.table.proofs.layout.free_entries.Tie as tie
 
 abbrev Inv-loop : tie.InvT-loop
-Inv-loop t₀ from c i₀ t i = (i ≤ 128) × (length t ≡ length t₀) × (freeFrom (c .0) t (from + 2 * i) (128 - i) ≡ freeFrom (c .0) t₀ from 128)
+Inv-loop t₀ from c i₀ t i = (i ≤ 8) × (length t ≡ length t₀) × (freeFrom (c .0) t (from + 2 * i) (8 - i) ≡ freeFrom (c .0) t₀ from 8)
 
 abbrev μ-loop : tie.MeasureT-loop
-μ-loop t₀ from c i₀ t i = 128 - i
+μ-loop t₀ from c i₀ t i = 8 - i
 
 loop-holds : tie.Need-loop-holds Inv-loop μ-loop
-loop-holds c = let s = c .before in let here : s .args .from + 2 * 0 ≡ s .args .from = omega arith in (omega arith, refl, ap (λ (x : ℕ). freeFrom (s .args .c .0) (s .args .t .now) x 128) here)
+loop-holds c = let s = c .before in let here : s .args .from + 2 * 0 ≡ s .args .from = omega arith in (omega arith, refl, ap (λ (x : ℕ). freeFrom (s .args .c .0) (s .args .t .now) x 8) here)
 
 mul-free-entry : tie.Need-mul-free-entry Inv-loop μ-loop
 mul-free-entry c = omega arith
@@ -41,7 +41,7 @@ loop-again c =
     let on = f .free-entry .ensures in (
       omega arith,
       ap length on ∙ free-length (s .args .c .0) (l .loop .t) (s .args .from + 2 * l .loop .i) ∙ l .loop .inv .1,
-      ap (λ b. freeFrom (s .args .c .0) b (s .args .from + 2 * (l .loop .i + 1)) (128 - (l .loop .i + 1))) on ∙ free-step (s .args .c .0) (l .loop .t) (s .args .from) 128 (l .loop .i) (omega (arith, f .before .before .loop-test .taken)) ∙ l .loop .inv .2,
+      ap (λ b. freeFrom (s .args .c .0) b (s .args .from + 2 * (l .loop .i + 1)) (8 - (l .loop .i + 1))) on ∙ free-step (s .args .c .0) (l .loop .t) (s .args .from) 8 (l .loop .i) (omega (arith, f .before .before .loop-test .taken)) ∙ l .loop .inv .2,
     )
 
 same-length : tie.Need-same-length Inv-loop μ-loop
@@ -51,7 +51,7 @@ returns : tie.Need-returns Inv-loop μ-loop
 returns c =
     let l = c .before in
     let s = l .before .before in
-    free-end (s .args .c .0) (l .loop .t) (s .args .from + 2 * l .loop .i) 128 (l .loop .i) (omega arith) ∙ l .loop .inv .2
+    free-end (s .args .c .0) (l .loop .t) (s .args .from + 2 * l .loop .i) 8 (l .loop .i) (omega arith) ∙ l .loop .inv .2
 
 pub free-entries-spec : {M : Type 1} → statement M
 free-entries-spec =

@@ -12,8 +12,8 @@ use Rattle.table.proofs.layout.free_group.Tie as tie
 gathered-requires : tie.Need-gathered-requires
 gathered-requires c κs = search needs
 
-free-entries-requires : tie.Need-free-entries-requires
-free-entries-requires c κs = search needs
+free-rows-requires : tie.Need-free-rows-requires
+free-rows-requires c κs = search needs
 
 same-length : tie.Need-same-length
 same-length c = search needs
@@ -34,4 +34,4 @@ returns-2 c =
 pub free-group-spec : {M : Type 1} → statement M
 free-group-spec =
     tie.close
-    (tie.spec gathered-requires free-entries-requires same-length returns same-length-2 returns-2)
+    (tie.spec gathered-requires free-rows-requires same-length returns same-length-2 returns-2)
