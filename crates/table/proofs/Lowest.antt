@@ -39,6 +39,13 @@ found-end f n k found e h = go (ltb found n) refl
     go true l = refl
     go false l = lowest-end f n k e ∙ (let g = ltb-false found n l in omega arith)
 
+pub found-same : (n found : ℕ) → found ≤ n → found ≡ cond (ltb found n) found n
+found-same n found h = go (ltb found n) refl
+  where
+    go : (x : Bool) → ltb found n ≡ x → found ≡ cond x found n
+    go true l = refl
+    go false l = let g = ltb-false found n l in omega arith
+
 pub found-most : (n k found next : ℕ) (taken : Bool) → k < n → next ≡ cond (ltb found n) found (cond taken k n) → next ≤ n
 found-most n k found next taken h e = go (ltb found n) refl taken e
   where

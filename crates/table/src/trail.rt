@@ -63,14 +63,11 @@ pub fn held_port(t: &[u8], c: Circuit, n: Node, vector: u16) -> Port
     Port(p)
 }
 
-// The first of some ports that was found, 8 standing for none: what was found before, or else a port that is taken.
-fn first_of(found: u16, taken: bool, p: u16) -> u16
-    ensures { λ r. ⌜ r ≡ cond (ltb found 8) found (cond taken p 8) ⌝ }
+// The first of two ports that were found, 8 standing for none.
+fn first_of(found: u16, p: u16) -> u16
+    ensures { λ r. ⌜ r ≡ cond (ltb found 8) found p ⌝ }
 {
-    if found < 8 {
-        return found;
-    }
-    if taken { p } else { 8 }
+    if found < 8 { found } else { p }
 }
 
 // The first hop of a circuit's path from its source: one whose way back it holds too, or else the lowest. 8 where it holds none.
@@ -81,10 +78,12 @@ pub fn first_hop(t: &[u8], c: Circuit, s: Node, vector: u16) -> Port
     let mut found: u16 = 8;
     let mut p: u16 = 0;
     while p < 8 {
-        if comes_back(t, c, s, vector, Port(p)) {
-            return Port(p);
+        if takes(t, c, s, vector, Port(p)) {
+            if comes_back(t, c, s, vector, Port(p)) {
+                return Port(p);
+            }
+            found = first_of(found, p);
         }
-        found = first_of(found, takes(t, c, s, vector, Port(p)), p);
         p += 1;
     }
     Port(found)

@@ -1,15 +1,16 @@
 -- `table::trail::first_hop` meets its contract: a port whose way back is held too, or else the lowest that was found.
 -- Assumes nothing.
 use mathlib.Core.Path.{_≡_, refl, _∙_, sym, ap}
-use mathlib.Core.Bool.{cond}
+use mathlib.Core.Logic.{⊎-elim}
+use mathlib.Core.Bool.{Bool, false, cond}
 use Prim.Native.Nat.{ℕ, _-_, _≤_}
 use native.Mathlib.Omega.{arith}
 use lib.Dec.{ltb}
 use borrow.Author.Needs.{needs}
 use Rattle.table.specs.View.{view, lowest}
 use Rattle.table.specs.Follow.{takes, comesBack}
-use Rattle.table.proofs.Lowest.{lowest-here, lowest-on, lowest-end, found-on, found-end, found-most}
-use Rattle.table.proofs.Follow.{first-back, first-taken}
+use Rattle.table.proofs.Lowest.{lowest-here, lowest-on, lowest-end, found-same, found-on, found-end, found-most}
+use Rattle.table.proofs.Follow.{first-back, first-taken, back-off}
 use Rattle.table.proofs.trail.first_hop.Statement.{statement}
 use Rattle.table.proofs.trail.first_hop.Tie as tie
 
@@ -24,20 +25,22 @@ abbrev μ-loop : tie.MeasureT-loop
 loop-holds : tie.Need-loop-holds Inv-loop μ-loop
 loop-holds c = (omega arith, omega arith, refl, refl)
 
+takes-requires : tie.Need-takes-requires Inv-loop μ-loop
+takes-requires c κs = search needs
+
 comes-back-requires : tie.Need-comes-back-requires Inv-loop μ-loop
 comes-back-requires c κs = search needs
 
 returns : tie.Need-returns Inv-loop μ-loop
 returns c =
-    let l = c .before .before .before in
+    let b = c .before in
+    let i = b .before .before .before in
+    let l = i .before in
     let s = l .before .before in
     let p = l .loop .p in
     let low : p ≡ lowest (comesBack (view (s .args .t .now)) (s .args .c .0) (s .args .s .0) (s .args .vector)) 8 0 =
-    sym (lowest-here _ 8 p (c .before .before .loop-test .taken) (sym (c .before .comes-back .ensures) ∙ c .if1 .taken)) ∙ l .loop .inv .2 in
-    first-back (view (s .args .t .now)) (s .args .c .0) (s .args .s .0) (s .args .vector) p low (c .before .before .loop-test .taken)
-
-takes-requires : tie.Need-takes-requires Inv-loop μ-loop
-takes-requires c κs = search needs
+    sym (lowest-here _ 8 p (i .loop-test .taken) (sym (b .comes-back .ensures) ∙ c .if2 .taken)) ∙ l .loop .inv .2 in
+    first-back (view (s .args .t .now)) (s .args .c .0) (s .args .s .0) (s .args .vector) p low (i .loop-test .taken)
 
 first-of-requires : tie.Need-first-of-requires Inv-loop μ-loop
 first-of-requires c κs = search needs
@@ -50,18 +53,23 @@ loop-less c = omega arith
 
 loop-again : tie.Need-loop-again Inv-loop μ-loop
 loop-again c =
-    let e = c .before .before in
-    let b = e .before in
-    let i = b .before in
+    let k = c .before in
+    let i = k .before in
     let l = i .before in
     let s = l .before .before in
+    let v = view (s .args .t .now) in
     let p = l .loop .p in
-    let test = takes (view (s .args .t .now)) (s .args .c .0) (s .args .s .0) (s .args .vector) in
-    let next : c .first-of .result ≡ cond (ltb (l .loop .found) 8) (l .loop .found) (cond (test p) p 8) = c .first-of .ensures ∙ ap (λ x. cond (ltb (l .loop .found) 8) (l .loop .found) (cond x p 8)) (c .before .takes .ensures) in (
+    let f = l .loop .found in
+    let test = takes v (s .args .c .0) (s .args .s .0) (s .args .vector) in
+    let back = comesBack v (s .args .c .0) (s .args .s .0) (s .args .vector) in
+    let next : c .if1 .found ≡ cond (ltb f 8) f (cond (test p) p 8) =
+    ⊎-elim (λ w. w .4 ∙ w .3 .ensures ∙ ap (λ (x : Bool). cond (ltb f 8) f (cond x p 8)) (sym (sym (k .takes .ensures) ∙ w .0 .taken)))
+    (λ w. w .1 ∙ found-same 8 f (l .loop .inv .1) ∙ ap (λ (x : Bool). cond (ltb f 8) f (cond x p 8)) (sym (sym (k .takes .ensures) ∙ w .0 .left))) (c .if1 .came) in
+    let none : back p ≡ false = ⊎-elim (λ w. sym (w .1 .ensures) ∙ w .2 .left) (λ w. sym (back-off v (s .args .c .0) (s .args .s .0) (s .args .vector) p (sym (k .takes .ensures) ∙ w .0 .left))) (c .if1 .came) in (
       omega arith,
-      found-most 8 p (l .loop .found) (c .first-of .result) (test p) (i .loop-test .taken) next,
-      sym (lowest-on _ 8 p (i .loop-test .taken) (sym (b .comes-back .ensures) ∙ e .if1 .left)) ∙ l .loop .inv .2,
-      sym (found-on test 8 p (l .loop .found) (c .first-of .result) (i .loop-test .taken) next) ∙ l .loop .inv .3,
+      found-most 8 p f (c .if1 .found) (test p) (i .loop-test .taken) next,
+      sym (lowest-on back 8 p (i .loop-test .taken) none) ∙ l .loop .inv .2,
+      sym (found-on test 8 p f (c .if1 .found) (i .loop-test .taken) next) ∙ l .loop .inv .3,
     )
 
 returns-2 : tie.Need-returns-2 Inv-loop μ-loop
@@ -79,9 +87,9 @@ first-hop-spec =
     Inv-loop
     μ-loop
     loop-holds
+    takes-requires
     comes-back-requires
     returns
-    takes-requires
     first-of-requires
     add-p
     loop-less

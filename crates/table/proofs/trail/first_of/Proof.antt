@@ -1,6 +1,6 @@
--- `table::trail::first_of` meets its contract: it is what was found, or the port that is taken, or 8.
+-- `table::trail::first_of` meets its contract: it is what was found, or else the port.
 -- Assumes nothing.
-use mathlib.Core.Path.{_≡_, sym, ap}
+use mathlib.Core.Path.{_≡_}
 use mathlib.Core.Bool.{cond}
 use lib.Dec.{ltb}
 use borrow.Author.Tests.{lt-ltb, le-ltb}
@@ -11,15 +11,11 @@ returns : tie.Need-returns
 returns c = let s = c .before in rw (lt-ltb (s .args .found) 8 (c .if1 .taken))
 
 returns-2 : tie.Need-returns-2
-returns-2 c = let s = c .before .before in rw (le-ltb (s .args .found) 8 (c .before .if1 .left), c .if2 .taken)
-
-returns-3 : tie.Need-returns-3
-returns-3 c = let s = c .before .before in rw (le-ltb (s .args .found) 8 (c .before .if1 .left), c .if2 .left)
+returns-2 c = let s = c .before in rw (le-ltb (s .args .found) 8 (c .if1 .left))
 
 pub first-of-spec : {M : Type 1} → statement M
 first-of-spec =
     tie.close
     (tie.spec
     returns
-    returns-2
-    returns-3)
+    returns-2)
