@@ -2,25 +2,25 @@
 -- Assumes nothing.
 use mathlib.Core.Path.{_≡_, refl, ap, ap₂, sym, _∙_, subst}
 use mathlib.Core.Logic.{⊎-elim, _≢_}
-use mathlib.Core.Bool.{Bool, true, false, cond, _&&_, _||_, not, and-false, and-true, or-assoc}
-use mathlib.Core.List.{List, [], _∷_, _++_, List·Memᴰ·append-cases}
+use mathlib.Core.Bool.{Bool, true, false, _&&_, _||_, not, and-false, and-true, or-assoc}
+use mathlib.Core.List.{List, [], _∷_}
 use Prim.Native.Nat.{ℕ, _+_, _-_, _*_, _^_, _≤_, _<_}
 use native.Mathlib.Omega.{arith}
-use lib.Dec.{eqb, ltb, leb, lit<}
+use lib.Dec.{eqb, ltb, lit<}
 use lib.ListN.{length, set}
 use borrow.Author.Tests.{ltb-true, ltb-false, lt-ltb, le-ltb, le-leb, lt-leb, eq-eqb, ne-eqb}
-use Rattle.common.specs.Lists.{_∈_, keep, from}
+use Rattle.common.specs.Lists.{from}
 use Rattle.common.proofs.Lists.{keep-same, keep-wider, keep-all, from-mem, length-from}
 use Rattle.cube.specs.Bits.{has}
 use Rattle.cube.specs.Cube.{NodeCount, next, sourceOf}
-use Rattle.cube.specs.Helical.{portsOf, firstOr}
-use Rattle.paths.specs.Network.{Network, Path, end, links, hasLink}
+use Rattle.cube.specs.Helical.{portsOf}
+use Rattle.paths.specs.Network.{Path, end, links, hasLink}
 use Rattle.paths.specs.CubeNetwork.{network}
 use Rattle.paths.specs.Trail.{hop, course, firstHops, trail}
 use Rattle.paths.proofs.Trail.{course-fuel}
 use Rattle.table.specs.Layout.{Within, dimensionAt}
 use Rattle.table.specs.View.{View}
-use Rattle.table.specs.Sound.{shapeOf, net, heldBy, endFor}
+use Rattle.table.specs.Sound.{net, heldBy, endFor}
 use Rattle.table.specs.SoundTest.{pathOf, isEmpty, channelsHeld, reaches, passes, Reached, linkTest, receiveTest, ReceivesPass, Receives, PathsMarked}
 use Rattle.table.specs.Marks.{marked, markPlace, Adds}
 use Rattle.table.specs.Follow.{followed, firstHop, Follows, HasSource}

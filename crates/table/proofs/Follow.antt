@@ -16,7 +16,7 @@ use Rattle.cube.specs.Bits.{bitAt, has}
 use Rattle.cube.specs.Cube.{next, Without}
 use Rattle.cube.specs.Helical.{portsOf, firstOr}
 use Rattle.cube.proofs.Order.{ports-mem, mem-ports, ports-without, length-ports}
-use Rattle.paths.specs.Network.{Network, Path, end, links, hasLink}
+use Rattle.paths.specs.Network.{end, links, hasLink}
 use Rattle.paths.specs.CubeNetwork.{network}
 use Rattle.paths.specs.Trail.{dropPort, course, firstHops}
 use Rattle.paths.proofs.Trail.{course-fuel, course-none, course-some, drop-shorter}

@@ -1,7 +1,7 @@
 -- Freeing the entries of a circuit: each byte afterwards, and what the table shows.
 -- Assumes nothing.
 use mathlib.Core.Path.{_≡_, refl, ap, sym, _∙_}
-use mathlib.Core.Logic.{inl, inr, _≢_}
+use mathlib.Core.Logic.{_≢_}
 use mathlib.Core.Bool.{Bool, true, false, cond, _&&_}
 use mathlib.Core.List.{List}
 use Prim.Native.Nat.{ℕ, zero, suc, _+_, _-_, _*_, _≤_, _<_}
@@ -12,8 +12,8 @@ use lib.Seq.{set-getD}
 use borrow.Author.Tests.{eq-eqb, ne-eqb}
 use Rattle.cube.specs.Bits.{has}
 use Rattle.table.specs.Layout.{inTable, dimensionAt, enablePlace, entryPlace, linkPart, receivePart, wordAt, putWord, enabledAt, entryAt, ownerAt, receiverAt, freeWord, freeFrom, freed}
-use Rattle.table.specs.View.{View, view, freeing}
-use Rattle.table.proofs.Views.{byte-apart, word-same, word-apart, inside}
+use Rattle.table.specs.View.{view, freeing}
+use Rattle.table.proofs.Views.{byte-apart, word-same, inside}
 
 -- one entry
 module _ (c : ℕ) (b : List ℕ) (i : ℕ) where

@@ -2,24 +2,23 @@
 -- Assumes nothing.
 use mathlib.Core.Path.{_≡_, refl, ap, sym, _∙_, subst}
 use mathlib.Core.Logic.{_⊎_, inl, inr, ⊎-elim, _≢_}
-use mathlib.Core.Bool.{Bool, true, false, _&&_, _||_, not, or-assoc, or-false, false≢true}
+use mathlib.Core.Bool.{Bool, true, false, _&&_, _||_, not, or-false, false≢true}
 use mathlib.Core.List.{List}
 use Prim.Native.Nat.{ℕ, _+_, _*_, _^_, _≤_, _<_}
 use native.Mathlib.Omega.{arith}
 use lib.Dec.{eqb, ltb, leb}
 use lib.ListN.{length, getD, set, replicate, getD-replicate}
 use lib.Seq.{getD-set-same, getD-set-other}
-use borrow.Author.Tests.{eqb-true, eq-eqb, ne-eqb, ltb-true, ltb-false}
+use borrow.Author.Tests.{eqb-true, eq-eqb, ltb-true, ltb-false}
 use Rattle.common.proofs.Tests.{same?, clash, is-false}
 use Rattle.cube.specs.Cube.{sourceOf}
-use Rattle.paths.specs.Network.{Path, end, links, hasLink}
-use Rattle.paths.specs.CubeNetwork.{network}
+use Rattle.paths.specs.Network.{links}
 use Rattle.paths.proofs.Links.{On}
 use Rattle.paths.proofs.Trail.{trail-owned}
-use Rattle.table.specs.View.{View, view}
+use Rattle.table.specs.View.{View}
 use Rattle.table.specs.Sound.{shapeOf, net, heldBy, endFor}
 use Rattle.table.specs.Marks.{marked, markPlace, Adds}
-use Rattle.table.specs.SoundTest.{pathOf, isEmpty, channelsHeld, reaches, receiveTest, passes, ReceivesPass, Fair, Covers, Received, Receives, Reached, PathsMarked}
+use Rattle.table.specs.SoundTest.{pathOf, isEmpty, channelsHeld, reaches, receiveTest, passes, ReceivesPass, Fair, Covers, Received, Receives, PathsMarked}
 use Rattle.table.proofs.Soundness.{Framed, both, and, either, or-left, or-right, true-link, kept-one}
 
 -- one link marked

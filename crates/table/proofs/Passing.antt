@@ -1,15 +1,14 @@
 -- The test of a whole table from the tests of its nodes, and what its answer says.
 -- Assumes nothing.
-use mathlib.Core.Path.{_≡_, refl, sym, _∙_, ap, subst}
+use mathlib.Core.Path.{_≡_, refl, sym, _∙_, subst}
 use mathlib.Core.Bool.{Bool, true, false, cond, _&&_, not, and-false, and-eq-true-iff}
 use mathlib.Core.List.{List, [], _∷_}
 use mathlib.Core.Logic.{_≢_, ⊎-elim}
 use Prim.Native.Nat.{ℕ, _+_, _^_, _≤_, _<_}
 use native.Mathlib.Omega.{arith}
-use lib.Dec.{eqb, ltb, leb}
+use lib.Dec.{ltb, leb}
 use lib.ListN.{length}
-use lib.Pow.{pow-pos}
-use borrow.Author.Tests.{lt-ltb, le-ltb, ltb-true, ltb-false, eq-eqb, ne-eqb, le-leb, lt-leb}
+use borrow.Author.Tests.{ltb-true, ltb-false, eq-eqb, ne-eqb, le-leb, lt-leb}
 use Rattle.common.specs.Decides.{Decides}
 use Rattle.common.specs.Tests.{refusal, test}
 use Rattle.common.proofs.Tests.{clash, is-false, both-below, refused, passed, accepted}
@@ -17,12 +16,12 @@ use Rattle.common.specs.Lists.{every}
 use Rattle.common.proofs.Every.{at, all}
 use Rattle.cube.specs.Bits.{has}
 use Rattle.cube.proofs.Bits.{high-has}
-use Rattle.table.specs.Layout.{dimensionAt, enabledAt, enableBits, EnablesFit, enablePlace, ownerAt, receiverAt, entryAt, inTable, tableLength}
+use Rattle.table.specs.Layout.{dimensionAt, enabledAt, enableBits, EnablesFit, ownerAt, receiverAt, entryAt, inTable, tableLength}
 use Rattle.table.specs.View.{View, view}
 use Rattle.table.specs.Sound.{Sound}
 use Rattle.table.specs.SoundTest.{linkTest, receiveTest, soundTest, LinksPass, ReceivesPass, Received, tableTests, TableAnswer}
 use Rattle.table.proofs.Marks.{below-or, received-free}
-use Rattle.table.proofs.Soundness.{Framed, EntriesPass}
+use Rattle.table.proofs.Soundness.{Framed}
 use Rattle.table.proofs.Soundness.{sound-entries, entries-sound}
 use Rattle.table.proofs.Examine.{link-free, link-held-outside, receive-free, receive-absent}
 

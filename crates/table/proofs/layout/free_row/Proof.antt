@@ -1,7 +1,6 @@
 -- `table::layout::free_row` meets its contract: of bytes that are zero nothing is freed.
 -- Assumes nothing.
 use mathlib.Core.Path.{_≡_, sym}
-use Prim.Native.Nat.{ℕ}
 use native.Mathlib.Omega.{arith}
 use Rattle.table.proofs.Gathered.{gathered-zero}
 use Rattle.table.proofs.Freed.{free-none}

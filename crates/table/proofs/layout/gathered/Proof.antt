@@ -1,7 +1,7 @@
 -- `table::layout::gathered` meets its contract: the bytes before i are gathered.
 -- Assumes nothing.
 use mathlib.Core.Path.{_≡_, subst}
-use Prim.Native.Nat.{ℕ, _+_, _-_, _≤_}
+use Prim.Native.Nat.{ℕ, _-_, _≤_}
 use native.Mathlib.Omega.{arith}
 use Rattle.table.specs.Layout.{Gathered}
 use Rattle.table.proofs.Gathered.{gathered-none, gathered-more}

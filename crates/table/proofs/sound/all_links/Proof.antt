@@ -1,7 +1,7 @@
 -- `table::sound::all_links` meets its contract: every group is tried, up to one that fails.
 -- Assumes nothing.
 use mathlib.Core.Path.{_≡_, subst}
-use Prim.Native.Nat.{ℕ, _+_, _-_, _*_, _≤_, _<_}
+use Prim.Native.Nat.{ℕ, _+_, _-_, _*_, _≤_}
 use native.Mathlib.Omega.{arith}
 use Rattle.common.proofs.Tests.{decided-yes, decided-no}
 use Rattle.table.specs.View.{view}

@@ -1,9 +1,8 @@
 -- `table::sound::all_receives` meets its contract: every group is tried, up to one that fails.
 -- Assumes nothing.
 use mathlib.Core.Path.{_≡_, sym, _∙_, subst}
-use Prim.Native.Nat.{ℕ, _+_, _-_, _*_, _≤_, _<_}
+use Prim.Native.Nat.{ℕ, _+_, _-_, _*_, _≤_}
 use native.Mathlib.Omega.{arith}
-use lib.Dec.{lit<}
 use lib.ListN.{length}
 use Rattle.table.specs.View.{view}
 use Rattle.table.specs.SoundTest.{Received}

@@ -1,6 +1,5 @@
 -- `table::sound::entries_sound` meets its contract: once every receive channel has passed, its marks decide for the links.
 -- Assumes nothing.
-use mathlib.Core.Path.{_≡_, _∙_}
 use Rattle.table.specs.View.{view}
 use Rattle.table.proofs.Marks.{paths-marked}
 use Rattle.table.proofs.Passing.{links-decide, some-fails}

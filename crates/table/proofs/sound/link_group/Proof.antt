@@ -1,6 +1,5 @@
 -- `table::sound::link_group` meets its contract: an idle group passes; any other where all its nodes do.
 -- Assumes nothing.
-use mathlib.Core.Path.{_≡_}
 use Prim.Native.Nat.{_+_}
 use native.Mathlib.Omega.{arith}
 use Rattle.common.proofs.Tests.{decided-yes}

@@ -1,6 +1,6 @@
 -- `table::sound::link_sound` meets its contract: a link is off and free, or free, or on the path of a circuit that stands.
 -- Assumes nothing.
-use mathlib.Core.Path.{_≡_, sym, _∙_}
+use mathlib.Core.Path.{sym, _∙_}
 use Rattle.table.specs.View.{view}
 use Rattle.table.proofs.Examine.{link-enabled-outside, link-held-outside, link-free, link-disabled, link-marked}
 use Rattle.table.proofs.Passing.{view-framed}

@@ -1,7 +1,7 @@
 -- `table::sound::links_from` meets its contract: every node of the group is tried, up to one that fails.
 -- Assumes nothing.
-use mathlib.Core.Path.{_≡_, sym, _∙_, subst}
-use Prim.Native.Nat.{ℕ, _+_, _-_, _≤_, _<_}
+use mathlib.Core.Path.{_≡_, subst}
+use Prim.Native.Nat.{ℕ, _+_, _-_, _≤_}
 use native.Mathlib.Omega.{arith}
 use Rattle.common.proofs.Tests.{decided-yes, decided-no}
 use Rattle.table.specs.View.{view}

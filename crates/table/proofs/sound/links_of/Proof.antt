@@ -1,6 +1,5 @@
 -- `table::sound::links_of` meets its contract: an idle node passes; any other where all its links do.
 -- Assumes nothing.
-use mathlib.Core.Path.{_≡_}
 use Prim.Native.Nat.{_+_}
 use native.Mathlib.Omega.{arith}
 use Rattle.common.proofs.Tests.{decided-yes}

@@ -1,6 +1,5 @@
 -- `table::sound::receive_group` meets its contract: a group of which nothing is held passes; any other where all its nodes do.
 -- Assumes nothing.
-use mathlib.Core.Path.{_≡_}
 use Prim.Native.Nat.{_+_}
 use Rattle.table.specs.View.{view}
 use Rattle.table.proofs.Marks.{received-yes}

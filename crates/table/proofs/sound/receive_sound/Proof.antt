@@ -1,6 +1,5 @@
 -- `table::sound::receive_sound` meets its contract: a receive channel is free, or the end of the path of a circuit that stands.
 -- Assumes nothing.
-use mathlib.Core.Path.{_≡_}
 use native.Mathlib.Omega.{arith}
 use Rattle.table.specs.View.{view}
 use Rattle.table.proofs.Examine.{channel-free, channel-absent, channel-held}

@@ -1,6 +1,5 @@
 -- `table::sound::receives_of` meets its contract: a node of which nothing is held passes; any other where all its receive channels do.
 -- Assumes nothing.
-use mathlib.Core.Path.{_≡_}
 use Prim.Native.Nat.{_+_}
 use Rattle.table.specs.View.{view}
 use Rattle.table.proofs.Marks.{received-yes}

@@ -1,8 +1,5 @@
 -- `table::trail::first_of` meets its contract: it is what was found, or else the port.
 -- Assumes nothing.
-use mathlib.Core.Path.{_≡_}
-use mathlib.Core.Bool.{cond}
-use lib.Dec.{ltb}
 use borrow.Author.Tests.{lt-ltb, le-ltb}
 use Rattle.table.proofs.trail.first_of.Statement.{statement}
 use Rattle.table.proofs.trail.first_of.Tie as tie

@@ -1,6 +1,6 @@
 -- `table::trail::mark` meets its contract: the link has its own place.
 -- Assumes nothing.
-use mathlib.Core.Path.{_≡_, ap}
+use mathlib.Core.Path.{ap}
 use Prim.Native.Nat.{ℕ}
 use lib.ListN.{set}
 use borrow.Author.Needs.{needs}
