@@ -9,3 +9,5 @@ pub mod Rows
 pub mod Answers
 pub mod Remaining
 pub mod Theorems
+pub mod Agreeing
+pub mod ReadBack

@@ -1,39 +1,32 @@
 -- The sentences of document 01 about the printed list, as theorems over its definition.
 -- Assumes nothing.
-use mathlib.Core.Path.{_≡_, refl, ap, ap₂, sym, _∙_, fun-ext}
+use mathlib.Core.Path.{_≡_, refl, ap, ap₂, sym, _∙_}
 use mathlib.Core.Logic.{_≢_, _⊎_, inl, inr, ⊎-elim, _↔_}
-use mathlib.Core.Bool.{Bool, true, false, cond, not, _||_, and-eq-true-iff}
-use mathlib.Core.List.{List, [], _∷_, _++_, map, append-assoc}
+use mathlib.Core.Bool.{Bool, true, false, cond, not, _||_}
+use mathlib.Core.List.{List, [], _∷_, _++_, map, append-assoc, append-nil}
 use mathlib.Core.Option.{Option, none, some}
-use Prim.Native.Nat.{ℕ, zero, suc, _+_, _-_, _*_, _/_, _%_, _≤_, _<_}
+use Prim.Native.Nat.{ℕ, zero, suc, _+_, _-_, _/_, _%_, _≤_, _<_}
 use native.Mathlib.Omega.{arith}
 use lib.Dec.{eqb, ltb, lit<, lit≤}
-use lib.ListN.{length, getD, take, length-map}
+use lib.ListN.{length, length-map}
 use borrow.Author.Needs.{needs}
-use borrow.Author.Tests.{eq-eqb, ne-eqb, eqb-true, le-leb, le-ltb}
+use borrow.Author.Tests.{eq-eqb, ne-eqb, eqb-true, le-ltb}
 use Rattle.common.specs.Lists.{from}
 use Rattle.common.specs.Tests.{Test, test, refusal}
 use Rattle.common.proofs.Tests.{same?, refused, passed, accepted as tests-accepted}
 use Rattle.paths.specs.Send.{Answer, Outcome, acknowledged, route-rejected, receive-rejected, answered as answeredAs}
-use Rattle.table.specs.Layout.{made}
 use Rattle.table.specs.View.{view}
 use Rattle.table.specs.SoundTest.{tableTests}
-use Rattle.ownership.specs.Calls.{Call, making, blocking, unblocking, opening, closing, tracing, Given, callTests}
+use Rattle.ownership.specs.Calls.{Call, making, blocking, unblocking, opening, closing, tracing, callTests}
 use Rattle.ownership.specs.OnTable.{lentTests, stoppedAt, sendIn, carriedOut, called}
-use Rattle.ownership.specs.History.{History, told}
-use Rattle.ownership.specs.Lists.{Covered}
-use Rattle.ownership.proofs.Agreement.{covered-step}
 use Rattle.ownership.proofs.Carried.{called-carried, called-stopped}
-use Rattle.ownership.proofs.Followed.{made-valid, made-view}
-use Rattle.ownership.proofs.Range.{made-bytes}
-use Rattle.table.proofs.Made.{view-made}
-use Rattle.listing.specs.Text.{newline, space, dash, digit, isDigit, decimal, allDigits, value, leadingZero, largest, number}
+use Rattle.listing.specs.Text.{newline, space, dash, digit, decimal, number}
 use Rattle.listing.specs.Lines.{onFirst, cut, lines, fields}
 use Rattle.listing.specs.Line.{asks}
 use Rattle.listing.specs.Row.{Field, nothing, shows, letter, path, inTurn, bytesOf, Row, inOrder, spaced, ended, rowText, rowsText}
-use Rattle.listing.specs.Listing.{accepted, sent, letterOf, nodeOf, channelOf, receiveOf, scoutsOf, portsOf, callRow, unreadable, Made, traced, rowFor, behind, rows, headerWords, header, inputLimit, tooLong, empty, listing, onTable, inHistory, printed, recorded}
+use Rattle.listing.specs.Listing.{accepted, sent, letterOf, nodeOf, channelOf, receiveOf, scoutsOf, portsOf, callRow, unreadable, Made, traced, rowFor, behind, rows, headerWords, header, inputLimit, empty, listing, onTable, printed}
 use Rattle.listing.specs.Sentences.{Above, AllAbove, Shown, IsOpen, WasSent}
-use Rattle.listing.proofs.Digits.{decimal-short, decimal-long, below-ten}
+use Rattle.listing.proofs.Asking.{short-line}
 
 -- texts above a byte
 above-append : (b : ℕ) (xs ys : List ℕ) → Above b xs → Above b ys → Above b (xs ++ ys)
@@ -323,103 +316,6 @@ scouts-exactly (opening s c t y v) x = (
 scouts-exactly (closing s c) x = ((λ p. absurd p), (λ p. p .0))
 scouts-exactly (tracing s c buffer) x = ((λ p. absurd p), (λ p. p .0))
 
--- The list says what the ownership history says: on a table that a history covers, the printed lines are those of the history.
-traced-alike : (b : List ℕ) (h : History) → Covered b h → (n c : ℕ) → traced onTable b n c ≡ traced inHistory h n c
-unfolding traced onTable inHistory
-traced-alike b h k n c =
-    ap (λ (g : Given). take (g .answer .hops) (g .buffer)) (covered-step b h k (tracing n c empty) .given)
-
-row-alike : (b : List ℕ) (h : History) → Covered b h → (n : ℕ) (a : Option Call) → rowFor onTable b n a ≡ rowFor inHistory h n a
-unfolding rowFor onTable inHistory
-row-alike b h k n none = refl
-row-alike b h k n (some a) =
-    let s = covered-step b h k a in
-    ap₂ (λ (x : Answer) (w : ℕ → ℕ → List ℕ). callRow n a x w) (ap (λ (g : Given). g .answer) (s .given)) (fun-ext (λ m. fun-ext (λ c. traced-alike (called b a .table) (told h a .history) (s .covered) m c)))
-
-covered-behind : (b : List ℕ) (h : History) → Covered b h → (a : Option Call) → Covered (behind onTable b a) (behind inHistory h a)
-unfolding behind onTable inHistory
-covered-behind b h k none = k
-covered-behind b h k (some a) = covered-step b h k a .covered
-
-rows-alike : (ls : List (List ℕ)) (b : List ℕ) (h : History) (n : ℕ) → Covered b h → rows onTable b n ls ≡ rows inHistory h n ls
-unfolding rows
-rows-alike [] b h n k = refl
-rows-alike (l ∷ ls) b h n k = ap₂ _∷_ (row-alike b h k n (asks l)) (rows-alike ls (behind onTable b (asks l)) (behind inHistory h (asks l)) (suc n) (covered-behind b h k (asks l)))
-
-pub list-alike : (b : List ℕ) (h : History) (input : List ℕ) → Covered b h → listing onTable b input ≡ listing inHistory h input
-unfolding listing
-list-alike b h input k = ap (λ (rs : List Row). cond (ltb inputLimit (length input)) tooLong (header ++ rowsText rs)) (rows-alike (lines input) b h 1 k)
-
-start-covered : Covered (made 1) (record { dimension = 1; blocked = []; circuits = [] })
-start-covered =
-    let b = made-bytes 1 (lit≤ tt) in
-    record { length = b .long; bytes = b .small; shows = view-made 1 (lit≤ tt) ∙ sym (made-view 1); valid = made-valid 1 (lit≤ tt) (lit≤ tt) }
-
--- Demand 3, of the list: what is printed is what the ownership history says.
-pub prints-history : (input : List ℕ) → printed input ≡ recorded input
-unfolding printed recorded
-prints-history input = list-alike (made 1) (record { dimension = 1; blocked = []; circuits = [] }) input start-covered
-
--- Numbers as they are printed read back.
-value-behind : (xs : List ℕ) (n x : ℕ) → value n (xs ++ x ∷ []) ≡ 10 * value n xs + (x - 48)
-unfolding value
-value-behind [] n x = refl
-value-behind (y ∷ xs) n x = value-behind xs (10 * n + (y - 48)) x
-
-digits-behind : (xs : List ℕ) (x : ℕ) → allDigits xs ≡ true → 48 ≤ x → x ≤ 57 → allDigits (xs ++ x ∷ []) ≡ true
-unfolding allDigits
-digits-behind [] x e h l = rw (le-leb 48 x h, le-leb x 57 l)
-digits-behind (y ∷ xs) x e h l =
-    let r = and-eq-true-iff (isDigit y) (allDigits xs) .0 e in rw (r .0) (digits-behind xs x (r .1) h l)
-
--- what holds of the digits of n: they are digits, they say n, and their first is a zero only where n is
-record Says (n : ℕ) (xs : List ℕ) : Type 0 where
-  some-digit : 0 < length xs
-  all-digits : allDigits xs ≡ true
-  says : value 0 xs ≡ n
-  first : 0 < n → getD xs 0 0 ≢ 48
-
-says-digit : (n : ℕ) → n < 10 → Says n (digit n ∷ [])
-unfolding allDigits value
-says-digit n h = record { some-digit = omega arith; all-digits = rw (le-leb 48 (48 + n) (omega arith), le-leb (48 + n) 57 (omega arith)); says = omega arith; first = λ p e. omega arith }
-
-says-behind : (n : ℕ) (xs : List ℕ) → 10 ≤ n → Says (n / 10) xs → Says n (xs ++ (digit (n % 10) ∷ []))
-says-behind n [] h s = absurd (let p = s .some-digit in omega arith)
-says-behind n (y ∷ xs) h s =
-    record {
-      some-digit = omega arith;
-      all-digits = digits-behind (y ∷ xs) (digit (n % 10)) (s .all-digits) (omega arith) (omega arith);
-      says = value-behind (y ∷ xs) 0 (digit (n % 10)) ∙ (let e = s .says in omega arith);
-      first = λ p. s .first (omega arith);
-    }
-
-says-decimal : (k n : ℕ) → n ≤ k → Says n (decimal n)
-says-decimal zero n h = rw (decimal-short n (omega arith)) (says-digit n (omega arith))
-says-decimal (suc k) n h = go (below-ten n) (says-decimal k (n / 10))
-  where
-    go : (n < 10) ⊎ (10 ≤ n) → (n / 10 ≤ k → Says (n / 10) (decimal (n / 10))) → Says n (decimal n)
-    go (inl s) ih = rw (decimal-short n s) (says-digit n s)
-    go (inr l) ih = rw (decimal-long n l) (says-behind n (decimal (n / 10)) l (ih (omega arith)))
-
-no-zero : (xs : List ℕ) → getD xs 0 0 ≢ 48 → leadingZero xs ≡ false
-unfolding leadingZero
-no-zero [] h = refl
-no-zero (x ∷ []) h = refl
-no-zero (x ∷ y ∷ xs) h = ne-eqb x 48 h
-
-reads : (xs : List ℕ) (n : ℕ) → Says n xs → leadingZero xs ≡ false → n ≤ largest → number xs ≡ some n
-unfolding number
-reads [] n s z h = absurd (let p = s .some-digit in omega arith)
-reads (x ∷ xs) n s z h = rw (s .all-digits, z, s .says, le-leb n largest h)
-
--- "Numbers are decimal, 0 to 65,535": printing such a number and reading it gives it back.
-pub reads-back : (n : ℕ) → n ≤ largest → number (decimal n) ≡ some n
-reads-back n h = reads (decimal n) n (says-decimal n n (omega arith)) (go (below-ten n)) h
-  where
-    go : (n < 10) ⊎ (10 ≤ n) → leadingZero (decimal n) ≡ false
-    go (inl s) = rw (decimal-short n s) (unfold leadingZero in refl)
-    go (inr l) = no-zero (decimal n) (says-decimal n n (omega arith) .first (omega arith))
-
 -- No call answers 20: only a line that cannot be read does.
 other : (b : Bool) (n : ℕ) (ts : List Test) → n < 20 → (refusal ts < 20) → refusal (test b n ∷ ts) < 20
 other true n ts h k = rw (refused n ts refl) h
@@ -474,3 +370,11 @@ twenty b n l e = go (asks l) e
     go : (a : Option Call) → rowFor onTable b n a .answer ≡ shows 20 → rowFor onTable b n a ≡ unreadable n
     go none k = unfold rowFor in refl
     go (some a) k = absurd (let p : called b a .given .answer .number ≡ 20 = unfold rowFor callRow onTable shows-number in ap shows-number k in let q = call-below b a in omega arith)
+
+-- "An empty line is unreadable"; "Empty input prints the header alone."
+pub empty-line : asks [] ≡ none
+empty-line = short-line [] (lit< tt)
+
+pub empty-input : printed [] ≡ header
+unfolding printed listing lines cut rows rowsText
+empty-input = append-nil header
