@@ -4,7 +4,7 @@ use mathlib.Core.Path.{_≡_, refl, ap, ap₂, sym, _∙_, fun-ext}
 use mathlib.Core.Bool.{cond}
 use mathlib.Core.List.{List, [], _∷_, _++_}
 use mathlib.Core.Option.{Option, none, some}
-use Prim.Native.Nat.{ℕ, suc, _+_, _-_, _≤_}
+use Prim.Native.Nat.{ℕ, suc}
 use lib.Dec.{ltb, lit≤}
 use lib.ListN.{length, take}
 use Rattle.paths.specs.Send.{Answer}
@@ -19,7 +19,7 @@ use Rattle.ownership.proofs.Range.{made-bytes}
 use Rattle.table.proofs.Made.{view-made}
 use Rattle.listing.specs.Lines.{lines}
 use Rattle.listing.specs.Line.{asks}
-use Rattle.listing.specs.Row.{nothing, shows, Row, rowsText}
+use Rattle.listing.specs.Row.{Row, rowsText}
 use Rattle.listing.specs.Listing.{callRow, traced, rowFor, behind, rows, header, inputLimit, tooLong, empty, listing, onTable, inHistory, printed, recorded}
 
 -- The list says what the ownership history says: on a table that a history covers, the printed lines are those of the history.
