@@ -17,6 +17,7 @@ use Rattle.ownership.proofs.Agreement.{covered-step}
 use Rattle.ownership.proofs.Followed.{made-valid, made-view}
 use Rattle.ownership.proofs.Range.{made-bytes}
 use Rattle.table.proofs.Made.{view-made}
+use Rattle.listing.specs.Examples.{input, output, printed-example}
 use Rattle.listing.specs.Lines.{lines}
 use Rattle.listing.specs.Line.{asks}
 use Rattle.listing.specs.Row.{Row, rowsText}
@@ -58,3 +59,7 @@ start-covered =
 pub prints-history : (input : List ℕ) → printed input ≡ recorded input
 unfolding printed recorded
 prints-history input = list-alike (made 1) (record { dimension = 1; blocked = []; circuits = [] }) input start-covered
+
+-- So the printed example of document 01 is what the function writes.
+pub example-printed : printed input ≡ output
+example-printed = prints-history input ∙ printed-example

@@ -10,4 +10,5 @@ pub mod Answers
 pub mod Remaining
 pub mod Theorems
 pub mod Agreeing
+pub mod ShownPath
 pub mod ReadBack

@@ -203,7 +203,16 @@ row-fields : (r : Row) → AllAbove space (eight r) → fields (spaced (eight r)
 unfolding inOrder
 row-fields r p = fields-spaced _ _ p
 
--- "Every printed line ends in a newline"
+-- a row has eight fields
+pub eight-long : (r : Row) → length (eight r) ≡ 8
+unfolding inOrder
+eight-long r = refl
+
+-- "Every printed line ends in a newline": its text is its eight fields with one space between, and a newline
+pub row-ends : (r : Row) → rowText r ≡ spaced (eight r) ++ newline ∷ []
+unfolding rowText ended
+row-ends r = refl
+
 row-line : (r : Row) (rest : List ℕ) → AllAbove space (eight r) → lines (rowText r ++ rest) ≡ spaced (eight r) ∷ lines rest
 unfolding rowText ended lines
 row-line r rest p = ap (cut newline []) (append-assoc (spaced (eight r)) (newline ∷ []) rest) ∙ cut-at newline 31 [] (spaced (eight r)) rest (lit≤ tt) (above-spaced (eight r) p)
@@ -226,8 +235,8 @@ module _ {S : Type 0} (makes : S → Call → Made S) where
   above-row s n none = above-unreadable n
   above-row s n (some a) = above-eight n a (makes s a .given .answer) (traced makes (makes s a .state))
 
-  -- Every printed line has eight fields with one space between, and ends in a newline: cut at the newlines and then at the spaces, the printed lines are
-  -- the eight fields of each row, no more and no fewer.
+  -- Every printed line has eight fields with one space between: cut at the newlines and then at the spaces, the printed lines are the eight fields of
+  -- each row, no more and no fewer. (That each ends in a newline is `row-ends`.)
   pub eight-fields : (s : S) (n : ℕ) (ls : List (List ℕ)) → map fields (lines (rowsText (rows makes s n ls))) ≡ map eight (rows makes s n ls)
   unfolding rows rowsText
   eight-fields s n [] = unfold lines cut in refl
@@ -251,6 +260,10 @@ module _ {S : Type 0} (makes : S → Call → Made S) where
       line-is : (a : Option Call) → rowFor makes s n a .line ≡ shows n
       line-is none = unfold rowFor unreadable in refl
       line-is (some a) = unfold rowFor callRow in refl
+
+  -- the lines of the whole list count from 1
+  pub counts-from-one : (s : S) (input : List ℕ) → map (λ (r : Row). r .line) (rows makes s 1 (lines input)) ≡ map shows (from 1 (length (lines input)))
+  counts-from-one s input = counts-lines s 1 (lines input)
 
   -- The whole text of an input that is not too long: the header's eight words, and behind them the eight fields of each row.
   pub whole-list : (s : S) (input : List ℕ) → length input ≤ inputLimit → map fields (lines (listing makes s input)) ≡ headerWords ∷ map eight (rows makes s 1 (lines input))
@@ -280,6 +293,14 @@ module _ (s c t y v : ℕ) (x : Answer) (way : ℕ → ℕ → List ℕ) (refuse
   pub refused-ports : portsOf (opening s c t y v) x way ≡ nothing
   unfolding portsOf
   refused-ports = rw (ne-eqb (x .number) 0 refused)
+
+-- the same of the line that is printed for it
+module _ {S : Type 0} (makes : S → Call → Made S) (state : S) (line s c t y v : ℕ) (refused : makes state (opening s c t y v) .given .answer .number ≢ 0) where
+  pub refused-row : (rowFor makes state line (some (opening s c t y v)) .receive ≡ nothing) × (rowFor makes state line (some (opening s c t y v)) .ports ≡ nothing)
+  unfolding rowFor callRow
+  refused-row =
+      let x = makes state (opening s c t y v) .given .answer in
+      (refused-receive s c t y v x (λ n k. []) refused, refused-ports s c t y v x (traced makes (makes state (opening s c t y v) .state)) refused)
 
 -- "scouts (S answered 0, 10 or 11)": exactly then the field shows a number
 sent-shown : (b : Bool) (n : ℕ) → Shown (cond b (shows n) nothing) → b ≡ true
@@ -315,6 +336,11 @@ scouts-exactly (opening s c t y v) x = (
 )
 scouts-exactly (closing s c) x = ((λ p. absurd p), (λ p. p .0))
 scouts-exactly (tracing s c buffer) x = ((λ p. absurd p), (λ p. p .0))
+
+-- the same of the line that is printed: of one that cannot be read it shows none
+pub scouts-row : {S : Type 0} (makes : S → Call → Made S) (state : S) (line : ℕ) (a : Call) → Shown (rowFor makes state line (some a) .scouts) ↔ WasSent a (makes state a .given .answer)
+unfolding rowFor callRow
+scouts-row makes state line a = scouts-exactly a (makes state a .given .answer)
 
 -- No call answers 20: only a line that cannot be read does.
 other : (b : Bool) (n : ℕ) (ts : List Test) → n < 20 → (refusal ts < 20) → refusal (test b n ∷ ts) < 20

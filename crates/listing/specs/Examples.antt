@@ -21,7 +21,7 @@ use Rattle.listing.specs.Line.{inFront, numbers, one, two, five, byLette
 use Rattle.listing.specs.Row.{inTurn, bytesOf, inOrder, spaced, ended, rowText, rowsText}
 use Rattle.listing.specs.Listing.{letterOf, nodeOf, channelOf, receiveOf, scoutsOf, portsOf, callRow, unreadable, traced, rowFor, behind, rows, header, tooLong, listing, inHistory, recorded}
 
-abbrev input : List ℕ
+abbrev pub input : List ℕ
 input =
     -- F 3
     70 ∷ 32 ∷ 51 ∷ 10 ∷
@@ -37,7 +37,7 @@ input =
     67 ∷ 32 ∷ 48 ∷ 32 ∷ 48 ∷ 10 ∷
     []
 
-abbrev output : List ℕ
+abbrev pub output : List ℕ
 output =
     -- line call answer node channel receive scouts ports
     108 ∷ 105 ∷ 110 ∷ 101 ∷ 32 ∷ 99 ∷ 97 ∷ 108 ∷ 108 ∷ 32 ∷ 97 ∷ 110 ∷ 115 ∷ 119 ∷ 101 ∷ 114 ∷ 32 ∷ 110 ∷ 111 ∷ 100 ∷ 101 ∷ 32 ∷ 99 ∷ 104 ∷ 97 ∷ 110 ∷ 110 ∷ 101 ∷ 108 ∷ 32 ∷ 114 ∷ 101 ∷ 99 ∷ 101 ∷ 105 ∷ 118 ∷ 101 ∷ 32 ∷ 115 ∷ 99 ∷ 111 ∷ 117 ∷ 116 ∷ 115 ∷ 32 ∷ 112 ∷ 111 ∷ 114 ∷ 116 ∷ 115 ∷ 10 ∷
