@@ -326,13 +326,18 @@ maze_opened ref_open(uint8_t *table, size_t table_len, uint16_t node, uint16_t c
     return answer;
 }
 
+/* The tests that close and trace share. */
+static void begin_circuit(struct call *call, const uint8_t *table, size_t table_len, uint16_t node, uint16_t channel, unsigned circuit) {
+    begin(call, table, table_len);
+    test_node(call, node);
+    test(call, channel > 7, MAZE_BAD_CHANNEL);
+    if (call->number == MAZE_ACCEPTED) test(call, !is_open(&call->cube, circuit), MAZE_NO_CIRCUIT);
+}
+
 uint16_t ref_close(uint8_t *table, size_t table_len, uint16_t node, uint16_t channel) {
     struct call call;
     unsigned circuit = 8u * node + channel + 1u;
-    begin(&call, table, table_len);
-    test_node(&call, node);
-    test(&call, channel > 7, MAZE_BAD_CHANNEL);
-    if (call.number == MAZE_ACCEPTED) test(&call, !is_open(&call.cube, circuit), MAZE_NO_CIRCUIT);
+    begin_circuit(&call, table, table_len, node, channel, circuit);
     if (call.number == MAZE_ACCEPTED) {
         for (unsigned n = 0; n < NODES; n++)
             for (unsigned slot = 0; slot < SLOTS; slot++) {
@@ -369,10 +374,7 @@ maze_traced ref_trace(const uint8_t *table, size_t table_len, uint16_t node, uin
     maze_traced answer = {0, 0};
     struct call call;
     unsigned circuit = 8u * node + channel + 1u;
-    begin(&call, table, table_len);
-    test_node(&call, node);
-    test(&call, channel > 7, MAZE_BAD_CHANNEL);
-    if (call.number == MAZE_ACCEPTED) test(&call, !is_open(&call.cube, circuit), MAZE_NO_CIRCUIT);
+    begin_circuit(&call, table, table_len, node, channel, circuit);
     test(&call, buffer_len < 9, MAZE_BUFFER_SHORT);
     if (call.number == MAZE_ACCEPTED) {
         struct path path = path_of(&call.cube, node, circuit);
