@@ -1,14 +1,12 @@
 -- The answers of reading and writing, by what the code's branches have decided.
 -- Assumes nothing.
-use mathlib.Core.Path.{_≡_, refl, ap, sym, _∙_}
-use mathlib.Core.Logic.{_≢_}
-use mathlib.Core.Bool.{Bool, true, false, cond, not, _||_}
-use mathlib.Core.List.{List, [], _∷_}
-use Prim.Native.Nat.{ℕ, _≤_, _<_}
+use mathlib.Core.Path.{_≡_, ap, _∙_}
+use mathlib.Core.Bool.{false, not}
+use Prim.Native.Nat.{ℕ}
 use native.Mathlib.Omega.{arith}
-use lib.Dec.{eqb, leb, ltb}
+use lib.Dec.{eqb}
 use borrow.Author.Tests.{lt-ltb, le-ltb, le-leb, lt-leb, eq-eqb, ne-eqb}
-use Rattle.common.specs.Tests.{Test, test, refusal}
+use Rattle.common.specs.Tests.{refusal}
 use Rattle.common.proofs.Tests.{refused, passed, accepted}
 use Rattle.command_word.specs.Commands.{wordOf, typeOf, commandOf, typeFor, values, reserved}
 use Rattle.command_word.specs.Word.{readTests, carriedOf, reading, noReading, readWord, writeTests, writing, noWriting, writeWord}

@@ -3,14 +3,12 @@
 use mathlib.Core.Path.{_≡_, refl, ap, sym, _∙_, subst}
 use mathlib.Core.Logic.{_≢_}
 use mathlib.Core.Bool.{Bool, true, false, cond}
-use Prim.Native.Nat.{ℕ, _+_, _*_, _/_, _%_, _≤_, _<_}
+use Prim.Native.Nat.{ℕ, _≤_, _<_}
 use native.Mathlib.Omega.{arith}
 use native.Mathlib.Nat.{mod-lt, mod-eq-of-lt}
 use lib.Dec.{eqb, leb, ltb}
 use borrow.Author.Tests.{ltb-true, ltb-false, leb-true, leb-false, eqb-true, eqb-false}
 use Rattle.common.specs.Tests.{refusal}
-use Rattle.command_word.specs.declared.WordRead.{WordRead}
-use Rattle.command_word.specs.declared.WordWritten.{WordWritten}
 use Rattle.command_word.specs.Commands.{wordOf, typeOf, commandOf, statusOf, typeFor, values}
 use Rattle.command_word.specs.Word.{readTests, carriedOf, reading, noReading, readWord, writeTests, writing, noWriting, writeWord, cleared}
 use Rattle.command_word.specs.Reasons.{ReadReason, too-large, no-command, wrong-type, reserved-command, readable, WriteReason, above-15, reserved-number, too-much, writable}

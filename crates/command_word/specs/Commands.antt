@@ -1,7 +1,7 @@
 -- Document 01, "Command words": the fields of a word, and the commands that exist.
 -- Assumes nothing.
 use mathlib.Core.Path.{_≡_}
-use mathlib.Core.Bool.{Bool, true, false, cond}
+use mathlib.Core.Bool.{Bool, cond}
 use mathlib.Core.List.{List, [], _∷_}
 use Prim.Native.Nat.{ℕ, suc, _+_, _*_, _/_, _%_, _<_}
 use lib.Dec.{eqb, leb}

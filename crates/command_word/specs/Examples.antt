@@ -1,15 +1,14 @@
 -- Document 01, "Examples at the edges", 8, and the list of reserved commands: the definitions compute to what the paper says.
 -- Assumes nothing.
 use mathlib.Core.Path.{_≡_, refl}
-use mathlib.Core.Bool.{not}
-use mathlib.Core.List.{List, [], _∷_, map}
+use mathlib.Core.List.{[], _∷_, map}
 use Prim.Native.Nat.{ℕ}
 use Rattle.common.specs.Lists.{keep, from}
 use Rattle.common.specs.Tests.{Test, refusal}
 use Rattle.command_word.specs.declared.WordRead.{WordRead}
 use Rattle.command_word.specs.declared.WordWritten.{WordWritten}
 use Rattle.command_word.specs.Commands.{commands, valuesIn, values, reserved}
-use Rattle.command_word.specs.Word.{readTests, carriedOf, reading, noReading, readWord, writeTests, writing, noWriting, writeWord}
+use Rattle.command_word.specs.Word.{readTests, reading, readWord, writeTests, writing, writeWord}
 
 abbrev read : ℕ → ℕ → ℕ → WordRead
 read n c k = record { number = n; command = c; carried = k }

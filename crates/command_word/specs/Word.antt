@@ -1,6 +1,6 @@
 -- Document 01, "Command words" and numbers 15 to 19 of "Where each call is stopped": what reading and writing a word answer.
 -- Assumes nothing.
-use mathlib.Core.Bool.{Bool, true, false, cond, not, _||_}
+use mathlib.Core.Bool.{cond, not, _||_}
 use mathlib.Core.List.{List, [], _∷_}
 use Prim.Native.Nat.{ℕ, _+_, _*_, _/_, _%_}
 use lib.Dec.{eqb, leb, ltb}

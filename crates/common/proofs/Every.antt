@@ -7,7 +7,6 @@ use mathlib.Core.List.{List, [], _∷_}
 use Prim.Native.Nat.{ℕ, zero, suc, _+_, _<_}
 use native.Mathlib.Nat.{not-suc-le-zero, eq-or-lt-of-le, le-of-suc-le-suc, add-zero, zero-add, add-suc, suc-add}
 use native.Mathlib.Omega.{arith}
-use native.Mathlib.Numerals.{add-one}
 use lib.Dec.{eqb}
 use lib.ListN.{length, getD}
 use borrow.Author.Tests.{eqb-true}
@@ -22,10 +21,6 @@ at (suc n) f t k h =
 pub all : (n : ℕ) (f : ℕ → Bool) → ((k : ℕ) → k < n → f k ≡ true) → every n f ≡ true
 all zero f h = refl
 all (suc n) f h = and-eq-true-iff (f n) (every n f) .1 (h n (omega arith), all n f (λ k l. h k (omega arith)))
-
--- what holds below k, and at k
-pub one-more : {P : ℕ → Type 0} (k : ℕ) → ((j : ℕ) → j < k → P j) → P k → (j : ℕ) → j < k + 1 → P j
-one-more k h e j l = ⊎-elim (λ q. rw q e) (λ g. h j g) (eq-or-lt-of-le (le-of-suc-le-suc (rw (add-one k) at l)))
 
 -- at every pair of a number below n and one below m
 pub at₂ : (n m : ℕ) (f : ℕ → ℕ → Bool) → every n (λ i. every m (f i)) ≡ true → (i j : ℕ) → i < n → j < m → f i j ≡ true

@@ -2,3 +2,4 @@
 pub mod Tests
 pub mod Every
 pub mod Lists
+pub mod Lowest

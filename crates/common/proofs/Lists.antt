@@ -1,13 +1,14 @@
--- Laws of `keep`, `from` and `Sorted`.
+-- Laws of `keep`, `from` and `Sorted`, and of counting.
 -- Assumes nothing.
 use mathlib.Core.Path.{_≡_, refl, ap, _∙_, sym, subst}
-use mathlib.Core.Logic.{⊎-elim, _≢_}
-use mathlib.Core.Bool.{Bool, true, false, cond, _&&_, and-comm}
+use mathlib.Core.Logic.{⊎-elim}
+use mathlib.Core.Bool.{Bool, true, false, cond, _&&_, not, and-comm, true≢false}
 use mathlib.Core.List.{List, [], _∷_, _++_, map, Memᴰ·of-map, Memᴰ·append-left, Memᴰ·append-right, List·Memᴰ, List·Memᴰ·head, List·Memᴰ·tail, List·Memᴰ·not-nil, List·Memᴰ·append-cases, List·Memᴰ·cases-cons}
 use Prim.Native.Nat.{ℕ, zero, suc, _+_, _≤_, _<_}
 use native.Mathlib.Omega.{arith}
 use native.Mathlib.Nat.{eq-or-lt-of-le}
-use lib.ListN.{length}
+use native.Mathlib.Numerals.{add-one}
+use lib.ListN.{length, length-append}
 use Rattle.common.specs.Lists.{_∈_, keep, from, Sorted}
 
 module _ {A : Type 0} (f : A → Bool) where
@@ -127,15 +128,19 @@ sorted-at R (x ∷ xs) w ys s =
       r .2,
     )
 
--- lengths: of what is kept, and of the two parts that a test makes
-pub length-keep : {A : Type 0} (f : A → Bool) (xs : List A) → length (keep f xs) ≤ length xs
+-- lengths: of the two parts that a test makes, and of what is kept
+pub length-parts : {A : Type 0} (f : A → Bool) (xs : List A) → length (keep f xs) + length (keep (λ x. not (f x)) xs) ≡ length xs
 unfolding keep
-length-keep f [] = omega arith
-length-keep f (x ∷ xs) = go (f x) (length-keep f xs)
+length-parts f [] = refl
+length-parts f (x ∷ xs) = go (f x) (length-parts f xs)
   where
-    go : (b : Bool) → length (keep f xs) ≤ length xs → length (cond b (x ∷ keep f xs) (keep f xs)) ≤ suc (length xs)
+    go : (b : Bool) → length (keep f xs) + length (keep (λ x. not (f x)) xs) ≡ length xs
+        → length (cond b (x ∷ keep f xs) (keep f xs)) + length (cond (not b) (x ∷ keep (λ x. not (f x)) xs) (keep (λ x. not (f x)) xs)) ≡ suc (length xs)
     go true h = omega arith
     go false h = omega arith
+
+pub length-keep : {A : Type 0} (f : A → Bool) (xs : List A) → length (keep f xs) ≤ length xs
+length-keep f xs = omega (arith, length-parts f xs)
 
 -- the numbers from s, k of them: which they are, that they rise, how many
 pub from-mem : (s k : ℕ) {n : ℕ} → n ∈ from s k → (s ≤ n) × (n < s + k)
@@ -159,6 +164,19 @@ unfolding from
 length-from s zero = refl
 length-from s (suc k) = ap suc (length-from (suc s) k)
 
+-- the numbers below k, and those of them that pass a test
+pub from-below : (k n : ℕ) → n ∈ from 0 k → n < k
+from-below k n m = let r = from-mem 0 k m in omega arith
+
+pub below-from : (k n : ℕ) → n < k → n ∈ from 0 k
+below-from k n h = mem-from 0 k n (omega arith) (omega arith)
+
+pub kept-below : (f : ℕ → Bool) (k n : ℕ) → n ∈ keep f (from 0 k) → (n < k) × (f n ≡ true)
+kept-below f k n m = let r = keep-mem f (from 0 k) m in (from-below k n (r .0), r .1)
+
+pub below-kept : (f : ℕ → Bool) (k n : ℕ) → n < k → f n ≡ true → n ∈ keep f (from 0 k)
+below-kept f k n h e = mem-keep f (from 0 k) (below-from k n h) e
+
 -- numbers that do not pass the test may be left out at the end
 pub keep-wider : (f : ℕ → Bool) (s k l : ℕ) → k ≤ l → ((n : ℕ) → s + k ≤ n → f n ≡ false) → keep f (from s l) ≡ keep f (from s k)
 unfolding from
@@ -175,3 +193,34 @@ pub from-last : (s k : ℕ) → from s (suc k) ≡ from s k ++ ((s + k) ∷ [])
 unfolding from
 from-last s zero = ap (_∷ []) (omega arith)
 from-last s (suc k) = ap (s ∷_) (from-last (suc s) k ∙ ap (λ n. from (suc s) k ++ (n ∷ [])) (omega arith))
+
+-- counting the numbers below k that pass a test
+module _ (f : ℕ → Bool) where
+  pub count-none : 0 ≡ length (keep f (from 0 0))
+  unfolding from
+  count-none = rw (keep-nil f)
+
+  more : (k : ℕ) → length (keep f (from 0 (k + 1))) ≡ length (keep f (from 0 k)) + length (keep f (k ∷ []))
+  more k =
+      let last : 0 + k ≡ k = omega arith in
+      ap (λ n. length (keep f (from 0 n))) (add-one k) ∙ ap (λ xs. length (keep f xs)) (from-last 0 k ∙ ap (λ n. from 0 k ++ (n ∷ [])) last)
+      ∙ ap length (keep-append f (from 0 k) (k ∷ [])) ∙ length-append (keep f (from 0 k)) (keep f (k ∷ []))
+
+  pub count-yes : (k count : ℕ) → f k ≡ true → count ≡ length (keep f (from 0 k)) → count + 1 ≡ length (keep f (from 0 (k + 1)))
+  count-yes k count e h =
+      let one : length (keep f (k ∷ [])) ≡ 1 = ap length (keep-yes f k [] e ∙ ap (k ∷_) (keep-nil f)) in
+      omega (arith, more k)
+
+  pub count-no : (k count : ℕ) → f k ≡ false → count ≡ length (keep f (from 0 k)) → count ≡ length (keep f (from 0 (k + 1)))
+  count-no k count e h =
+      let none : length (keep f (k ∷ [])) ≡ 0 = ap length (keep-no f k [] e ∙ keep-nil f) in
+      omega (arith, more k)
+
+-- fewer are kept where a member does not pass
+pub keep-shorter : {A : Type 0} (f : A → Bool) (xs : List A) (x : A) → x ∈ xs → f x ≡ false → length (keep f xs) < length xs
+keep-shorter f [] x m e = absurd (List·Memᴰ·not-nil m)
+keep-shorter f (y ∷ xs) x m e = go (f y) refl (keep-shorter f xs x)
+  where
+    go : (b : Bool) → f y ≡ b → (x ∈ xs → f x ≡ false → length (keep f xs) < length xs) → length (keep f (y ∷ xs)) < suc (length xs)
+    go false q ih = rw (keep-no f y xs q) (omega (arith, length-keep f xs))
+    go true q ih = rw (keep-yes f y xs q) (⊎-elim (λ i. absurd (true≢false (sym q ∙ sym (ap f i) ∙ e))) (λ k. omega (arith, ih k e)) (List·Memᴰ·cases-cons m))

@@ -1,12 +1,12 @@
--- The first test that applies is the answer: the two steps of `refusal`, as the code's branches meet them.
+-- Tests: one that is known, two joined, and lists of them, of which the first that applies is the answer.
 -- Assumes nothing.
 use mathlib.Core.Path.{_≡_, refl, sym, _∙_}
 use mathlib.Core.Logic.{_⊎_, inl, inr, _≢_}
-use mathlib.Core.Bool.{Bool, true, false, cond, _&&_, _||_, and-eq-true-iff, true≢false}
+use mathlib.Core.Bool.{Bool, true, false, cond, not, _&&_, _||_, and-eq-true-iff, true≢false}
 use mathlib.Core.List.{List, [], _∷_, _++_}
-use Prim.Native.Nat.{ℕ, _<_}
+use Prim.Native.Nat.{ℕ, _≤_, _<_}
 use lib.Dec.{eqb, ltb}
-use borrow.Author.Tests.{eqb-true, eqb-false, ltb-true}
+use borrow.Author.Tests.{not-true, eqb-true, eqb-false, ltb-true, ltb-false}
 use Rattle.common.specs.Decides.{Decides}
 use Rattle.common.specs.Tests.{Test, test, refusal}
 
@@ -18,6 +18,14 @@ same? a b = go (eqb a b) refl
     go true e = inl (eqb-true a b e)
     go false e = inr (eqb-false a b e)
 
+-- a number is below another or not
+pub below-or : (k y : ℕ) → (y < k) ⊎ (k ≤ y)
+below-or k y = go (ltb y k) refl
+  where
+    go : (x : Bool) → ltb y k ≡ x → (y < k) ⊎ (k ≤ y)
+    go true e = inl (ltb-true y k e)
+    go false e = inr (ltb-false y k e)
+
 -- a test is not both
 pub clash : {b : Bool} → b ≡ true → b ≡ false → ⊥
 clash e f = true≢false (sym e ∙ f)
@@ -25,6 +33,24 @@ clash e f = true≢false (sym e ∙ f)
 pub is-false : (b : Bool) → (b ≡ true → ⊥) → b ≡ false
 is-false true h = absurd (h refl)
 is-false false h = refl
+
+-- tests joined
+pub both : (a b : Bool) → a && b ≡ true → (a ≡ true) × (b ≡ true)
+both a b e = and-eq-true-iff a b .0 e
+
+pub and : {a b : Bool} → a ≡ true → b ≡ true → a && b ≡ true
+and {a} {b} e f = and-eq-true-iff a b .1 (e, f)
+
+pub either : (a b : Bool) → a || b ≡ true → (a ≡ true) ⊎ (b ≡ true)
+either true b e = inl refl
+either false b e = inr e
+
+pub or-left : {a : Bool} (b : Bool) → a ≡ true → a || b ≡ true
+or-left b e = rw e
+
+pub or-right : (a : Bool) {b : Bool} → b ≡ true → a || b ≡ true
+or-right true e = refl
+or-right false e = e
 
 -- neither of two tests applies
 pub neither : (a b : Bool) → a || b ≡ false → (a ≡ false) × (b ≡ false)
@@ -60,25 +86,25 @@ unfolding refusal
 first-passed true n ts h e = absurd (h e)
 first-passed false n ts h e = (refl, e)
 
--- and of two lists one behind the other, where every test of the first has a number that is not 0.
-unfoldable pub Numbered : List Test → Type 0
-Numbered [] = Unit
-Numbered (x ∷ xs) = (x .number ≢ 0) × Numbered xs
+-- and of two lists one behind the other, where every test of the first has a number that is not 0. No test of a list has the number n:
+unfoldable pub Avoids : ℕ → List Test → Type 0
+Avoids n [] = Unit
+Avoids n (x ∷ xs) = (x .number ≢ n) × Avoids n xs
 
-pub numbered-behind : (xs : List Test) (x : Test) → Numbered xs → x .number ≢ 0 → Numbered (xs ++ x ∷ [])
-unfolding Numbered
+pub numbered-behind : (xs : List Test) (x : Test) → Avoids 0 xs → x .number ≢ 0 → Avoids 0 (xs ++ x ∷ [])
+unfolding Avoids
 numbered-behind [] x h f = (f, tt)
 numbered-behind (y ∷ ys) x h f = (h .0, numbered-behind ys x (h .1) f)
 
-pub refusal-behind : (xs ys : List Test) → Numbered xs → refusal xs ≡ 0 → refusal (xs ++ ys) ≡ refusal ys
-unfolding Numbered
+pub refusal-behind : (xs ys : List Test) → Avoids 0 xs → refusal xs ≡ 0 → refusal (xs ++ ys) ≡ refusal ys
+unfolding Avoids
 refusal-behind [] ys h e = refl
 refusal-behind (x ∷ xs) ys h e =
     let r = first-passed (x .when) (x .number) xs (h .0) e in
     passed (x .number) (xs ++ ys) (r .0) ∙ refusal-behind xs ys (h .1) (r .1)
 
-pub refusal-both : (xs ys : List Test) → Numbered xs → refusal (xs ++ ys) ≡ 0 → (refusal xs ≡ 0) × (refusal ys ≡ 0)
-unfolding Numbered
+pub refusal-both : (xs ys : List Test) → Avoids 0 xs → refusal (xs ++ ys) ≡ 0 → (refusal xs ≡ 0) × (refusal ys ≡ 0)
+unfolding Avoids
 refusal-both [] ys h e = (accepted, e)
 refusal-both (x ∷ xs) ys h e =
     let r = first-passed (x .when) (x .number) (xs ++ ys) (h .0) e in
@@ -95,11 +121,17 @@ refusal-before (x ∷ xs) ys f = go (x .when) refl (refusal-before xs ys)
     go true e more = rw e
     go false e more = rw e (more (λ z. f (rw e z)))
 
--- A list of which no test has a number never answers it.
-unfoldable pub Avoids : ℕ → List Test → Type 0
-Avoids n [] = Unit
-Avoids n (x ∷ xs) = (x .number ≢ n) × Avoids n xs
+-- no test of a list has a number, by one computed test
+unfoldable pub avoids : ℕ → List Test → Bool
+avoids n [] = true
+avoids n (x ∷ xs) = not (eqb (x .number) n) && avoids n xs
 
+pub avoiding : (n : ℕ) (xs : List Test) → avoids n xs ≡ true → Avoids n xs
+unfolding avoids Avoids
+avoiding n [] e = tt
+avoiding n (x ∷ xs) e = let r = both (not (eqb (x .number) n)) _ e in (eqb-false _ n (not-true _ (r .0)), avoiding n xs (r .1))
+
+-- A list of which no test has a number never answers it.
 pub never-answered : (n : ℕ) (xs : List Test) → Avoids n xs → n ≢ 0 → refusal xs ≢ n
 unfolding Avoids refusal
 never-answered n [] h f e = f (sym e)

@@ -1,8 +1,8 @@
--- Lists of numbers, as the definitions of the other crates use them.
+-- Lists, and the first number that passes a test, as the definitions of the other crates use them.
 -- Assumes nothing.
 use mathlib.Core.Bool.{Bool, cond, true, false, _&&_, _||_}
 use mathlib.Core.List.{List, [], _∷_, List·Memᴰ}
-use Prim.Native.Nat.{ℕ, zero, suc}
+use Prim.Native.Nat.{ℕ, zero, suc, _+_}
 
 infix 40 _∈_
 -- x is a member of xs
@@ -33,3 +33,8 @@ Sorted R (x ∷ xs) = ((y : _) → y ∈ xs → R x y) × Sorted R xs
 abbrev pub every : ℕ → (ℕ → Bool) → Bool
 every zero f = true
 every (suc n) f = f n && every n f
+
+-- of k numbers from i on, the first that passes a test; i + k where none does
+unfoldable pub lowest : (ℕ → Bool) → ℕ → ℕ → ℕ
+lowest f zero i = i
+lowest f (suc k) i = cond (f i) i (lowest f k (i + 1))

@@ -1,6 +1,6 @@
 -- `command_word::CommandWord::write` meets its contract: each return has decided the tests up to its own.
 -- Assumes nothing.
-use mathlib.Core.Path.{_≡_, refl, _∙_}
+use mathlib.Core.Path.{refl, _∙_}
 use borrow.Author.Needs.{needs}
 use native.Mathlib.Omega.{arith}
 use Rattle.command_word.specs.Reasons.{above-15, reserved-number, too-much, writable}
