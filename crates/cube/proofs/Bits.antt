@@ -1,16 +1,16 @@
 -- Bits by arithmetic: of a power of two, of `^` of two numbers, and of a number with one bit changed. All hold at every width.
 -- Assumes nothing.
 use mathlib.Core.Path.{_≡_, refl, ap, sym, _∙_}
-use mathlib.Core.Logic.{⊎-elim, _≢_}
-use mathlib.Core.Bool.{Bool, true, false, cond, not, _&&_, Bool·beq}
+use mathlib.Core.Logic.{_≢_}
+use mathlib.Core.Bool.{Bool, true, false, cond, not, _&&_, _||_, Bool·beq}
 use Prim.Native.Nat.{ℕ, zero, suc, _+_, _-_, _*_, _/_, _%_, _^_, _≤_, _<_}
 use native.Mathlib.Omega.{arith}
 use native.Mathlib.Nat.{div-eq-of-lt, div-self, lt-of-lt-of-le, pow-succ', div-div-eq-div-mul, div-one}
 use lib.Arith.{lt-of-le-ne}
 use lib.Dec.{eqb, ltb}
 use lib.Pow.{pow-pos, pow-mono, pow-lt, pow-add, shl-shr}
-use lib.Bits.{bitXor, bitAnd, and-high, and-shr, and-mod, xor-add-and, xor-shr, xor-mod, xor-lt, xor-zero-r, and-le-l}
-use borrow.Author.Tests.{ltb-true, ltb-false, eqb-true, eqb-false, eq-eqb, ne-eqb}
+use lib.Bits.{bitXor, bitAnd, bitOr, or-add-and, or-shr, or-mod, and-high, and-shr, and-mod, xor-add-and, xor-shr, xor-mod, xor-lt, xor-zero-r, and-le-l}
+use borrow.Author.Tests.{ltb-true, ltb-false, eqb-true, eqb-false, ne-eqb}
 use Rattle.cube.specs.Bits.{bitAt, has, flip, withBit}
 
 pub bit-lt : (n p : ℕ) → bitAt n p < 2
@@ -57,6 +57,20 @@ has-and n m p = rw (bit-and n m p) (go (bitAt n p) (bitAt m p) (bit-lt n p) (bit
     go zero y h l = refl
     go (suc zero) zero h l = refl
     go (suc zero) (suc zero) h l = refl
+    go (suc zero) (suc (suc y)) h l = absurd (omega arith)
+    go (suc (suc x)) y h l = absurd (omega arith)
+
+-- the bits of `|`
+pub has-or : (n m p : ℕ) → has (bitOr n m) p ≡ (has n p || has m p)
+unfolding has bitAt
+has-or n m p = rw (or-shr n m p, or-mod (n / 2 ^ p) (m / 2 ^ p) 1) (go (n / 2 ^ p % 2) (m / 2 ^ p % 2) (omega arith) (omega arith))
+  where
+    go : (x y : ℕ) → x < 2 → y < 2 → eqb (bitOr x y) 1 ≡ (eqb x 1 || eqb y 1)
+    go zero zero h l = refl
+    go zero (suc zero) h l = refl
+    go (suc zero) zero h l = refl
+    go (suc zero) (suc zero) h l = refl
+    go zero (suc (suc y)) h l = absurd (omega arith)
     go (suc zero) (suc (suc y)) h l = absurd (omega arith)
     go (suc (suc x)) y h l = absurd (omega arith)
 
@@ -148,6 +162,23 @@ with-bit-other n p on q h = go (Bool·beq (has n p) on)
     go : (b : Bool) → has (cond b n (flip n p)) q ≡ has n q
     go true = refl
     go false = unfold has in ap (λ x. eqb x 1) (bit-kept n p q h)
+
+-- to set a bit is `|` with a power of two
+pub with-bit-or : (n p : ℕ) → bitOr n (2 ^ p) ≡ withBit n p true
+unfolding withBit flip
+with-bit-or n p = go (has n p) refl
+  where
+    go : (b : Bool) → has n p ≡ b → bitOr n (2 ^ p) ≡ cond (Bool·beq b true) n (cond b (n - 2 ^ p) (n + 2 ^ p))
+    go true e = omega (arith, or-add-and n (2 ^ p), and-power n p ∙ ap (_* 2 ^ p) (has-bit n p e))
+    go false e = omega (arith, or-add-and n (2 ^ p), and-power n p ∙ ap (_* 2 ^ p) (has-no-bit n p e))
+
+pub with-bit-inside : (D n p : ℕ) (on : Bool) → n < 2 ^ D → p < D → withBit n p on < 2 ^ D
+unfolding withBit
+with-bit-inside D n p on h l = go (Bool·beq (has n p) on)
+  where
+    go : (b : Bool) → cond b n (flip n p) < 2 ^ D
+    go true = h
+    go false = flip-inside D n p h l
 
 -- two numbers below 2 ^ w with the same w bits are the same
 bit-zero : (n : ℕ) → bitAt n 0 ≡ n % 2

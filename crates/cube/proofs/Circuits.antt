@@ -1,7 +1,7 @@
 -- A circuit's source and send channel give its number, and its number gives them back.
 -- Assumes nothing.
 use mathlib.Core.Path.{_≡_}
-use Prim.Native.Nat.{ℕ, _+_, _*_, _^_, _≤_, _<_}
+use Prim.Native.Nat.{ℕ, _<_}
 use native.Mathlib.Omega.{arith}
 use Rattle.cube.specs.Cube.{circuitOf, sourceOf, channelOf}
 
@@ -16,10 +16,3 @@ circuit-of-parts k h = omega arith
 
 pub channel-below : (k : ℕ) → channelOf k < 8
 channel-below k = omega arith
-
--- "circuit numbers are at most 8·2^D" exactly where their sources are nodes of the cube
-pub circuit-inside : (D k : ℕ) → 0 < k → k ≤ 8 * 2 ^ D → sourceOf k < 2 ^ D
-circuit-inside D k h l = omega arith
-
-pub inside-circuit : (D k : ℕ) → sourceOf k < 2 ^ D → k ≤ 8 * 2 ^ D
-inside-circuit D k h = omega arith

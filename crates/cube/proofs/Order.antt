@@ -1,20 +1,20 @@
--- The helical order: what it holds, and that following first ports, each dropped in its turn, walks the whole of it.
+-- The helical order: what it holds, and the port tried first of it, by the rule and by the table.
 -- Assumes nothing.
-use mathlib.Core.Path.{_≡_, refl, ap, sym, _∙_, subst}
+use mathlib.Core.Path.{_≡_, refl, ap, sym, _∙_}
 use mathlib.Core.Logic.{⊎-elim, _≢_}
-use mathlib.Core.Bool.{Bool, true, false, cond, not, _&&_}
+use mathlib.Core.Bool.{Bool, true, false, not, _&&_}
 use mathlib.Core.List.{List, [], _∷_, _++_, List·Memᴰ·head, List·Memᴰ·not-nil, List·Memᴰ·append-cases, Memᴰ·append-left, Memᴰ·append-right}
-use Prim.Native.Nat.{ℕ, zero, suc, _+_, _-_, _*_, _/_, _%_, _^_, _≤_, _<_}
+use Prim.Native.Nat.{ℕ, _+_, _-_, _*_, _/_, _%_, _^_, _≤_, _<_}
 use native.Mathlib.Omega.{arith}
 use lib.Dec.{eqb, leb, ltb}
 use lib.ListN.{length, getD, length-append}
-use borrow.Author.Tests.{ltb-true, ltb-false, lt-leb, le-leb, le-ltb, leb-true, leb-false, lt-ltb, ne-eqb, eq-eqb, eqb-true, eqb-false}
+use borrow.Author.Tests.{ltb-true, ltb-false, lt-leb, le-leb, le-ltb, leb-true, leb-false, lt-ltb, ne-eqb, eq-eqb}
 use Rattle.common.specs.Lists.{_∈_, keep, from, Sorted}
-use Rattle.common.proofs.Lists.{keep-yes, keep-no, keep-mem, mem-keep, keep-append, keep-all, keep-keep, keep-same, keep-swap, keep-sorted, sorted-append, sorted-imp, length-keep, length-from, keep-none, keep-wider, from-sorted, from-mem, mem-from}
+use Rattle.common.proofs.Lists.{keep-no, keep-mem, mem-keep, keep-append, keep-all, keep-keep, keep-same, keep-swap, keep-sorted, sorted-append, sorted-imp, length-parts, length-keep, length-from, keep-none, keep-wider, from-sorted, kept-below, below-kept}
 use Rattle.common.proofs.Every.{everyEntry, table-rule}
 use Rattle.cube.specs.Bits.{has}
 use Rattle.cube.specs.Cube.{Without}
-use Rattle.cube.specs.Helical.{portsOf, helical, firstOr, firstPort, FirstPorts, FirstTried, walk}
+use Rattle.cube.specs.Helical.{portsOf, helical, firstOr, firstPort, FirstPorts, FirstTried}
 use Rattle.cube.proofs.Bits.{no-ports, zero-has, high-has}
 use Rattle.cube.proofs.Ports.{without-power}
 
@@ -56,11 +56,11 @@ helical-distinct a ps s =
 -- the ports of a vector: those below w that it has, rising
 pub ports-mem : (w v : ℕ) {q : ℕ} → q ∈ portsOf w v → (q < w) × (has v q ≡ true)
 unfolding portsOf
-ports-mem w v m = let k = keep-mem (has v) (from 0 w) m in ((let r = from-mem 0 w (k .0) in omega arith), k .1)
+ports-mem w v m = kept-below (has v) w _ m
 
 pub mem-ports : (w v q : ℕ) → q < w → has v q ≡ true → q ∈ portsOf w v
 unfolding portsOf
-mem-ports w v q h e = mem-keep (has v) (from 0 w) (mem-from 0 w q (omega arith) (omega arith)) e
+mem-ports w v = below-kept (has v) w
 
 pub ports-sorted : (w v : ℕ) → Sorted _<_ (portsOf w v)
 unfolding portsOf
@@ -110,50 +110,19 @@ first-tried none w v a h z = go (helical a (portsOf w v)) refl
         record { small = m .0; offered = m .1; rest = e ∙ ap (p ∷_) (sym (behind-first w v a p (v - 2 ^ p) ps (without-power v p (m .1)) e)) }
 
 -- the order is as long as the list
-halves : (a : ℕ) (ps : List ℕ) → length (keep (λ p. ltb a p) ps) + length (keep (λ p. leb p a) ps) ≡ length ps
-unfolding keep
-halves a [] = refl
-halves a (p ∷ ps) = go (ltb a p) refl (halves a ps)
-  where
-    above : ℕ → Bool
-    above q = ltb a q
-
-    upTo : ℕ → Bool
-    upTo q = leb q a
-
-    go : (b : Bool) → ltb a p ≡ b → length (keep above ps) + length (keep upTo ps) ≡ length ps → length (keep above (p ∷ ps)) + length (keep upTo (p ∷ ps)) ≡ suc (length ps)
-    go true e h = rw (keep-yes above p ps e, keep-no upTo p ps (lt-leb p a (ltb-true a p e))) (omega arith)
-    go false e h = rw (keep-no above p ps e, keep-yes upTo p ps (le-leb p a (ltb-false a p e))) (omega arith)
-
 pub length-helical : (a : ℕ) (ps : List ℕ) → length (helical a ps) ≡ length ps
 unfolding helical
-length-helical a ps = length-append (keep (λ p. ltb a p) ps) (keep (λ p. leb p a) ps) ∙ halves a ps
+length-helical a ps =
+    rw (length-append (keep (λ p. ltb a p) ps) (keep (λ p. leb p a) ps), keep-same (λ p. leb p a) (λ p. not (ltb a p)) ps (λ p m. other p (ltb a p) refl))
+    (length-parts (λ p. ltb a p) ps)
+  where
+    other : (p : ℕ) (b : Bool) → ltb a p ≡ b → leb p a ≡ not b
+    other p true e = lt-leb p a (ltb-true a p e)
+    other p false e = le-leb p a (ltb-false a p e)
 
 pub length-ports : (w v : ℕ) → length (portsOf w v) ≤ w
 unfolding portsOf
 length-ports w v = omega (arith, length-keep (has v) (from 0 w), length-from 0 w)
-
--- Following first ports and dropping each in turn walks the whole helical order, for whatever tells the first port.
-module _ (w : ℕ) (first : ℕ → ℕ → ℕ) (a : ℕ) (tells : (v : ℕ) → v < 2 ^ w → v ≢ 0 → FirstTried w v a (first v a)) where
-  walks : (k v : ℕ) → v < 2 ^ w → length (helical a (portsOf w v)) ≤ k → walk first k v a ≡ helical a (portsOf w v)
-  unfolding walk
-  walks zero v h l = sym (empty (helical a (portsOf w v)) l)
-    where
-      empty : (xs : List ℕ) → length xs ≤ 0 → xs ≡ []
-      empty [] g = refl
-      empty (x ∷ xs) g = absurd (omega arith)
-  walks (suc k) v h l = go (eqb v 0) refl (λ l′. walks k (v - 2 ^ first v a) (omega arith) l′)
-    where
-      go : (b : Bool) → eqb v 0 ≡ b → (length (helical a (portsOf w (v - 2 ^ first v a))) ≤ k → walk first k (v - 2 ^ first v a) a ≡ helical a (portsOf w (v - 2 ^ first v a)))
-          → cond b [] (first v a ∷ walk first k (v - 2 ^ first v a) a) ≡ helical a (portsOf w v)
-      go true e ih = rw (eqb-true v 0 e) (sym (helical-zero w a))
-      go false e ih =
-          let t = tells v h (eqb-false v 0 e) in
-          let shorter = ap length (t .rest) in
-          ap (first v a ∷_) (ih (omega arith)) ∙ sym (t .rest)
-
-  pub walk-helical : (v : ℕ) → v < 2 ^ w → walk first w v a ≡ helical a (portsOf w v)
-  walk-helical v h = walks w v h (omega (arith, length-helical a (portsOf w v), length-ports w v))
 
 -- The table of first ports: its rule by one computed test, read off at a vector and an arrival port.
 pub table-of : (xs : List ℕ) → length xs ≡ 2048 → everyEntry (λ k x. eqb x (firstPort (k / 8) (k % 8))) 0 xs ≡ true → FirstPorts xs
@@ -170,7 +139,3 @@ table-of xs l t = record { entries = l; entry = λ v a h k. at v a h k }
 pub entry-tried : (xs : List ℕ) → FirstPorts xs → (v a : ℕ) → v < 256 → a < 8 → v ≢ 0 → FirstTried 8 v a (getD xs (8 * v + a) 0)
 unfolding firstPort
 entry-tried xs t v a h l z = rw (t .entry v a h l) (first-tried 8 8 v a h z)
-
--- Following the table's entries, each port dropped in its turn, walks the whole helical order.
-pub table-walk : (xs : List ℕ) → FirstPorts xs → (v a : ℕ) → v < 256 → a < 8 → walk (λ v a. getD xs (8 * v + a) 0) 8 v a ≡ helical a (portsOf 8 v)
-table-walk xs t v a h l = walk-helical 8 (λ v a. getD xs (8 * v + a) 0) a (λ u k z. entry-tried xs t u a k l z) v h

@@ -1,18 +1,20 @@
 -- Vectors of ports: the uphill vector, a vector without one of its ports, and the shift by which the code names a port.
 -- Assumes nothing.
-use mathlib.Core.Path.{_≡_, refl, ap, sym, _∙_}
-use mathlib.Core.Logic.{_≢_}
+use mathlib.Core.Path.{_≡_, refl, ap, _∙_}
 use mathlib.Core.Bool.{Bool, true, false, not, _&&_, and-true}
-use Prim.Native.Nat.{ℕ, zero, suc, _+_, _-_, _*_, _%_, _^_, _<_, _≤_}
+use Prim.Native.Nat.{ℕ, zero, suc, _+_, _-_, _*_, _%_, _^_, _<_}
 use native.Mathlib.Omega.{arith}
 use native.Mathlib.Nat.{one-mul}
+use lib.Count.{trailingZeros}
 use lib.Dec.{eqb, lit<}
-use lib.Bits.{bitXor, xor-lt}
+use lib.Bits.{bitXor}
 use lib.Pow.{shl-exact, pow-pos, pow-mono}
-use borrow.Author.Tests.{eqb-true, eqb-false, eq-eqb, ne-eqb}
+use borrow.Author.Tests.{eqb-true, eqb-false}
+use Rattle.common.specs.Lists.{lowest}
+use Rattle.common.proofs.Every.{at}
 use Rattle.cube.specs.Bits.{bitAt, has, flip}
 use Rattle.cube.specs.Cube.{NodeCount, uphill, UphillVector, Without}
-use Rattle.cube.proofs.Bits.{bit-lt, bit-xor, flip-xor, bit-flipped, bit-kept, has-bit, flip-drops}
+use Rattle.cube.proofs.Bits.{bit-lt, bit-xor, bit-flipped, bit-kept, has-bit, flip-drops}
 
 -- `1 << p` of w bits
 pub port-bit : (w p : ℕ) → p < w → 1 * 2 ^ p % 2 ^ w ≡ 2 ^ p
@@ -35,10 +37,6 @@ pub uphill-of : (n t : ℕ) → UphillVector n t (bitXor n t)
 unfolding has uphill
 uphill-of n t = record { bits = λ p. rw (bit-xor n t p) (digits (bitAt n p) (bitAt t p) (bit-lt n p) (bit-lt t p)); value = refl }
 
--- the uphill vector of two nodes of a cube has no port outside it
-pub uphill-inside : (D n t v : ℕ) → UphillVector n t v → n < 2 ^ D → t < 2 ^ D → v < 2 ^ D
-uphill-inside D n t v u h l = rw (u .value) (xor-lt D n t h l)
-
 -- a vector that loses a port has the others
 pub without-of : (v p : ℕ) → has v p ≡ true → Without v p (flip v p)
 without-of v p e = record { value = flip-drops v p e; bits = λ q. go q (eqb q p) refl }
@@ -51,3 +49,8 @@ pub without-power : (v p : ℕ) → has v p ≡ true → Without v p (v - 2 ^ p)
 without-power v p e =
     let same : flip v p ≡ v - 2 ^ p = omega (arith, flip-drops v p e) in
     rw same at (without-of v p e)
+
+-- the lowest of eight bits, as the code counts it: a ninth bit stands for none
+pub lowest-is : (v : ℕ) → v < 256 → trailingZeros 16 (v + 256) ≡ lowest (has v) 8 0
+unfolding has trailingZeros lowest
+lowest-is v h = eqb-true _ _ (at 256 (λ v. eqb (trailingZeros 16 (v + 256)) (lowest (has v) 8 0)) refl v h)

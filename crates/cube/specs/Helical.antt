@@ -1,10 +1,10 @@
 -- Document 01, "Which paths a scout may walk": the order in which ports are tried, and the table of first ports.
 -- Assumes nothing.
 use mathlib.Core.Path.{_≡_}
-use mathlib.Core.Bool.{true, cond}
+use mathlib.Core.Bool.{true}
 use mathlib.Core.List.{List, [], _∷_, _++_}
-use Prim.Native.Nat.{ℕ, zero, suc, _+_, _-_, _*_, _^_, _<_}
-use lib.Dec.{eqb, leb, ltb}
+use Prim.Native.Nat.{ℕ, _+_, _-_, _*_, _^_, _<_}
+use lib.Dec.{leb, ltb}
 use lib.ListN.{length, getD}
 use Rattle.common.specs.Lists.{keep, from}
 use Rattle.cube.specs.Bits.{has}
@@ -40,9 +40,3 @@ pub record FirstTried (w vector arrival p : ℕ) : Type 0 where
   pub small : p < w
   pub offered : has vector p ≡ true
   pub rest : helical arrival (portsOf w vector) ≡ p ∷ helical arrival (portsOf w (vector - 2 ^ p))
-
--- the ports met by taking the first, dropping it from the vector, and so on, k times at most
-unfoldable pub walk : (ℕ → ℕ → ℕ) → ℕ → ℕ → ℕ → List ℕ
-walk first zero vector arrival = []
-walk first (suc k) vector arrival =
-    cond (eqb vector 0) [] (first vector arrival ∷ walk first k (vector - 2 ^ first vector arrival) arrival)

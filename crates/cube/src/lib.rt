@@ -12,6 +12,7 @@ pub use kinds::Port;
 pub use kinds::channel_of;
 pub use kinds::circuit_of;
 pub use kinds::source_of;
+pub use vectors::lowest_bit;
 pub use vectors::neighbour;
 pub use vectors::node_count;
 pub use vectors::uphill_vector;

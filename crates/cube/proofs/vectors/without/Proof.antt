@@ -1,7 +1,5 @@
 -- `cube::vectors::without` meets its contract: a set bit that is changed is lost.
 -- Assumes nothing.
-use mathlib.Core.Path.{ap, _∙_}
-use lib.Bits.{bitXor}
 use Rattle.cube.proofs.Bits.{flip-xor}
 use Rattle.cube.proofs.Ports.{port-bit, without-of}
 use borrow.Author.Needs.{needs}
