@@ -1,30 +1,38 @@
 -- In the cube a path is permitted, to its own end, exactly where its ports behind the first are below D and no two alike.
 -- Assumes nothing.
-use mathlib.Core.Path.{_≡_, refl, ap, sym, _∙_, subst}
+use mathlib.Core.Path.{_≡_, refl, ap, _∙_}
 use mathlib.Core.Logic.{_⊎_, inl, inr, ⊎-elim, _≢_}
-use mathlib.Core.Bool.{Bool, true, false, not}
+use mathlib.Core.Bool.{true, not}
 use mathlib.Core.List.{List, [], _∷_, List·Memᴰ·head, List·Memᴰ·tail, List·Memᴰ·cases-cons, List·Memᴰ·not-nil}
-use Prim.Native.Nat.{ℕ, _-_, _^_, _<_}
+use Prim.Native.Nat.{ℕ, _<_}
 use native.Mathlib.Omega.{arith}
 use borrow.Author.Tests.{ne-eqb}
 use Rattle.common.specs.Lists.{_∈_, from}
 use Rattle.common.proofs.Tests.{same?, clash}
-use Rattle.common.proofs.Lists.{mem-from, from-mem}
+use Rattle.common.proofs.Lists.{from-below, below-from}
 use Rattle.cube.specs.Bits.{bitAt, flip}
 use Rattle.cube.specs.Cube.{uphill}
 use Rattle.cube.proofs.Bits.{bit-flipped, bit-kept, bit-lt, flip-inside}
-use Rattle.paths.specs.Network.{Network, Path, Link, offered, end, links}
+use Rattle.paths.specs.Network.{Path, end}
 use Rattle.paths.specs.Permitted.{Onward, Permitted}
 use Rattle.paths.specs.CubeNetwork.{Shape, Node, network}
-use Rattle.paths.specs.Trail.{Apart, LaterApart}
 use Rattle.paths.proofs.Links.{On, on-cases, on-none}
 use Rattle.paths.proofs.CubeNetwork.{uphill-flipped, uphill-kept, uphill-there, offered-port, port-offered}
 
-pub port-below : (D p : ℕ) → p ∈ from 0 D → p < D
-port-below D p m = let r = from-mem 0 D m in omega arith
+-- ports below D, no two alike; and a path of ports below D of which those behind the first are so
+unfoldable pub Apart : ℕ → List ℕ → Type 0
+Apart D [] = Unit
+Apart D (p ∷ ps) = (p < D) × (p ∈ ps → ⊥) × Apart D ps
 
-pub below-port : (D p : ℕ) → p < D → p ∈ from 0 D
-below-port D p h = mem-from 0 D p (omega arith) (omega arith)
+unfoldable pub LaterApart : ℕ → Path → Type 0
+LaterApart D [] = ⊥
+LaterApart D (p ∷ w) = (p < D) × Apart D w
+
+-- every port of such a list is below D
+pub apart-below : (D : ℕ) (w : Path) → Apart D w → (q : ℕ) → q ∈ w → q < D
+unfolding Apart
+apart-below D [] x q m = absurd (List·Memᴰ·not-nil m)
+apart-below D (p ∷ w) x q m = ⊎-elim (λ e. rw e (x .0)) (λ k. apart-below D w (x .2) q k) (List·Memᴰ·cases-cons m)
 
 module _ (S : Shape) where
   -- the ports of a way on are uphill where it begins, so no two are alike
@@ -68,26 +76,25 @@ module _ (S : Shape) where
       away : n ≢ t
       away e = clash up (ap (λ x. uphill t x p) e ∙ uphill-there t p)
 
-  pub permitted-apart : (s t : ℕ) (w : Path) → Permitted (network S) s (from 0 (S .dimension)) t w → LaterApart (S .dimension) w
-  unfolding Permitted LaterApart
-  permitted-apart s t (p ∷ w) o = (port-below (S .dimension) p (o .0), onward-apart t (network S .next s p) w (o .1))
-
   pub apart-permitted : (s : ℕ) (w : Path) → LaterApart (S .dimension) w → Permitted (network S) s (from 0 (S .dimension)) (end (network S) s w) w
   unfolding Permitted LaterApart end
-  apart-permitted s (p ∷ w) h = (below-port (S .dimension) p (h .0), apart-onward (network S .next s p) w (h .1))
+  apart-permitted s (p ∷ w) h = (below-from (S .dimension) p (h .0), apart-onward (network S .next s p) w (h .1))
 
-  -- the cube is not left: links and end of a permitted path lie in it
-  apart-inside : (n : ℕ) (w : Path) → Apart (S .dimension) w → Node S n → ((m q : ℕ) → On (network S) n w m q → Node S m × (q < S .dimension)) × Node S (end (network S) n w)
-  unfolding end network Apart
-  apart-inside n [] a i = ((λ m q o. absurd (on-none (network S) n m q o)), i)
-  apart-inside n (p ∷ w) a i =
-      let r = apart-inside (flip n p) w (a .2) (flip-inside (S .dimension) n p i (a .0)) in
-      ((λ m q o. ⊎-elim (λ u. rw (u .0, u .1) (i, a .0)) (λ k. r .0 m q k) (on-cases (network S) n p w m q o)), r .1)
+  -- the ports of a permitted path are below D,
+  pub permitted-below : (s t : ℕ) (w : Path) → Permitted (network S) s (from 0 (S .dimension)) t w → (q : ℕ) → q ∈ w → q < S .dimension
+  unfolding Permitted
+  permitted-below s t (p ∷ w) o q m =
+      ⊎-elim (λ e. rw e (from-below (S .dimension) p (o .0))) (λ k. apart-below (S .dimension) w (onward-apart t (network S .next s p) w (o .1)) q k) (List·Memᴰ·cases-cons m)
+
+  -- and a path over such ports does not leave the cube: its links and its end lie there
+  below-inside : (n : ℕ) (w : Path) → ((q : ℕ) → q ∈ w → q < S .dimension) → Node S n → ((m q : ℕ) → On (network S) n w m q → Node S m × (q < S .dimension)) × Node S (end (network S) n w)
+  unfolding end network
+  below-inside n [] h i = ((λ m q o. absurd (on-none (network S) n m q o)), i)
+  below-inside n (p ∷ w) h i =
+      let here = h p (List·Memᴰ·head refl) in
+      let r = below-inside (flip n p) w (λ q m. h q (List·Memᴰ·tail m)) (flip-inside (S .dimension) n p i here) in
+      ((λ m q o. ⊎-elim (λ u. rw (u .0, u .1) (i, here)) (λ k. r .0 m q k) (on-cases (network S) n p w m q o)), r .1)
 
   pub permitted-inside : (s t : ℕ) (w : Path) → Node S s → Permitted (network S) s (from 0 (S .dimension)) t w
       → ((m q : ℕ) → On (network S) s w m q → Node S m × (q < S .dimension)) × Node S (end (network S) s w)
-  unfolding Permitted end network
-  permitted-inside s t (p ∷ w) i o =
-      let b = port-below (S .dimension) p (o .0) in
-      let r = apart-inside (flip s p) w (onward-apart t (flip s p) w (o .1)) (flip-inside (S .dimension) s p i b) in
-      ((λ m q k. ⊎-elim (λ u. rw (u .0, u .1) (i, b)) (λ j. r .0 m q j) (on-cases (network S) s p w m q k)), r .1)
+  permitted-inside s t w i o = below-inside s w (permitted-below s t w o) i

@@ -1,15 +1,14 @@
 -- The bridge: the list of beginnings holds exactly the beginnings of permitted paths.
 -- Assumes nothing.
-use mathlib.Core.Path.{_≡_, refl, ap, sym, _∙_, subst}
+use mathlib.Core.Path.{_≡_, refl, ap, sym, subst}
 use mathlib.Core.Logic.{_⊎_, inl, inr, ⊎-elim, _≢_, _↔_}
-use mathlib.Core.Bool.{Bool, true, false, cond}
 use mathlib.Core.List.{List, [], _∷_, _++_, map, List·Memᴰ·head, List·Memᴰ·tail, List·Memᴰ·not-nil, List·Memᴰ·cases-cons, List·Memᴰ·append-cases, Memᴰ·append-left, Memᴰ·append-right, Memᴰ·map, Memᴰ·of-map, cons≢nil}
-use Prim.Native.Nat.{ℕ, zero, suc, _≤_, _<_}
+use Prim.Native.Nat.{ℕ, zero, suc, _≤_}
 use native.Mathlib.Omega.{arith}
 use native.Mathlib.Nat.{le-refl}
-use borrow.Author.Tests.{eqb-true, eqb-false, ne-eqb}
-use lib.Dec.{eqb}
+use borrow.Author.Tests.{eq-eqb, ne-eqb}
 use Rattle.common.specs.Lists.{_∈_}
+use Rattle.common.proofs.Tests.{same?}
 use Rattle.cube.specs.Helical.{helical}
 use Rattle.cube.proofs.Order.{helical-mem, mem-helical}
 use Rattle.paths.specs.Network.{Network, Path, offered, Nearing, Leading}
@@ -63,12 +62,7 @@ ways-on k N t n a h = rw (ne-eqb n t h)
 ways-mem : (k : ℕ) (N : Network) (t n a : ℕ) {w : Path} → w ∈ ways (suc k) N t n a
     → (n ≢ t) × (w ∈ over (λ p. ways k N t (N .next n p) p) (helical a (offered N t n)))
 unfolding ways
-ways-mem k N t n a {w} m = go (eqb n t) refl m
-  where
-    go : (b : Bool) → eqb n t ≡ b → w ∈ cond b [] (over (λ p. ways k N t (N .next n p) p) (helical a (offered N t n)))
-        → (n ≢ t) × (w ∈ over (λ p. ways k N t (N .next n p) p) (helical a (offered N t n)))
-    go true e k = absurd (List·Memᴰ·not-nil k)
-    go false e k = (eqb-false n t e, k)
+ways-mem k N t n a m = ⊎-elim (λ e. absurd (List·Memᴰ·not-nil (rw (eq-eqb n t e) at m))) (λ ne. (ne, rw (ne-eqb n t ne) at m)) (same? n t)
 
 -- `ways` holds climbs of one hop or more, and no others
 pub ways-climb : (k : ℕ) (N : Network) (t n a : ℕ) (w : Path) → w ∈ ways k N t n a → (w ≢ []) × Climb N t n w
@@ -108,22 +102,17 @@ module _ {N : Network} {t : ℕ} (near : Nearing N t) where
       rw (ways-on k N t n a (r .0)) (mem-over _ _ (mem-helical a _ (r .1)) (inr (climb-ways k (N .next n p) p q w (omega arith) (r .2))))
 
   module _ {Node : ℕ → Type 0} (lead : Leading N t Node) where
-    -- from every node a way leads to the target
-    way-home : (k n : ℕ) → N .far t n ≤ k → Node n → (w : Path) × Onward N t n w
+    -- a way leads from a node to the target where one does from every node one nearer, and so from every node
+    one-on : (n : ℕ) → Node n → ((m : ℕ) → suc (N .far t m) ≡ N .far t n → Node m → (w : Path) × Onward N t m w) → (w : Path) × Onward N t n w
     unfolding Onward
-    way-home zero n h i = go (eqb n t) refl
-      where
-        go : (b : Bool) → eqb n t ≡ b → (w : Path) × Onward N t n w
-        go true e = ([], eqb-true n t e)
-        go false e = let r = lead .leads n i (eqb-false n t e) in absurd (omega (arith, near .nearer n (r .0) (r .1)))
-    way-home (suc k) n h i = go (eqb n t) refl (way-home k)
-      where
-        go : (b : Bool) → eqb n t ≡ b → ((m : ℕ) → N .far t m ≤ k → Node m → (w : Path) × Onward N t m w) → (w : Path) × Onward N t n w
-        go true e ih = ([], eqb-true n t e)
-        go false e ih =
-            let r = lead .leads n i (eqb-false n t e) in
-            let on = ih (N .next n (r .0)) (omega (arith, near .nearer n (r .0) (r .1))) (lead .inside n (r .0) i (r .1)) in
-            (r .0 ∷ on .0, (eqb-false n t e, r .1, on .1))
+    one-on n i on =
+        ⊎-elim (λ e. ([], e))
+        (λ ne. let r = lead .leads n i ne in let o = on (N .next n (r .0)) (sym (near .nearer n (r .0) (r .1))) (lead .inside n (r .0) i (r .1)) in (r .0 ∷ o .0, (ne, r .1, o .1)))
+        (same? n t)
+
+    way-home : (k n : ℕ) → N .far t n ≤ k → Node n → (w : Path) × Onward N t n w
+    way-home zero n h i = one-on n i (λ m e j. absurd (omega arith))
+    way-home (suc k) n h i = one-on n i (λ m e j. way-home k m (omega arith) j)
 
     -- so every climb is the beginning of a way to the target
     climb-onward : (n : ℕ) (w : Path) → Node n → Climb N t n w → (v : Path) × Onward N t n (w ++ v)

@@ -2,31 +2,38 @@
 -- Assumes nothing.
 use mathlib.Core.Path.{_≡_, refl, ap, ap₂, sym, _∙_}
 use mathlib.Core.Bool.{Bool, true, false, cond, _||_, not}
-use mathlib.Core.List.{List, [], _∷_, _++_, map, List·Memᴰ·head, List·Memᴰ·tail}
+use mathlib.Core.List.{List, [], _∷_, map, List·Memᴰ·head, List·Memᴰ·tail}
 use Prim.Native.Nat.{ℕ, zero, suc, _+_, _*_, _-_, _≤_, _<_, pred}
 use native.Mathlib.Omega.{arith}
 use native.Mathlib.Nat.{le-trans, le-refl, mul-le-mul}
-use borrow.Author.Tests.{eqb-true, eqb-false, leb-true, le-leb, not-true}
+use borrow.Author.Tests.{eqb-true, leb-true, le-leb, not-true}
 use lib.Dec.{eqb, leb}
 use lib.ListN.{length, length-append, length-map}
 use Rattle.common.specs.Lists.{_∈_, keep, from}
 use Rattle.common.proofs.Every.{at₂}
-use Rattle.common.proofs.Lists.{keep-mem, keep-yes, keep-no, from-mem, length-from}
+use Rattle.common.proofs.Lists.{length-parts, length-from, kept-below}
 use Rattle.cube.specs.Helical.{helical}
 use Rattle.cube.proofs.Order.{helical-mem, length-helical}
 use Rattle.paths.specs.Network.{Network, Path, offered, freePath, Nearing}
-use Rattle.paths.specs.Pass.{Pass, found, over, ways, beginnings, scan, whole, attempt, pass, scouts}
+use Rattle.paths.specs.Pass.{found, over, ways, beginnings, scan, whole, pass, scouts}
 use Rattle.paths.specs.Search.{arriving}
-use Rattle.paths.specs.Bound.{Cubical, waysFrom, sendsFrom}
+use Rattle.paths.specs.Bound.{waysFrom, sendsFrom}
 use Rattle.paths.proofs.Scan.{scan-sends}
 use Rattle.paths.proofs.Depth.{over-cons, arriving-scan}
 
--- what `over` has, where each port has l ways on
+-- what the bound alone asks of a network: the number of ports offered, and that every other port leads one farther
+pub record Cubical (N : Network) (t : ℕ) : Type 0 where
+  pub there : N .far t t ≡ 0
+  pub degree : (n : ℕ) → length (offered N t n) ≡ N .far t n
+  pub away : (n p : ℕ) → p < N .width → N .offers t n p ≡ false → N .far t (N .next n p) ≡ suc (N .far t n)
+
+-- what `over` has: of one port more, and of ports with l ways on each
+over-more : (on : ℕ → List Path) (p : ℕ) (ps : List ℕ) → length (over on (p ∷ ps)) ≡ suc (length (on p)) + length (over on ps)
+over-more on p ps = rw (over-cons, length-append ((p ∷ []) ∷ map (λ (w : Path). p ∷ w) (on p)) (over on ps), length-map (on p) (λ (w : Path). p ∷ w))
+
 length-over : (on : ℕ → List Path) (l : ℕ) (ps : List ℕ) → ((p : ℕ) → p ∈ ps → length (on p) ≡ l) → length (over on ps) ≡ length ps * suc l
 length-over on l [] h = unfold over in omega arith
-length-over on l (p ∷ ps) h =
-    rw (over-cons, length-append ((p ∷ []) ∷ map (λ (w : Path). p ∷ w) (on p)) (over on ps), length-map (on p) (λ (w : Path). p ∷ w), h p (List·Memᴰ·head refl), length-over on l ps (λ q m. h q (List·Memᴰ·tail m)))
-    (omega arith)
+length-over on l (p ∷ ps) h = rw (over-more on p ps, h p (List·Memᴰ·head refl), length-over on l ps (λ q m. h q (List·Memᴰ·tail m))) (omega arith)
 
 -- two lists that share out the members of a third have its beginnings between them
 length-shared : (on : ℕ → List Path) (f : ℕ → Bool) (ps : List ℕ) → length (over on (keep f ps)) + length (over on (keep (λ p. not (f p)) ps)) ≡ length (over on ps)
@@ -34,23 +41,10 @@ unfolding keep
 length-shared on f [] = unfold over in refl
 length-shared on f (p ∷ ps) = go (f p) (length-shared on f ps)
   where
-    one : (qs : List ℕ) → length (over on (p ∷ qs)) ≡ suc (length (on p)) + length (over on qs)
-    one qs = rw (over-cons, length-append ((p ∷ []) ∷ map (λ (w : Path). p ∷ w) (on p)) (over on qs), length-map (on p) (λ (w : Path). p ∷ w))
-
     go : (b : Bool) → length (over on (keep f ps)) + length (over on (keep (λ p. not (f p)) ps)) ≡ length (over on ps)
         → length (over on (cond b (p ∷ keep f ps) (keep f ps))) + length (over on (cond (not b) (p ∷ keep (λ p. not (f p)) ps) (keep (λ p. not (f p)) ps))) ≡ length (over on (p ∷ ps))
-    go true h = omega (arith, one (keep f ps), one ps)
-    go false h = omega (arith, one (keep (λ p. not (f p)) ps), one ps)
-
-length-parts : (f : ℕ → Bool) (ps : List ℕ) → length (keep f ps) + length (keep (λ p. not (f p)) ps) ≡ length ps
-unfolding keep
-length-parts f [] = refl
-length-parts f (p ∷ ps) = go (f p) (length-parts f ps)
-  where
-    go : (b : Bool) → length (keep f ps) + length (keep (λ p. not (f p)) ps) ≡ length ps
-        → length (cond b (p ∷ keep f ps) (keep f ps)) + length (cond (not b) (p ∷ keep (λ p. not (f p)) ps) (keep (λ p. not (f p)) ps)) ≡ suc (length ps)
-    go true h = omega arith
-    go false h = omega arith
+    go true h = omega (arith, over-more on p (keep f ps), over-more on p ps)
+    go false h = omega (arith, over-more on p (keep (λ p. not (f p)) ps), over-more on p ps)
 
 -- the ports of a node that are not offered
 abbrev others : Network → ℕ → ℕ → List ℕ
@@ -98,8 +92,7 @@ module _ {N : Network} {t : ℕ} (near : Nearing N t) (cubic : Cubical N t) wher
 
       farther : (p : ℕ) → p ∈ others N t s → N .far t (N .next s p) ≡ suc (N .far t s)
       farther p m =
-          let k = keep-mem (λ p. not (N .offers t s p)) (from 0 (N .width)) m in
-          cubic .away s p (let r = from-mem 0 (N .width) (k .0) in omega arith) (not-true (N .offers t s p) (k .1))
+          let k = kept-below (λ p. not (N .offers t s p)) (N .width) p m in cubic .away s p (k .0) (not-true (N .offers t s p) (k .1))
 
       farther-ones : length (over (on s) (others N t s)) ≡ (N .width - N .far t s) * suc (waysFrom (suc (N .far t s)))
       farther-ones =
@@ -115,7 +108,7 @@ module _ {N : Network} {t : ℕ} (near : Nearing N t) (cubic : Cubical N t) wher
       go false = omega (arith, scan-sends (freePath N free n) (whole N t n) (ways (N .far t n) N t n a) c, ways-count (N .far t n) n a (le-refl _))
 
   pass-sends : (free : ℕ → ℕ → Bool) (s : ℕ) (vector : List ℕ) → scouts (pass N free s vector t) ≤ length (beginnings N s vector t)
-  unfolding pass attempt
+  unfolding pass
   pass-sends free s vector = omega (arith, scan-sends (freePath N free s) (whole N t s) (beginnings N s vector t) 0)
 
   -- two passes whose vectors share out the ports send at most one scout for each beginning, whatever is free in each

@@ -1,28 +1,32 @@
 -- The cube of every dimension is a network of which the theorems hold.
 -- Assumes nothing.
-use mathlib.Core.Path.{_≡_, refl, ap, sym, _∙_, subst}
-use mathlib.Core.Logic.{⊎-elim, _≢_, _↔_}
-use mathlib.Core.Bool.{Bool, true, false, cond, not}
-use mathlib.Core.List.{List, [], _∷_, List·Memᴰ·head, List·Memᴰ·tail}
-use Prim.Native.Nat.{ℕ, zero, suc, _+_, _-_, _^_, _≤_, _<_}
+use mathlib.Core.Path.{_≡_, refl, ap, sym, _∙_}
+use mathlib.Core.Logic.{_≢_, _↔_}
+use mathlib.Core.Bool.{Bool, true, false, not}
+use mathlib.Core.List.{List, [], _∷_, List·Memᴰ·head, List·Memᴰ·tail, List·Memᴰ·not-nil}
+use Prim.Native.Nat.{ℕ, suc, _+_, _^_, _≤_, _<_}
 use native.Mathlib.Omega.{arith}
 use lib.Dec.{eqb}
 use lib.ListN.{length}
+use lib.Bits.{bitXor, xor-lt}
 use borrow.Author.Tests.{eqb-true, eqb-false, eq-eqb, ne-eqb, not-true, not-false}
 use Rattle.common.specs.Lists.{_∈_, keep, from, Sorted}
-use Rattle.common.proofs.Lists.{keep-yes, keep-no, keep-mem, mem-keep, keep-same, keep-none, keep-sorted, length-keep, from-mem, mem-from, from-sorted, length-from}
+use Rattle.common.proofs.Tests.{is-false}
+use Rattle.common.proofs.Lists.{keep-yes, keep-no, keep-mem, keep-same, keep-none, keep-sorted, from-sorted, below-from, kept-below, below-kept}
 use Rattle.cube.specs.Bits.{bitAt, has, flip}
 use Rattle.cube.specs.Cube.{next, uphill}
+use Rattle.cube.specs.Helical.{portsOf}
 use Rattle.cube.proofs.Bits.{bit-lt, bit-flipped, bit-kept, flip-inside, same-bits}
-use Rattle.paths.specs.Network.{Network, Path, offered, Nearing, Leading}
-use Rattle.paths.specs.Permitted.{Permitted, SameLinks}
+use Rattle.cube.proofs.Ports.{uphill-of}
+use Rattle.cube.proofs.Order.{ports-wider}
+use Rattle.paths.specs.Network.{Path, offered, Nearing, Leading}
+use Rattle.paths.specs.Permitted.{Permitted}
 use Rattle.paths.specs.Sentences.{Says}
 use Rattle.paths.specs.Pass.{pass, scouts}
-use Rattle.paths.specs.Bound.{Cubical}
 use Rattle.paths.specs.CubeNetwork.{Shape, Node, network, sendPorts, otherPorts}
-use Rattle.paths.proofs.Links.{permitted-length, permitted-determined}
+use Rattle.paths.proofs.Links.{permitted-length}
 use Rattle.paths.proofs.Sentences.{pass-says}
-use Rattle.paths.proofs.Bound.{two-passes-bound}
+use Rattle.paths.proofs.Bound.{Cubical, far-width, two-passes-bound}
 
 -- a port that is changed is uphill just if it was not, and no other port changes
 pub uphill-flipped : (t n p : ℕ) → uphill t (flip n p) p ≡ not (uphill t n p)
@@ -64,13 +68,14 @@ one-more f g p on off h (x ∷ ps) s (List·Memᴰ·tail m) = go (f x) refl (one
     go false e ih = rw (keep-no f x ps e, keep-no g x ps (sym same ∙ e)) ih
 
 module _ (S : Shape) where
+  -- the ports offered are those below D that are uphill
   pub offered-port : (t n p : ℕ) → p ∈ offered (network S) t n → (p < S .dimension) × (uphill t n p ≡ true)
   unfolding offered network
-  offered-port t n p m = let k = keep-mem (uphill t n) (from 0 (S .dimension)) m in ((let r = from-mem 0 (S .dimension) (k .0) in omega arith), k .1)
+  offered-port t n = kept-below (uphill t n) (S .dimension)
 
   pub port-offered : (t n p : ℕ) → p < S .dimension → uphill t n p ≡ true → p ∈ offered (network S) t n
   unfolding offered network
-  port-offered t n p h e = mem-keep (uphill t n) (from 0 (S .dimension)) (mem-from 0 (S .dimension) p (omega arith) (omega arith)) e
+  port-offered t n = below-kept (uphill t n) (S .dimension)
 
   -- Offered hops come one nearer,
   pub cube-nearing : (t : ℕ) → Nearing (network S) t
@@ -91,11 +96,7 @@ module _ (S : Shape) where
       }
     where
       none-uphill : (n : ℕ) → offered (network S) t n ≡ [] → (p : ℕ) → p < S .dimension → uphill t n p ≡ false
-      none-uphill n e p h = go (uphill t n p) refl
-        where
-          go : (b : Bool) → uphill t n p ≡ b → b ≡ false
-          go true u = let m : p ∈ [] = rw e at (port-offered t n p h u) in elim m [ ]
-          go false u = refl
+      none-uphill n e p h = is-false (uphill t n p) (λ u. List·Memᴰ·not-nil (rw e at (port-offered t n p h u)))
 
       some : (n : ℕ) → Node S n → n ≢ t → (ps : List ℕ) → offered (network S) t n ≡ ps → (p : ℕ) × (p ∈ offered (network S) t n)
       some n i ne [] e = absurd (ne (same-bits (S .dimension) n t i l (λ p h. same-bit t n p (none-uphill n e p h))))
@@ -109,56 +110,47 @@ module _ (S : Shape) where
         there = ap length (keep-none (uphill t t) (from 0 (S .dimension)) (λ p m. uphill-there t p));
         degree = λ n. refl;
         away = λ n p h e.
-            one-more (uphill t (flip n p)) (uphill t n) p (uphill-flipped t n p ∙ ap not e) e (λ q k. sym (uphill-kept t n p q k)) (from 0 (S .dimension)) (from-sorted 0 (S .dimension)) (mem-from 0 (S .dimension) p (omega arith) (omega arith));
+            one-more (uphill t (flip n p)) (uphill t n) p (uphill-flipped t n p ∙ ap not e) e (λ q k. sym (uphill-kept t n p q k)) (from 0 (S .dimension)) (from-sorted 0 (S .dimension)) (below-from (S .dimension) p h);
       }
 
   -- "So it has 1 to D + 1 hops, 9 at most."
   pub path-hops : (s : ℕ) (vector : List ℕ) (t : ℕ) (w : Path) → Permitted (network S) s vector t w → (1 ≤ length w) × (length w ≤ suc (S .dimension))
   unfolding Permitted network
-  path-hops s vector t (p ∷ w) o = (omega arith, omega (arith, permitted-length (cube-nearing t) s vector p w o, short (next s p)))
-    where
-      short : (n : ℕ) → length (keep (uphill t n) (from 0 (S .dimension))) ≤ S .dimension
-      short n = omega (arith, length-keep (uphill t n) (from 0 (S .dimension)), length-from 0 (S .dimension))
+  path-hops s vector t (p ∷ w) o = (omega arith, omega (arith, permitted-length (cube-nearing t) s vector p w o, far-width (cube-nearing t) (cube-cubical t) (next s p)))
 
   -- a send's ports are those below D that its vector has, the other ports those below D that it has not
   pub send-port : (v p : ℕ) → (p ∈ sendPorts S v) ↔ ((p < S .dimension) × (has v p ≡ true))
   unfolding sendPorts
-  send-port v p = (
-    (λ m. let k = keep-mem (has v) (from 0 (S .dimension)) m in ((let r = from-mem 0 (S .dimension) (k .0) in omega arith), k .1)),
-    (λ h. mem-keep (has v) (from 0 (S .dimension)) (mem-from 0 (S .dimension) p (omega arith) (omega (arith, h .0))) (h .1)),
-  )
+  send-port v p = (kept-below (has v) (S .dimension) p, λ h. below-kept (has v) (S .dimension) p (h .0) (h .1))
 
   pub other-port : (v p : ℕ) → (p ∈ otherPorts S v) ↔ ((p < S .dimension) × (has v p ≡ false))
   unfolding otherPorts
   other-port v p = (
-    (λ m. let k = keep-mem (λ p. not (has v p)) (from 0 (S .dimension)) m in ((let r = from-mem 0 (S .dimension) (k .0) in omega arith), not-true (has v p) (k .1))),
-    (λ h. mem-keep (λ p. not (has v p)) (from 0 (S .dimension)) (mem-from 0 (S .dimension) p (omega arith) (omega (arith, h .0))) (ap not (h .1))),
+    (λ m. let k = kept-below (λ p. not (has v p)) (S .dimension) p m in (k .0, not-true (has v p) (k .1))),
+    (λ h. below-kept (λ p. not (has v p)) (S .dimension) p (h .0) (ap not (h .1))),
   )
 
-  -- both rise, and each port of them leads to a node
+  -- both rise
   pub send-ports-rise : (v : ℕ) → Sorted _<_ (sendPorts S v) × Sorted _<_ (otherPorts S v)
   unfolding sendPorts otherPorts
   send-ports-rise v = (keep-sorted _ _<_ _ (from-sorted 0 (S .dimension)), keep-sorted _ _<_ _ (from-sorted 0 (S .dimension)))
 
-  pub send-starts : (s v p : ℕ) → Node S s → p ∈ sendPorts S v → Node S (next s p)
-  send-starts s v p i m = flip-inside (S .dimension) s p i (send-port v p .0 m .0)
-
-  pub other-starts : (s v p : ℕ) → Node S s → p ∈ otherPorts S v → Node S (next s p)
-  other-starts s v p i m = flip-inside (S .dimension) s p i (other-port v p .0 m .0)
-
-  -- A permitted path of the cube is determined by its source and its links.
-  pub path-determined : (s : ℕ) (vector vector′ : List ℕ) (t u : ℕ) (w v : Path) → Permitted (network S) s vector t w → Permitted (network S) s vector′ u v → SameLinks (network S) s w v → w ≡ v
-  path-determined = permitted-determined cube-nearing
-
   -- What document 01 says of a pass holds in the cube, of the pass with the given vector and of the one with the other ports.
   pub cube-says : (free : ℕ → ℕ → Bool) (s v t : ℕ) → Node S s → Node S t → Says (network S) free s (sendPorts S v) t (pass (network S) free s (sendPorts S v) t)
-  cube-says free s v t i l = pass-says (cube-nearing t) (cube-leading t l) s (sendPorts S v) (send-ports-rise v .0) (λ p m. unfold network in send-starts s v p i m) free _ refl
+  cube-says free s v t i l = pass-says (cube-nearing t) (cube-leading t l) s (sendPorts S v) (send-ports-rise v .0) (λ p m. unfold network in flip-inside (S .dimension) s p i (send-port v p .0 m .0)) free _ refl
 
   pub cube-says-other : (free : ℕ → ℕ → Bool) (s v t : ℕ) → Node S s → Node S t → Says (network S) free s (otherPorts S v) t (pass (network S) free s (otherPorts S v) t)
-  cube-says-other free s v t i l = pass-says (cube-nearing t) (cube-leading t l) s (otherPorts S v) (send-ports-rise v .1) (λ p m. unfold network in other-starts s v p i m) free _ refl
+  cube-says-other free s v t i l = pass-says (cube-nearing t) (cube-leading t l) s (otherPorts S v) (send-ports-rise v .1) (λ p m. unfold network in flip-inside (S .dimension) s p i (other-port v p .0 m .0)) free _ refl
 
   -- "Both passes together never send more than 123,300", for every dimension up to 8, source, target, vector and test of free links.
   pub scouts-bound : S .dimension ≤ 8 → (s t v : ℕ) (f g : ℕ → ℕ → Bool)
       → scouts (pass (network S) f s (sendPorts S v) t) + scouts (pass (network S) g s (otherPorts S v) t) ≤ 123300
   unfolding sendPorts otherPorts network
   scouts-bound h s t v f g = two-passes-bound (cube-nearing t) (cube-cubical t) h s (has v) f g
+
+-- the ports offered in the cube are those of the uphill vector
+pub offered-vector : (S : Shape) (w n t : ℕ) → S .dimension ≤ w → n < 2 ^ S .dimension → t < 2 ^ S .dimension → offered (network S) t n ≡ portsOf w (bitXor n t)
+offered-vector S w n t h i l = offered-is ∙ sym (ports-wider (S .dimension) w (bitXor n t) h (xor-lt (S .dimension) n t i l))
+  where
+    offered-is : offered (network S) t n ≡ portsOf (S .dimension) (bitXor n t)
+    offered-is = unfold offered network portsOf in keep-same (uphill t n) (has (bitXor n t)) (from 0 (S .dimension)) (λ p m. sym (uphill-of n t .bits p))

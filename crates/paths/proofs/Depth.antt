@@ -1,13 +1,13 @@
 -- Depth first: the search that tries ports and arrives, node by node, gives exactly the pass.
 -- Assumes nothing.
-use mathlib.Core.Path.{_≡_, refl, ap, sym, _∙_, fun-ext}
+use mathlib.Core.Path.{_≡_, refl, fun-ext}
 use mathlib.Core.Bool.{Bool, true, false, cond, _&&_}
 use mathlib.Core.List.{List, [], _∷_, _++_, map}
 use Prim.Native.Nat.{ℕ, zero, suc}
 use lib.Dec.{eqb}
 use Rattle.cube.specs.Helical.{helical}
 use Rattle.paths.specs.Network.{Network, Path, offered, end, freePath}
-use Rattle.paths.specs.Pass.{Pass, none, found, over, ways, beginnings, scan, whole, attempt, pass}
+use Rattle.paths.specs.Pass.{Pass, none, found, over, ways, beginnings, scan, whole, pass}
 use Rattle.paths.specs.Search.{front, orElse, trying, arriving, sending}
 
 -- the clauses as equations: a proof that opens a definition no longer sees the calls that a clause leaves
@@ -97,5 +97,5 @@ search-is-scan N free s vector t c =
     trying-scan N free t s _ _ (λ p. arriving-scan (N .far t (N .next s p)) N free t (N .next s p) p) vector c
 
 pub search-is-pass : (N : Network) (free : ℕ → ℕ → Bool) (s : ℕ) (vector : List ℕ) (t : ℕ) → sending N free s vector t 0 ≡ pass N free s vector t
-unfolding pass attempt
+unfolding pass
 search-is-pass N free s vector t = search-is-scan N free s vector t 0

@@ -9,7 +9,6 @@ pub mod Links
 pub mod Cone
 pub mod Bound
 pub mod CubeNetwork
-pub mod FirstPorts
 pub mod Send
 pub mod Apart
 pub mod Trail

@@ -1,15 +1,17 @@
--- The links of a permitted path: how many there are, that none is used twice, and that with the source they determine the path.
+-- The links of a path, in its list and by the test; of a permitted path, how many there are, and that none is used twice.
 -- Assumes nothing.
-use mathlib.Core.Path.{_≡_, refl, ap, ap₂, sym, _∙_, subst}
+use mathlib.Core.Path.{_≡_, refl, ap, sym, _∙_, subst}
 use mathlib.Core.Logic.{_⊎_, inl, inr, ⊎-elim, _≢_}
+use mathlib.Core.Bool.{Bool, true, false, _&&_, _||_, or-true, false≢true}
 use mathlib.Core.List.{List, [], _∷_, List·Memᴰ·head, List·Memᴰ·tail, List·Memᴰ·not-nil, List·Memᴰ·cases-cons}
-use Prim.Native.Nat.{ℕ, suc, _≤_, _<_}
+use Prim.Native.Nat.{ℕ, suc, _≤_}
 use native.Mathlib.Omega.{arith}
+use lib.Dec.{eqb}
 use lib.ListN.{length}
+use borrow.Author.Tests.{eqb-true, eq-eqb}
 use Rattle.common.specs.Lists.{_∈_, Sorted}
-use Rattle.paths.specs.Network.{Network, Path, Link, offered, end, links, Nearing}
-use Rattle.paths.specs.Permitted.{Onward, Permitted, SameLinks}
-use Rattle.paths.proofs.Sentences.{onward-end}
+use Rattle.paths.specs.Network.{Network, Path, Link, links, hasLink, Nearing}
+use Rattle.paths.specs.Permitted.{Onward, Permitted}
 
 -- the link out of port q of node m is one of those of w from n
 unfoldable pub On : Network → ℕ → Path → ℕ → ℕ → Type 0
@@ -32,19 +34,24 @@ pub on-none : (N : Network) (n m q : ℕ) → On N n [] m q → ⊥
 unfolding On links
 on-none N n m q o = List·Memᴰ·not-nil o
 
--- where a link leads to is left again, unless it is the path's end; and a path of one hop or more has a last link
-onward-link : (N : Network) (n : ℕ) (w : Path) (m q : ℕ) → On N n w m q → (N .next m q ≡ end N n w) ⊎ ((r : ℕ) × On N n w (N .next m q) r)
-unfolding end
-onward-link N n [] m q o = absurd (on-none N n m q o)
-onward-link N n (p ∷ []) m q o = ⊎-elim (λ e. inl (rw (e .0, e .1))) (λ k. absurd (on-none N (N .next n p) m q k)) (on-cases N n p [] m q o)
-onward-link N n (p ∷ r ∷ w) m q o =
-    ⊎-elim (λ e. inr (r, rw (e .0, e .1) (on-later N n p (r ∷ w) _ r (on-first N (N .next n p) r w))))
-    (λ k. ⊎-elim inl (λ h. inr (h .0, on-later N n p (r ∷ w) _ (h .0) (h .1))) (onward-link N (N .next n p) (r ∷ w) m q k)) (on-cases N n p (r ∷ w) m q o)
+-- the test of a list's links says what is in it
+pub link-true : (ls : List Link) (m q : ℕ) → (m, q) ∈ ls → hasLink ls m q ≡ true
+unfolding hasLink
+link-true (l ∷ ls) m q (List·Memᴰ·head e) =
+    let x : m ≡ l .0 = ap (λ (x : Link). x .0) e in
+    let y : q ≡ l .1 = ap (λ (x : Link). x .1) e in
+    rw (eq-eqb m (l .0) x, eq-eqb q (l .1) y)
+link-true (l ∷ ls) m q (List·Memᴰ·tail o) = rw (link-true ls m q o) (or-true (eqb m (l .0) && eqb q (l .1)))
 
-last-link : (N : Network) (n p : ℕ) (w : Path) → (m : ℕ) × (q : ℕ) × On N n (p ∷ w) m q × (N .next m q ≡ end N n (p ∷ w))
-unfolding end
-last-link N n p [] = (n, p, on-first N n p [], refl)
-last-link N n p (r ∷ w) = let l = last-link N (N .next n p) r w in (l .0, l .1, on-later N n p (r ∷ w) (l .0) (l .1) (l .2), l .3)
+pub true-link : (ls : List Link) (m q : ℕ) → hasLink ls m q ≡ true → (m, q) ∈ ls
+unfolding hasLink
+true-link [] m q e = absurd (false≢true e)
+true-link (l ∷ ls) m q e = go (eqb m (l .0)) (eqb q (l .1)) refl refl e (true-link ls m q)
+  where
+    go : (a b : Bool) → eqb m (l .0) ≡ a → eqb q (l .1) ≡ b → (a && b) || hasLink ls m q ≡ true → (hasLink ls m q ≡ true → (m, q) ∈ ls) → (m, q) ∈ (l ∷ ls)
+    go true true x y e ih = List·Memᴰ·head (λ i. (eqb-true m (l .0) x i, eqb-true q (l .1) y i))
+    go true false x y e ih = List·Memᴰ·tail (ih e)
+    go false b x y e ih = List·Memᴰ·tail (ih e)
 
 module _ {N : Network} {t : ℕ} (near : Nearing N t) where
   -- a way on has at most as many hops as the target is far
@@ -53,7 +60,7 @@ module _ {N : Network} {t : ℕ} (near : Nearing N t) where
   onward-length n [] o = omega arith
   onward-length n (p ∷ w) o = omega (arith, near .nearer n p (o .1), onward-length (N .next n p) w (o .2))
 
-  -- its links are offered, leave nodes no farther than its start, and come one nearer
+  -- its links leave nodes no farther than its start, and come one nearer
   pub onward-near : (n : ℕ) (w : Path) → Onward N t n w → (m q : ℕ) → On N n w m q → (N .far t m ≤ N .far t n) × (N .far t m ≡ suc (N .far t (N .next m q)))
   unfolding Onward
   onward-near n [] o m q i = absurd (on-none N n m q i)
@@ -61,12 +68,7 @@ module _ {N : Network} {t : ℕ} (near : Nearing N t) where
       ⊎-elim (λ e. rw (e .0, e .1) (omega arith, near .nearer n p (o .1)))
       (λ k. let r = onward-near (N .next n p) w (o .2) m q k in (omega (arith, near .nearer n p (o .1)), r .1)) (on-cases N n p w m q i)
 
-  -- it never leaves the target, nor, after its first hop, its start
-  pub onward-left : (n : ℕ) (w : Path) → Onward N t n w → (m q : ℕ) → On N n w m q → m ≢ t
-  unfolding Onward
-  onward-left n [] o m q i = absurd (on-none N n m q i)
-  onward-left n (p ∷ w) o m q i = ⊎-elim (λ e. rw (e .0) (o .0)) (λ k. onward-left (N .next n p) w (o .2) m q k) (on-cases N n p w m q i)
-
+  -- it does not come back to its start
   pub onward-past : (n p : ℕ) (w : Path) → Onward N t n (p ∷ w) → (q : ℕ) → On N (N .next n p) w n q → ⊥
   unfolding Onward
   onward-past n p w o q i = omega (arith, near .nearer n p (o .1), onward-near (N .next n p) w (o .2) n q i .0)
@@ -102,71 +104,3 @@ module _ {N : Network} {t : ℕ} (near : Nearing N t) where
   pub permitted-length : (s : ℕ) (vector : List ℕ) (p : ℕ) (w : Path) → Permitted N s vector t (p ∷ w) → length (p ∷ w) ≤ suc (N .far t (N .next s p))
   unfolding Permitted
   permitted-length s vector p w o = omega (arith, onward-length (N .next s p) w (o .1))
-
--- two paths have the same links, said of `On`
-same-on : (N : Network) (n : ℕ) (w v : Path) → SameLinks N n w v → ((m q : ℕ) → On N n w m q → On N n v m q) × ((m q : ℕ) → On N n v m q → On N n w m q)
-unfolding SameLinks On
-same-on N n w v e = ((λ m q o. e .0 (m, q) o), (λ m q o. e .1 (m, q) o))
-
-abbrev Same : Network → ℕ → Path → Path → Type 0
-Same N n w v = ((m q : ℕ) → On N n w m q → On N n v m q) × ((m q : ℕ) → On N n v m q → On N n w m q)
-
-module _ {N : Network} (near : (t : ℕ) → Nearing N t) where
-  -- a later link of a way on is a later link of any other from the same node that has it
-  later : (t n p : ℕ) (w : Path) → Onward N t n (p ∷ w) → (r : ℕ) (v : Path) (m q : ℕ) → On N (N .next n p) w m q → On N n (r ∷ v) m q → On N (N .next n r) v m q
-  later t n p w o r v m q i j = ⊎-elim (λ e. absurd (onward-past (near t) n p w o q (rw (e .0) at i))) (λ k. k) (on-cases N n r v m q j)
-
-  -- two ways on from one node over the same links are one, whatever their targets
-  onward-determined : (t u n : ℕ) (w v : Path) → Onward N t n w → Onward N u n v → Same N n w v → w ≡ v
-  unfolding Onward
-  onward-determined t u n [] [] o h e = refl
-  onward-determined t u n [] (r ∷ v) o h e = absurd (on-none N n n r (e .1 n r (on-first N n r v)))
-  onward-determined t u n (p ∷ w) [] o h e = absurd (on-none N n n p (e .0 n p (on-first N n p w)))
-  onward-determined t u n (p ∷ w) (r ∷ v) o h e =
-      let same : p ≡ r = onward-once (near u) n (r ∷ v) h n p r (e .0 n p (on-first N n p w)) (on-first N n r v) in
-      ap₂ _∷_ same
-      (onward-determined t u (N .next n p) w v (o .2) (rw (← same) at (h .2)) (
-        (λ m q i. rw same (later t n p w o r v m q i (e .0 m q (on-later N n p w m q i)))),
-        (λ m q i. let j : On N (N .next n r) v m q = rw same at i in later u n r v h p w m q j (e .1 m q (on-later N n r v m q j))),
-      ))
-
-  -- two permitted paths over the same links end together, where the second does not end at its source
-  same-end : (t u s p r : ℕ) (w v : Path) → Onward N t (N .next s p) w → Onward N u (N .next s r) v → Same N s (p ∷ w) (r ∷ v) → s ≢ u → u ≡ t
-  unfolding end
-  same-end t u s p r w v o h e away =
-      let l = last-link N s r v in
-      let at : N .next (l .0) (l .1) ≡ u = l .3 ∙ onward-end N u (N .next s r) v h in
-      ⊎-elim (λ i. sym at ∙ i ∙ onward-end N t (N .next s p) w o) (λ i. absurd (gone at (i .0) (e .0 _ _ (i .1)))) (onward-link N s (p ∷ w) _ _ (e .1 _ _ (l .2)))
-    where
-      gone : {m : ℕ} → m ≡ u → (q : ℕ) → On N s (r ∷ v) m q → ⊥
-      gone {m} a q i = ⊎-elim (λ b. away (sym (b .0) ∙ a)) (λ k. onward-left (near u) (N .next s r) v h m q k a) (on-cases N s r v m q i)
-
-  -- they begin with the same port: else each would pass its source again by the other's first hop
-  same-first : (t u s p r : ℕ) (w v : Path) → Onward N t (N .next s p) w → Onward N u (N .next s r) v → Same N s (p ∷ w) (r ∷ v) → p ≡ r
-  same-first t u s p r w v o h e = go (on-cases N s r v s p (e .0 s p (on-first N s p w))) (on-cases N s p w s r (e .1 s r (on-first N s r v)))
-    where
-      apart : On N (N .next s p) w s r → On N (N .next s r) v s p → ⊥
-      apart i j =
-          let at : u ≡ t = same-end t u s p r w v o h e (onward-left (near u) (N .next s r) v h s p j) in
-          let falls : N .far t s ≡ suc (N .far t (N .next s p)) = rw at at (onward-near (near u) (N .next s r) v h s p j .1) in
-          omega (arith, onward-near (near t) (N .next s p) w o s r i .0)
-
-      go : ((s ≡ s) × (p ≡ r)) ⊎ On N (N .next s r) v s p → ((s ≡ s) × (r ≡ p)) ⊎ On N (N .next s p) w s r → p ≡ r
-      go (inl a) b = a .1
-      go (inr j) (inl b) = sym (b .1)
-      go (inr j) (inr i) = absurd (apart i j)
-
-  behind : (t s p : ℕ) (w : Path) → Onward N t (N .next s p) w → (v : Path) (m q : ℕ) → On N (N .next s p) w m q → On N s (p ∷ v) m q → On N (N .next s p) v m q
-  behind t s p w o v m q i j = ⊎-elim (λ e. absurd (hop-fresh (near t) s p w o (rw (e .0, e .1) at i))) (λ k. k) (on-cases N s p v m q j)
-
-  -- A permitted path is determined by its source and the set of its links, whatever its send vector and its target.
-  pub permitted-determined : (s : ℕ) (vector vector′ : List ℕ) (t u : ℕ) (w v : Path) → Permitted N s vector t w → Permitted N s vector′ u v → SameLinks N s w v → w ≡ v
-  unfolding Permitted
-  permitted-determined s vector vector′ t u (p ∷ w) (r ∷ v) o h e =
-      subst (λ (x : ℕ). Onward N u (N .next s x) v → Same N s (p ∷ w) (x ∷ v) → p ∷ w ≡ x ∷ v)
-      (same-first t u s p r w v (o .1) (h .1) (same-on N s (p ∷ w) (r ∷ v) e))
-      (λ c d. ap (p ∷_) (onward-determined t u (N .next s p) w v (o .1) c (
-        (λ m q i. behind t s p w (o .1) v m q i (d .0 m q (on-later N s p w m q i))),
-        (λ m q i. behind u s p v c w m q i (d .1 m q (on-later N s p v m q i))),
-      )))
-      (h .1) (same-on N s (p ∷ w) (r ∷ v) e)

@@ -1,9 +1,9 @@
 -- The beginnings stand in the order of document 01, so none stands twice.
 -- Assumes nothing.
-use mathlib.Core.Path.{_≡_, refl, ap, sym, _∙_, subst}
-use mathlib.Core.Logic.{_⊎_, inl, inr, ⊎-elim, _≢_}
+use mathlib.Core.Path.{_≡_, refl, sym, subst}
+use mathlib.Core.Logic.{inl, inr, ⊎-elim, _≢_}
 use mathlib.Core.Bool.{Bool, true, false, cond}
-use mathlib.Core.List.{List, [], _∷_, _++_, map, List·Memᴰ·cases-cons, Memᴰ·of-map}
+use mathlib.Core.List.{List, [], _∷_, map, List·Memᴰ·cases-cons, Memᴰ·of-map}
 use Prim.Native.Nat.{ℕ, zero, suc, _≤_, _<_}
 use native.Mathlib.Omega.{arith}
 use borrow.Author.Tests.{ltb-true, leb-true}
@@ -105,7 +105,9 @@ before-asym R h (p ∷ w) (q ∷ v) b c =
 pub comes-before-asym : (w v : Path) → ComesBefore w v → ComesBefore v w → ⊥
 comes-before-asym = before-asym _<_ (λ p q h k. omega arith)
 
--- So none stands twice.
+-- So what stands in that order stands there once: of any list, and of the beginnings.
+pub in-order-once : (xs : List Path) → Sorted ComesBefore xs → Sorted _≢_ xs
+in-order-once xs = sorted-imp ComesBefore _≢_ xs (λ w v m k b e. let c : ComesBefore v v = rw e at b in comes-before-asym v v c c)
+
 pub beginnings-once : (N : Network) (s : ℕ) (vector : List ℕ) (t : ℕ) → Sorted _<_ vector → Sorted _≢_ (beginnings N s vector t)
-beginnings-once N s vector t r =
-    sorted-imp ComesBefore _≢_ _ (λ w v m k b e. let c : ComesBefore v v = rw e at b in comes-before-asym v v c c) (beginnings-in-order N s vector t r)
+beginnings-once N s vector t r = in-order-once _ (beginnings-in-order N s vector t r)

@@ -2,15 +2,16 @@
 -- Assumes nothing.
 use mathlib.Core.Path.{_≡_, refl, ap, sym, _∙_}
 use mathlib.Core.Logic.{⊎-elim}
-use mathlib.Core.Bool.{Bool, true, false, cond, true≢false}
+use mathlib.Core.Bool.{Bool, true, false, cond}
 use mathlib.Core.List.{List, [], _∷_, _++_, List·Memᴰ·not-nil, List·Memᴰ·cases-cons}
 use Prim.Native.Nat.{ℕ, suc, _+_, _≤_}
 use native.Mathlib.Omega.{arith}
 use lib.ListN.{length}
 use Rattle.common.specs.Lists.{_∈_, keep}
-use Rattle.common.proofs.Lists.{keep-nil, keep-yes, keep-no, length-keep}
+use Rattle.common.proofs.Tests.{clash}
+use Rattle.common.proofs.Lists.{keep-nil, keep-yes, keep-no}
 use Rattle.paths.specs.Network.{Path}
-use Rattle.paths.specs.Pass.{Pass, none, found, scan, scouts}
+use Rattle.paths.specs.Pass.{none, found, scan, scouts}
 
 module _ (f g : Path → Bool) where
   -- no member passes both tests
@@ -19,9 +20,6 @@ module _ (f g : Path → Bool) where
 
   neither-cons : (x : Path) (us : List Path) → (f x ≡ true → g x ≡ true → ⊥) → Neither us → Neither (x ∷ us)
   neither-cons x us h n u m a b = ⊎-elim (λ e. h (rw e at a) (rw e at b)) (λ k. n u k a b) (List·Memᴰ·cases-cons m)
-
-  failing : {b : Bool} → b ≡ false → b ≡ true → ⊥
-  failing p q = true≢false (sym q ∙ p)
 
   -- w is the first of ws that passes both tests, and n is c with the number of those up to it that pass the first
   pub record First (c : ℕ) (ws : List Path) (w : Path) (n : ℕ) : Type 0 where
@@ -65,8 +63,8 @@ module _ (f g : Path → Bool) where
             first = λ u m. absurd (List·Memᴰ·not-nil m);
             sent = rw (keep-nil f) (omega arith);
           }
-      go true false p q e ih = let r = ih (suc c) e in further (suc c) r (λ h k. failing q k) (rw (keep-yes f x (r .before) p) (omega arith))
-      go false b p q e ih = let r = ih c e in further c r (λ h k. failing p h) (rw (keep-no f x (r .before) p))
+      go true false p q e ih = let r = ih (suc c) e in further (suc c) r (λ h k. clash k q) (rw (keep-yes f x (r .before) p) (omega arith))
+      go false b p q e ih = let r = ih c e in further c r (λ h k. clash h p) (rw (keep-no f x (r .before) p))
 
   -- nothing found: no member passes both tests, and all that pass the first were counted
   pub scan-none : (ws : List Path) (c : ℕ) {n : ℕ} → scan f g c ws ≡ none n → Neither ws × (n ≡ c + length (keep f ws))
@@ -77,8 +75,8 @@ module _ (f g : Path → Bool) where
       go : (a b : Bool) → f x ≡ a → g x ≡ b → cond a (cond b (found x (suc c)) (scan f g (suc c) xs)) (scan f g c xs) ≡ none n
           → ((d : ℕ) → scan f g d xs ≡ none n → Neither xs × (n ≡ d + length (keep f xs))) → Neither (x ∷ xs) × (n ≡ c + length (keep f (x ∷ xs)))
       go true true p q e ih = let z : _≡_ {A = ℕ} 0 1 = cc in absurd (omega arith)
-      go true false p q e ih = let r = ih (suc c) e in (neither-cons x xs (λ h k. failing q k) (r .0), rw (keep-yes f x xs p) (omega (arith, r .1)))
-      go false b p q e ih = let r = ih c e in (neither-cons x xs (λ h k. failing p h) (r .0), rw (keep-no f x xs p) (r .1))
+      go true false p q e ih = let r = ih (suc c) e in (neither-cons x xs (λ h k. clash k q) (r .0), rw (keep-yes f x xs p) (omega (arith, r .1)))
+      go false b p q e ih = let r = ih c e in (neither-cons x xs (λ h k. clash h p) (r .0), rw (keep-no f x xs p) (r .1))
 
   -- a scan sends at most one scout for each member
   pub scan-sends : (ws : List Path) (c : ℕ) → scouts (scan f g c ws) ≤ c + length ws

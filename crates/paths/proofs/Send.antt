@@ -8,7 +8,7 @@ use Prim.Native.Nat.{ℕ, _+_, _≤_}
 use native.Mathlib.Omega.{arith}
 use Rattle.paths.specs.Network.{Network}
 use Rattle.paths.specs.Pass.{Pass, none, found, pass, scouts}
-use Rattle.paths.specs.Send.{Receive, channel, all-held, Outcome, acknowledged, route-rejected, receive-rejected, Acknowledged, Sent, received, outcome, goesOn, runs}
+use Rattle.paths.specs.Send.{Receive, channel, all-held, Outcome, acknowledged, route-rejected, receive-rejected, Acknowledged, received, outcome, goesOn, runs}
 use Rattle.paths.specs.Sentences.{Says, AnswerSays, says-acknowledged, says-receive-rejected, says-route-rejected}
 use Rattle.paths.specs.CubeNetwork.{Shape, Node, network, sendPorts, otherPorts, maze, alternateMaze}
 use Rattle.paths.proofs.CubeNetwork.{scouts-bound, cube-says}

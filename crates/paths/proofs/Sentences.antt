@@ -3,21 +3,21 @@
 -- Assumes nothing.
 use mathlib.Core.Path.{_≡_, refl, ap, sym, _∙_, subst}
 use mathlib.Core.Logic.{_⊎_, inl, inr, ⊎-elim, _≢_, _↔_}
-use mathlib.Core.Bool.{Bool, true, false}
+use mathlib.Core.Bool.{Bool, true}
 use mathlib.Core.List.{List, [], _∷_, _++_, append-nil, List·Memᴰ·head, List·Memᴰ·not-nil, List·Memᴰ·cases-cons, List·Memᴰ·append-cases, List·Memᴰ·eq-of-singleton, Memᴰ·append-left, Memᴰ·append-right, cons≢nil}
-use Prim.Native.Nat.{ℕ, suc, _+_, _<_}
+use Prim.Native.Nat.{ℕ, _+_, _<_}
 use native.Mathlib.Omega.{arith}
 use borrow.Author.Tests.{eqb-true, eq-eqb}
 use lib.ListN.{length, length-append}
 use Rattle.common.specs.Lists.{_∈_, keep, Sorted}
-use Rattle.common.proofs.Lists.{keep-mem, mem-keep, keep-sorted, sorted-append, sorted-imp, sorted-at}
+use Rattle.common.proofs.Lists.{keep-mem, mem-keep, keep-sorted, sorted-append, sorted-at}
 use Rattle.paths.specs.Network.{Network, Path, end, freePath, Nearing, Leading}
 use Rattle.paths.specs.Permitted.{Onward, Permitted, Beginning, Sooner, Before, ComesBefore}
-use Rattle.paths.specs.Pass.{Pass, none, found, beginnings, scan, whole, attempt, pass}
-use Rattle.paths.specs.Sentences.{Number, UpTo, Free, FoundSays, NoneSays, Says}
+use Rattle.paths.specs.Pass.{Pass, none, found, beginnings, whole, pass}
+use Rattle.paths.specs.Sentences.{UpTo, Free, FoundSays, NoneSays, Says}
 use Rattle.paths.proofs.Scan.{First, Neither, scan-found, scan-none}
 use Rattle.paths.proofs.Beginnings.{Climb, beginning-climb, beginning-hop, beginnings-exactly}
-use Rattle.paths.proofs.Order.{beginnings-in-order, comes-before-asym}
+use Rattle.paths.proofs.Order.{beginnings-in-order, comes-before-asym, in-order-once}
 
 -- a way to the target ends there, and a climb that ends there is one
 pub onward-end : (N : Network) (t n : ℕ) (w : Path) → Onward N t n w → end N n w ≡ t
@@ -74,11 +74,8 @@ module _ {N : Network} {t : ℕ} {Node : ℕ → Type 0} (near : Nearing N t) (l
   unfolding Beginning
   permitted-mem v o = bridge v .1 (permitted-hops N s vector t v o, ([], subst (Permitted N s vector t) (sym (append-nil v)) o))
 
-  apart : (xs : List Path) → Sorted ComesBefore xs → Sorted _≢_ xs
-  apart xs h = sorted-imp ComesBefore _≢_ xs (λ w v m k b e. let c : ComesBefore v v = rw e at b in comes-before-asym v v c c) h
-
   none-says : (c : ℕ) → pass N free s vector t ≡ none c → NoneSays N free s vector t c
-  unfolding pass attempt
+  unfolding pass
   none-says c e =
       record {
         nothing = λ v o h. r .0 v (permitted-mem v o) h (permitted-whole N s vector t v o);
@@ -86,7 +83,7 @@ module _ {N : Network} {t : ℕ} {Node : ℕ → Type 0} (near : Nearing N t) (l
             record {
               list = keep (freePath N free s) (beginnings N s vector t);
               holds = λ b. ((λ m. let k = keep-mem _ _ m in (bridge b .0 (k .0), k .1)), (λ k. mem-keep _ _ (bridge b .1 (k .0)) (k .1)));
-              once = apart _ (keep-sorted _ ComesBefore _ (beginnings-in-order N s vector t rising));
+              once = in-order-once _ (keep-sorted _ ComesBefore _ (beginnings-in-order N s vector t rising));
               long = omega (arith, r .1);
             };
       }
@@ -95,7 +92,7 @@ module _ {N : Network} {t : ℕ} {Node : ℕ → Type 0} (near : Nearing N t) (l
       r = scan-none (freePath N free s) (whole N t s) (beginnings N s vector t) 0 e
 
   found-says : (w : Path) (c : ℕ) → pass N free s vector t ≡ found w c → FoundSays N free s vector t w c
-  unfolding pass attempt
+  unfolding pass
   found-says w c e =
       record {
         permitted = whole-permitted N s vector t w (rw (r .place) (Memᴰ·append-right (r .before) (List·Memᴰ·head refl))) (r .whole);
@@ -106,7 +103,7 @@ module _ {N : Network} {t : ℕ} {Node : ℕ → Type 0} (near : Nearing N t) (l
               list = keep (freePath N free s) (r .before) ++ (w ∷ []);
               holds = λ b. (sent b, counted b);
               once =
-                  apart _
+                  in-order-once _
                   (sorted-append _ _ (keep-sorted _ ComesBefore _ (order .0)) single (λ x y m k. rw (List·Memᴰ·eq-of-singleton k) (order .1 x (keep-mem _ _ m .0))));
               long = length-append (keep (freePath N free s) (r .before)) (w ∷ []) ∙ omega (arith, r .sent);
             };

@@ -5,25 +5,24 @@ use mathlib.Core.Path.{_≡_, refl, ap, sym, _∙_, subst}
 use mathlib.Core.Logic.{_⊎_, inl, inr, ⊎-elim, _≢_}
 use mathlib.Core.Bool.{Bool, true, false, not}
 use mathlib.Core.List.{List, [], _∷_, _++_, List·Memᴰ·head, List·Memᴰ·tail, List·Memᴰ·not-nil, List·Memᴰ·cases-cons, List·Memᴰ·append-cases, Memᴰ·append-right}
-use Prim.Native.Nat.{ℕ, zero, suc, _-_, _≤_, _<_}
+use Prim.Native.Nat.{ℕ, zero, suc, _≤_, _<_}
 use native.Mathlib.Omega.{arith}
 use lib.Dec.{eqb}
 use lib.ListN.{length}
-use borrow.Author.Tests.{eqb-false, ne-eqb, not-true}
+use borrow.Author.Tests.{eqb-false, eq-eqb, ne-eqb, not-true}
 use Rattle.common.specs.Lists.{_∈_, keep, from}
 use Rattle.common.proofs.Tests.{same?, clash}
-use Rattle.common.proofs.Lists.{keep-nil, keep-yes, keep-no, keep-mem, mem-keep, length-keep}
+use Rattle.common.proofs.Lists.{keep-nil, keep-mem, mem-keep, from-below, below-from, keep-shorter}
 use Rattle.cube.specs.Bits.{bitAt, flip}
 use Rattle.cube.proofs.Bits.{bit-flipped, bit-kept, bit-lt}
-use Rattle.paths.specs.Network.{Network, Path, Link, offered, links, Nearing, Exactly}
-use Rattle.paths.specs.Permitted.{Onward, Permitted}
+use Rattle.paths.specs.Network.{Network, Path, links, hasLink, Exactly}
+use Rattle.paths.specs.Permitted.{Onward, Permitted, SameLinks}
 use Rattle.paths.specs.CubeNetwork.{Shape, network}
-use Rattle.paths.specs.Bound.{Cubical}
-use Rattle.paths.specs.Trail.{hop, dropPort, course, firstHops, trail, Apart, LaterApart}
-use Rattle.paths.proofs.Links.{On, on-cases, on-first, on-later, on-none, onward-near, onward-once}
+use Rattle.paths.specs.Trail.{hop, dropPort, course, firstHops, trail}
+use Rattle.paths.proofs.Links.{On, on-cases, on-first, on-later, on-none, link-true, true-link, onward-once}
 use Rattle.paths.proofs.Bound.{far-width}
 use Rattle.paths.proofs.CubeNetwork.{cube-nearing, cube-cubical}
-use Rattle.paths.proofs.Apart.{onward-apart, port-below, below-port}
+use Rattle.paths.proofs.Apart.{Apart, LaterApart, apart-below, onward-apart}
 
 -- a hop where the list has nothing, or nothing but a
 hop-none : (l : List ℕ) (on : ℕ → Path) → ((x : ℕ) → x ∈ l → ⊥) → hop l on ≡ []
@@ -54,6 +53,12 @@ mem-drop : (p : ℕ) (left : List ℕ) {q : ℕ} → q ∈ left → q ≢ p → 
 unfolding dropPort
 mem-drop p left {q} m h = mem-keep _ left m (ap not (ne-eqb q p h))
 
+-- a first hop is one of the ports, and its link is owned
+first-hop : (N : Network) (ports : List ℕ) (own : ℕ → ℕ → Bool) (s b : ℕ) → b ∈ firstHops N ports own s → (b ∈ ports) × (own s b ≡ true)
+unfolding firstHops
+first-hop N ports own s b m =
+    keep-mem (own s) ports (⊎-elim (λ k. keep-mem (λ a. own (N .next s a) a) (keep (own s) ports) k .0) (λ k. k) (List·Memᴰ·append-cases (keep (λ a. own (N .next s a) a) (keep (own s) ports)) m))
+
 -- a neighbour is another node
 moved : (s a : ℕ) → s ≡ flip s a → ⊥
 moved s a e = omega (arith, ap (λ x. bitAt x a) e, bit-flipped s a, bit-lt s a)
@@ -73,11 +78,6 @@ port-once N D n (p ∷ w) x m r q i j = go (on-cases N n p w m q i) (on-cases N 
     go (inl a) (inr k) ih = absurd (x .1 (subst (λ z. z ∈ w) (a .1) (on-port N _ w r q k)))
     go (inr k) (inl b) ih = absurd (x .1 (subst (λ z. z ∈ w) (b .1) (on-port N _ w m q k)))
     go (inr k) (inr l) ih = ih k l
-
-apart-below : (D : ℕ) (w : Path) → Apart D w → (q : ℕ) → q ∈ w → q < D
-unfolding Apart
-apart-below D [] x q m = absurd (List·Memᴰ·not-nil m)
-apart-below D (p ∷ w) x q m = ⊎-elim (λ e. rw e (x .0)) (λ k. apart-below D w (x .2) q k) (List·Memᴰ·cases-cons m)
 
 module _ (S : Shape) (own : ℕ → ℕ → Bool) (s t a : ℕ) where
   far : ℕ → ℕ
@@ -163,7 +163,7 @@ module _ (S : Shape) (own : ℕ → ℕ → Bool) (s t a : ℕ) (w : Path) (o : 
       on b = course (S .dimension) (network S) ports own (flip s b)
 
       mine : a ∈ keep (own s) ports
-      mine = mem-keep (own s) ports (below-port (S .dimension) a h) (x .all s a (on-first (network S) s a w))
+      mine = mem-keep (own s) ports (below-from (S .dimension) a h) (x .all s a (on-first (network S) s a w))
 
       back : List ℕ
       back = keep (λ b. own (flip s b) b) (keep (own s) ports)
@@ -171,8 +171,7 @@ module _ (S : Shape) (own : ℕ → ℕ → Bool) (s t a : ℕ) (w : Path) (o : 
       go : (b : Bool) → own (flip s a) a ≡ b → hop (back ++ keep (own s) ports) on ≡ a ∷ on a
       go true e = hop-front a back (keep (own s) ports) on (mem-keep _ _ mine e) (λ b m. let k = keep-mem (λ b. own (flip s b) b) (keep (own s) ports) m in back-first b (keep-mem (own s) ports (k .0) .1) (k .1))
       go false e =
-          hop-only a (back ++ keep (own s) ports) on (Memᴰ·append-right back mine)
-          (λ b m. alone e b (keep-mem (own s) ports (⊎-elim (λ k. keep-mem (λ b. own (flip s b) b) (keep (own s) ports) k .0) (λ k. k) (List·Memᴰ·append-cases back m)) .1))
+          hop-only a (back ++ keep (own s) ports) on (Memᴰ·append-right back mine) (λ b m. alone e b (first-hop (network S) ports own s b m .1))
 
       short : network S .far t (flip s a) ≤ S .dimension
       short = unfold network in far-width (cube-nearing S t) (cube-cubical S t) (flip s a)
@@ -181,12 +180,21 @@ module _ (S : Shape) (own : ℕ → ℕ → Bool) (s t a : ℕ) (w : Path) (o : 
       rest =
           unfold far in
           course-is S own s t a (S .dimension) (flip s a) w ports o apart short (λ m q i. x .all m q (on-later (network S) s a w m q i))
-          (λ q m. below-port (S .dimension) q (apart-below (S .dimension) w apart q m)) (λ m q near i e. owned m q e) (λ q i. refl)
+          (λ q m. below-from (S .dimension) q (apart-below (S .dimension) w apart q m)) (λ m q near i e. owned m q e) (λ q i. refl)
 
 -- The trail gives back the permitted path whose links are exactly those owned.
 pub trail-finds : (S : Shape) (own : ℕ → ℕ → Bool) (s t : ℕ) (w : Path) → Permitted (network S) s (from 0 (S .dimension)) t w → Exactly (network S) s w own → trail S own s ≡ w
 unfolding Permitted network
-trail-finds S own s t (a ∷ w) o x = trail-is S own s t a w (o .1) x (port-below (S .dimension) a (o .0))
+trail-finds S own s t (a ∷ w) o x = trail-is S own s t a w (o .1) x (from-below (S .dimension) a (o .0))
+
+-- So a permitted path of the cube is determined by its source and its links, whatever its target and whatever its send vector of ports below D.
+pub path-determined : (S : Shape) (s t u : ℕ) (w v : Path) → Permitted (network S) s (from 0 (S .dimension)) t w → Permitted (network S) s (from 0 (S .dimension)) u v
+    → SameLinks (network S) s w v → w ≡ v
+unfolding SameLinks
+path-determined S s t u w v o h e = sym (found t w o ((λ l i. i), (λ l i. i))) ∙ found u v h (e .1, e .0)
+  where
+    found : (t : ℕ) (x : Path) → Permitted (network S) s (from 0 (S .dimension)) t x → SameLinks (network S) s x w → trail S (hasLink (links (network S) s w)) s ≡ x
+    found t x o e = trail-finds S _ s t x o record { all = λ m q i. link-true _ m q (e .0 (m, q) i); only = λ m q i. e .1 (m, q) (true-link _ m q i) }
 
 -- Whatever it gives, its links are owned,
 hop-owned : (N : Network) (own : ℕ → ℕ → Bool) (n : ℕ) (l : List ℕ) (on : ℕ → Path) → ((p : ℕ) → p ∈ l → own n p ≡ true) → (m q : ℕ)
@@ -200,11 +208,6 @@ unfolding course
 course-owned N own zero left n m q i = absurd (on-none N n m q i)
 course-owned N own (suc k) left n m q i =
     hop-owned N own n _ _ (λ p j. keep-mem (own n) left j .1) m q (λ p. course-owned N own k (dropPort p left) (N .next n p) m q) i
-
-first-hop : (N : Network) (ports : List ℕ) (own : ℕ → ℕ → Bool) (s b : ℕ) → b ∈ firstHops N ports own s → (b ∈ ports) × (own s b ≡ true)
-unfolding firstHops
-first-hop N ports own s b m =
-    keep-mem (own s) ports (⊎-elim (λ k. keep-mem (λ a. own (N .next s a) a) (keep (own s) ports) k .0) (λ k. k) (List·Memᴰ·append-cases (keep (λ a. own (N .next s a) a) (keep (own s) ports)) m))
 
 pub trail-owned : (S : Shape) (own : ℕ → ℕ → Bool) (s m q : ℕ) → On (network S) s (trail S own s) m q → own m q ≡ true
 unfolding trail
@@ -230,33 +233,25 @@ pub trail-apart : (S : Shape) (own : ℕ → ℕ → Bool) (s : ℕ) → trail S
 unfolding trail LaterApart
 trail-apart S own s =
     hop-all (λ v. v ≢ [] → LaterApart (S .dimension) v) _ _ (λ e. absurd (e refl))
-    (λ b i e. (port-below (S .dimension) b (first-hop (network S) _ own s b i .0), course-apart (network S) (S .dimension) own (S .dimension) (from 0 (S .dimension)) (network S .next s b) (λ q m. port-below (S .dimension) q m)))
+    (λ b i e. (from-below (S .dimension) b (first-hop (network S) _ own s b i .0), course-apart (network S) (S .dimension) own (S .dimension) (from 0 (S .dimension)) (network S .next s b) (λ q m. from-below (S .dimension) q m)))
 
--- How many hops the course may look ahead does not matter, as long as it may take every port left.
+-- fewer ports are left where one was taken
 pub drop-shorter : (p : ℕ) (left : List ℕ) → p ∈ left → length (dropPort p left) < length left
 unfolding dropPort
-drop-shorter p [] m = absurd (List·Memᴰ·not-nil m)
-drop-shorter p (x ∷ left) m = go (eqb x p) refl (drop-shorter p left)
-  where
-    go : (b : Bool) → eqb x p ≡ b → (p ∈ left → length (keep (λ q. not (eqb q p)) left) < length left) → length (keep (λ q. not (eqb q p)) (x ∷ left)) < suc (length left)
-    go true e ih = rw (keep-no (λ q. not (eqb q p)) x left (ap not e)) (omega (arith, length-keep (λ q. not (eqb q p)) left))
-    go false e ih =
-        rw (keep-yes (λ q. not (eqb q p)) x left (ap not e))
-        (⊎-elim (λ i. absurd (eqb-false x p e (sym i))) (λ k. omega (arith, ih k)) (List·Memᴰ·cases-cons m))
+drop-shorter p left m = keep-shorter (λ q. not (eqb q p)) left p m (ap not (eq-eqb p p refl))
 
+-- with no port left the course is empty
+course-empty : (N : Network) (own : ℕ → ℕ → Bool) (k : ℕ) (left : List ℕ) (n : ℕ) → length left ≤ 0 → course k N left own n ≡ []
+unfolding course hop
+course-empty N own zero left n h = refl
+course-empty N own (suc k) [] n h = rw (keep-nil (own n))
+course-empty N own (suc k) (x ∷ left) n h = absurd (omega arith)
+
+-- How many hops the course may look ahead does not matter, as long as it may take every port left.
 pub course-fuel : (N : Network) (own : ℕ → ℕ → Bool) (k j : ℕ) (left : List ℕ) (n : ℕ) → length left ≤ k → length left ≤ j → course k N left own n ≡ course j N left own n
 unfolding course hop
-course-fuel N own zero zero left n h l = refl
-course-fuel N own zero (suc j) left n h l = sym (empty j left h)
-  where
-    empty : (j : ℕ) (left : List ℕ) → length left ≤ 0 → course (suc j) N left own n ≡ []
-    empty j [] h = rw (keep-nil (own n))
-    empty j (x ∷ left) h = absurd (omega arith)
-course-fuel N own (suc k) zero left n h l = empty k left l
-  where
-    empty : (j : ℕ) (left : List ℕ) → length left ≤ 0 → course (suc j) N left own n ≡ []
-    empty j [] h = rw (keep-nil (own n))
-    empty j (x ∷ left) h = absurd (omega arith)
+course-fuel N own zero j left n h l = sym (course-empty N own j left n h)
+course-fuel N own (suc k) zero left n h l = course-empty N own (suc k) left n l
 course-fuel N own (suc k) (suc j) left n h l = go (keep (own n) left) (λ p m. keep-mem (own n) left m .0) (λ p m. course-fuel N own k j (dropPort p left) (N .next n p))
   where
     go : (ps : List ℕ) → ((p : ℕ) → p ∈ ps → p ∈ left)

@@ -1,14 +1,14 @@
 -- The recursive definitions say what document 01's sentences say of places in a path and of its links.
 -- Assumes nothing.
-use mathlib.Core.Path.{_≡_, refl, ap, sym, _∙_, subst}
+use mathlib.Core.Path.{_≡_, refl, ap, sym}
 use mathlib.Core.Logic.{⊎-elim, _≢_, _↔_}
-use mathlib.Core.Bool.{Bool, true, false, cond, _&&_, and-eq-true-iff, false≢true}
-use mathlib.Core.List.{List, [], _∷_, _++_, nil≢cons, cons≢nil, List·Memᴰ·head, List·Memᴰ·tail, List·Memᴰ·not-nil, List·Memᴰ·cases-cons, head-eq-of-cons-eq, tail-eq-of-cons-eq, Memᴰ·cast}
+use mathlib.Core.Bool.{Bool, true, false, cond, and-eq-true-iff, false≢true}
+use mathlib.Core.List.{List, [], _∷_, _++_, nil≢cons, cons≢nil, List·Memᴰ·head, List·Memᴰ·tail, List·Memᴰ·not-nil, List·Memᴰ·cases-cons, head-eq-of-cons-eq, tail-eq-of-cons-eq, Memᴰ·cast, Memᴰ·append-left, List·Memᴰ·append-cases, List·Memᴰ·eq-of-singleton}
 use Prim.Native.Nat.{ℕ}
 use lib.Dec.{eqb}
 use borrow.Author.Tests.{eq-eqb, ne-eqb, eqb-true}
 use Rattle.common.specs.Lists.{_∈_}
-use Rattle.paths.specs.Network.{Network, Path, Link, LinkState, link-free, link-held, link-blocked, linkState, isFree, offered, end, links, freePath}
+use Rattle.paths.specs.Network.{Network, Path, Link, link-free, link-held, link-blocked, linkState, isFree, offered, end, links, freePath}
 use Rattle.paths.specs.Permitted.{Onward, Permitted, InWords, SameLinks}
 use Rattle.paths.proofs.Sentences.{onward-end}
 
@@ -84,6 +84,6 @@ pub to-and-fro : (N : Network) → N .next 0 0 ≡ 1 → N .next 1 0 ≡ 0 → S
 unfolding SameLinks links
 to-and-fro N e h =
     rw (e, h) (
-      (λ l m. ⊎-elim (λ a. List·Memᴰ·head a) (λ k. ⊎-elim (λ a. List·Memᴰ·tail (List·Memᴰ·head a)) (λ j. absurd (List·Memᴰ·not-nil j)) (List·Memᴰ·cases-cons k)) (List·Memᴰ·cases-cons m)),
-      (λ l m. ⊎-elim (λ a. List·Memᴰ·head a) (λ k. ⊎-elim (λ a. List·Memᴰ·tail (List·Memᴰ·head a)) (λ j. ⊎-elim (λ a. List·Memᴰ·head a) (λ i. absurd (List·Memᴰ·not-nil i)) (List·Memᴰ·cases-cons j)) (List·Memᴰ·cases-cons k)) (List·Memᴰ·cases-cons m)),
+      (λ l m. Memᴰ·append-left ((0, 0) ∷ []) m),
+      (λ l m. ⊎-elim (λ k. k) (λ k. List·Memᴰ·head (List·Memᴰ·eq-of-singleton k)) (List·Memᴰ·append-cases ((0, 0) ∷ (1, 0) ∷ []) m)),
     )

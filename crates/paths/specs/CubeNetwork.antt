@@ -8,8 +8,8 @@ use lib.ListN.{length}
 use Rattle.common.specs.Lists.{keep, from}
 use Rattle.cube.specs.Bits.{has}
 use Rattle.cube.specs.Cube.{next, uphill}
-use Rattle.paths.specs.Network.{Network, Path}
-use Rattle.paths.specs.Pass.{Pass, pass}
+use Rattle.paths.specs.Network.{Network}
+use Rattle.paths.specs.Pass.{pass}
 use Rattle.paths.specs.Send.{Receive, Sent, runs}
 
 -- what a network is read from: the dimension of the cube

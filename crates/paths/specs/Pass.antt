@@ -38,11 +38,8 @@ whole N t n w = eqb (end N n w) t
 
 -- "A pass looks for the first free permitted path." "Scouts of a pass: the number of free beginnings, one hop or longer, of permitted
 -- paths, that come before the found path or are a beginning of it (itself counted); with no path found, all of them."
-unfoldable pub attempt : Network → (ℕ → ℕ → Bool) → ℕ → ℕ → List Path → Pass
-attempt N free s t ws = scan (freePath N free s) (whole N t s) 0 ws
-
 unfoldable pub pass : Network → (ℕ → ℕ → Bool) → ℕ → List ℕ → ℕ → Pass
-pass N free s vector t = attempt N free s t (beginnings N s vector t)
+pass N free s vector t = scan (freePath N free s) (whole N t s) 0 (beginnings N s vector t)
 
 unfoldable pub scouts : Pass → ℕ
 scouts (none c) = c

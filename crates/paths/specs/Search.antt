@@ -3,10 +3,10 @@
 -- Assumes nothing.
 use mathlib.Core.Bool.{Bool, cond, _&&_, not}
 use mathlib.Core.List.{List, [], _∷_}
-use Prim.Native.Nat.{ℕ, zero, suc, _-_, _^_}
+use Prim.Native.Nat.{ℕ, zero, suc}
 use lib.Dec.{eqb}
 use Rattle.cube.specs.Helical.{helical}
-use Rattle.paths.specs.Network.{Network, Path, offered}
+use Rattle.paths.specs.Network.{Network, offered}
 use Rattle.paths.specs.Pass.{Pass, none, found}
 
 -- a path found further on, with the hop before it
@@ -33,27 +33,6 @@ arriving (suc k) N free t n a c =
 -- a send: the ports of a vector in turn, then the arrival behind each
 unfoldable pub sending : Network → (ℕ → ℕ → Bool) → ℕ → List ℕ → ℕ → ℕ → Pass
 sending N free s vector t c = trying (free s) (λ p. arriving (N .far t (N .next s p)) N free t (N .next s p) p) vector c
-
--- The same over first ports, as the code makes it: a vector of ports is a number, `first v a` names the port tried first of it after an
--- arrival on a, and each port tried is dropped from it. There are w port positions, and `vector t n` has the ports offered at n towards t.
-unfoldable pub tryingFirst : (ℕ → ℕ → ℕ) → ℕ → (ℕ → Bool) → (ℕ → ℕ → Pass) → ℕ → ℕ → ℕ → Pass
-tryingFirst first zero free on v a c = none c
-tryingFirst first (suc w) free on v a c =
-    cond (eqb v 0) (none c)
-    (let p = first v a in
-    let rest = tryingFirst first w free on (v - 2 ^ p) a in
-    cond (free p) (orElse (front p (on p (suc c))) rest) (rest c))
-
-module _ (first : ℕ → ℕ → ℕ) (w : ℕ) (N : Network) (vector : ℕ → ℕ → ℕ) where
-  unfoldable pub arrivingFirst : ℕ → (ℕ → ℕ → Bool) → ℕ → ℕ → ℕ → ℕ → Pass
-  arrivingFirst zero free t n a c = cond (eqb n t) (found [] c) (none c)
-  arrivingFirst (suc k) free t n a c =
-      cond (eqb n t) (found [] c) (tryingFirst first w (free n) (λ p. arrivingFirst k free t (N .next n p) p) (vector t n) a c)
-
-  -- a send uses the last arrival port, so that its ports are tried from 0 upward
-  unfoldable pub sendingFirst : (ℕ → ℕ → Bool) → ℕ → ℕ → ℕ → ℕ → Pass
-  sendingFirst free s v t c =
-      tryingFirst first w (free s) (λ p. arrivingFirst (N .far t (N .next s p)) free t (N .next s p) p) v (w - 1) c
 
 -- the test of free links once the link out of port q of node m is held
 unfoldable pub holding : (ℕ → ℕ → Bool) → ℕ → ℕ → ℕ → ℕ → Bool

@@ -4,7 +4,7 @@ use mathlib.Core.Bool.{Bool, true, false, cond}
 use mathlib.Core.List.{List, [], _∷_}
 use Prim.Native.Nat.{ℕ, _+_}
 use lib.ListN.{length}
-use Rattle.paths.specs.Network.{Network, Path}
+use Rattle.paths.specs.Network.{Path}
 use Rattle.paths.specs.Pass.{Pass, none, found, scouts}
 
 -- "the target takes its lowest receive channel that no circuit holds": that channel, or none where all are held

@@ -3,9 +3,9 @@
 -- Assumes nothing.
 use mathlib.Core.Bool.{Bool, not}
 use mathlib.Core.List.{List, [], _∷_, _++_}
-use Prim.Native.Nat.{ℕ, zero, suc, _<_}
+use Prim.Native.Nat.{ℕ, zero, suc}
 use lib.Dec.{eqb}
-use Rattle.common.specs.Lists.{_∈_, keep, from}
+use Rattle.common.specs.Lists.{keep, from}
 use Rattle.paths.specs.Network.{Network, Path}
 use Rattle.paths.specs.CubeNetwork.{Shape, network}
 
@@ -31,12 +31,3 @@ unfoldable pub trail : Shape → (ℕ → ℕ → Bool) → ℕ → Path
 trail S own s =
     hop (firstHops (network S) (from 0 (S .dimension)) own s)
     (λ a. course (S .dimension) (network S) (from 0 (S .dimension)) own (network S .next s a))
-
--- ports below D, no two alike; and a path of ports below D of which those behind the first are so
-unfoldable pub Apart : ℕ → List ℕ → Type 0
-Apart D [] = Unit
-Apart D (p ∷ ps) = (p < D) × (p ∈ ps → ⊥) × Apart D ps
-
-unfoldable pub LaterApart : ℕ → Path → Type 0
-LaterApart D [] = ⊥
-LaterApart D (p ∷ w) = (p < D) × Apart D w
