@@ -1,11 +1,11 @@
 -- Filling a part of the bytes, and the bytes of a made table.
 -- Assumes nothing.
-use mathlib.Core.Path.{_≡_, refl, ap, ap₂, sym, _∙_}
+use mathlib.Core.Path.{_≡_, ap, ap₂, sym, _∙_}
 use mathlib.Core.List.{List, [], _∷_, _++_, append-assoc, append-nil}
 use Prim.Native.Nat.{ℕ, suc, _+_, _-_, _%_, _^_, _≤_, _<_}
 use native.Mathlib.Omega.{arith}
 use native.Mathlib.Numerals.{add-one, one-add}
-use lib.ListN.{length, take, drop, getD, set, replicate, length-append, length-take, length-drop, length-replicate, take-append-drop, replicate-append-replicate, drop-of-length-le}
+use lib.ListN.{length, take, drop, getD, set, replicate, length-append, length-replicate, take-append-drop, replicate-append-replicate, drop-of-length-le}
 use lib.Seq.{drop-cons, set-at, drop-at, length-take-le}
 use Rattle.table.specs.Layout.{filled, made}
 
@@ -31,11 +31,6 @@ filled-more b j i x h l =
     longer =
         let count : (i - j) + 1 ≡ i + 1 - j = omega arith in
         append-assoc (take j b) (replicate (i - j) x) (x ∷ []) ∙ ap (take j b ++_) (replicate-append-replicate (i - j) 1 x ∙ ap (λ n. replicate n x) count)
-
-pub filled-length : (b : List ℕ) (j i x : ℕ) → j ≤ i → i ≤ length b → length (filled b j i x) ≡ length b
-unfolding filled
-filled-length b j i x h l =
-    length-append (take j b ++ replicate (i - j) x) (drop i b) ∙ ap₂ _+_ (front-length b j i x h l) (length-drop i b) ∙ omega arith
 
 -- what the fill of everything behind a front leaves, and what then the fill of the front but its first byte leaves
 fill-end : (b : List ℕ) (i n x : ℕ) → length b ≡ n → filled b i n x ≡ take i b ++ replicate (n - i) x

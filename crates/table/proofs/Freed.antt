@@ -1,15 +1,13 @@
 -- Freeing the entries of a circuit: each byte afterwards, and what the table shows.
 -- Assumes nothing.
-use mathlib.Core.Path.{_≡_, refl, ap, sym, _∙_}
+use mathlib.Core.Path.{_≡_, refl, ap, _∙_}
 use mathlib.Core.Logic.{_≢_}
 use mathlib.Core.Bool.{Bool, true, false, cond, _&&_}
 use mathlib.Core.List.{List}
-use Prim.Native.Nat.{ℕ, zero, suc, _+_, _-_, _*_, _≤_, _<_}
+use Prim.Native.Nat.{ℕ, zero, suc, _+_, _*_, _≤_, _<_}
 use native.Mathlib.Omega.{arith}
 use lib.Dec.{eqb, lit<, lit≤}
 use lib.ListN.{length, getD, set, length-set}
-use lib.Seq.{set-getD}
-use borrow.Author.Tests.{eq-eqb, ne-eqb}
 use Rattle.cube.specs.Bits.{has}
 use Rattle.table.specs.Layout.{inTable, dimensionAt, enablePlace, entryPlace, linkPart, receivePart, wordAt, putWord, enabledAt, entryAt, ownerAt, receiverAt, freeWord, freeFrom, freed}
 use Rattle.table.specs.View.{view, freeing}
@@ -17,14 +15,6 @@ use Rattle.table.proofs.Views.{byte-apart, word-same, inside}
 
 -- one entry
 module _ (c : ℕ) (b : List ℕ) (i : ℕ) where
-  pub free-held : wordAt b i ≡ c → putWord b i 0 ≡ freeWord c b i
-  unfolding freeWord
-  free-held e = rw (eq-eqb (wordAt b i) c e)
-
-  pub free-kept : wordAt b i ≢ c → b ≡ freeWord c b i
-  unfolding freeWord
-  free-kept h = rw (ne-eqb (wordAt b i) c h)
-
   pub free-length : length (freeWord c b i) ≡ length b
   unfolding freeWord
   free-length = go (eqb (wordAt b i) c)
@@ -50,11 +40,6 @@ module _ (c : ℕ) (b : List ℕ) (i : ℕ) where
       go false = refl
 
 -- a run of entries
-pub free-from-length : (c : ℕ) (b : List ℕ) (i k : ℕ) → length (freeFrom c b i k) ≡ length b
-unfolding freeFrom
-free-from-length c b i zero = refl
-free-from-length c b i (suc k) = free-from-length c (freeWord c b i) (i + 2) k ∙ free-length c b i
-
 free-before : (c : ℕ) (b : List ℕ) (i k j : ℕ) → j < i → getD (freeFrom c b i k) j 0 ≡ getD b j 0
 unfolding freeFrom
 free-before c b i zero j h = refl
@@ -76,56 +61,6 @@ free-words c b i (suc k) (suc j) h l =
   where
     ap2 : {a x y z : ℕ} → a ≡ x → y ≡ z → a + 256 * y ≡ x + 256 * z
     ap2 e f = mathlib.Core.Path.ap₂ (λ u w. u + 256 * w) e f
-
--- the loops of the code: i entries done of n, i rows of 16 and i groups of 32
-pub free-step : (c : ℕ) (b : List ℕ) (from n i : ℕ) → i < n → freeFrom c (freeWord c b (from + 2 * i)) (from + 2 * (i + 1)) (n - (i + 1)) ≡ freeFrom c b (from + 2 * i) (n - i)
-free-step c b from n i h =
-    let left : n - i ≡ suc (n - (i + 1)) = omega arith in
-    let on : from + 2 * (i + 1) ≡ from + 2 * i + 2 = omega arith in
-    rw (left, on) (unfold freeFrom in refl)
-
-pub free-end : (c : ℕ) (b : List ℕ) (from n i : ℕ) → n ≤ i → b ≡ freeFrom c b from (n - i)
-free-end c b from n i h = let none : n - i ≡ 0 = omega arith in rw none (unfold freeFrom in refl)
-
-free-append : (c : ℕ) (b : List ℕ) (i j k : ℕ) → freeFrom c (freeFrom c b i j) (i + 2 * j) k ≡ freeFrom c b i (j + k)
-unfolding freeFrom
-free-append c b i zero k = let here : i + 2 * 0 ≡ i = omega arith in let all : 0 + k ≡ k = omega arith in rw (here, all)
-free-append c b i (suc j) k =
-    let on : i + 2 * suc j ≡ i + 2 + 2 * j = omega arith in
-    let more : suc j + k ≡ suc (j + k) = omega arith in
-    rw (on, more) (free-append c (freeWord c b i) (i + 2) j k)
-
-pub free-group-step : (c : ℕ) (b : List ℕ) (i : ℕ) → i < 32 → freeFrom c (freeFrom c b (257 + 256 * i) 128) (257 + 256 * (i + 1)) (4096 - 128 * (i + 1)) ≡ freeFrom c b (257 + 256 * i) (4096 - 128 * i)
-free-group-step c b i h =
-    let left : 4096 - 128 * i ≡ 128 + (4096 - 128 * (i + 1)) = omega arith in
-    let on : 257 + 256 * (i + 1) ≡ 257 + 256 * i + 2 * 128 = omega arith in
-    rw (left, on) (free-append c b (257 + 256 * i) 128 (4096 - 128 * (i + 1)))
-
-pub free-row-step : (c : ℕ) (b : List ℕ) (from i : ℕ) → i < 16 → freeFrom c (freeFrom c b (from + 16 * i) 8) (from + 16 * (i + 1)) (128 - 8 * (i + 1)) ≡ freeFrom c b (from + 16 * i) (128 - 8 * i)
-free-row-step c b from i h =
-    let left : 128 - 8 * i ≡ 8 + (128 - 8 * (i + 1)) = omega arith in
-    let on : from + 16 * (i + 1) ≡ from + 16 * i + 2 * 8 = omega arith in
-    rw (left, on) (free-append c b (from + 16 * i) 8 (128 - 8 * (i + 1)))
-
--- of bytes that are zero nothing is freed
-free-zero : (c : ℕ) (b : List ℕ) (i : ℕ) → getD b i 0 ≡ 0 → getD b (i + 1) 0 ≡ 0 → freeWord c b i ≡ b
-unfolding freeWord
-free-zero c b i e f = go (eqb (wordAt b i) c)
-  where
-    low : set b i 0 ≡ b
-    low = ap (set b i) (sym e) ∙ set-getD b i 0
-
-    go : (x : Bool) → cond x (putWord b i 0) b ≡ b
-    go true = ap (λ y. set y (i + 1) 0) low ∙ ap (set b (i + 1)) (sym f) ∙ set-getD b (i + 1) 0
-    go false = refl
-
-pub free-none : (c : ℕ) (b : List ℕ) (i k : ℕ) → ((j : ℕ) → j < 2 * k → getD b (i + j) 0 ≡ 0) → freeFrom c b i k ≡ b
-unfolding freeFrom
-free-none c b i zero z = refl
-free-none c b i (suc k) z =
-    let here : i + 0 ≡ i = omega arith in
-    ap (λ x. freeFrom c x (i + 2) k) (free-zero c b i (rw here at (z 0 (omega arith))) (z 1 (omega arith)))
-    ∙ free-none c b (i + 2) k (λ j h. let on : i + (2 + j) ≡ i + 2 + j = omega arith in rw on at (z (2 + j) (omega arith)))
 
 -- what the table shows
 module _ (b : List ℕ) (c : ℕ) (l : length b ≡ 8449) where

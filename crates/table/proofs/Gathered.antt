@@ -11,7 +11,7 @@ use lib.Dec.{ltb}
 use lib.Bits.{bitOr, or-add-and, and-le-l, and-le-r}
 use borrow.Author.Count.{below-more}
 use borrow.Author.Tests.{ltb-true, ltb-false}
-use Rattle.table.specs.Layout.{Gathered, enableBits, EnablesFit}
+use Rattle.table.specs.Layout.{Gathered, enableBits, enableLimit, EnablesFit}
 
 or-left : (a b : ℕ) → a ≤ bitOr a b
 or-left a b = omega (arith, or-add-and a b, and-le-r a b)
@@ -34,7 +34,7 @@ module _ (b : List ℕ) (i : ℕ) where
 
 -- the enable bits of a cube's nodes below their number, and none for the others
 pub enables-fit : (b : List ℕ) (D nodes x y : ℕ) → nodes ≡ 2 ^ D → Gathered b 1 nodes x → x < nodes → Gathered b (1 + nodes) (256 - nodes) y → y ≡ 0 → EnablesFit b D
-unfolding EnablesFit enableBits
+unfolding EnablesFit enableLimit enableBits
 enables-fit b D nodes x y m g h f z n l = go (ltb n (2 ^ D)) refl
   where
     later : nodes ≤ n → getD b (1 + n) 0 ≡ 0

@@ -2,13 +2,9 @@
 pub mod Entries
 pub mod Views
 pub mod Gathered
+pub mod Rows
 pub mod Freed
-pub mod Lowest
 pub mod Fills
 pub mod Made
-pub mod Soundness
-pub mod Marks
-pub mod Follow
-pub mod Examine
-pub mod Passing
 pub mod Encode
+pub mod Receives

@@ -1,21 +1,20 @@
 -- What a made table shows.
 -- Assumes nothing.
-use mathlib.Core.Path.{_≡_, refl, ap, sym, _∙_}
+use mathlib.Core.Path.{_≡_, refl, sym, _∙_}
 use mathlib.Core.Bool.{Bool, true, false, cond, _&&_, Bool·beq, true≢false}
-use mathlib.Core.List.{List, [], _∷_, _++_}
-use Prim.Native.Nat.{ℕ, zero, suc, _+_, _-_, _*_, _^_, _≤_, _<_}
+use mathlib.Core.List.{_++_}
+use Prim.Native.Nat.{ℕ, zero, suc, _+_, _-_, _^_, _≤_, _<_}
 use native.Mathlib.Omega.{arith}
 use native.Mathlib.Numerals.{one-add}
-use lib.Dec.{eqb, ltb, lit≤}
-use lib.ListN.{length, getD, replicate, length-replicate, getD-replicate, List·getD-append, List·getD-eq-default}
-use lib.Seq.{getD-append-add}
-use lib.Pow.{pow-mono, pow-pos}
-use borrow.Author.Tests.{ltb-true, ltb-false, lt-ltb, le-ltb}
+use lib.Dec.{ltb, lit≤}
+use lib.ListN.{getD, replicate, length-replicate, getD-replicate, List·getD-append}
+use lib.Pow.{pow-mono}
+use borrow.Author.Tests.{ltb-true, ltb-false, le-ltb}
 use Rattle.common.proofs.Every.{at₂}
 use Rattle.cube.specs.Bits.{has}
 use Rattle.cube.proofs.Bits.{zero-has}
-use Rattle.table.specs.Layout.{inTable, dimensionAt, enablePlace, entryPlace, linkPart, receivePart, wordAt, enabledAt, entryAt, ownerAt, receiverAt, made}
-use Rattle.table.specs.View.{View, view, fresh}
+use Rattle.table.specs.Layout.{inTable, dimensionAt, entryPlace, linkPart, receivePart, wordAt, enabledAt, entryAt, ownerAt, receiverAt, made}
+use Rattle.table.specs.View.{view, fresh}
 use Rattle.table.proofs.Entries.{within}
 use Rattle.table.proofs.Views.{inside}
 

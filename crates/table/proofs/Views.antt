@@ -1,8 +1,8 @@
 -- What a table shows after one value is written: the new value at its place, and everything else as it was.
 -- Assumes nothing.
-use mathlib.Core.Path.{_≡_, refl, ap, sym, _∙_, fun-ext}
+use mathlib.Core.Path.{_≡_, refl, ap, sym, _∙_}
 use mathlib.Core.Logic.{_⊎_, inl, inr, ⊎-elim, _≢_}
-use mathlib.Core.Bool.{Bool, true, false, cond, _&&_, Bool·beq, and-eq-true-iff}
+use mathlib.Core.Bool.{Bool, true, false, cond, _&&_}
 use mathlib.Core.List.{List}
 use Prim.Native.Nat.{ℕ, _+_, _*_, _/_, _%_, _≤_, _<_}
 use native.Mathlib.Omega.{arith}
@@ -14,7 +14,7 @@ use Rattle.common.proofs.Tests.{both-below}
 use Rattle.cube.specs.Bits.{has, withBit}
 use Rattle.cube.proofs.Bits.{with-bit-same, with-bit-other}
 use Rattle.table.specs.Layout.{inTable, dimensionAt, enablePlace, entryPlace, linkPart, receivePart, wordAt, putWord, enabledAt, entryAt, ownerAt, receiverAt, putEntry, putOwner, putReceiver, putEnabled, Within}
-use Rattle.table.specs.View.{View, view, setAt, setOwner, setReceiver, setEnabled}
+use Rattle.table.specs.View.{view, setAt, setOwner, setReceiver, setEnabled}
 use Rattle.table.proofs.Entries.{within}
 
 -- a word written: the word there, and every byte and word apart from it

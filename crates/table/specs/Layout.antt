@@ -1,11 +1,12 @@
 -- Document 01, "The cube and its table": where each value lies in the 8,449 bytes. No other definition knows an offset, and no code but layout.rt.
 -- Assumes nothing.
-use mathlib.Core.Bool.{Bool, true, false, cond, _&&_}
+use mathlib.Core.Bool.{Bool, cond, _&&_}
 use mathlib.Core.Path.{_≡_}
 use mathlib.Core.List.{List, _∷_, _++_}
 use Prim.Native.Nat.{ℕ, zero, suc, _+_, _-_, _*_, _/_, _%_, _^_, _<_, _≤_}
 use lib.Dec.{eqb, ltb}
 use lib.ListN.{length, take, drop, getD, set, replicate}
+use Rattle.common.specs.Lists.{keep, from}
 use Rattle.cube.specs.Bits.{has, flip, withBit}
 
 -- "The table is 8,449 bytes"
@@ -108,9 +109,26 @@ freed b c = freeFrom c b linkPart 4096
 pub record Gathered (b : List ℕ) (i count : ℕ) (all : ℕ) : Type 0 where
   pub none-above : (j : ℕ) → j < count → getD b (i + j) 0 ≤ all
 
--- the enable bits of every node are below its limit: it has links of a cube of dimension D, or none where that cube does not have the node
+-- What the enable bits of a node are below where it has links of a cube of dimension D alone, or none where that cube does not have the node; and
+-- that those of every node are.
+unfoldable pub enableLimit : ℕ → ℕ → ℕ
+enableLimit D n = cond (ltb n (2 ^ D)) (2 ^ D) 1
+
 unfoldable pub EnablesFit : List ℕ → ℕ → Type 0
-EnablesFit b D = (n : ℕ) → n < 256 → enableBits b n < cond (ltb n (2 ^ D)) (2 ^ D) 1
+EnablesFit b D = (n : ℕ) → n < 256 → enableBits b n < enableLimit D n
+
+-- Which of the eight entries of a row, from place i on, are circuit c's: as a vector, and how many.
+pub record RowVector (b : List ℕ) (i c vector : ℕ) : Type 0 where
+  pub small : vector < 256
+  pub bits : (k : ℕ) → k < 8 → has vector k ≡ eqb (wordAt b (i + 2 * k)) c
+
+unfoldable pub rowCount : List ℕ → ℕ → ℕ → ℕ
+rowCount b i c = length (keep (λ k. eqb (wordAt b (i + 2 * k)) c) (from 0 8))
+
+-- the ports of a node whose links circuit c holds, as a vector
+pub record HeldBy (b : List ℕ) (c n vector : ℕ) : Type 0 where
+  pub small : vector < 256
+  pub held : (p : ℕ) → p < 8 → has vector p ≡ eqb (ownerAt b n p) c
 
 -- what the functions over one entry ask: a table's bytes, a node and a port or channel within them
 pub record Within (b : List ℕ) (n p : ℕ) : Type 0 where

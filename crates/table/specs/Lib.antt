@@ -1,8 +1,4 @@
 -- The table of document 01: where each value lies in its bytes, and what they show.
 pub mod Layout
 pub mod View
-pub mod Sound
-pub mod Marks
-pub mod SoundTest
-pub mod Follow
 pub mod Encode

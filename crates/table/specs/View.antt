@@ -1,10 +1,12 @@
 -- What a table shows, whatever the layout of its bytes: its dimension, which links are enabled, and who holds links and receive channels.
 -- It is changed only through the functions below.
 -- Assumes nothing.
-use mathlib.Core.Bool.{Bool, true, false, cond, _&&_}
+use mathlib.Core.Bool.{Bool, cond, _&&_}
 use mathlib.Core.List.{List}
-use Prim.Native.Nat.{ℕ, zero, suc, _+_, _^_}
+use Prim.Native.Nat.{ℕ, _^_}
 use lib.Dec.{eqb, ltb}
+use lib.ListN.{length}
+use Rattle.common.specs.Lists.{keep, from, lowest}
 use Rattle.paths.specs.Send.{Receive, channel, all-held}
 use Rattle.table.specs.Layout.{dimensionAt, enabledAt, ownerAt, receiverAt}
 
@@ -30,6 +32,13 @@ setReceiver v n k c = record { dimension = v .dimension; enabled = v .enabled; o
 unfoldable pub setEnabled : View → ℕ → ℕ → Bool → View
 setEnabled v n p on = record { dimension = v .dimension; enabled = setAt (v .enabled) n p on; owner = v .owner; receiver = v .receiver }
 
+-- how many links, or receive channels, of node n circuit c holds
+unfoldable pub linksHeld : View → ℕ → ℕ → ℕ
+linksHeld v c n = length (keep (λ p. eqb (v .owner n p) c) (from 0 8))
+
+unfoldable pub channelsHeld : View → ℕ → ℕ → ℕ
+channelsHeld v c n = length (keep (λ k. eqb (v .receiver n k) c) (from 0 8))
+
 -- every entry of a circuit freed
 unfoldable pub freeing : View → ℕ → View
 freeing v c =
@@ -44,17 +53,16 @@ freeing v c =
 unfoldable pub available : View → ℕ → ℕ → Bool
 available v n k = eqb (v .receiver n k) 0
 
--- of k numbers from i on, the first that passes a test; i + k where none does
-unfoldable pub lowest : (ℕ → Bool) → ℕ → ℕ → ℕ
-lowest f zero i = i
-lowest f (suc k) i = cond (f i) i (lowest f k (i + 1))
-
 -- "its lowest receive channel that no circuit holds", 8 where all are held
 unfoldable pub lowestChannel : View → ℕ → ℕ
 lowestChannel v n = lowest (available v n) 8 0
 
+-- the lowest of eight channels that passes a test, if any does
+unfoldable pub lowestOf : (ℕ → Bool) → Receive
+lowestOf f = cond (eqb (lowest f 8 0) 8) all-held (channel (lowest f 8 0))
+
 unfoldable pub receive : View → ℕ → Receive
-receive v n = let k = lowestChannel v n in cond (eqb k 8) all-held (channel k)
+receive v n = lowestOf (available v n)
 
 -- what a made table shows: all links of its cube enabled, nothing held
 unfoldable pub fresh : ℕ → View

@@ -2,9 +2,11 @@
 ghost use mathlib.Core.Path.{_≡_};
 ghost use mathlib.Core.Bool.{true, false};
 ghost use Prim.Native.Nat.{ℕ, _+_, _*_, _<_, _≤_};
+ghost use lib.Dec.{eqb};
 ghost use lib.ListN.{length};
-ghost use Rattle.table.specs.Layout.{Within, enableBits, wordAt, putWord, enablePlace, linkPlace, receivePlace, dimensionAt, enabledAt, ownerAt, receiverAt, putOwner, putReceiver, putEnabled, changed, freeWord, freeFrom, freed, filled, made, Gathered, EnablesFit};
-ghost use Rattle.table.specs.View.{view, lowestChannel};
+ghost use Rattle.common.specs.Lists.{lowest};
+ghost use Rattle.table.specs.Layout.{Within, enableBits, wordAt, putWord, enablePlace, linkPlace, receivePlace, RowVector, rowCount, HeldBy, dimensionAt, enabledAt, ownerAt, receiverAt, putOwner, putReceiver, putEnabled, changed, filled, made, Gathered, EnablesFit};
+ghost use Rattle.table.specs.View.{view, linksHeld, channelsHeld, lowestChannel};
 use cube::Circuit;
 use cube::Node;
 use cube::Port;
@@ -25,16 +27,7 @@ const ROW: usize = 16;
 
 const ENTRY: usize = 2;
 
-const ROW_ENTRIES: usize = 8;
-
-// Rows are freed in groups, those of links and then those of receive channels.
-const GROUP: usize = 16;
-
-const GROUP_BYTES: usize = 256;
-
-const GROUPS: usize = 32;
-
-fn wide(x: u8) -> u16
+pub fn wide(x: u8) -> u16
     ensures { λ r. ⌜ (r ≡ x) × (r < 256) ⌝ }
 {
     x as u16
@@ -202,81 +195,73 @@ pub fn set_receiver(t: &mut [u8], n: Node, channel: u16, c: Circuit)
     put_word(t, receive_place(n, channel), c.0);
 }
 
-// The lowest receive channel of a node that nobody holds: 8 where all are held.
+// Which entries of a row are a circuit's, as a vector, and how many are. Neither has an early exit, so that the row can be read in one go.
+fn row_vector(t: &[u8], from: usize, c: Circuit) -> u16
+    requires { ⌜ from + 16 ≤ length (now t) ⌝ }
+    ensures { λ r. ⌜ RowVector (now (t .entry)) from (c .0) r ⌝ }
+{
+    let mut vector: u16 = 0;
+    let mut k: u16 = 0;
+    while k < 8 {
+        if word(t, from + ENTRY * (k as usize)) == c.0 {
+            vector = vector ^ (1 << k);
+        }
+        k += 1;
+    }
+    vector
+}
+
+fn row_count(t: &[u8], from: usize, c: Circuit) -> u16
+    requires { ⌜ from + 16 ≤ length (now t) ⌝ }
+    ensures { λ r. ⌜ r ≡ rowCount (now (t .entry)) from (c .0) ⌝ }
+{
+    let mut count: u16 = 0;
+    let mut k: u16 = 0;
+    while k < 8 {
+        if word(t, from + ENTRY * (k as usize)) == c.0 {
+            count += 1;
+        }
+        k += 1;
+    }
+    count
+}
+
+// The ports of a node whose links a circuit holds, as a vector; of circuit 0, those whose links nobody holds.
+pub fn held_by(t: &[u8], c: Circuit, n: Node) -> u16
+    requires { ⌜ Within (now t) (n .0) 0 ⌝ }
+    ensures { λ r. ⌜ HeldBy (now (t .entry)) (c .0) (n .0) r ⌝ }
+{
+    row_vector(t, link_place(n, Port(0)), c)
+}
+
+// How many links, and how many receive channels, of a node a circuit holds.
+pub fn links_held(t: &[u8], c: Circuit, n: Node) -> u16
+    requires { ⌜ Within (now t) (n .0) 0 ⌝ }
+    ensures { λ r. ⌜ r ≡ linksHeld (view (now (t .entry))) (c .0) (n .0) ⌝ }
+{
+    row_count(t, link_place(n, Port(0)), c)
+}
+
+pub fn channels_held(t: &[u8], c: Circuit, n: Node) -> u16
+    requires { ⌜ Within (now t) (n .0) 0 ⌝ }
+    ensures { λ r. ⌜ r ≡ channelsHeld (view (now (t .entry))) (c .0) (n .0) ⌝ }
+{
+    row_count(t, receive_place(n, 0), c)
+}
+
+// The lowest receive channel of a node that a circuit holds, and the lowest that nobody holds: 8 where there is none.
+pub fn held_channel(t: &[u8], c: Circuit, n: Node) -> u16
+    requires { ⌜ Within (now t) (n .0) 0 ⌝ }
+    ensures { λ r. ⌜ r ≡ lowest (λ k. eqb (receiverAt (now (t .entry)) (n .0) k) (c .0)) 8 0 ⌝ }
+{
+    cube::lowest_bit(row_vector(t, receive_place(n, 0), c))
+}
+
 pub fn free_channel(t: &[u8], n: Node) -> u16
     requires { ⌜ Within (now t) (n .0) 0 ⌝ }
     ensures { λ r. ⌜ r ≡ lowestChannel (view (now (t .entry))) (n .0) ⌝ }
 {
-    let mut k: u16 = 0;
-    while k < 8 {
-        if receiver(t, n, k).0 == 0 {
-            return k;
-        }
-        k += 1;
-    }
-    k
-}
-
-fn free_entry(t: &mut [u8], at: usize, c: Circuit)
-    requires { ⌜ at + 1 < length (now t) ⌝ }
-    ensures { λ _. ⌜ now (t .exit) ≡ freeWord (c .0) (now (t .entry)) at ⌝ }
-{
-    if word(t, at) == c.0 {
-        put_word(t, at, 0);
-    }
-}
-
-fn free_entries(t: &mut [u8], from: usize, c: Circuit)
-    requires { ⌜ from + 16 ≤ length (now t) ⌝ }
-    ensures { λ _. ⌜ now (t .exit) ≡ freeFrom (c .0) (now (t .entry)) from 8 ⌝ }
-{
-    let mut i: usize = 0;
-    while i < ROW_ENTRIES {
-        free_entry(t, from + ENTRY * i, c);
-        i += 1;
-    }
-}
-
-// Of a row, or a group of rows, of which nothing is held, nothing is to be freed.
-fn free_row(t: &mut [u8], from: usize, c: Circuit)
-    requires { ⌜ from + 16 ≤ length (now t) ⌝ }
-    ensures { λ _. ⌜ now (t .exit) ≡ freeFrom (c .0) (now (t .entry)) from 8 ⌝ }
-{
-    if gathered(t, from, ROW) > 0 {
-        free_entries(t, from, c);
-    }
-}
-
-fn free_rows(t: &mut [u8], from: usize, c: Circuit)
-    requires { ⌜ from + 256 ≤ length (now t) ⌝ }
-    ensures { λ _. ⌜ now (t .exit) ≡ freeFrom (c .0) (now (t .entry)) from 128 ⌝ }
-{
-    let mut i: usize = 0;
-    while i < GROUP {
-        free_row(t, from + ROW * i, c);
-        i += 1;
-    }
-}
-
-fn free_group(t: &mut [u8], from: usize, c: Circuit)
-    requires { ⌜ from + 256 ≤ length (now t) ⌝ }
-    ensures { λ _. ⌜ now (t .exit) ≡ freeFrom (c .0) (now (t .entry)) from 128 ⌝ }
-{
-    if gathered(t, from, GROUP_BYTES) > 0 {
-        free_rows(t, from, c);
-    }
-}
-
-// Frees every link and receive channel that a circuit holds.
-pub fn release(t: &mut [u8], c: Circuit)
-    requires { ⌜ length (now t) ≡ 8449 ⌝ }
-    ensures { λ _. ⌜ now (t .exit) ≡ freed (now (t .entry)) (c .0) ⌝ }
-{
-    let mut i: usize = 0;
-    while i < GROUPS {
-        free_group(t, LINKS + GROUP_BYTES * i, c);
-        i += 1;
-    }
+    held_channel(t, Circuit(0), n)
 }
 
 fn fill(t: &mut [u8], from: usize, to: usize, value: u8)

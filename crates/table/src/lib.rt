@@ -1,22 +1,23 @@
 // The table that the caller lends: its layout, and what is read and written there.
 mod layout;
-mod sound;
-mod trail;
 
 pub use layout::BYTES;
+pub use layout::channels_held;
 pub use layout::dimension;
 pub use layout::disable;
 pub use layout::enable;
 pub use layout::enable_bits;
 pub use layout::enabled;
+pub use layout::enables_fit;
 pub use layout::free_channel;
+pub use layout::held_by;
+pub use layout::held_channel;
+pub use layout::links_clear;
+pub use layout::links_held;
 pub use layout::make;
 pub use layout::owner;
 pub use layout::receiver;
-pub use layout::release;
+pub use layout::receives_clear;
 pub use layout::set_owner;
 pub use layout::set_receiver;
-pub use sound::check;
-pub use trail::first_hop;
-pub use trail::held_port;
-pub use trail::is_open;
+pub use layout::wide;

@@ -2,7 +2,6 @@
 -- Assumes nothing.
 use mathlib.Core.Path.{_∙_, ap}
 use Prim.Native.Nat.{_+_, _-_, _%_, _^_}
-use native.Mathlib.Omega.{arith}
 use lib.ListN.{set, length-set}
 use Rattle.table.specs.Layout.{filled}
 use Rattle.table.proofs.Fills.{made-of}

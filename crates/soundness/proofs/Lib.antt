@@ -1,0 +1,7 @@
+-- The laws of soundness.
+pub mod Soundness
+pub mod Marks
+pub mod Follow
+pub mod Examine
+pub mod Passing
+pub mod NodeLinks

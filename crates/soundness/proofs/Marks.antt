@@ -1,0 +1,157 @@
+-- Marking links, and what the marks of the paths of all received circuits say of a held link.
+-- Assumes nothing.
+use mathlib.Core.Path.{_≡_, refl, ap, sym, _∙_, subst}
+use mathlib.Core.Logic.{_⊎_, inl, inr, ⊎-elim, _≢_}
+use mathlib.Core.Bool.{Bool, true, false, _&&_, _||_, not, and-false, or-false, false≢true}
+use mathlib.Core.List.{List}
+use Prim.Native.Nat.{ℕ, _+_, _*_, _%_, _^_, _≤_, _<_}
+use native.Mathlib.Omega.{arith}
+use native.Mathlib.Nat.{mod-eq-of-lt}
+use lib.Bits.{bitOr}
+use lib.Dec.{eqb, leb}
+use lib.ListN.{length, getD, set, replicate, getD-replicate, length-set}
+use lib.Seq.{getD-set-same, getD-set-other}
+use borrow.Author.Tests.{eqb-true, eq-eqb, ne-eqb}
+use Rattle.common.proofs.Tests.{same?, below-or, clash, is-false, both, and, either, or-left, or-right}
+use Rattle.cube.specs.Bits.{has, withBit}
+use Rattle.cube.specs.Cube.{sourceOf}
+use Rattle.cube.proofs.Bits.{with-bit-same, with-bit-other, with-bit-or, with-bit-inside, zero-has}
+use Rattle.cube.proofs.Ports.{port-bit}
+use Rattle.paths.specs.Network.{links}
+use Rattle.paths.proofs.Links.{On, true-link}
+use Rattle.paths.proofs.Trail.{trail-owned}
+use Rattle.table.specs.View.{View, channelsHeld}
+use Rattle.soundness.specs.Sound.{shapeOf, net, heldBy, endFor}
+use Rattle.soundness.specs.Marks.{marked, marking, Adds}
+use Rattle.soundness.specs.SoundTest.{pathOf, isEmpty, reaches, receiveTest, passes, ReceivesPass, Fair, Covers, Received, Receives, PathsMarked}
+use Rattle.soundness.proofs.Soundness.{Framed, kept-one}
+
+-- one link marked
+pub mark-one : (m : List ℕ) (n q a b : ℕ) → length m ≡ 256 → n < 256 → marked (marking m n q) a b ≡ (marked m a b || (eqb a n && eqb b q))
+unfolding marked marking
+mark-one m n q a b size h = go (same? a n) (same? b q)
+  where
+    set-to : ℕ
+    set-to = withBit (getD m n 0) q true
+
+    go : (a ≡ n) ⊎ (a ≢ n) → (b ≡ q) ⊎ (b ≢ q) → has (getD (set m n set-to) a 0) b ≡ (has (getD m a 0) b || (eqb a n && eqb b q))
+    go (inl e) (inl f) =
+        rw (e, f, getD-set-same m n set-to 0 (omega arith), with-bit-same (getD m n 0) q true) (sym (or-right (has (getD m n 0) q) (and (eq-eqb n n refl) (eq-eqb q q refl))))
+    go (inl e) (inr f) =
+        rw (e, getD-set-same m n set-to 0 (omega arith), with-bit-other (getD m n 0) q true b f, ne-eqb b q f, and-false (eqb n n)) (sym (or-false _))
+    go (inr e) f = rw (getD-set-other m n a set-to 0 e, ne-eqb a n e) (sym (or-false _))
+
+pub marking-length : (m : List ℕ) (n q : ℕ) → length (marking m n q) ≡ length m
+unfolding marking
+marking-length m n q = length-set m n (withBit (getD m n 0) q true)
+
+-- as the code writes it: x is the byte that it found
+pub marking-is : (m : List ℕ) (n q x : ℕ) → q < 8 → x ≡ getD m n 0 → x < 256 → set m n (bitOr x (1 * 2 ^ q % 65536) % 256) ≡ marking m n q
+unfolding marking
+marking-is m n q x h e l = rw (port-bit 16 q (omega arith), with-bit-or x q, mod-eq-of-lt (with-bit-inside 8 x q true l h), e)
+
+-- no mark at all
+pub no-marks : (v : View) → Fair v (replicate 256 0)
+unfolding Fair marked
+no-marks v n p h l e = absurd (clash e (ap (λ x. has x p) (getD-replicate 256 n 0 0 h) ∙ zero-has p))
+
+-- in a block of entries
+abbrev In : ℕ → ℕ → ℕ → ℕ → ℕ → ℕ → Type 0
+In n₀ n₁ k₀ k₁ n k = (n₀ ≤ n) × (n < n₁) × (k₀ ≤ k) × (k < k₁)
+
+module _ (v : View) (m : List ℕ) where
+  -- receive channels that nobody holds leave the marks as they are
+  pub received-free : (n₀ n₁ k₀ k₁ : ℕ) → ((n k : ℕ) → In n₀ n₁ k₀ k₁ n k → receiveTest v n k ≡ true) → ((n k : ℕ) → In n₀ n₁ k₀ k₁ n k → v .receiver n k ≡ 0) → Received v n₀ n₁ k₀ k₁ m m
+  received-free n₀ n₁ k₀ k₁ t z =
+      record {
+        pass = unfold ReceivesPass in λ n k a b c d. t n k (a, b, c, d);
+        covers = λ n k a b c d. unfold Covers in λ h. absurd (h (z n k (a, b, c, d)));
+        kept = λ n p h l e. e;
+        fair = λ f. f;
+      }
+
+  -- one that a circuit holds whose path was marked
+  pub received-one : (c n k : ℕ) (after : List ℕ) → c ≡ v .receiver n k → receiveTest v n k ≡ true → reaches v c ≡ true → Adds (passes v c) m after → Received v n (n + 1) k (k + 1) m after
+  received-one c n k after held t s adds =
+      record {
+        pass = unfold ReceivesPass in λ a b g h i j. here a b g h i j (λ x y. receiveTest v x y ≡ true) t;
+        covers = λ a b g h i j. here a b g h i j (λ x y. Covers v x y after) covered;
+        kept = λ a b h l e. adds .adds a b h l ∙ or-left (passes v c a b) e;
+        fair = unfold Fair in λ f a b h l e. ⊎-elim (λ x. f a b h l x) (λ x. (c, s, x)) (either (marked m a b) (passes v c a b) (sym (adds .adds a b h l) ∙ e));
+      }
+    where
+      here : (a b : ℕ) → n ≤ a → a < n + 1 → k ≤ b → b < k + 1 → (P : ℕ → ℕ → Type 0) → P n k → P a b
+      here a b g h i j P x = let e : n ≡ a = omega arith in let f : k ≡ b = omega arith in subst (λ (y : ℕ). P y b) e (subst (λ (y : ℕ). P n y) f x)
+
+      covered : Covers v n k after
+      covered = unfold Covers in λ z a b h l e. adds .adds a b h l ∙ or-right (marked m a b) (ap (λ x. passes v x a b) held ∙ e)
+
+-- two blocks one after the other
+pub received-join : (v : View) (m₀ m₁ m₂ : List ℕ) (a b c d e f g h i j k l : ℕ) → Received v a b c d m₀ m₁ → Received v e f g h m₁ m₂
+    → ((x y : ℕ) → In i j k l x y → In a b c d x y ⊎ In e f g h x y) → Received v i j k l m₀ m₂
+received-join v m₀ m₁ m₂ a b c d e f g h i j k l r s split =
+    record {
+      pass = unfold ReceivesPass in λ x y p q t u. ⊎-elim (λ z. r .pass x y (z .0) (z .1) (z .2) (z .3)) (λ z. s .pass x y (z .0) (z .1) (z .2) (z .3)) (split x y (p, q, t, u));
+      covers = λ x y p q t u. ⊎-elim (λ z. on x y (r .covers x y (z .0) (z .1) (z .2) (z .3))) (λ z. s .covers x y (z .0) (z .1) (z .2) (z .3)) (split x y (p, q, t, u));
+      kept = λ x y p q z. s .kept x y p q (r .kept x y p q z);
+      fair = λ z. s .fair (r .fair z);
+    }
+  where
+    on : (x y : ℕ) → Covers v x y m₁ → Covers v x y m₂
+    on x y z = unfold Covers in λ w p q t u o. s .kept p q t u (z w p q t u o)
+
+pub more-channels : (v : View) (m₀ m₁ m₂ : List ℕ) (n k : ℕ) → Received v n (n + 1) 0 k m₀ m₁ → Received v n (n + 1) k (k + 1) m₁ m₂ → Received v n (n + 1) 0 (k + 1) m₀ m₂
+more-channels v m₀ m₁ m₂ n k r s =
+    received-join v m₀ m₁ m₂ n (n + 1) 0 k n (n + 1) k (k + 1) n (n + 1) 0 (k + 1) r s (λ x y z. ⊎-elim (λ l. inl (z .0, z .1, z .2, l)) (λ l. inr (z .0, z .1, l, z .3)) (below-or k y))
+
+pub more-nodes : (v : View) (m₀ m₁ m₂ : List ℕ) (from n to : ℕ) → from ≤ n → n ≤ to → Received v from n 0 8 m₀ m₁ → Received v n to 0 8 m₁ m₂ → Received v from to 0 8 m₀ m₂
+more-nodes v m₀ m₁ m₂ from n to g h r s =
+    received-join v m₀ m₁ m₂ from n 0 8 n to 0 8 from to 0 8 r s (λ x y z. ⊎-elim (λ l. inl (z .0, l, z .2, z .3)) (λ l. inr (l, z .1, z .2, z .3)) (below-or n x))
+
+pub received-none : (v : View) (m : List ℕ) (n₀ n₁ k₀ k₁ : ℕ) → ((n k : ℕ) → In n₀ n₁ k₀ k₁ n k → ⊥) → Received v n₀ n₁ k₀ k₁ m m
+received-none v m n₀ n₁ k₀ k₁ h = received-free v m n₀ n₁ k₀ k₁ (λ n k i. absurd (h n k i)) (λ n k i. absurd (h n k i))
+
+-- fewer of them pass too
+pub fewer-receives : (v : View) (a b c d e f g h : ℕ) → a ≤ e → f ≤ b → c ≤ g → h ≤ d → ReceivesPass v a b c d → ReceivesPass v e f g h
+unfolding ReceivesPass
+fewer-receives v a b c d e f g h i j k l all x y p q s t = all x y (omega arith) (omega arith) (omega arith) (omega arith)
+
+-- an answer that is known
+pub received-yes : (v : View) (n₀ n₁ k₀ k₁ : ℕ) (m after : List ℕ) → Received v n₀ n₁ k₀ k₁ m after → Receives v n₀ n₁ k₀ k₁ m after true
+received-yes v n₀ n₁ k₀ k₁ m after r = record { holds = λ e. r; fails = λ e. absurd (false≢true (sym e)) }
+
+pub received-no : (v : View) (n₀ n₁ k₀ k₁ : ℕ) (m after : List ℕ) → (ReceivesPass v n₀ n₁ k₀ k₁ → ⊥) → Receives v n₀ n₁ k₀ k₁ m after false
+received-no v n₀ n₁ k₀ k₁ m after h = record { holds = λ e. absurd (false≢true e); fails = λ e. h }
+
+-- once every receive channel has passed
+pub paths-marked : (v : View) (m : List ℕ) → length m ≡ 256 → Received v 0 256 0 8 (replicate 256 0) m → PathsMarked v m
+paths-marked v m size r = record { size = size; fair = r .fair (no-marks v); covers = λ n k h l. r .covers n k (omega arith) h (omega arith) l }
+
+-- a held link is marked where its circuit passes it
+module _ (v : View) (m : List ℕ) (framed : Framed v) (marks : PathsMarked v m) (n p : ℕ) (h : n < 256) (l : p < 8) (held : v .owner n p ≢ 0) where
+  found : reaches v (v .owner n p) ≡ true → passes v (v .owner n p) n p ≡ true → marked m n p ≡ true
+  unfolding reaches channelsHeld Covers
+  found s t =
+      let c = v .owner n p in
+      let w = pathOf v c in
+      let a = both (leb c (8 * 2 ^ v .dimension)) _ s in
+      let b = both (not (isEmpty w)) _ (a .1) in
+      let j = kept-one (λ k. eqb (v .receiver (endFor v c w) k) c) (eqb-true _ 1 (b .1)) in
+      let e : v .receiver (endFor v c w) (j .0) ≡ c = eqb-true _ c (j .2) in
+      let small : endFor v c w < 256 = ⊎-elim (λ x. x) (λ x. absurd (held (sym e ∙ framed .no-receive (endFor v c w) (j .0) (λ z. absurd (omega (arith, z .0, x)))))) (below-or 256 (endFor v c w)) in
+      marks .covers (endFor v c w) (j .0) small (j .1) (λ z. held (sym e ∙ z)) n p h l (ap (λ x. passes v x n p) e ∙ t)
+
+  owned : (c : ℕ) → passes v c n p ≡ true → c ≡ v .owner n p
+  unfolding passes pathOf On
+  owned c t = sym (eqb-true _ c (trail-owned (shapeOf v) (heldBy v c) (sourceOf c) n p (true-link (links (net v) (sourceOf c) (pathOf v c)) n p t)))
+
+  pub marked-is : marked m n p ≡ (reaches v (v .owner n p) && passes v (v .owner n p) n p)
+  unfolding Fair
+  marked-is = go (marked m n p) refl
+    where
+      go : (x : Bool) → marked m n p ≡ x → x ≡ (reaches v (v .owner n p) && passes v (v .owner n p) n p)
+      go true e =
+          let f = marks .fair n p h l e in
+          let q = owned (f .0) (f .2) in
+          sym (and (subst (λ (c : ℕ). reaches v c ≡ true) q (f .1)) (subst (λ (c : ℕ). passes v c n p ≡ true) q (f .2)))
+      go false e = sym (is-false _ (λ t. let r = both (reaches v (v .owner n p)) (passes v (v .owner n p) n p) t in clash (found (r .0) (r .1)) e))

@@ -1,0 +1,147 @@
+-- The test of a whole table from the tests of its nodes, and what its answer says.
+-- Assumes nothing.
+use mathlib.Core.Path.{_≡_, refl, sym, _∙_}
+use mathlib.Core.Bool.{Bool, true, false, cond, _&&_, not, and-false, and-eq-true-iff}
+use mathlib.Core.List.{List, [], _∷_}
+use mathlib.Core.Logic.{_≢_, ⊎-elim}
+use Prim.Native.Nat.{ℕ, _^_, _≤_, _<_}
+use native.Mathlib.Omega.{arith}
+use lib.Dec.{ltb, leb}
+use lib.ListN.{length}
+use borrow.Author.Tests.{ltb-true, ltb-false, eq-eqb, ne-eqb, le-leb, lt-leb}
+use Rattle.common.specs.Decides.{Decides}
+use Rattle.common.specs.Tests.{refusal, test}
+use Rattle.common.proofs.Tests.{below-or, clash, is-false, both-below, refused, passed, accepted}
+use Rattle.common.specs.Lists.{every}
+use Rattle.common.proofs.Every.{at, all}
+use Rattle.cube.specs.Bits.{has}
+use Rattle.cube.proofs.Bits.{high-has}
+use Rattle.table.specs.Layout.{dimensionAt, enabledAt, enableBits, enableLimit, EnablesFit, ownerAt, receiverAt, entryAt, inTable, tableLength}
+use Rattle.table.specs.View.{View, view}
+use Rattle.soundness.specs.Sound.{Sound}
+use Rattle.soundness.specs.SoundTest.{linkTest, receiveTest, soundTest, LinksPass, ReceivesPass, Received, tableTests, TableAnswer}
+use Rattle.soundness.proofs.Marks.{received-free}
+use Rattle.soundness.proofs.Soundness.{Framed}
+use Rattle.soundness.proofs.Soundness.{sound-entries, entries-sound}
+use Rattle.soundness.proofs.Examine.{link-free, link-held-outside, receive-free, receive-absent}
+
+-- a link that the cube lacks is off where the enable bits of its node are below their limit
+pub off : (b : List ℕ) (D n p : ℕ) → n < 256 → enableBits b n < enableLimit D n → (ltb n (2 ^ D) && ltb p D) ≡ false → enabledAt b n p ≡ false
+unfolding enabledAt enableBits enableLimit
+off b D n p h fit e = rw (bits (ltb n (2 ^ D)) e fit) (and-false (inTable n p))
+  where
+    bits : (x : Bool) → (x && ltb p D) ≡ false → enableBits b n < cond x (2 ^ D) 1 → has (enableBits b n) p ≡ false
+    bits true z k = high-has D (enableBits b n) p k (ltb-false p D z)
+    bits false z k = high-has 0 (enableBits b n) p k (omega arith)
+
+-- nodes of which nothing is held pass; for the links their enable bits must fit
+module _ (b : List ℕ) (D : ℕ) (d : D ≡ dimensionAt b) where
+  pub idle-links : (n₀ n₁ : ℕ) → n₁ ≤ 256 → EnablesFit b D → ((n p : ℕ) → n₀ ≤ n → n < n₁ → p < 8 → ownerAt b n p ≡ 0) → LinksPass (view b) n₀ n₁ 0 8
+  unfolding LinksPass view EnablesFit
+  idle-links n₀ n₁ most fit free n p g h z l = go (ltb n (2 ^ D) && ltb p D) refl
+    where
+      go : (x : Bool) → (ltb n (2 ^ D) && ltb p D) ≡ x → linkTest (view b) n p ≡ true
+      go true e = sym (link-free (view b) n p D 0 true d (sym (free n p g h l)) (sym e) refl refl)
+      go false e = sym (link-held-outside (view b) n p D 0 false d (sym (free n p g h l)) (sym e) refl (off b D n p (omega arith) (fit n (omega arith)) e))
+
+  pub idle-receives : (m : List ℕ) (n₀ n₁ : ℕ) → ((n k : ℕ) → n₀ ≤ n → n < n₁ → k < 8 → receiverAt b n k ≡ 0) → Received (view b) n₀ n₁ 0 8 m m
+  unfolding view
+  idle-receives m n₀ n₁ free = received-free (view b) m n₀ n₁ 0 8 (λ n k i. go n k i (ltb n (2 ^ D)) refl) (λ n k i. free n k (i .0) (i .1) (i .3))
+    where
+      go : (n k : ℕ) → (n₀ ≤ n) × (n < n₁) × (0 ≤ k) × (k < 8) → (x : Bool) → ltb n (2 ^ D) ≡ x → receiveTest (view b) n k ≡ true
+      go n k i true e = sym (receive-free (view b) n k D 0 (2 ^ D) d (sym (free n k (i .0) (i .1) (i .3))) refl (ltb-true n _ e) refl)
+      go n k i false e = sym (receive-absent (view b) n k D 0 (2 ^ D) d (sym (free n k (i .0) (i .1) (i .3))) refl (ltb-false n _ e))
+
+-- links of some nodes more, and of fewer
+module _ (v : View) where
+  pub more-links : (from n to : ℕ) → LinksPass v from n 0 8 → LinksPass v n to 0 8 → LinksPass v from to 0 8
+  unfolding LinksPass
+  more-links from n to r s a b g h i j = ⊎-elim (λ l. r a b g l i j) (λ l. s a b l h i j) (below-or n a)
+
+  pub no-links : (a b c d : ℕ) → b ≤ a → LinksPass v a b c d
+  unfolding LinksPass
+  no-links a b c d l n p g h i j = absurd (omega arith)
+
+  pub fewer-links : (a b c d e f g h : ℕ) → a ≤ e → f ≤ b → c ≤ g → h ≤ d → LinksPass v a b c d → LinksPass v e f g h
+  unfolding LinksPass
+  fewer-links a b c d e f g h i j k l all x y p q s t = all x y (omega arith) (omega arith) (omega arith) (omega arith)
+
+-- the whole test, from the links and the receive channels
+module _ (v : View) where
+  pub all-pass : LinksPass v 0 256 0 8 → ReceivesPass v 0 256 0 8 → true ≡ soundTest v
+  unfolding soundTest LinksPass ReceivesPass
+  all-pass f g = sym (all 256 (λ n. every 8 (linkTest v n) && every 8 (receiveTest v n)) (λ n l.
+      and-eq-true-iff (every 8 (linkTest v n)) (every 8 (receiveTest v n)) .1
+      (all 8 (linkTest v n) (λ p h. f n p (omega arith) l (omega arith) h), all 8 (receiveTest v n) (λ k h. g n k (omega arith) l (omega arith) h))))
+
+  pass-all : soundTest v ≡ true → LinksPass v 0 256 0 8 × ReceivesPass v 0 256 0 8
+  unfolding soundTest LinksPass ReceivesPass
+  pass-all t = (λ n p g l h i. at 8 (linkTest v n) (node n l .0) p i, λ n k g l h i. at 8 (receiveTest v n) (node n l .1) k i)
+    where
+      node : (n : ℕ) → n < 256 → (every 8 (linkTest v n) ≡ true) × (every 8 (receiveTest v n) ≡ true)
+      node n l = and-eq-true-iff (every 8 (linkTest v n)) (every 8 (receiveTest v n)) .0 (at 256 (λ n. every 8 (linkTest v n) && every 8 (receiveTest v n)) t n l)
+
+  pub some-fails : (LinksPass v 0 256 0 8 × ReceivesPass v 0 256 0 8 → ⊥) → false ≡ soundTest v
+  some-fails h = sym (is-false (soundTest v) (λ t. h (pass-all t)))
+
+  pub links-decide : (answer : Bool) → Decides (LinksPass v 0 256 0 8) answer → ReceivesPass v 0 256 0 8 → answer ≡ soundTest v
+  links-decide true d r = all-pass (d .holds refl) r
+  links-decide false d r = some-fails (λ h. d .fails refl (h .0))
+
+  -- the test answers whether the table is sound
+  pub tested : v .dimension ≤ 8 → Framed v → Decides (Sound v) (soundTest v)
+  unfolding LinksPass ReceivesPass
+  tested fits framed =
+      record {
+        holds = λ t. let r = pass-all t in
+            entries-sound v fits framed record { links-pass = λ n p l h. r .0 n p (omega arith) l (omega arith) h; receives-pass = λ n k l h. r .1 n k (omega arith) l (omega arith) h };
+        fails = λ t s. let e = sound-entries v s in
+            clash (sym (all-pass (λ n p g l h i. e .links-pass n p l i) (λ n k g l h i. e .receives-pass n k l i))) t;
+      }
+
+-- nothing lies outside 256 nodes and 8 ports or channels
+outside : (n p : ℕ) → ((n < 256) × (p < 8) → ⊥) → inTable n p ≡ false
+outside n p h = is-false (inTable n p) (λ e. h (both-below e))
+
+pub view-framed : (b : List ℕ) → Framed (view b)
+unfolding view enabledAt ownerAt receiverAt entryAt
+view-framed b = record { no-link = λ n p h. (rw (outside n p h), rw (outside n p h)); no-receive = λ n k h. rw (outside n k h) }
+
+-- the answers of checking a table
+module _ (b : List ℕ) where
+  pub wrong-length : length b ≢ tableLength → TableAnswer b 1
+  wrong-length h =
+      record {
+        tests = unfold tableTests in sym (refused 1 _ (rw (ne-eqb (length b) tableLength h)));
+        sound = λ e. absurd (omega arith);
+        not-sound = λ e. absurd (omega arith);
+      }
+
+  second : length b ≡ tableLength → not (leb 1 (dimensionAt b) && leb (dimensionAt b) 8) ≡ true → TableAnswer b 2
+  second l e =
+      record {
+        tests = unfold tableTests in sym (passed 1 _ (rw (eq-eqb (length b) tableLength l)) ∙ refused 2 _ e);
+        sound = λ e. absurd (omega arith);
+        not-sound = λ e. absurd (omega arith);
+      }
+
+  pub no-dimension : length b ≡ tableLength → dimensionAt b < 1 → TableAnswer b 2
+  no-dimension l h = second l (rw (lt-leb 1 (dimensionAt b) h))
+
+  pub large-dimension : length b ≡ tableLength → 1 ≤ dimensionAt b → 8 < dimensionAt b → TableAnswer b 2
+  large-dimension l k h = second l (rw (le-leb 1 (dimensionAt b) k, lt-leb (dimensionAt b) 8 h))
+
+  module _ (l : length b ≡ tableLength) (k : 1 ≤ dimensionAt b) (h : dimensionAt b ≤ 8) where
+    third : refusal (tableTests b) ≡ refusal (test (not (soundTest (view b))) 3 ∷ [])
+    unfolding tableTests
+    third = passed 1 _ (rw (eq-eqb (length b) tableLength l)) ∙ passed 2 _ (rw (le-leb 1 (dimensionAt b) k, le-leb (dimensionAt b) 8 h))
+
+    decided : Decides (Sound (view b)) (soundTest (view b))
+    unfolding view
+    decided = tested (view b) h (view-framed b)
+
+    pub not-sound : soundTest (view b) ≡ false → TableAnswer b 3
+    not-sound e = record { tests = sym (third ∙ refused 3 _ (rw e)); sound = λ e. absurd (omega arith); not-sound = λ z. decided .fails e }
+
+    pub usable : soundTest (view b) ≡ true → TableAnswer b 0
+    usable e = record { tests = sym (third ∙ passed 3 _ (rw e) ∙ accepted); sound = λ z. decided .holds e; not-sound = λ z. absurd (omega arith) }

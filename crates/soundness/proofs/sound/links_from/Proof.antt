@@ -1,0 +1,73 @@
+-- `soundness::sound::links_from` meets its contract: every node of the group is tried, up to one that fails.
+-- Assumes nothing.
+use mathlib.Core.Path.{_≡_, subst}
+use Prim.Native.Nat.{ℕ, _+_, _-_, _≤_}
+use native.Mathlib.Omega.{arith}
+use lib.Dec.{lit<}
+use Rattle.common.proofs.Tests.{decided-yes, decided-no}
+use Rattle.table.specs.View.{view}
+use Rattle.soundness.specs.SoundTest.{LinksPass}
+use Rattle.soundness.proofs.Passing.{no-links, more-links, fewer-links}
+use Rattle.soundness.proofs.sound.links_from.Statement.{statement}
+use Rattle.soundness.proofs.sound.links_from.Tie as tie
+
+abbrev Inv-loop : tie.InvT-loop
+Inv-loop t dimension fits marks first i₀ i = (i ≤ 16) × LinksPass (view t) first (first + i) 0 8
+
+abbrev μ-loop : tie.MeasureT-loop
+μ-loop t dimension fits marks first i₀ i = 16 - i
+
+loop-holds : tie.Need-loop-holds Inv-loop μ-loop
+loop-holds c = let s = c .before .before in (omega arith, no-links (view (s .args .t .now)) (s .args .from .0) (s .args .from .0 + 0) 0 8 (omega arith))
+
+add-n : tie.Need-add-n Inv-loop μ-loop
+add-n c = omega arith
+
+links-sound-requires : tie.Need-links-sound-requires Inv-loop μ-loop
+links-sound-requires c κs = let s = c .before .before .before .before in (record { bytes = s .pre .1 .usable .bytes; node = omega (arith, c .loop-test .taken, s .pre .0); port = lit< tt }, s .pre .1 .usable, s .pre .1 .paths)
+
+add-i : tie.Need-add-i Inv-loop μ-loop
+add-i c = omega arith
+
+loop-less : tie.Need-loop-less Inv-loop μ-loop
+loop-less c = omega arith
+
+loop-again : tie.Need-loop-again Inv-loop μ-loop
+loop-again c =
+    let l = c .before .before .before in
+    let s = l .before .before .before in
+    let v = view (s .args .t .now) in
+    let n = s .args .from .0 + l .loop .i in
+    let e : n + 1 ≡ s .args .from .0 + (l .loop .i + 1) = omega arith in
+    (omega arith, subst (λ (x : ℕ). LinksPass v (s .args .from .0) x 0 8) e (more-links v (s .args .from .0) n (n + 1) (l .loop .inv .1) (c .before .links-sound .ensures .holds (c .if1 .taken))))
+
+returns : tie.Need-returns Inv-loop μ-loop
+returns c =
+    let l = c .before .before .before in
+    let s = l .before .before .before in
+    let v = view (s .args .t .now) in
+    let from = s .args .from .0 in
+    let n = from + l .loop .i in
+    decided-no {P = LinksPass v from (from + 16) 0 8} (λ h. c .before .links-sound .ensures .fails (c .if1 .left) (fewer-links v from (from + 16) 0 8 n (n + 1) 0 8 (omega arith) (omega (arith, c .before .before .loop-test .taken)) (omega arith) (omega arith) h))
+
+returns-2 : tie.Need-returns-2 Inv-loop μ-loop
+returns-2 c =
+    let l = c .before in
+    let s = l .before .before .before in
+    let e : l .loop .i ≡ 16 = omega arith in
+    decided-yes (subst (λ (i : ℕ). LinksPass (view (s .args .t .now)) (s .args .from .0) (s .args .from .0 + i) 0 8) e (l .loop .inv .1))
+
+pub links-from-spec : {M : Type 1} → statement M
+links-from-spec =
+    tie.close
+    (tie.spec
+    Inv-loop
+    μ-loop
+    loop-holds
+    add-n
+    links-sound-requires
+    add-i
+    loop-less
+    loop-again
+    returns
+    returns-2)

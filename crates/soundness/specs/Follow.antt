@@ -1,0 +1,45 @@
+-- Following the links that a circuit holds, as the code does it: a vector of ports is a number, and 8 stands for no port.
+-- Assumes nothing.
+use mathlib.Core.Path.{_≡_}
+use mathlib.Core.Bool.{Bool, _&&_}
+use mathlib.Core.List.{List}
+use Prim.Native.Nat.{ℕ, _^_, _≤_, _<_}
+use lib.ListN.{length}
+use Rattle.cube.specs.Bits.{has}
+use Rattle.cube.specs.Cube.{next, sourceOf}
+use Rattle.cube.specs.Helical.{portsOf, firstOr}
+use Rattle.paths.specs.Network.{Path, end, links, hasLink}
+use Rattle.paths.specs.Trail.{course, firstHops}
+use Rattle.table.specs.Layout.{tableLength, dimensionAt}
+use Rattle.table.specs.View.{View}
+use Rattle.soundness.specs.Sound.{net, heldBy}
+use Rattle.soundness.specs.Marks.{Adds}
+
+-- port p is in the vector, and circuit c holds the link out of it
+unfoldable pub takes : View → ℕ → ℕ → ℕ → ℕ → Bool
+takes v c n vector p = has vector p && heldBy v c n p
+
+-- and holds the way back too
+unfoldable pub comesBack : View → ℕ → ℕ → ℕ → ℕ → Bool
+comesBack v c n vector p = takes v c n vector p && heldBy v c (next n p) p
+
+-- the way that the code follows from a node, over the ports of a vector
+unfoldable pub followed : View → ℕ → ℕ → ℕ → Path
+followed v c n vector = course 8 (net v) (portsOf 8 vector) (heldBy v c) n
+
+-- the first hop from the source, 8 where there is none
+unfoldable pub firstHop : View → ℕ → ℕ → ℕ → ℕ
+firstHop v c s vector = firstOr 8 (firstHops (net v) (portsOf 8 vector) (heldBy v c) s)
+
+-- what following gives: where it ends, and the marks of the links that it passes
+pub record Follows (v : View) (c start vector : ℕ) (before after : List ℕ) (at : ℕ) : Type 0 where
+  pub ends : at ≡ end (net v) start (followed v c start vector)
+  pub marks : Adds (hasLink (links (net v) start (followed v c start vector))) before after
+  pub small : at < 256
+
+-- what looking for the path of a circuit asks: a table of a cube up to dimension 8, and a circuit whose source is in it
+pub record HasSource (b : List ℕ) (c : ℕ) : Type 0 where
+  pub bytes : length b ≡ tableLength
+  pub fits : dimensionAt b ≤ 8
+  pub circuit : 0 < c
+  pub source : sourceOf c < 2 ^ dimensionAt b

@@ -1,0 +1,56 @@
+-- Document 01, "The cube and its table": when a table is sound.
+-- Assumes nothing.
+use mathlib.Core.Path.{_≡_}
+use mathlib.Core.Logic.{_⊎_, _≢_}
+use mathlib.Core.Bool.{Bool, true, false}
+use Prim.Native.Nat.{ℕ, _*_, _^_, _≤_, _<_}
+use lib.Dec.{eqb}
+use Rattle.common.specs.Lists.{from}
+use Rattle.cube.specs.Cube.{sourceOf}
+use Rattle.paths.specs.Network.{Network, Path, Exactly, end}
+use Rattle.paths.specs.Permitted.{Permitted}
+use Rattle.paths.specs.CubeNetwork.{Shape, network}
+use Rattle.table.specs.View.{View}
+
+-- what the network of a table is read from
+abbrev pub shapeOf : View → Shape
+shapeOf v = record { dimension = v .dimension }
+
+abbrev pub net : View → Network
+net v = network (shapeOf v)
+
+-- the link out of port q of node m is held by circuit c
+abbrev pub heldBy : View → ℕ → ℕ → ℕ → Bool
+heldBy v c m q = eqb (v .owner m q) c
+
+-- where a path from the source of circuit c ends
+abbrev pub endFor : View → ℕ → Path → ℕ
+endFor v c w = end (net v) (sourceOf c) w
+
+-- circuit number c "stands on exactly the links of one permitted path from its source, and on exactly one receive channel, at that path's end".
+-- The path is permitted for some send vector, so its first hop is any port below D, and its target is its end.
+pub record Stands (v : View) (c : ℕ) : Type 0 where
+  pub path : Path
+  pub permitted : Permitted (net v) (sourceOf c) (from 0 (v .dimension)) (endFor v c path) path
+  pub exactly : Exactly (net v) (sourceOf c) path (heldBy v c)
+  pub channel : ℕ
+  pub small : channel < 8
+  pub receives : v .receiver (endFor v c path) channel ≡ c
+  pub once : (n k : ℕ) → v .receiver n k ≡ c → (n ≡ endFor v c path) × (k ≡ channel)
+
+-- it "occurs nowhere"
+abbrev pub Nowhere : View → ℕ → Type 0
+Nowhere v c = ((n p : ℕ) → v .owner n p ≢ c) × ((n k : ℕ) → v .receiver n k ≢ c)
+
+-- "A table is *sound* if ..": a link is there where its node is below 2^D and its port below D, a receive channel where its node is
+pub record Sound (v : View) : Type 0 where
+  -- "everything for absent nodes and ports is zero"
+  pub absent-link : (n p : ℕ) → ((n < 2 ^ v .dimension) × (p < v .dimension) → ⊥) → (v .enabled n p ≡ false) × (v .owner n p ≡ 0)
+  pub absent-receive : (n k : ℕ) → (n < 2 ^ v .dimension → ⊥) → v .receiver n k ≡ 0
+  -- "held links are enabled"
+  pub held-enabled : (n p : ℕ) → v .owner n p ≢ 0 → v .enabled n p ≡ true
+  -- "circuit numbers are at most 8·2^D"
+  pub link-number : (n p : ℕ) → v .owner n p ≤ 8 * 2 ^ v .dimension
+  pub receive-number : (n k : ℕ) → v .receiver n k ≤ 8 * 2 ^ v .dimension
+  -- "each circuit number either occurs nowhere or stands on .."
+  pub numbers : (c : ℕ) → c ≢ 0 → Nowhere v c ⊎ Stands v c

@@ -1,0 +1,8 @@
+// Whether a lent table may be used, and the path of a circuit from the links that it holds.
+mod sound;
+mod trail;
+
+pub use sound::check;
+pub use trail::first_hop;
+pub use trail::held_port;
+pub use trail::is_open;
