@@ -23,7 +23,7 @@ use Rattle.paths.specs.Search.{trying}
 use Rattle.paths.proofs.Depth.{trying-cons}
 use Rattle.table.specs.Layout.{Within, enableBits}
 use Rattle.table.specs.View.{View, view, receive}
-use Rattle.table.specs.Sound.{net}
+use Rattle.soundness.specs.Sound.{net}
 use Rattle.table.proofs.Entries.{enabled-has}
 use Rattle.search.specs.Settle.{freeIn, settle, behindPort}
 use Rattle.search.specs.Turns.{Narrowed, Enabled, tries}

@@ -1,66 +1,40 @@
 -- A send says what the mission's second demand asks: for both routing types, on any table of a cube up to dimension 8.
 -- Assumes nothing.
 use mathlib.Core.Path.{_≡_, refl, ap, sym, _∙_, subst}
-use mathlib.Core.Logic.{_⊎_, inl, inr, _↔_, _≢_, ⊎-elim}
+use mathlib.Core.Logic.{_⊎_, inl, inr, _↔_, ⊎-elim}
 use mathlib.Core.Bool.{Bool, true, false, cond}
 use mathlib.Core.List.{List, [], _∷_, List·Memᴰ·head, List·Memᴰ·tail, List·Memᴰ·cases-cons, List·Memᴰ·not-nil}
-use Prim.Native.Nat.{ℕ, zero, suc, _+_, _-_, _^_, _≤_, _<_}
+use Prim.Native.Nat.{ℕ, _^_, _≤_, _<_}
 use native.Mathlib.Omega.{arith}
 use lib.Dec.{eqb}
-use borrow.Author.Tests.{eqb-true, eqb-false, eq-eqb, ne-eqb}
-use Rattle.common.specs.Lists.{_∈_}
+use borrow.Author.Tests.{eqb-true, eqb-false, eq-eqb}
+use Rattle.common.specs.Lists.{_∈_, lowest}
 use Rattle.common.proofs.Tests.{clash}
-use Rattle.paths.specs.Network.{Network, Path}
+use Rattle.paths.specs.Network.{Path}
 use Rattle.paths.specs.Pass.{Pass, pass, scouts}
-use Rattle.paths.specs.Send.{Receive, channel, all-held, Outcome, acknowledged, route-rejected, receive-rejected, Acknowledged, Sent, outcome, goesOn, answered}
+use Rattle.paths.specs.Send.{Receive, channel, all-held, Outcome, acknowledged, route-rejected, receive-rejected, Acknowledged, outcome, goesOn, answered}
 use Rattle.paths.specs.Sentences.{AnswerSays, says-acknowledged, says-receive-rejected, says-route-rejected}
 use Rattle.paths.specs.CubeNetwork.{Shape, network, sendPorts, otherPorts, maze, alternateMaze, send}
 use Rattle.paths.proofs.Send.{answer-says, maze-answers, alternate-stops, alternate-goes-on, goes-on-unless, sends-bounded}
 use Rattle.paths.proofs.CubeNetwork.{cube-says, cube-says-other}
 use Rattle.table.specs.Layout.{dimensionAt}
-use Rattle.table.specs.View.{View, view, receive, lowest, lowestChannel, available}
-use Rattle.table.specs.Sound.{net, shapeOf}
-use Rattle.table.proofs.Lowest.{lowest-passes, lowest-before}
-use Rattle.search.specs.Settle.{freeIn, Settled, settled}
+use Rattle.table.specs.View.{View, view, receive, available}
+use Rattle.soundness.specs.Sound.{net, shapeOf}
+use Rattle.table.proofs.Receives.{chosen, none-chosen}
+use Rattle.search.specs.Settle.{freeIn, settled}
 use Rattle.search.specs.Sent.{marked, sentOn, sends, MaySend}
 use Rattle.search.specs.SendSays.{FreeRoute, Available, Lowest, passesOf, PassesSay, one-acknowledged, only-one, two, SendSays}
-use Rattle.search.proofs.Sends.{receive-small, sent-goes-on, sent-scouts}
+use Rattle.search.proofs.Sends.{sent-goes-on, sent-scouts}
 
 -- what the choice of a receive channel says
 module _ (v : View) (t : ℕ) where
-  -- either the lowest of the eight that nobody holds, or none
-  choice : (x : Bool) → eqb (lowestChannel v t) 8 ≡ x → receive v t ≡ cond x all-held (channel (lowestChannel v t))
-  choice x e = unfold receive in rw e
-
-  lowest-unheld : (k : ℕ) → k ≡ lowestChannel v t → k < 8 → v .receiver t k ≡ 0
-  unfolding lowestChannel available
-  lowest-unheld k e l = eqb-true (v .receiver t k) 0 (subst (λ (i : ℕ). available v t i ≡ true) (sym e) (lowest-passes (available v t) 8 0 (omega (arith, e, l))))
-
-  lower-held : (j : ℕ) → j < lowestChannel v t → v .receiver t j ≢ 0
-  unfolding lowestChannel available
-  lower-held j h = eqb-false (v .receiver t j) 0 (lowest-before (available v t) 8 0 j (omega arith) h)
-
   pub channel-lowest : (k : ℕ) → receive v t ≡ channel k → Lowest v t k
-  channel-lowest k e = go (eqb (lowestChannel v t) 8) refl
-    where
-      go : (x : Bool) → eqb (lowestChannel v t) 8 ≡ x → Lowest v t k
-      go true q = let z : all-held ≡ channel k = sym (choice true q) ∙ e in let y : _≡_ {A = ℕ} 0 1 = cc in absurd (omega arith)
-      go false q =
-          let z : channel (lowestChannel v t) ≡ channel k = sym (choice false q) ∙ e in
-          let y : k ≡ lowestChannel v t = cc in
-          let l = receive-small v t k e in
-          record {
-            small = l;
-            unheld = lowest-unheld k y l;
-            first = λ j h. lower-held j (omega (arith, y, h));
-          }
+  unfolding receive available
+  channel-lowest k e = let r = chosen (available v t) k e in record { small = r .0; unheld = eqb-true _ 0 (r .1); first = λ j h. eqb-false _ 0 (r .2 j h) }
 
   pub none-available : receive v t ≡ all-held → Available v t → ⊥
-  none-available e a = go (eqb (lowestChannel v t) 8) refl
-    where
-      go : (x : Bool) → eqb (lowestChannel v t) 8 ≡ x → ⊥
-      go false q = let z : all-held ≡ channel (lowestChannel v t) = sym e ∙ choice false q in let y : _≡_ {A = ℕ} 0 1 = cc in omega arith
-      go true q = lower-held (a .0) (let z = eqb-true (lowestChannel v t) 8 q in omega (arith, z, a .1)) (a .2)
+  unfolding receive available
+  none-available e a = eqb-false _ 0 (none-chosen (available v t) e (a .0) (a .1)) (a .2)
 
 -- Acknowledged is number 0.
 module _ (b : List ℕ) (c s t : ℕ) where

@@ -2,39 +2,38 @@
 -- Assumes nothing.
 use mathlib.Core.Path.{_≡_, refl, ap, ap₂, sym, _∙_}
 use mathlib.Core.Logic.{_≢_}
-use mathlib.Core.Bool.{Bool, true, false, cond, not}
-use mathlib.Core.List.{List, [], _∷_}
-use Prim.Native.Nat.{ℕ, zero, suc, _+_, _-_, _*_, _^_, _≤_, _<_}
+use mathlib.Core.Bool.{Bool, true, false, not}
+use mathlib.Core.List.{List}
+use Prim.Native.Nat.{ℕ, zero, suc, _+_, _-_, _^_, _≤_, _<_}
 use native.Mathlib.Omega.{arith}
 use native.Mathlib.Nat.{mul-le-mul-right}
-use lib.Dec.{eqb, lit<, lit≤}
+use lib.Dec.{eqb, lit<}
 use lib.ListN.{length}
 use lib.Pow.{pow-pos}
 use lib.Bits.{bitXor, xor-lt}
-use borrow.Author.Tests.{eqb-false, eq-eqb, ne-eqb, lt-ltb}
-use Rattle.common.specs.Lists.{_∈_, keep, from}
-use Rattle.common.proofs.Lists.{keep-same, from-mem}
+use borrow.Author.Tests.{eq-eqb, ne-eqb, lt-ltb}
+use Rattle.common.specs.Lists.{keep, from}
+use Rattle.common.proofs.Lists.{keep-same, from-below}
 use Rattle.cube.specs.Bits.{bitAt, has}
 use Rattle.cube.proofs.Bits.{bit-lt, bit-xor, has-bit}
-use Rattle.cube.specs.Helical.{helical, portsOf}
+use Rattle.cube.specs.Helical.{portsOf}
 use Rattle.cube.proofs.Order.{helical-last, ports-wider, ports-mem, length-ports}
-use Rattle.paths.specs.Network.{Network, Path}
 use Rattle.paths.specs.Pass.{Pass, none, found, pass, scouts}
 use Rattle.paths.specs.Search.{trying, sending}
-use Rattle.paths.specs.Send.{Receive, channel, all-held, Outcome, acknowledged, route-rejected, receive-rejected, Sent, received, outcome, goesOn, runs, answered}
-use Rattle.paths.specs.CubeNetwork.{Shape, network, sendPorts, otherPorts, maze, alternateMaze, send}
+use Rattle.paths.specs.Send.{Receive, channel, all-held, Outcome, acknowledged, route-rejected, receive-rejected, Sent, received, outcome, goesOn, answered}
+use Rattle.paths.specs.CubeNetwork.{Shape, network, sendPorts, otherPorts, maze, send}
 use Rattle.paths.proofs.Depth.{search-is-pass}
 use Rattle.paths.proofs.CubeNetwork.{cube-nearing, cube-cubical, scouts-bound}
 use Rattle.paths.proofs.Send.{maze-answers, alternate-stops, alternate-goes-on}
 use Rattle.paths.specs.Bound.{waysFrom}
 use Rattle.paths.proofs.Bound.{far-width, ways-more}
-use Rattle.table.specs.Layout.{Within, dimensionAt, putReceiver}
-use Rattle.table.specs.View.{View, view, receive, lowest, lowestChannel, available}
-use Rattle.table.specs.Sound.{net, shapeOf}
+use Rattle.table.specs.Layout.{dimensionAt, putReceiver}
+use Rattle.table.specs.View.{View, view, receive, available}
+use Rattle.soundness.specs.Sound.{net, shapeOf}
 use Rattle.table.proofs.Made.{ones}
-use Rattle.table.proofs.Lowest.{lowest-most}
+use Rattle.table.proofs.Receives.{chosen}
 use Rattle.search.specs.Settle.{freeIn, hold, Settled, settled, settle, behindPort}
-use Rattle.search.specs.Turns.{farthest, reach, tries, Here, MayTry}
+use Rattle.search.specs.Turns.{reach, tries, MayTry}
 use Rattle.search.specs.Sent.{marked, sentOn, sendsMaze, sendsAlternate, sends, MaySend}
 use Rattle.search.proofs.Turns.{farthest-most}
 
@@ -77,12 +76,8 @@ module _ (b : List ℕ) (s t c vector : ℕ) (may : MaySend b s t c vector) wher
 
 -- the receive channel that a target takes is one of its eight
 pub receive-small : (v : View) (t k : ℕ) → receive v t ≡ channel k → k < 8
-unfolding receive lowestChannel
-receive-small v t k e = go (eqb (lowest (available v t) 8 0) 8) refl e
-  where
-    go : (x : Bool) → eqb (lowest (available v t) 8 0) 8 ≡ x → cond x all-held (channel (lowest (available v t) 8 0)) ≡ channel k → k < 8
-    go true q z = let y : _≡_ {A = ℕ} 0 1 = cc in absurd (omega arith)
-    go false q z = let y : lowest (available v t) 8 0 ≡ k = cc in omega (arith, y, lowest-most (available v t) 8 0, eqb-false (lowest (available v t) 8 0) 8 q)
+unfolding receive
+receive-small v t k e = chosen (available v t) k e .0
 
 -- The answer of a pass that was acknowledged, with the receive channel taken; and of one that was not.
 module _ (b : List ℕ) (c s t : ℕ) (r : Receive) where
@@ -158,7 +153,7 @@ module _ (D vector : ℕ) (h : D ≤ 8) where
       go (suc (suc x)) l = absurd (omega arith)
 
   other-ports : keep (has (bitXor (2 ^ D - 1) vector)) (from 0 D) ≡ keep (λ p. not (has vector p)) (from 0 D)
-  other-ports = keep-same _ _ (from 0 D) (λ p m. other-has p (let r = from-mem 0 D m in omega arith))
+  other-ports = keep-same _ _ (from 0 D) (λ p m. other-has p (from-below D p m))
 
 -- A send of routing type 0.
 module _ (b : List ℕ) (s t c vector : ℕ) (may : MaySend b s t c vector) (x k h n : ℕ) (b₁ : List ℕ) (got : settled x k h n b₁ ≡ tries b t c s vector 7 0 0) where

@@ -21,7 +21,7 @@ use Rattle.paths.specs.Search.{front, orElse, trying, arriving, holding}
 use Rattle.paths.proofs.Depth.{trying-cons}
 use Rattle.paths.proofs.Cone.{trying-same, holding-behind}
 use Rattle.table.specs.Layout.{Within, entryPlace, linkPart, wordAt, putWord, putEntry, putOwner, ownerAt, entryAt}
-use Rattle.table.specs.View.{View, view, setAt, setOwner, receive, lowestChannel, available}
+use Rattle.table.specs.View.{View, view, setAt, setOwner, receive, lowestChannel, available, lowestOf}
 use Rattle.table.proofs.Entries.{within}
 use Rattle.table.proofs.Views.{view-put-owner}
 use Rattle.search.specs.Settle.{freeIn, hold, Settled, settled, settle, behindPort}
@@ -85,7 +85,7 @@ module _ (N : Network) (t : ℕ) (near : Nearing N t) (b : List ℕ) (n p c : �
       ∙ holding-behind near (freeIn (view b)) k n p s
 
   pub receive-same : (m : ℕ) → receive (view (putOwner b n p c)) m ≡ receive (view b) m
-  receive-same m = ap (λ v. receive v m) (view-put-owner b n p c w small) ∙ (unfold receive lowestChannel setOwner available in refl)
+  receive-same m = ap (λ v. receive v m) (view-put-owner b n p c w small) ∙ (unfold receive setOwner available in refl)
 
 -- the parts of an answer
 refusedOf : Settled → ℕ
@@ -206,7 +206,7 @@ module _ (N : Network) (free : ℕ → ℕ → Bool) (t n a s : ℕ) where
 module _ (v : View) (b : List ℕ) (c n h k s ch : ℕ) (a : Pass) (arrived : a ≡ found [] s) (low : ch ≡ lowestChannel v n) where
   pub target-receives : ch ≢ 8 → settled 0 ch h s b ≡ settle b c n h (receive v n) a
   target-receives g =
-      rw arrived (unfold receive in rw (← low, ne-eqb ch 8 g) (unfold settle hold in ap (λ x. settled 0 ch x s b) (no-longer h)))
+      rw arrived (unfold receive lowestOf lowestChannel in rw (← low, ne-eqb ch 8 g) (unfold settle hold in ap (λ x. settled 0 ch x s b) (no-longer h)))
 
   pub target-full : ch ≡ 8 → settled 11 0 0 s b ≡ settle b c n h (receive v n) a
-  target-full g = rw arrived (unfold receive in rw (← low, eq-eqb ch 8 g) (unfold settle in refl))
+  target-full g = rw arrived (unfold receive lowestOf lowestChannel in rw (← low, eq-eqb ch 8 g) (unfold settle in refl))

@@ -1,6 +1,6 @@
 -- The turns of the search as the code makes them: what each asks of the next, and what it makes of the answer.
 -- Assumes nothing.
-use mathlib.Core.Path.{_≡_, refl, ap, ap₂, sym, _∙_, subst}
+use mathlib.Core.Path.{_≡_, refl, ap, ap₂, sym, _∙_}
 use mathlib.Core.Logic.{_≢_}
 use mathlib.Core.Bool.{Bool, true, false, cond}
 use mathlib.Core.List.{List, [], _∷_, List·Memᴰ·head, List·Memᴰ·tail, List·Memᴰ·cases-cons}
@@ -19,20 +19,19 @@ use Rattle.cube.specs.Bits.{has}
 use Rattle.cube.specs.Cube.{next}
 use Rattle.cube.proofs.Bits.{high-has, flip-inside}
 use Rattle.cube.specs.Helical.{helical, portsOf, firstPort, FirstTried}
-use Rattle.cube.proofs.Order.{first-tried, mem-ports, ports-mem, length-helical, helical-mem, mem-helical, helical-zero, length-ports}
+use Rattle.cube.proofs.Order.{first-tried, mem-ports, ports-mem, length-helical, helical-mem, mem-helical, helical-zero}
 use Rattle.paths.specs.Network.{Network, offered}
 use Rattle.paths.specs.CubeNetwork.{network}
 use Rattle.paths.specs.Search.{trying, arriving}
 use Rattle.paths.specs.Pass.{Pass, scouts}
-use Rattle.paths.proofs.CubeNetwork.{cube-nearing, cube-cubical, cube-leading}
-use Rattle.paths.proofs.FirstPorts.{offered-vector}
+use Rattle.paths.proofs.CubeNetwork.{cube-nearing, cube-cubical, cube-leading, offered-vector}
 use Rattle.paths.specs.Bound.{waysFrom}
 use Rattle.paths.proofs.Bound.{arriving-sends, ways-more}
 use Rattle.table.specs.Layout.{Within, dimensionAt, putOwner, putEntry, entryPlace, linkPart}
-use Rattle.table.specs.View.{View, view, setOwner, receive, lowestChannel}
-use Rattle.table.specs.Sound.{net, shapeOf}
+use Rattle.table.specs.View.{view, setOwner, receive, lowestChannel}
+use Rattle.soundness.specs.Sound.{net, shapeOf}
 use Rattle.table.proofs.Views.{view-put-owner}
-use Rattle.search.specs.Settle.{freeIn, Settled, settled, settle, behindPort}
+use Rattle.search.specs.Settle.{freeIn, settled, settle, behindPort}
 use Rattle.search.specs.Turns.{farthest, distance, reach, tries, arrived, Narrowed, Enabled, Here, MayTry, MayArrive, Turn}
 use Rattle.search.proofs.Settle.{at-target, arrives, target-receives, target-full, behind, receive-same, given-back, free-owner, port-busy, port-acknowledged, port-receive-rejected, port-route-rejected, three-answers, settled-scouts, ports-over}
 use Rattle.search.proofs.Narrow.{narrow-fewer, narrow-mem, narrow-tries}

@@ -11,9 +11,9 @@ use Rattle.paths.specs.Network.{Network, Path}
 use Rattle.paths.specs.Permitted.{Permitted}
 use Rattle.paths.specs.Send.{Receive, Outcome, Acknowledged}
 use Rattle.paths.specs.Sentences.{Free, AnswerSays}
-use Rattle.paths.specs.CubeNetwork.{Shape, network, sendPorts, otherPorts}
+use Rattle.paths.specs.CubeNetwork.{Shape, sendPorts, otherPorts}
 use Rattle.table.specs.View.{View, view, receive}
-use Rattle.table.specs.Sound.{net, shapeOf}
+use Rattle.soundness.specs.Sound.{net, shapeOf}
 use Rattle.search.specs.Settle.{freeIn, settled}
 use Rattle.search.specs.Sent.{sentOn}
 

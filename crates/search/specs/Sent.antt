@@ -5,11 +5,11 @@ use mathlib.Core.Logic.{_≢_}
 use mathlib.Core.List.{List}
 use Prim.Native.Nat.{ℕ, _^_, _≤_, _<_}
 use lib.ListN.{length}
-use Rattle.paths.specs.Send.{Outcome, acknowledged, route-rejected, receive-rejected, Sent, Answer, answered}
+use Rattle.paths.specs.Send.{Outcome, acknowledged, route-rejected, receive-rejected, Sent, answered}
 use Rattle.paths.specs.CubeNetwork.{maze, alternateMaze, send}
 use Rattle.table.specs.Layout.{tableLength, dimensionAt, putReceiver}
 use Rattle.table.specs.View.{view, receive}
-use Rattle.table.specs.Sound.{shapeOf}
+use Rattle.soundness.specs.Sound.{shapeOf}
 use Rattle.search.specs.Settle.{freeIn, hold, Settled, settled}
 
 -- "An acknowledged send holds each link of the path and that receive channel. Nothing else in the table changes." The circuit is c, its source s,

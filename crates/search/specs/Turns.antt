@@ -2,7 +2,7 @@
 -- Assumes nothing.
 use mathlib.Core.Path.{_≡_}
 use mathlib.Core.Logic.{_≢_}
-use mathlib.Core.Bool.{Bool, true, false, cond}
+use mathlib.Core.Bool.{true, false, cond}
 use mathlib.Core.List.{List, [], _∷_}
 use Prim.Native.Nat.{ℕ, _+_, _*_, _^_, _≤_, _<_}
 use lib.Dec.{leb}
@@ -11,12 +11,11 @@ use Rattle.common.specs.Lists.{_∈_}
 use Rattle.cube.specs.Bits.{has}
 use Rattle.cube.specs.Helical.{helical, portsOf}
 use Rattle.paths.specs.Network.{Network}
-use Rattle.paths.specs.CubeNetwork.{network}
 use Rattle.paths.specs.Bound.{waysFrom}
 use Rattle.paths.specs.Search.{trying, arriving}
 use Rattle.table.specs.Layout.{tableLength, dimensionAt}
 use Rattle.table.specs.View.{View, view, receive}
-use Rattle.table.specs.Sound.{net}
+use Rattle.soundness.specs.Sound.{net}
 use Rattle.search.specs.Settle.{freeIn, Settled, settle, behindPort}
 
 -- the farthest from a target of the nodes behind the ports of a list

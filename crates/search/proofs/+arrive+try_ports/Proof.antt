@@ -2,16 +2,16 @@
 -- Assumes nothing.
 use borrow.Author.Needs.{needs}
 use native.Mathlib.Omega.{arith}
-use mathlib.Core.Path.{_≡_, refl, sym, _∙_, ap}
-use Prim.Native.Nat.{ℕ, _+_, _-_, _*_, _^_, _<_}
+use mathlib.Core.Path.{sym, _∙_, ap}
+use Prim.Native.Nat.{ℕ, _+_, _*_, _<_}
 use lib.Dec.{lit<}
 use lib.ListN.{length}
 use lib.Pow.{pow-pos}
 use Rattle.table.specs.Layout.{putOwner}
 use Rattle.table.specs.View.{view}
-use Rattle.search.specs.Settle.{freeIn, settled}
-use Rattle.search.specs.Turns.{distance, reach, arrived, tries, Turn}
-use Rattle.search.proofs.Turns.{turned, first-turn, byte-vector, owner-length, here-tried, here-within, here-enabled, here-room, here-arrives, here-falls, here-answer, turn-busy, turn-acknowledged, turn-full, turn-next, turn-over, arrive-receives, arrive-full, arrive-tries, arrive-none, arrive-byte, arrive-may, arrive-falls}
+use Rattle.search.specs.Settle.{freeIn}
+use Rattle.search.specs.Turns.{distance, reach, Turn}
+use Rattle.search.proofs.Turns.{turned, first-turn, byte-vector, here-tried, here-within, here-enabled, here-room, here-arrives, here-falls, here-answer, turn-busy, turn-acknowledged, turn-full, turn-next, turn-over, arrive-receives, arrive-full, arrive-tries, arrive-none, arrive-byte, arrive-may, arrive-falls}
 use borrow.Fn.Kinds.{In, Out}
 use borrow.Fn.PlainCycle.{Measures, is, falls, and}
 use Rattle.search.proofs.arrive.Reads as arrive

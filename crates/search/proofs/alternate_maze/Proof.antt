@@ -1,7 +1,7 @@
 -- `search::alternate_maze` meets its contract: a second pass over the other ports where the first is not acknowledged, on the same bytes.
 -- Assumes nothing.
 use mathlib.Core.Path.{_≡_, _∙_, ap}
-use Prim.Native.Nat.{ℕ, _+_, _-_, _^_, _≤_, _<_}
+use Prim.Native.Nat.{ℕ, _-_, _^_}
 use native.Mathlib.Omega.{arith}
 use lib.Bits.{bitXor}
 use Rattle.table.specs.Layout.{dimensionAt}

@@ -1,10 +1,7 @@
 -- `search::maze` meets its contract: a pass from the source over its enabled ports, and the receive channel taken where it is acknowledged.
 -- Assumes nothing.
-use mathlib.Core.Path.{_≡_, _∙_}
-use Prim.Native.Nat.{_<_}
-use native.Mathlib.Omega.{arith}
+use mathlib.Core.Path.{_∙_}
 use lib.Dec.{lit<}
-use Rattle.table.specs.Layout.{Within, tableLength}
 use Rattle.search.proofs.Narrow.{narrow-tries}
 use Rattle.search.proofs.Turns.{byte-vector, narrow-may}
 use Rattle.search.proofs.Sends.{may-try, maze-channel, maze-taken, maze-rejected}
