@@ -1,13 +1,14 @@
 -- A send that is acknowledged found a free permitted path, and took the target's receive channel.
 -- Assumes nothing.
-use mathlib.Core.Path.{_≡_, refl, sym, _∙_, ap, subst}
-use mathlib.Core.Bool.{Bool, true, false, cond, not}
+use mathlib.Core.Path.{_≡_, refl, _∙_, ap, subst}
+use mathlib.Core.Bool.{Bool, true, false}
 use mathlib.Core.List.{List, _∷_}
 use Prim.Native.Nat.{ℕ, _<_}
 use lib.Dec.{eqb}
 use native.Mathlib.Omega.{arith}
-use borrow.Author.Tests.{eqb-false, not-true}
+use borrow.Author.Tests.{not-true}
 use Rattle.common.specs.Lists.{_∈_, from}
+use Rattle.common.proofs.Lists.{below-from}
 use Rattle.paths.specs.Network.{Network, Path, Link, links}
 use Rattle.paths.specs.Permitted.{Permitted}
 use Rattle.paths.specs.Pass.{Pass, none, found, pass}
@@ -16,14 +17,12 @@ use Rattle.paths.specs.Sentences.{Says}
 use Rattle.paths.specs.CubeNetwork.{Shape, Node, network, sendPorts, otherPorts, alternateMaze, send}
 use Rattle.paths.proofs.CubeNetwork.{send-port, other-port, cube-says, cube-says-other}
 use Rattle.paths.proofs.Send.{maze-answers, alternate-stops, alternate-goes-on}
-use Rattle.paths.proofs.Apart.{below-port}
 use Rattle.paths.proofs.Words.{free-links}
-use Rattle.table.specs.View.{lowest}
-use Rattle.table.proofs.Lowest.{lowest-most, lowest-passes}
+use Rattle.table.proofs.Receives.{chosen}
 use Rattle.ownership.specs.History.{History, takenOn, receiveOn}
 
 -- more ports in the send vector, more permitted paths
-wider : (N : Network) (s : ℕ) (ps qs : List ℕ) (t : ℕ) (w : Path) → ((p : ℕ) → p ∈ ps → p ∈ qs) → Permitted N s ps t w → Permitted N s qs t w
+pub wider : (N : Network) (s : ℕ) (ps qs : List ℕ) (t : ℕ) (w : Path) → ((p : ℕ) → p ∈ ps → p ∈ qs) → Permitted N s ps t w → Permitted N s qs t w
 unfolding Permitted
 wider N s ps qs t (p ∷ w) h o = (h p (o .0), o .1)
 
@@ -55,10 +54,10 @@ module _ (S : Shape) (free : ℕ → ℕ → Bool) (r : Receive) (s t : ℕ) whe
 
   module _ (vector : ℕ) (i : Node S s) (l : Node S t) (w : Path) (k : ℕ) where
     first-taken : outcome r (pass (network S) free s (sendPorts S vector) t) ≡ acknowledged w k → Taken w k
-    first-taken e = pass-taken (sendPorts S vector) (λ p m. below-port (S .dimension) p (send-port S vector p .0 m .0)) _ (cube-says S free s vector t i l) w k e
+    first-taken e = pass-taken (sendPorts S vector) (λ p m. below-from (S .dimension) p (send-port S vector p .0 m .0)) _ (cube-says S free s vector t i l) w k e
 
     second-taken : outcome r (pass (network S) free s (otherPorts S vector) t) ≡ acknowledged w k → Taken w k
-    second-taken e = pass-taken (otherPorts S vector) (λ p m. below-port (S .dimension) p (other-port S vector p .0 m .0)) _ (cube-says-other S free s vector t i l) w k e
+    second-taken e = pass-taken (otherPorts S vector) (λ p m. below-from (S .dimension) p (other-port S vector p .0 m .0)) _ (cube-says-other S free s vector t i l) w k e
 
     -- A send of either routing type that is acknowledged:
     pub send-taken : (type : ℕ) → send type S free r s vector t .outcome ≡ acknowledged w k → Taken w k
@@ -76,14 +75,4 @@ module _ (S : Shape) (free : ℕ → ℕ → Bool) (r : Receive) (s t : ℕ) whe
 -- In the history, the receive channel that a target takes is one of the eight, and no circuit holds it.
 pub receive-free : (h : History) (t k : ℕ) → receiveOn h t ≡ channel k → (k < 8) × (takenOn h t k ≡ false)
 unfolding receiveOn
-receive-free h t k e = go (eqb (lowest f 8 0) 8) refl e
-  where
-    f : ℕ → Bool
-    f j = not (takenOn h t j)
-
-    go : (x : Bool) → eqb (lowest f 8 0) 8 ≡ x → cond x all-held (channel (lowest f 8 0)) ≡ channel k → (k < 8) × (takenOn h t k ≡ false)
-    go true q z = let y : _≡_ {A = ℕ} 0 1 = cc in absurd (omega arith)
-    go false q z =
-        let u : lowest f 8 0 ≡ k = cc in
-        let l : lowest f 8 0 < 8 = omega (arith, lowest-most f 8 0, eqb-false (lowest f 8 0) 8 q) in
-        (omega (arith, u, l), not-true (takenOn h t k) (sym (ap f u) ∙ lowest-passes f 8 0 l))
+receive-free h t k e = let r = chosen _ k e in (r .0, not-true _ (r .1))

@@ -1,11 +1,10 @@
 -- The mission's third demand: one theorem about lists of calls. A table that a history covers stays covered by every call, and an accepted making covers any bytes.
 -- Assumes nothing.
 use mathlib.Core.Path.{_≡_, refl, ap, ap₂, sym, _∙_, subst}
-use mathlib.Core.Logic.{_⊎_, inl, inr, ⊎-elim, _≢_}
+use mathlib.Core.Logic.{⊎-elim, _≢_}
 use mathlib.Core.Bool.{false, not, _&&_}
 use mathlib.Core.List.{List, [], _∷_}
-use Prim.Native.Nat.{ℕ, _^_, _≤_, _<_}
-use native.Mathlib.Omega.{arith}
+use Prim.Native.Nat.{ℕ, _≤_}
 use lib.Dec.{leb}
 use lib.ListN.{length}
 use borrow.Author.Tests.{le-leb}
@@ -15,15 +14,15 @@ use Rattle.cube.specs.Cube.{circuitOf}
 use Rattle.paths.specs.Network.{Path}
 use Rattle.paths.specs.Send.{Sent, answered}
 use Rattle.table.specs.Layout.{tableLength, dimensionAt}
-use Rattle.table.specs.View.{View, view, fresh}
-use Rattle.table.specs.Sound.{Sound}
-use Rattle.table.specs.SoundTest.{pathOf, tableTests}
+use Rattle.table.specs.View.{View, view}
+use Rattle.soundness.specs.Sound.{Sound}
+use Rattle.soundness.specs.SoundTest.{pathOf, tableTests}
 use Rattle.table.specs.Encode.{encode}
 use Rattle.table.proofs.Encode.{encode-view}
-use Rattle.ownership.specs.Calls.{Call, making, blocking, unblocking, opening, closing, tracing, Given, only, written, callTests, lent}
-use Rattle.ownership.specs.OnTable.{askedOf, stoppedAt, Done, done, sendIn, carriedOut, called}
-use Rattle.ownership.specs.History.{History, askedOn, stoppedOn, sendOn, listed, follows, gives, Told, told}
-use Rattle.ownership.specs.Lists.{tableAfter, tableGives, historyAfter, historyGives, viewOf, bytesOf, Valid, Covered, Agrees, Accepted}
+use Rattle.ownership.specs.Calls.{Call, making, blocking, unblocking, opening, closing, tracing, only, written, callTests, lent, After}
+use Rattle.ownership.specs.OnTable.{askedOf, stoppedAt, sendIn, carriedOut, called}
+use Rattle.ownership.specs.History.{History, askedOn, stoppedOn, listed, follows, gives, entered}
+use Rattle.ownership.specs.Lists.{tableAfter, tableGives, historyAfter, historyGives, viewOf, bytesOf, Covered, Agrees, Accepted, leaves, answers}
 use Rattle.ownership.proofs.Update.{updated}
 use Rattle.ownership.proofs.Range.{Bytes}
 use Rattle.ownership.specs.Allowed.{Allowed}
@@ -32,9 +31,9 @@ use Rattle.ownership.proofs.Stops.{none-stops, making-stopped, tests-pa
 use Rattle.ownership.proofs.Carried.{called-carried, called-stopped, called-shows, called-bytes, made-shows}
 use Rattle.ownership.proofs.Sameness.{send-same}
 use Rattle.ownership.proofs.Standing.{valid-sound}
-use Rattle.ownership.proofs.Stopped.{path-listed, open-same, stopped-same}
+use Rattle.ownership.proofs.Stopped.{path-listed, stopped-same}
 use Rattle.ownership.proofs.Followed.{made-valid, made-view, follows-valid, follows-view}
-use Rattle.ownership.proofs.Told.{told-passed, told-stopped}
+use Rattle.ownership.proofs.Entered.{entered-passed, entered-stopped}
 
 -- what a covered table is
 module _ (b : List ℕ) (h : History) (k : Covered b h) where
@@ -75,8 +74,8 @@ module _ (b : List ℕ) (h : History) (k : Covered b h) where
 
   -- What a call gives, on the table and in the history, and that the table stays covered.
   pub record Step (a : Call) : Type 0 where
-    pub given : called b a .given ≡ told h a .given
-    pub covered : Covered (called b a .table) (told h a .history)
+    pub given : called b a .given ≡ entered h a .given
+    pub covered : Covered (called b a .state) (entered h a .state)
 
   pub covered-step : (a : Call) → Step a
   covered-step a = ⊎-elim carried stopped (same? (stoppedOn h a) 0)
@@ -87,12 +86,12 @@ module _ (b : List ℕ) (h : History) (k : Covered b h) where
       carried : stoppedOn h a ≡ 0 → Step a
       carried e =
           let z = stops-alike a ∙ e in
-          let t = told-passed h a e in
+          let t = entered-passed h a e in
           let after = called-bytes b in-range most a in
           record {
-            given = ap (λ (x : Done). x .given) (called-carried b a z) ∙ gives-alike a e ∙ sym (ap (λ (x : Told). x .given) t);
+            given = ap (λ (x : After (List ℕ)). x .given) (called-carried b a z) ∙ gives-alike a e ∙ sym (ap (λ (x : After History). x .given) t);
             covered =
-                subst (λ (x : Told). Covered (called b a .table) (x .history)) (sym t)
+                subst (λ (x : After History). Covered (called b a .state) (x .state)) (sym t)
                 record {
                   length = after .long;
                   bytes = after .small;
@@ -105,10 +104,10 @@ module _ (b : List ℕ) (h : History) (k : Covered b h) where
       stopped f =
           let n = stops-alike a in
           let c = called-stopped b a (λ z. f (sym n ∙ z)) in
-          let t = told-stopped h a f in
+          let t = entered-stopped h a f in
           record {
-            given = ap (λ (x : Done). x .given) c ∙ ap (λ i. record { answer = only i; buffer = lent a }) n ∙ sym (ap (λ (x : Told). x .given) t);
-            covered = subst (λ (x : Done). Covered (x .table) (told h a .history)) (sym c) (subst (λ (x : Told). Covered b (x .history)) (sym t) k);
+            given = ap (λ (x : After (List ℕ)). x .given) c ∙ ap (λ i. record { answer = only i; buffer = lent a }) n ∙ sym (ap (λ (x : After History). x .given) t);
+            covered = subst (λ (x : After (List ℕ)). Covered (x .state) (entered h a .state)) (sym c) (subst (λ (x : After History). Covered b (x .state)) (sym t) k);
           }
 
 -- A covered table's bytes are those of its history.
@@ -118,14 +117,14 @@ covered-bytes b h k = sym (encode-view b (k .length) (k .bytes)) ∙ ap encode (
 
 -- From any covered table, a list of calls agrees with the history and leaves the table covered.
 pub covered-after : (calls : List Call) (b : List ℕ) (h : History) → Covered b h → Covered (tableAfter b calls) (historyAfter h calls)
-unfolding tableAfter historyAfter
+unfolding leaves
 covered-after [] b h k = k
-covered-after (a ∷ more) b h k = covered-after more (called b a .table) (told h a .history) (covered-step b h k a .covered)
+covered-after (a ∷ more) b h k = covered-after more (called b a .state) (entered h a .state) (covered-step b h k a .covered)
 
 pub covered-gives : (calls : List Call) (b : List ℕ) (h : History) → Covered b h → tableGives b calls ≡ historyGives h calls
-unfolding tableGives historyGives
+unfolding answers
 covered-gives [] b h k = refl
-covered-gives (a ∷ more) b h k = let s = covered-step b h k a in ap₂ _∷_ (s .given) (covered-gives more (called b a .table) (told h a .history) (s .covered))
+covered-gives (a ∷ more) b h k = let s = covered-step b h k a in ap₂ _∷_ (s .given) (covered-gives more (called b a .state) (entered h a .state) (s .covered))
 
 pub covered-agrees : (calls : List Call) (b : List ℕ) (h : History) → Covered b h → Agrees b h calls
 covered-agrees calls b h k =
@@ -133,7 +132,7 @@ covered-agrees calls b h k =
 
 -- an accepted call is one that no test stops, or a send that goes through
 accepted-passes : (b : List ℕ) (a : Call) → Accepted b a → stoppedAt b a ≡ 0
-accepted-passes b a e = ⊎-elim (λ z. z) (λ f. absurd (f (sym (ap (λ (x : Done). x .given .answer .number) (called-stopped b a f)) ∙ e))) (same? (stoppedAt b a) 0)
+accepted-passes b a e = ⊎-elim (λ z. z) (λ f. absurd (f (sym (ap (λ (x : After (List ℕ)). x .given .answer .number) (called-stopped b a f)) ∙ e))) (same? (stoppedAt b a) 0)
 
 -- a making of a dimension from 1 to 8 is accepted on any table of the right length
 pub making-accepted : (b : List ℕ) (D : ℕ) → length b ≡ tableLength → 1 ≤ D → D ≤ 8 → Accepted b (making D)
@@ -141,7 +140,7 @@ unfolding carriedOut callTests
 making-accepted b D long l m =
     let inside : not (leb 1 D && leb D 8) ≡ false = ap not (ap₂ _&&_ (le-leb 1 D l) (le-leb D 8 m)) in
     let z : stoppedAt b (making D) ≡ 0 = making-stopped b long D ∙ passed 2 [] inside ∙ accepted in
-    ap (λ (x : Done). x .given .answer .number) (called-carried b (making D) z)
+    ap (λ (x : After (List ℕ)). x .given .answer .number) (called-carried b (making D) z)
 
 -- An accepted making covers any bytes, whatever the table and the history were.
 module _ (b : List ℕ) (h : History) (D : ℕ) (e : Accepted b (making D)) where
@@ -149,24 +148,24 @@ module _ (b : List ℕ) (h : History) (D : ℕ) (e : Accepted b (making D)) wher
   unfolding stoppedOn callTests
   making-passes = none-stops b (making D) (accepted-passes b (making D) e)
 
-  pub made-given : called b (making D) .given ≡ told h (making D) .given
+  pub made-given : called b (making D) .given ≡ entered h (making D) .given
   unfolding carriedOut gives
-  made-given = ap (λ (x : Done). x .given) (called-carried b (making D) (accepted-passes b (making D) e)) ∙ sym (ap (λ (x : Told). x .given) (told-passed h (making D) making-passes))
+  made-given = ap (λ (x : After (List ℕ)). x .given) (called-carried b (making D) (accepted-passes b (making D) e)) ∙ sym (ap (λ (x : After History). x .given) (entered-passed h (making D) making-passes))
 
-  pub made-clears : told h (making D) .history .circuits ≡ []
+  pub made-clears : entered h (making D) .state .circuits ≡ []
   unfolding follows
-  made-clears = ap (λ (x : Told). x .history .circuits) (told-passed h (making D) making-passes)
+  made-clears = ap (λ (x : After History). x .state .circuits) (entered-passed h (making D) making-passes)
 
-  pub made-covered : Covered (called b (making D) .table) (told h (making D) .history)
+  pub made-covered : Covered (called b (making D) .state) (entered h (making D) .state)
   unfolding follows
   made-covered =
       let m = made-shows b D (accepted-passes b (making D) e) in
-      subst (λ (x : Told). Covered (called b (making D) .table) (x .history)) (sym (told-passed h (making D) making-passes))
+      subst (λ (x : After History). Covered (called b (making D) .state) (x .state)) (sym (entered-passed h (making D) making-passes))
       record { length = m .bytes .long; bytes = m .bytes .small; shows = m .shows ∙ sym (made-view D); valid = made-valid D (m .least) (m .most) }
 
 -- The mission's third demand. From any bytes, after an accepted making and any list of calls, refused ones included.
 pub demand-3 : (b : List ℕ) (h : History) (D : ℕ) → Accepted b (making D) → (calls : List Call) → Agrees b h (making D ∷ calls)
-unfolding tableAfter tableGives historyAfter historyGives
+unfolding leaves answers
 demand-3 b h D e calls =
-    let r = covered-agrees calls (called b (making D) .table) (told h (making D) .history) (made-covered b h D e) in
+    let r = covered-agrees calls (called b (making D) .state) (entered h (making D) .state) (made-covered b h D e) in
     record { bytes = r .bytes; gives = ap₂ _∷_ (made-given b h D e) (r .gives); valid = r .valid }

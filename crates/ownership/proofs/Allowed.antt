@@ -1,16 +1,16 @@
 -- No test of a call applies exactly where its arguments are allowed, on whatever the call is made: a table, or the history.
 -- Assumes nothing.
 use mathlib.Core.Path.{_≡_, refl, ap, ap₂, _∙_}
-use mathlib.Core.Logic.{_⊎_, inl, inr, ⊎-elim, _≢_}
+use mathlib.Core.Logic.{_⊎_, inl, inr, ⊎-elim}
 use mathlib.Core.Bool.{Bool, true, false, not, _&&_, _||_, true≢false, and-false}
-use mathlib.Core.List.{List, [], _∷_}
-use Prim.Native.Nat.{ℕ, _^_, _≤_, _<_}
+use mathlib.Core.List.{[]}
+use Prim.Native.Nat.{ℕ, _^_, _<_}
 use native.Mathlib.Omega.{arith}
 use lib.Dec.{eqb, ltb, leb}
 use lib.ListN.{length}
 use borrow.Author.Tests.{eqb-true, eqb-false, eq-eqb, ne-eqb, ltb-true, ltb-false, lt-ltb, le-ltb, leb-true, le-leb, not-false}
-use Rattle.common.specs.Tests.{Test, test, refusal}
-use Rattle.common.proofs.Tests.{neither, passed, accepted, first-passed}
+use Rattle.common.specs.Tests.{refusal}
+use Rattle.common.proofs.Tests.{neither, passed, accepted, first-passed, both}
 use Rattle.ownership.specs.Calls.{Call, making, blocking, unblocking, opening, closing, tracing, Asked, callTests}
 use Rattle.ownership.specs.Allowed.{Allowed}
 use Rattle.ownership.specs.History.{History, askedOn, stoppedOn}
@@ -18,10 +18,6 @@ use Rattle.ownership.specs.History.{History, askedOn, stoppedOn}
 -- what the tests say where they do not apply
 pub below : (n m : ℕ) → not (ltb n m) ≡ false → n < m
 below n m e = ltb-true n m (not-false _ e)
-
-pub both : (a b : Bool) → not (a && b) ≡ false → (a ≡ true) × (b ≡ true)
-both true b e = (refl, not-false b e)
-both false b e = absurd (true≢false e)
 
 -- a routing type that is 0 or 4
 a-type : (y : ℕ) → (not (eqb y 0) && not (eqb y 4)) ≡ false → (y ≡ 0) ⊎ (y ≡ 4)
@@ -35,7 +31,7 @@ a-type y e = go (eqb y 0) refl (eqb y 4) refl
 type-is : (y : ℕ) → (y ≡ 0) ⊎ (y ≡ 4) → (not (eqb y 0) && not (eqb y 4)) ≡ false
 type-is y = ⊎-elim (λ h. ap (λ w. not w && not (eqb y 4)) (eq-eqb y 0 h)) (λ h. ap (λ w. not (eqb y 0) && not w) (eq-eqb y 4 h) ∙ and-false (not (eqb y 0)))
 
-is-below : (n m : ℕ) → n < m → not (ltb n m) ≡ false
+pub is-below : (n m : ℕ) → n < m → not (ltb n m) ≡ false
 is-below n m h = ap not (lt-ltb n m h)
 
 channel-is : (c : ℕ) → c < 8 → ltb 7 c ≡ false
@@ -47,7 +43,7 @@ channel-below c e = let h = ltb-false 7 c e in omega arith
 pub allowed : (a : Asked) (x : Call) → refusal (callTests a x) ≡ 0 → Allowed a x
 unfolding callTests Allowed
 allowed a (making D) e =
-    let r = both (leb 1 D) (leb D 8) (first-passed _ 2 [] (λ z. omega arith) e .0) in
+    let r = both (leb 1 D) (leb D 8) (not-false _ (first-passed _ 2 [] (λ z. omega arith) e .0)) in
     (leb-true 1 D (r .0), leb-true D 8 (r .1))
 allowed a (blocking n p) e =
     let x = first-passed _ 4 _ (λ z. omega arith) e in

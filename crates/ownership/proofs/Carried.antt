@@ -1,7 +1,7 @@
 -- A call on the bytes of a table: what the table shows afterwards, and that its bytes stay in range.
 -- Assumes nothing.
 use mathlib.Core.Path.{_≡_, refl, sym, _∙_, subst}
-use mathlib.Core.Logic.{_⊎_, ⊎-elim, _≢_}
+use mathlib.Core.Logic.{⊎-elim, _≢_}
 use mathlib.Core.Bool.{Bool, true, false}
 use mathlib.Core.List.{List}
 use Prim.Native.Nat.{ℕ, _^_, _≤_, _<_}
@@ -18,8 +18,8 @@ use Rattle.table.proofs.Entries.{kept-is}
 use Rattle.table.proofs.Views.{view-put-enabled}
 use Rattle.table.proofs.Freed.{view-freed}
 use Rattle.table.proofs.Made.{view-made}
-use Rattle.ownership.specs.Calls.{Call, making, blocking, unblocking, opening, closing, tracing, only, callTests, lent}
-use Rattle.ownership.specs.OnTable.{askedOf, sendIn, stoppedAt, Done, done, carriedOut, called}
+use Rattle.ownership.specs.Calls.{Call, making, blocking, unblocking, opening, closing, tracing, only, callTests, lent, After}
+use Rattle.ownership.specs.OnTable.{askedOf, sendIn, stoppedAt, done, carriedOut, called}
 use Rattle.ownership.proofs.Update.{updated}
 use Rattle.ownership.proofs.Range.{Bytes, enabled-bytes, freed-bytes, made-bytes, marked-bytes}
 use Rattle.ownership.proofs.Shows.{view-marked, sent-fits}
@@ -37,7 +37,7 @@ module _ (b : List ℕ) (long : length b ≡ tableLength) (most : dimensionAt b 
   place : (n p : ℕ) → n < 2 ^ dimensionAt b → p < dimensionAt b → Within b n p
   place n p h l = record { bytes = long; node = omega (arith, nodes); port = omega arith }
 
-  shows : (a : Call) → Allowed (askedOf (view b)) a → view (carriedOut b a .table) ≡ updated (view b) a
+  shows : (a : Call) → Allowed (askedOf (view b)) a → view (carriedOut b a .state) ≡ updated (view b) a
   unfolding carriedOut updated Allowed askedOf view
   shows (making D) h = view-made D (omega (arith, h .1))
   shows (blocking n p) h = view-put-enabled b n p false (place n p (h .0) (h .1))
@@ -48,11 +48,11 @@ module _ (b : List ℕ) (long : length b ≡ tableLength) (most : dimensionAt b 
   shows (tracing s c buffer) h = refl
 
   -- What a table shows after a call that no test of the call stops is the update of what it showed.
-  pub carried-shows : (a : Call) → refusal (callTests (askedOf (view b)) a) ≡ 0 → view (carriedOut b a .table) ≡ updated (view b) a
+  pub carried-shows : (a : Call) → refusal (callTests (askedOf (view b)) a) ≡ 0 → view (carriedOut b a .state) ≡ updated (view b) a
   carried-shows a e = shows a (allowed (askedOf (view b)) a e)
 
 module _ (b : List ℕ) (bytes : Bytes b) (most : dimensionAt b ≤ 8) where
-  in-range : (a : Call) → Allowed (askedOf (view b)) a → Bytes (carriedOut b a .table)
+  in-range : (a : Call) → Allowed (askedOf (view b)) a → Bytes (carriedOut b a .state)
   unfolding carriedOut Allowed askedOf view
   in-range (making D) h = made-bytes D (h .1)
   in-range (blocking n p) h = enabled-bytes b n p false bytes (omega (arith, h .1))
@@ -62,7 +62,7 @@ module _ (b : List ℕ) (bytes : Bytes b) (most : dimensionAt b ≤ 8) where
   in-range (tracing s c buffer) h = bytes
 
   -- Its bytes stay in range.
-  pub carried-bytes : (a : Call) → refusal (callTests (askedOf (view b)) a) ≡ 0 → Bytes (carriedOut b a .table)
+  pub carried-bytes : (a : Call) → refusal (callTests (askedOf (view b)) a) ≡ 0 → Bytes (carriedOut b a .state)
   carried-bytes a e = in-range a (allowed (askedOf (view b)) a e)
 
 -- a call is carried out where no test stops it, and otherwise no byte changes
@@ -76,9 +76,9 @@ module _ (b : List ℕ) (a : Call) where
   called-stopped h = rw (ne-eqb (stoppedAt b a) 0 h)
 
 -- whatever holds of the bytes before a call, and after it where it is carried out, holds after it
-called-either : (P : List ℕ → Type 0) (b : List ℕ) (a : Call) → P b → (stoppedAt b a ≡ 0 → P (carriedOut b a .table)) → P (called b a .table)
+called-either : (P : List ℕ → Type 0) (b : List ℕ) (a : Call) → P b → (stoppedAt b a ≡ 0 → P (carriedOut b a .state)) → P (called b a .state)
 called-either P b a before after =
-    ⊎-elim (λ e. subst (λ (x : Done). P (x .table)) (sym (called-carried b a e)) (after e)) (λ h. subst (λ (x : Done). P (x .table)) (sym (called-stopped b a h)) before) (same? (stoppedAt b a) 0)
+    ⊎-elim (λ e. subst (λ (x : After (List ℕ)). P (x .state)) (sym (called-carried b a e)) (after e)) (λ h. subst (λ (x : After (List ℕ)). P (x .state)) (sym (called-stopped b a h)) before) (same? (stoppedAt b a) 0)
 
 -- After an accepted making the table is a made one, whatever it was before.
 pub record Made (b : List ℕ) (D : ℕ) : Type 0 where
@@ -87,26 +87,26 @@ pub record Made (b : List ℕ) (D : ℕ) : Type 0 where
   pub bytes : Bytes b
   pub shows : view b ≡ fresh D
 
-pub made-shows : (b : List ℕ) (D : ℕ) → stoppedAt b (making D) ≡ 0 → Made (called b (making D) .table) D
+pub made-shows : (b : List ℕ) (D : ℕ) → stoppedAt b (making D) ≡ 0 → Made (called b (making D) .state) D
 made-shows b D e =
     let h : (1 ≤ D) × (D ≤ 8) = unfold Allowed in allowed (askedOf (view b)) (making D) (none-stops b (making D) e) in
     rw (called-carried b (making D) e)
     (unfold carriedOut in record { least = h .0; most = h .1; bytes = made-bytes D (h .1); shows = view-made D (omega (arith, h .1)) })
 
 -- A call on a table whose dimension is one: what it shows after a call that no test stops,
-pub called-shows : (b : List ℕ) → length b ≡ tableLength → dimensionAt b ≤ 8 → (a : Call) → stoppedAt b a ≡ 0 → view (called b a .table) ≡ updated (view b) a
+pub called-shows : (b : List ℕ) → length b ≡ tableLength → dimensionAt b ≤ 8 → (a : Call) → stoppedAt b a ≡ 0 → view (called b a .state) ≡ updated (view b) a
 called-shows b long most a e = rw (called-carried b a e) (carried-shows b long most a (none-stops b a e))
 
 -- and that its bytes stay in range, whether a test stops the call or none.
-pub called-bytes : (b : List ℕ) → Bytes b → dimensionAt b ≤ 8 → (a : Call) → Bytes (called b a .table)
+pub called-bytes : (b : List ℕ) → Bytes b → dimensionAt b ≤ 8 → (a : Call) → Bytes (called b a .state)
 called-bytes b bytes most a = called-either Bytes b a bytes (λ e. carried-bytes b bytes most a (none-stops b a e))
 
 -- a call that writes what an enable bit already is
-again : (b : List ℕ) (n p : ℕ) (on : Bool) (a : Call) → carriedOut b a .table ≡ putEnabled b n p on → ((D : ℕ) → a ≢ making D)
-    → (Allowed (askedOf (view b)) a → (n < 2 ^ dimensionAt b) × (p < dimensionAt b)) → enabledAt b n p ≡ on → called b a .table ≡ b
+again : (b : List ℕ) (n p : ℕ) (on : Bool) (a : Call) → carriedOut b a .state ≡ putEnabled b n p on → ((D : ℕ) → a ≢ making D)
+    → (Allowed (askedOf (view b)) a → (n < 2 ^ dimensionAt b) × (p < dimensionAt b)) → enabledAt b n p ≡ on → called b a .state ≡ b
 again b n p on a puts other bounds e = called-either (λ x. x ≡ b) b a refl after
   where
-    after : stoppedAt b a ≡ 0 → carriedOut b a .table ≡ b
+    after : stoppedAt b a ≡ 0 → carriedOut b a .state ≡ b
     after z =
         let r = pass-tests b (none-stops-lent b a other z) in
         let h = bounds (allowed (askedOf (view b)) a (none-stops b a z)) in
@@ -114,10 +114,10 @@ again b n p on a puts other bounds e = called-either (λ x. x ≡ b) b a refl af
         puts ∙ sym (kept-is b n p (w .node) (w .port) on e)
 
 -- Blocking a blocked link and unblocking an enabled one change no byte.
-pub blocking-again : (b : List ℕ) (n p : ℕ) → enabledAt b n p ≡ false → called b (blocking n p) .table ≡ b
+pub blocking-again : (b : List ℕ) (n p : ℕ) → enabledAt b n p ≡ false → called b (blocking n p) .state ≡ b
 unfolding Allowed askedOf view carriedOut
 blocking-again b n p e = again b n p false (blocking n p) refl (λ D q. let y : _≡_ {A = ℕ} 0 1 = cc in omega arith) (λ h. (h .0, h .1)) e
 
-pub unblocking-again : (b : List ℕ) (n p : ℕ) → enabledAt b n p ≡ true → called b (unblocking n p) .table ≡ b
+pub unblocking-again : (b : List ℕ) (n p : ℕ) → enabledAt b n p ≡ true → called b (unblocking n p) .state ≡ b
 unfolding Allowed askedOf view carriedOut
 unblocking-again b n p e = again b n p true (unblocking n p) refl (λ D q. let y : _≡_ {A = ℕ} 0 1 = cc in omega arith) (λ h. h) e

@@ -9,11 +9,10 @@ use native.Mathlib.Omega.{arith}
 use lib.Dec.{eqb}
 use borrow.Author.Tests.{eqb-true, eq-eqb, ne-eqb, not-false}
 use Rattle.common.specs.Lists.{_∈_, keep, any, Sorted}
-use Rattle.common.proofs.Tests.{clash, is-false}
+use Rattle.common.proofs.Tests.{clash, is-false, both, and, either, or-left, or-right}
 use Rattle.common.proofs.Lists.{keep-nil, keep-yes, keep-no}
 use Rattle.cube.specs.Cube.{circuitOf, sourceOf, channelOf}
 use Rattle.cube.proofs.Circuits.{source-of-circuit, channel-of-circuit}
-use Rattle.table.proofs.Soundness.{both, and, either, or-left, or-right}
 use Rattle.ownership.specs.History.{Circuit, belongs}
 use Rattle.ownership.specs.Lists.{numberOf}
 

@@ -1,11 +1,10 @@
 -- The sentences of the mission's third demand, one by one, from the theorem about lists of calls.
 -- Assumes nothing.
-use mathlib.Core.Path.{_≡_, refl, ap, sym, _∙_, subst}
+use mathlib.Core.Path.{_≡_, refl, sym, subst}
 use mathlib.Core.Logic.{⊎-elim, _≢_, _↔_}
 use mathlib.Core.Bool.{true}
-use mathlib.Core.List.{List, [], _∷_, List·Memᴰ·head, List·Memᴰ·not-nil}
+use mathlib.Core.List.{List, _∷_, List·Memᴰ·head, List·Memᴰ·not-nil}
 use Prim.Native.Nat.{ℕ, _<_}
-use native.Mathlib.Omega.{arith}
 use Rattle.common.specs.Lists.{_∈_, any, from}
 use Rattle.common.specs.Tests.{refusal}
 use Rattle.common.proofs.Tests.{same?}
@@ -15,13 +14,13 @@ use Rattle.paths.specs.Permitted.{Permitted}
 use Rattle.paths.specs.Send.{Outcome, acknowledged, route-rejected, receive-rejected, Answer, answered}
 use Rattle.table.specs.Layout.{ownerAt, receiverAt}
 use Rattle.table.specs.View.{View, view}
-use Rattle.table.specs.Sound.{Sound}
-use Rattle.table.specs.SoundTest.{tableTests}
+use Rattle.soundness.specs.Sound.{Sound}
+use Rattle.soundness.specs.SoundTest.{tableTests}
 use Rattle.search.specs.Sent.{marked}
-use Rattle.ownership.specs.Calls.{Call, making, blocking, unblocking, opening, closing, tracing, lent}
-use Rattle.ownership.specs.OnTable.{stoppedAt, Done, sendIn, carriedOut, called}
-use Rattle.ownership.specs.History.{Circuit, History, netOn, belongs, openOn, told}
-use Rattle.ownership.specs.Lists.{tableAfter, tableGives, historyAfter, historyGives, viewOf, linksOf, Separate, Covered, Accepted}
+use Rattle.ownership.specs.Calls.{Call, making, blocking, unblocking, opening, closing, tracing, lent, After}
+use Rattle.ownership.specs.OnTable.{stoppedAt, sendIn, carriedOut, called}
+use Rattle.ownership.specs.History.{Circuit, History, netOn, belongs, openOn, entered}
+use Rattle.ownership.specs.Lists.{tableAfter, tableGives, historyAfter, linksOf, Separate, Covered, Accepted, leaves}
 use Rattle.ownership.specs.StillOpen.{numbered, StillOpen, OpenedBy}
 use Rattle.ownership.proofs.Circuits.{sorted-one, any-some, belongs-parts}
 use Rattle.ownership.proofs.Followed.{open-send}
@@ -31,52 +30,46 @@ use Rattle.ownership.proofs.Standing.{owner-exactly, receiver-exactly}
 use Rattle.ownership.proofs.StillOpen.{open-exactly}
 use Rattle.ownership.proofs.Agreement.{making-passes, made-clears, made-covered, covered-after, covered-sound, covered-passes, demand-3}
 
--- "No refusal alters any lent byte": of any call on any bytes. A rejected search leaves each byte of the table as it was.
-module _ (b : List ℕ) where
-  send-leaves : (o : Outcome) (n c s t : ℕ) → answered o n .number ≢ 0 → marked b c s t o ≡ b
-  unfolding answered marked
-  send-leaves (acknowledged w k) n c s t f = absurd (f refl)
-  send-leaves route-rejected n c s t f = refl
-  send-leaves receive-rejected n c s t f = refl
-
-  carried-leaves : (a : Call) → carriedOut b a .given .answer .number ≢ 0 → (carriedOut b a .table ≡ b) × (carriedOut b a .given .buffer ≡ lent a)
-  unfolding carriedOut lent
-  carried-leaves (making D) f = absurd (f refl)
-  carried-leaves (blocking n p) f = absurd (f refl)
-  carried-leaves (unblocking n p) f = absurd (f refl)
-  carried-leaves (opening s c t y v) f = (send-leaves (sendIn (view b) s t y v .outcome) (sendIn (view b) s t y v .scouts) (circuitOf s c) s t f, refl)
-  carried-leaves (closing s c) f = absurd (f refl)
-  carried-leaves (tracing s c buffer) f = absurd (f refl)
-
-  pub refused-leaves : (a : Call) → called b a .given .answer .number ≢ 0 → (called b a .table ≡ b) × (called b a .given .buffer ≡ lent a)
-  refused-leaves a f =
-      ⊎-elim (λ z. let e = called-carried b a z in rw e (carried-leaves a (rw e at f)))
-      (λ z. let e = called-stopped b a z in (ap (λ (x : Done). x .table) e, ap (λ (x : Done). x .given .buffer) e)) (same? (stoppedAt b a) 0)
-
--- "When refused, all but the number are 0, except that 10 and 11 carry their scouts": of any call on any bytes.
+-- "When refused, all but the number are 0, except that 10 and 11 carry their scouts."
 abbrev pub Zero : Answer → Type 0
 Zero x = (x .hops ≡ 0) × (x .receive ≡ 0) × (x .number ≢ 10 → x .number ≢ 11 → x .scouts ≡ 0)
 
-send-zero : (o : Outcome) (n : ℕ) → answered o n .number ≢ 0 → Zero (answered o n)
-unfolding answered
-send-zero (acknowledged w k) n f = absurd (f refl)
-send-zero route-rejected n f = (refl, refl, λ g h. absurd (g refl))
-send-zero receive-rejected n f = (refl, refl, λ g h. absurd (h refl))
+-- a call that is refused: the bytes of the table and of what else is lent are as they were, and its answer is so
+Refused : List ℕ → Call → After (List ℕ) → Type 0
+Refused b a x = (x .state ≡ b) × (x .given .buffer ≡ lent a) × Zero (x .given .answer)
 
 module _ (b : List ℕ) where
-  carried-zero : (a : Call) → carriedOut b a .given .answer .number ≢ 0 → Zero (carriedOut b a .given .answer)
-  unfolding carriedOut
-  carried-zero (making D) f = absurd (f refl)
-  carried-zero (blocking n p) f = absurd (f refl)
-  carried-zero (unblocking n p) f = absurd (f refl)
-  carried-zero (opening s c t y v) f = send-zero (sendIn (view b) s t y v .outcome) (sendIn (view b) s t y v .scouts) f
-  carried-zero (closing s c) f = absurd (f refl)
-  carried-zero (tracing s c buffer) f = absurd (f refl)
+  -- a rejected search leaves each byte of the table as it was
+  send-refused : (o : Outcome) (n c s t : ℕ) → answered o n .number ≢ 0 → (marked b c s t o ≡ b) × Zero (answered o n)
+  unfolding answered marked
+  send-refused (acknowledged w k) n c s t f = absurd (f refl)
+  send-refused route-rejected n c s t f = (refl, (refl, refl, λ g h. absurd (g refl)))
+  send-refused receive-rejected n c s t f = (refl, (refl, refl, λ g h. absurd (h refl)))
 
+  carried-refused : (a : Call) → carriedOut b a .given .answer .number ≢ 0 → Refused b a (carriedOut b a)
+  unfolding carriedOut lent Refused
+  carried-refused (making D) f = absurd (f refl)
+  carried-refused (blocking n p) f = absurd (f refl)
+  carried-refused (unblocking n p) f = absurd (f refl)
+  carried-refused (opening s c t y v) f =
+      let r = send-refused (sendIn (view b) s t y v .outcome) (sendIn (view b) s t y v .scouts) (circuitOf s c) s t f in (r .0, refl, r .1)
+  carried-refused (closing s c) f = absurd (f refl)
+  carried-refused (tracing s c buffer) f = absurd (f refl)
+
+  refused-call : (a : Call) → called b a .given .answer .number ≢ 0 → Refused b a (called b a)
+  refused-call a f =
+      ⊎-elim (λ z. let e = called-carried b a z in rw e (carried-refused a (rw e at f)))
+      (λ z. rw (called-stopped b a z) (unfold Refused in (refl, refl, (refl, refl, λ g h. refl)))) (same? (stoppedAt b a) 0)
+
+  -- "No refusal alters any lent byte": of any call on any bytes.
+  pub refused-leaves : (a : Call) → called b a .given .answer .number ≢ 0 → (called b a .state ≡ b) × (called b a .given .buffer ≡ lent a)
+  unfolding Refused
+  refused-leaves a f = let r = refused-call a f in (r .0, r .1)
+
+  -- and its answer is so.
   pub refused-zero : (a : Call) → called b a .given .answer .number ≢ 0 → Zero (called b a .given .answer)
-  refused-zero a f =
-      ⊎-elim (λ z. let e = called-carried b a z in rw e (carried-zero a (rw e at f)))
-      (λ z. let e = called-stopped b a z in rw e (refl, refl, λ g h. refl)) (same? (stoppedAt b a) 0)
+  unfolding Refused
+  refused-zero a f = refused-call a f .2
 
 -- a permitted path has a link out of its source
 first-link : (N : Network) (s : ℕ) (vector : List ℕ) (t : ℕ) (w : Path) → Permitted N s vector t w → (p : ℕ) × ((s, p) ∈ links N s w)
@@ -93,8 +86,8 @@ module _ (b : List ℕ) (h : History) (D : ℕ) (e : Accepted b (making D)) (cal
   history = historyAfter h (making D ∷ calls)
 
   pub reached-covered : Covered table history
-  unfolding tableAfter historyAfter
-  reached-covered = covered-after calls (called b (making D) .table) (told h (making D) .history) (made-covered b h D e)
+  unfolding leaves
+  reached-covered = covered-after calls (called b (making D) .state) (entered h (making D) .state) (made-covered b h D e)
 
   -- "a circuit holds a link or receive channel in the table exactly when it does in the history"
   pub table-holds-link : (s c : ℕ) → c < 8 → (n p : ℕ)
@@ -111,11 +104,11 @@ module _ (b : List ℕ) (h : History) (D : ℕ) (e : Accepted b (making D)) (cal
   pub listed-exactly : (s c : ℕ) → (openOn history s c ≡ true) ↔ StillOpen s c (numbered (making D ∷ calls) (tableGives b (making D ∷ calls)))
   listed-exactly s c = rw (demand-3 b h D e calls .gives) (open-exactly s c h D (making-passes b h D e) calls)
 
-  -- each listed circuit has the path and the receive channel with which an open of the list was acknowledged
+  -- each listed circuit has the path and the receive channel with which an open of the list was acknowledged that nothing accepted has ended since
   pub listed-opened : (x : Circuit) → x ∈ history .circuits → OpenedBy h (making D ∷ calls) x
-  unfolding historyAfter
+  unfolding leaves
   listed-opened x m =
-      ⊎-elim (λ k. absurd (List·Memᴰ·not-nil (subst (λ (u : List Circuit). x ∈ u) (made-clears b h D e) k))) (λ z. opened-later h (making D) calls x z) (listed-by calls (told h (making D) .history) x m)
+      ⊎-elim (λ k. absurd (List·Memᴰ·not-nil (subst (λ (u : List Circuit). x ∈ u) (made-clears b h D e) (k .0)))) (λ z. opened-later h (making D) calls x z) (listed-by calls (entered h (making D) .state) x m)
 
   -- so a circuit shows in the table exactly when the list has an acknowledged open of it that nothing accepted has ended since
   pub shown-exactly : (s c : ℕ) → c < 8 → ((n : ℕ) × ((p : ℕ) × (ownerAt table n p ≡ circuitOf s c))) ↔ StillOpen s c (numbered (making D ∷ calls) (tableGives b (making D ∷ calls)))

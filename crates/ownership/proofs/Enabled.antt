@@ -7,11 +7,10 @@ use Prim.Native.Nat.{ℕ, _^_, _<_}
 use lib.Dec.{eqb, ltb}
 use borrow.Author.Tests.{eqb-true, eq-eqb, lt-ltb}
 use Rattle.common.specs.Lists.{keep}
-use Rattle.common.proofs.Tests.{clash}
+use Rattle.common.proofs.Tests.{clash, both, and}
 use Rattle.common.proofs.Lists.{keep-nil, keep-yes, keep-no}
 use Rattle.paths.specs.Network.{Link, hasLink}
 use Rattle.table.specs.View.{setAt}
-use Rattle.table.proofs.Soundness.{both, and}
 use Rattle.ownership.specs.History.{History, enabledOn, withBlocked}
 
 -- a link is one of those that are left when one is dropped

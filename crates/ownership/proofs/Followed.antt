@@ -1,21 +1,20 @@
 -- A call that no test stops keeps the history valid, and what a table shows then is the update of what it showed.
 -- Assumes nothing.
 use mathlib.Core.Path.{_≡_, refl, sym, _∙_, ap, subst}
-use mathlib.Core.Logic.{_⊎_, ⊎-elim}
-use mathlib.Core.Bool.{Bool, true, false, cond, not, _&&_, _||_}
+use mathlib.Core.Logic.{⊎-elim}
+use mathlib.Core.Bool.{Bool, true, false, cond, not, _&&_, _||_, and-true}
 use mathlib.Core.List.{List, [], _∷_, List·Memᴰ·not-nil, List·Memᴰ·cases-cons}
 use Prim.Native.Nat.{ℕ, _^_, _≤_, _<_}
 use lib.Dec.{eqb, ltb}
 use borrow.Author.Tests.{eqb-true, not-true}
 use Rattle.common.specs.Lists.{_∈_, keep, Sorted}
-use Rattle.common.proofs.Tests.{clash}
+use Rattle.common.proofs.Tests.{clash, both}
 use Rattle.common.proofs.Lists.{keep-mem, keep-sorted}
 use Rattle.cube.specs.Cube.{next, circuitOf}
 use Rattle.paths.specs.Network.{Path, Link, links, hasLink}
 use Rattle.paths.specs.Send.{Outcome, acknowledged, route-rejected, receive-rejected, Sent}
 use Rattle.paths.specs.CubeNetwork.{Shape, network, send}
 use Rattle.table.specs.View.{View, setAt, setOwner, setReceiver, setEnabled, freeing, fresh}
-use Rattle.table.proofs.Soundness.{both}
 use Rattle.ownership.specs.Calls.{Call, making, blocking, unblocking, opening, closing, tracing}
 use Rattle.ownership.specs.History.{Circuit, History, shapeOn, netOn, holdsLink, holdsReceive, belongs, enabledOn, heldOn, freeOn, takenOn, openOn, receiveOn, askedOn, stoppedOn, sendOn, withBlocked, withCircuits, adds, follows}
 use Rattle.ownership.specs.Lists.{numberOf, viewOf, linksOf, Standing, Separate, Valid}
@@ -46,10 +45,6 @@ pub made-valid : (D : ℕ) → 1 ≤ D → D ≤ 8 → Valid (record { dimension
 unfolding Sorted
 made-valid D l m =
     record { least = l; most = m; blocked = λ x k. absurd (List·Memᴰ·not-nil k); stands = λ x k. absurd (List·Memᴰ·not-nil k); apart = tt }
-
-and-true : (b : Bool) → b && true ≡ b
-and-true true = refl
-and-true false = refl
 
 pub made-view : (D : ℕ) → viewOf (record { dimension = D; blocked = []; circuits = [] }) ≡ fresh D
 unfolding viewOf fresh numberOf enabledOn hasLink
@@ -170,7 +165,7 @@ module _ (h : History) (valid : Valid h) where
   follows-valid (tracing s c buffer) e = valid
 
 -- the view once the links of a path are held
-held-path : (v : View) (S : Shape) (c n : ℕ) (w : Path)
+pub held-path : (v : View) (S : Shape) (c n : ℕ) (w : Path)
     → holdLinks v c n w ≡ record { dimension = v .dimension; enabled = v .enabled; owner = λ m q. cond (hasLink (links (network S) n w) m q) c (v .owner m q); receiver = v .receiver }
 unfolding holdLinks links hasLink network setOwner setAt
 held-path v S c n [] = refl

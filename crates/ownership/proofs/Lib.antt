@@ -8,7 +8,7 @@ pub mod Acknowledged
 pub mod Allowed
 pub mod Enabled
 pub mod Followed
-pub mod Told
+pub mod Entered
 pub mod StillOpen
 pub mod OpenedBy
 pub mod Range
@@ -17,5 +17,7 @@ pub mod Stops
 pub mod Carried
 pub mod Agreement
 pub mod OnSound
+pub mod FromTable
 pub mod Corollaries
 pub mod Rising
+pub mod ReceiveChannels

@@ -1,32 +1,31 @@
 -- What the calls say of any table that passes the tests of a lent table, whether a history covers it or not.
 -- Assumes nothing.
 use mathlib.Core.Path.{_≡_, refl, ap, sym, _∙_, subst}
-use mathlib.Core.Logic.{_⊎_, inl, inr, ⊎-elim, _≢_, _↔_}
-use mathlib.Core.Bool.{Bool, true, false, cond, not, _&&_, false≢true, and-eq-true-iff}
-use mathlib.Core.List.{List, [], _∷_, _++_}
+use mathlib.Core.Logic.{⊎-elim, _≢_, _↔_}
+use mathlib.Core.Bool.{Bool, true, false, not, _&&_, false≢true, and-eq-true-iff}
+use mathlib.Core.List.{List, [], _∷_}
 use Prim.Native.Nat.{ℕ, _^_, _≤_, _<_}
 use native.Mathlib.Omega.{arith}
 use lib.Dec.{eqb, ltb, leb}
 use lib.ListN.{length}
 use borrow.Author.Tests.{eqb-true, eq-eqb, lt-ltb, leb-true}
-use Rattle.common.specs.Tests.{Test, test, refusal}
-use Rattle.common.proofs.Tests.{clash, same?, refused, passed, accepted, refusal-before, refusal-behind, Avoids, never-answered}
+use Rattle.common.specs.Tests.{test, refusal}
+use Rattle.common.proofs.Tests.{clash, same?, refused, passed, accepted, refusal-before, refusal-behind, Avoids, avoids, avoiding, never-answered}
 use Rattle.cube.specs.Cube.{circuitOf, sourceOf}
 use Rattle.paths.specs.Network.{Path}
 use Rattle.paths.proofs.Links.{on-first}
 use Rattle.paths.proofs.Trail.{trail-owned}
 use Rattle.table.specs.Layout.{tableLength, dimensionAt, enabledAt, ownerAt}
 use Rattle.table.specs.View.{View, view}
-use Rattle.table.specs.Sound.{shapeOf, net, heldBy, Stands, Sound}
-use Rattle.table.specs.SoundTest.{pathOf, isEmpty, soundTest, tableTests}
-use Rattle.table.proofs.Soundness.{path-is, some-hop}
-use Rattle.table.proofs.Passing.{tested, view-framed}
-use Rattle.search.specs.Settle.{settled}
+use Rattle.soundness.specs.Sound.{shapeOf, net, heldBy, Stands, Sound}
+use Rattle.soundness.specs.SoundTest.{pathOf, isEmpty, soundTest, tableTests}
+use Rattle.soundness.proofs.Soundness.{path-is, some-hop}
+use Rattle.soundness.proofs.Passing.{tested, view-framed}
 use Rattle.search.specs.Sent.{sentOn, sends, MaySend}
 use Rattle.search.specs.SendSays.{SendSays}
 use Rattle.search.proofs.SendSays.{demand-2}
-use Rattle.ownership.specs.Calls.{Call, making, blocking, unblocking, opening, closing, tracing, only, callTests}
-use Rattle.ownership.specs.OnTable.{heldIn, openIn, askedOf, lentTests, stoppedAt, Done, done, sendIn, carriedOut, called}
+use Rattle.ownership.specs.Calls.{Call, making, blocking, unblocking, opening, closing, tracing, only, callTests, After}
+use Rattle.ownership.specs.OnTable.{heldIn, openIn, askedOf, lentTests, stoppedAt, done, sendIn, carriedOut, called}
 use Rattle.ownership.specs.Allowed.{Allowed}
 use Rattle.ownership.proofs.Allowed.{allowed}
 use Rattle.ownership.proofs.Stops.{lent-is, lent-numbered, none-stops, none-stops-lent, pass-tests, stopped-is}
@@ -51,44 +50,47 @@ may-open b s c t y v e =
 -- The mission's second demand of the open call: one that no test stops before the search says what a send says.
 pub open-says : (b : List ℕ) (s c t y v : ℕ) → stoppedAt b (opening s c t y v) ≡ 0
     → SendSays b s t (circuitOf s c) y v (called b (opening s c t y v) .given .answer .number) (called b (opening s c t y v) .given .answer .receive)
-    (called b (opening s c t y v) .given .answer .hops) (called b (opening s c t y v) .given .answer .scouts) (called b (opening s c t y v) .table)
+    (called b (opening s c t y v) .given .answer .hops) (called b (opening s c t y v) .given .answer .scouts) (called b (opening s c t y v) .state)
 unfolding carriedOut sendIn sends sentOn
 open-says b s c t y v e =
-    subst (λ (d : Done). SendSays b s t (circuitOf s c) y v (d .given .answer .number) (d .given .answer .receive) (d .given .answer .hops) (d .given .answer .scouts) (d .table))
+    subst (λ (d : After (List ℕ)). SendSays b s t (circuitOf s c) y v (d .given .answer .number) (d .given .answer .receive) (d .given .answer .hops) (d .given .answer .scouts) (d .state))
     (sym (called-carried b (opening s c t y v) e))
     (demand-2 b s t (circuitOf s c) y v (may-open b s c t y v e) (carriedOut b (opening s c t y v) .given .answer .number) (carriedOut b (opening s c t y v) .given .answer .receive)
-    (carriedOut b (opening s c t y v) .given .answer .hops) (carriedOut b (opening s c t y v) .given .answer .scouts) (carriedOut b (opening s c t y v) .table) refl)
+    (carriedOut b (opening s c t y v) .given .answer .hops) (carriedOut b (opening s c t y v) .given .answer .scouts) (carriedOut b (opening s c t y v) .state) refl)
 
--- On a sound table a send channel has an open circuit exactly where its number stands on a path and a receive channel.
-module _ (w : View) (sound : Sound w) (s c : ℕ) where
-  first-held : (p : ℕ) (u : Path) → pathOf w (circuitOf s c) ≡ p ∷ u → heldBy w (circuitOf s c) (sourceOf (circuitOf s c)) p ≡ true
+-- On a sound table a number whose links make a path stands.
+module _ (w : View) (sound : Sound w) (c : ℕ) (some : c ≢ 0) where
+  first-held : (p : ℕ) (u : Path) → pathOf w c ≡ p ∷ u → heldBy w c (sourceOf c) p ≡ true
   unfolding pathOf
-  first-held p u q =
-      trail-owned (shapeOf w) (heldBy w (circuitOf s c)) (sourceOf (circuitOf s c)) (sourceOf (circuitOf s c)) p (rw q (on-first (net w) (sourceOf (circuitOf s c)) p u))
+  first-held p u q = trail-owned (shapeOf w) (heldBy w c) (sourceOf c) (sourceOf c) p (rw q (on-first (net w) (sourceOf c) p u))
 
-  some-path : (u : Path) → pathOf w (circuitOf s c) ≡ u → openIn w s c ≡ true → Stands w (circuitOf s c)
-  unfolding openIn isEmpty
-  some-path [] q e = absurd (false≢true (sym (ap (λ x. not (isEmpty x)) q) ∙ e))
-  some-path (p ∷ u) q e =
-      ⊎-elim (λ z. absurd (z .0 (sourceOf (circuitOf s c)) p (eqb-true _ (circuitOf s c) (first-held p u q)))) (λ z. z) (sound .numbers (circuitOf s c) (λ z. omega arith))
-
-  pub open-stands : (openIn w s c ≡ true) ↔ Stands w (circuitOf s c)
-  open-stands = (some-path (pathOf w (circuitOf s c)) refl, stood)
+  pub path-stands : not (isEmpty (pathOf w c)) ≡ true → Stands w c
+  path-stands e = go (pathOf w c) refl
     where
-      stood : Stands w (circuitOf s c) → openIn w s c ≡ true
-      stood k = unfold openIn in rw (path-is w (circuitOf s c) k) (some-hop (net w) (sourceOf (circuitOf s c)) _ _ (k .path) (k .permitted))
+      go : (u : Path) → pathOf w c ≡ u → Stands w c
+      go [] q = unfold isEmpty in absurd (false≢true (sym (ap (λ x. not (isEmpty x)) q) ∙ e))
+      go (p ∷ u) q = ⊎-elim (λ z. absurd (z .0 (sourceOf c) p (eqb-true _ c (first-held p u q)))) (λ z. z) (sound .numbers c some)
+
+  pub stands-path : Stands w c → not (isEmpty (pathOf w c)) ≡ true
+  stands-path k = rw (path-is w c k) (some-hop (net w) (sourceOf c) _ _ (k .path) (k .permitted))
+
+-- So a send channel has an open circuit exactly where its number stands on a path and a receive channel.
+pub open-stands : (w : View) → Sound w → (s c : ℕ) → (openIn w s c ≡ true) ↔ Stands w (circuitOf s c)
+unfolding openIn
+open-stands w sound s c = (path-stands w sound (circuitOf s c) (λ z. omega arith), stands-path w sound (circuitOf s c) (λ z. omega arith))
 
 -- Number 3 says that the table is not sound, of every call that is stopped by it.
 no-three : (b : List ℕ) (a : Call) → refusal (callTests (askedOf (view b)) a) ≢ 3
+unfolding callTests avoids
 no-three b a = never-answered 3 (callTests (askedOf (view b)) a) (others a) (λ z. omega arith)
   where
     others : (a : Call) → Avoids 3 (callTests (askedOf (view b)) a)
-    others (making D) = unfold Avoids callTests in ((λ z. omega arith), tt)
-    others (blocking n p) = unfold Avoids callTests in ((λ z. omega arith), ((λ z. omega arith), ((λ z. omega arith), tt)))
-    others (unblocking n p) = unfold Avoids callTests in ((λ z. omega arith), ((λ z. omega arith), tt))
-    others (opening s c t y v) = unfold Avoids callTests in ((λ z. omega arith), ((λ z. omega arith), ((λ z. omega arith), ((λ z. omega arith), ((λ z. omega arith), tt)))))
-    others (closing s c) = unfold Avoids callTests in ((λ z. omega arith), ((λ z. omega arith), ((λ z. omega arith), tt)))
-    others (tracing s c buffer) = unfold Avoids callTests in ((λ z. omega arith), ((λ z. omega arith), ((λ z. omega arith), ((λ z. omega arith), tt))))
+    others (making D) = avoiding 3 _ refl
+    others (blocking n p) = avoiding 3 _ refl
+    others (unblocking n p) = avoiding 3 _ refl
+    others (opening s c t y v) = avoiding 3 _ refl
+    others (closing s c) = avoiding 3 _ refl
+    others (tracing s c buffer) = avoiding 3 _ refl
 
 -- a sound table passes the third test, so what is left of the tests of the lent table is 1 and 2
 lent-three : (b : List ℕ) → Sound (view b) → refusal (tableTests b) ≢ 3
@@ -119,7 +121,7 @@ stopped-three b a e sound =
     lent q = ⊎-elim (λ r. made (r .0) (rw (r .1) at q)) (λ r. lent-three b sound (rw r at q)) (lent-is b a)
       where
         made : (D : ℕ) → refusal (lentTests b (making D)) ≢ 3
-        made D = unfold lentTests in never-answered 3 (test (not (eqb (length b) tableLength)) 1 ∷ []) (unfold Avoids in ((λ z. omega arith), tt)) (λ z. omega arith)
+        made D = unfold lentTests avoids in never-answered 3 (test (not (eqb (length b) tableLength)) 1 ∷ []) (avoiding 3 _ refl) (λ z. omega arith)
 
 -- Blocking a blocked link, or unblocking an enabled one, succeeds and changes nothing, on any table that passes its tests.
 module _ (b : List ℕ) (pass : refusal (tableTests b) ≡ 0) (n p : ℕ) (i : n < 2 ^ dimensionAt b) (l : p < dimensionAt b) where
@@ -141,11 +143,11 @@ module _ (b : List ℕ) (pass : refusal (tableTests b) ≡ 0) (n p : ℕ) (i : n
   blocked-again e =
       let z : stoppedAt b (blocking n p) ≡ 0 = stops-as (blocking n p) ∙ passed 4 _ node-there ∙ passed 6 _ port-there ∙ passed 13 [] (idle e) ∙ accepted in
       let c = called-carried b (blocking n p) z in
-      c ∙ ap (λ x. done x (only 0) []) (sym (ap (λ (d : Done). d .table) c) ∙ blocking-again b n p e)
+      c ∙ ap (λ x. done x (only 0) []) (sym (ap (λ (d : After (List ℕ)). d .state) c) ∙ blocking-again b n p e)
 
   pub enabled-again : enabledAt b n p ≡ true → called b (unblocking n p) ≡ done b (only 0) []
   unfolding callTests askedOf view carriedOut
   enabled-again e =
       let z : stoppedAt b (unblocking n p) ≡ 0 = stops-as (unblocking n p) ∙ passed 4 _ node-there ∙ passed 6 [] port-there ∙ accepted in
       let c = called-carried b (unblocking n p) z in
-      c ∙ ap (λ x. done x (only 0) []) (sym (ap (λ (d : Done). d .table) c) ∙ unblocking-again b n p e)
+      c ∙ ap (λ x. done x (only 0) []) (sym (ap (λ (d : After (List ℕ)). d .state) c) ∙ unblocking-again b n p e)

@@ -1,13 +1,12 @@
 -- What a table that agrees with the history shows of links and of receive channels is what the history says of them; so a send is the same on both.
 -- Assumes nothing.
-use mathlib.Core.Path.{_≡_, refl, _∙_, ap, fun-ext}
-use mathlib.Core.Bool.{Bool, true, false, cond, _&&_, not}
+use mathlib.Core.Path.{_≡_, refl, _∙_, ap, fun-ext, sym}
+use mathlib.Core.Bool.{Bool, true, false, cond, _&&_, not, Bool·not-not}
 use Prim.Native.Nat.{ℕ}
 use lib.Dec.{eqb}
 use Rattle.paths.specs.Network.{link-free, link-held, isFree, linkState}
-use Rattle.paths.specs.Send.{channel, all-held}
 use Rattle.paths.specs.CubeNetwork.{send}
-use Rattle.table.specs.View.{available, lowest, lowestChannel, receive}
+use Rattle.table.specs.View.{available, receive, lowestOf}
 use Rattle.search.specs.Settle.{freeIn}
 use Rattle.ownership.specs.OnTable.{heldIn, sendIn}
 use Rattle.ownership.specs.History.{History, shapeOn, netOn, holdsLink, holdsReceive, enabledOn, heldOn, freeOn, takenOn, receiveOn, sendOn}
@@ -24,10 +23,6 @@ free-state true c = go (eqb c 0)
     go true = refl
     go false = refl
 
-twice : (b : Bool) → b ≡ not (not b)
-twice true = refl
-twice false = refl
-
 module _ (h : History) where
   -- "the link is held"
   pub held-same : heldIn (viewOf h) ≡ heldOn h
@@ -43,11 +38,11 @@ module _ (h : History) where
   -- the lowest receive channel of a node that no circuit holds
   available-same : (t : ℕ) → available (viewOf h) t ≡ (λ k. not (takenOn h t k))
   unfolding available takenOn viewOf
-  available-same t = fun-ext (λ k. twice (eqb (viewOf h .receiver t k) 0) ∙ ap not (number-any (holdsReceive t k) (h .circuits)))
+  available-same t = fun-ext (λ k. sym (Bool·not-not (eqb (viewOf h .receiver t k) 0)) ∙ ap not (number-any (holdsReceive t k) (h .circuits)))
 
   pub receive-same : (t : ℕ) → receive (viewOf h) t ≡ receiveOn h t
-  unfolding receive lowestChannel receiveOn
-  receive-same t = ap (λ (f : ℕ → Bool). cond (eqb (lowest f 8 0) 8) all-held (channel (lowest f 8 0))) (available-same t)
+  unfolding receive receiveOn
+  receive-same t = ap lowestOf (available-same t)
 
   -- A send is the same on both.
   pub send-same : (s t y v : ℕ) → sendIn (viewOf h) s t y v ≡ sendOn h s t y v

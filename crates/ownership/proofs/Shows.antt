@@ -2,24 +2,20 @@
 -- acknowledged send are those of the cube.
 -- Assumes nothing.
 use mathlib.Core.Path.{_≡_, refl, ap, _∙_}
-use mathlib.Core.Logic.{_⊎_, ⊎-elim}
-use mathlib.Core.List.{List, [], _∷_, List·Memᴰ·head, List·Memᴰ·tail, List·Memᴰ·not-nil, List·Memᴰ·cases-cons}
+use mathlib.Core.List.{List, [], _∷_, List·Memᴰ·head, List·Memᴰ·tail}
 use Prim.Native.Nat.{ℕ, _^_, _≤_, _<_}
 use native.Mathlib.Omega.{arith}
 use lib.ListN.{length}
 use lib.Pow.{pow-mono}
-use Rattle.common.specs.Lists.{_∈_, from}
-use Rattle.common.proofs.Lists.{from-mem}
+use Rattle.common.specs.Lists.{_∈_}
 use Rattle.cube.specs.Cube.{next}
 use Rattle.cube.proofs.Bits.{flip-inside}
 use Rattle.paths.specs.Network.{Path}
-use Rattle.paths.specs.Permitted.{Onward, Permitted}
 use Rattle.paths.specs.Send.{Outcome, acknowledged, route-rejected, receive-rejected}
-use Rattle.paths.specs.CubeNetwork.{Shape, network}
-use Rattle.paths.proofs.CubeNetwork.{offered-port}
+use Rattle.paths.proofs.Apart.{permitted-below}
 use Rattle.table.specs.Layout.{tableLength, putOwner}
 use Rattle.table.specs.View.{View, view, setReceiver, receive}
-use Rattle.table.specs.Sound.{shapeOf}
+use Rattle.soundness.specs.Sound.{shapeOf}
 use Rattle.table.proofs.Views.{view-put-owner, view-put-receiver}
 use Rattle.search.specs.Settle.{freeIn, hold}
 use Rattle.search.specs.Sent.{marked}
@@ -66,19 +62,6 @@ module _ (c : ℕ) (small : c < 65536) (D : ℕ) (fits : D ≤ 8) where
   view-marked b l s t i j route-rejected h = refl
   view-marked b l s t i j receive-rejected h = refl
 
--- the ports of a permitted path of the cube
-module _ (S : Shape) (t : ℕ) where
-  onward-ports : (n : ℕ) (w : Path) → Onward (network S) t n w → PortsBelow (S .dimension) w
-  unfolding Onward PortsBelow
-  onward-ports n [] o p m = absurd (List·Memᴰ·not-nil m)
-  onward-ports n (q ∷ w) o p m =
-      ⊎-elim (λ e. rw e (offered-port S t n q (o .1) .0)) (λ k. onward-ports (network S .next n q) w (o .2) p k) (List·Memᴰ·cases-cons m)
-
-  pub permitted-ports : (s : ℕ) (vector : List ℕ) (w : Path) → PortsBelow (S .dimension) vector → Permitted (network S) s vector t w → PortsBelow (S .dimension) w
-  unfolding Permitted PortsBelow
-  permitted-ports s vector (q ∷ w) h o p m =
-      ⊎-elim (λ e. rw e (h q (o .0))) (λ k. onward-ports (network S .next s q) w (o .1) p k) (List·Memᴰ·cases-cons m)
-
 -- An acknowledged send's ports are below the dimension, and its receive channel is one of eight.
 pub sent-fits : (v : View) (s t y vector : ℕ) → s < 2 ^ v .dimension → t < 2 ^ v .dimension → Fits (v .dimension) (sendIn v s t y vector .outcome)
 sent-fits v s t y vector i j = go (sendIn v s t y vector .outcome) refl
@@ -86,6 +69,6 @@ sent-fits v s t y vector i j = go (sendIn v s t y vector .outcome) refl
     go : (o : Outcome) → sendIn v s t y vector .outcome ≡ o → Fits (v .dimension) o
     go (acknowledged w k) e =
         let r = send-taken (shapeOf v) (freeIn v) (receive v t) s t vector i j w k y (unfold sendIn in e) in
-        unfold Fits in (permitted-ports (shapeOf v) t s (from 0 (v .dimension)) w (unfold PortsBelow in λ p m. let b = from-mem 0 (v .dimension) m in omega arith) (r .permitted), receive-small v t k (r .receives))
+        unfold Fits PortsBelow in (permitted-below (shapeOf v) s t w (r .permitted), receive-small v t k (r .receives))
     go route-rejected e = unfold Fits in tt
     go receive-rejected e = unfold Fits in tt

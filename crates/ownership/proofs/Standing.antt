@@ -9,16 +9,15 @@ use native.Mathlib.Omega.{arith}
 use lib.Dec.{eqb, ltb}
 use borrow.Author.Tests.{eqb-true, eq-eqb}
 use Rattle.common.specs.Lists.{_∈_, any, from, Sorted}
-use Rattle.common.proofs.Tests.{same?, clash, is-false, both-below}
+use Rattle.common.proofs.Tests.{same?, clash, is-false, both-below, both, and}
 use Rattle.common.proofs.Lists.{sorted-imp}
 use Rattle.cube.specs.Cube.{circuitOf, sourceOf}
 use Rattle.cube.proofs.Circuits.{source-of-circuit}
 use Rattle.paths.specs.Network.{Network, end}
 use Rattle.paths.proofs.Sentences.{permitted-end}
-use Rattle.paths.proofs.Links.{On}
+use Rattle.paths.proofs.Links.{On, link-true, true-link}
 use Rattle.paths.proofs.Apart.{permitted-inside}
-use Rattle.table.specs.Sound.{Stands, Nowhere, Sound}
-use Rattle.table.proofs.Soundness.{both, and, link-true, true-link}
+use Rattle.soundness.specs.Sound.{Stands, Nowhere, Sound}
 use Rattle.ownership.specs.History.{Circuit, History, shapeOn, netOn, holdsLink, holdsReceive, enabledOn}
 use Rattle.ownership.specs.Lists.{viewOf, linksOf, Separate, Valid}
 use Rattle.ownership.proofs.Circuits.{any-some, some-any, sorted-one, numberFor, circuit-parts, Once, number-some, number-circuit, number-at}

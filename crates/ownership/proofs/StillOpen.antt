@@ -10,16 +10,15 @@ use native.Mathlib.Omega.{arith}
 use lib.Dec.{eqb}
 use borrow.Author.Tests.{eqb-true, eq-eqb, not-true}
 use Rattle.common.specs.Lists.{any, keep}
-use Rattle.common.proofs.Tests.{same?, clash, is-false}
+use Rattle.common.proofs.Tests.{same?, clash, is-false, both, and, either, or-left, or-right}
 use Rattle.common.proofs.Lists.{keep-mem, mem-keep}
 use Rattle.paths.specs.Send.{Outcome, acknowledged, route-rejected, receive-rejected, answered}
-use Rattle.table.proofs.Soundness.{both, and, either, or-left, or-right}
-use Rattle.ownership.specs.Calls.{Call, making, blocking, unblocking, opening, closing, tracing}
-use Rattle.ownership.specs.History.{Circuit, History, belongs, openOn, stoppedOn, sendOn, withCircuits, adds, follows, gives, Told, told}
-use Rattle.ownership.specs.Lists.{historyAfter, historyGives}
+use Rattle.ownership.specs.Calls.{Call, making, blocking, unblocking, opening, closing, tracing, After}
+use Rattle.ownership.specs.History.{Circuit, History, belongs, openOn, stoppedOn, sendOn, withCircuits, adds, follows, gives, entered}
+use Rattle.ownership.specs.Lists.{historyAfter, historyGives, leaves, answers}
 use Rattle.ownership.specs.StillOpen.{numbered, Ends, Lasts, StillOpen}
 use Rattle.ownership.proofs.Circuits.{any-some, some-any, belongs-parts, parts-belong}
-use Rattle.ownership.proofs.Told.{told-passed, told-stopped}
+use Rattle.ownership.proofs.Entered.{entered-passed, entered-stopped}
 
 module _ (s c : ℕ) where
   -- a call that answered n is an acknowledged open of the channel
@@ -102,10 +101,10 @@ module _ (s c : ℕ) where
   step-passed h (closing m d) = step-closing h m d 0 refl
   step-passed h (tracing m d buffer) = step-same h h (tracing m d buffer) 0 refl (λ o. let u : _≡_ {A = ℕ} 0 1 = cc (o .3) in absurd (omega arith)) (λ z ends. absurd ends)
 
-  step-told : (h : History) (a : Call) → Step h (told h a .history) a (told h a .given .answer .number)
+  step-told : (h : History) (a : Call) → Step h (entered h a .state) a (entered h a .given .answer .number)
   step-told h a =
-      ⊎-elim (λ e. subst (λ (x : Told). Step h (x .history) a (x .given .answer .number)) (sym (told-passed h a e)) (step-passed h a))
-      (λ e. subst (λ (x : Told). Step h (x .history) a (x .given .answer .number)) (sym (told-stopped h a e))
+      ⊎-elim (λ e. subst (λ (x : After History). Step h (x .state) a (x .given .answer .number)) (sym (entered-passed h a e)) (step-passed h a))
+      (λ e. subst (λ (x : After History). Step h (x .state) a (x .given .answer .number)) (sym (entered-stopped h a e))
       (step-same h h a (stoppedOn h a) refl (λ o. e (o .4)) (λ z ends. e z)))
       (same? (stoppedOn h a) 0)
 
@@ -170,11 +169,11 @@ module _ (s c : ℕ) where
   -- From any history on:
   pub open-after : (h : History) (calls : List Call)
       → (openOn (historyAfter h calls) s c ≡ true) ↔ (StillOpen s c (numbered calls (historyGives h calls)) ⊎ ((openOn h s c ≡ true) × Lasts s c (numbered calls (historyGives h calls))))
-  unfolding historyAfter historyGives numbered Lasts
+  unfolding leaves answers numbered Lasts
   open-after h [] = ((λ o. inr (o, λ a m. absurd (List·Memᴰ·not-nil m))), ⊎-elim (λ o. absurd (still-none o)) (λ r. r .0))
   open-after h (a ∷ more) =
-      let ih = open-after (told h a .history) more in
-      let one = by-one h (told h a .history) a (told h a .given .answer .number) (step-told h a) (numbered more (historyGives (told h a .history) more)) in
+      let ih = open-after (entered h a .state) more in
+      let one = by-one h (entered h a .state) a (entered h a .given .answer .number) (step-told h a) (numbered more (historyGives (entered h a .state) more)) in
       ((λ o. one .0 (ih .0 o)), λ r. ih .1 (one .1 r))
 
   -- From an accepted making on: the list has an acknowledged open of the channel, and no accepted making and no accepted close of it afterwards.
@@ -184,10 +183,10 @@ module _ (s c : ℕ) where
       let r = open-after h (making D ∷ calls) in
       ((λ o. ⊎-elim (λ x. x) (λ x. absurd (ended (x .1))) (r .0 o)), λ x. r .1 (inl x))
     where
-      accepted : told h (making D) .given .answer .number ≡ 0
-      accepted = unfold gives in ap (λ (x : Told). x .given .answer .number) (told-passed h (making D) e)
+      accepted : entered h (making D) .given .answer .number ≡ 0
+      accepted = unfold gives in ap (λ (x : After History). x .given .answer .number) (entered-passed h (making D) e)
 
       ended : Lasts s c (numbered (making D ∷ calls) (historyGives h (making D ∷ calls))) → ⊥
       ended l =
-          unfold historyGives numbered Ends in
-          lasts-first (making D) (told h (making D) .given .answer .number) (numbered calls (historyGives (told h (making D) .history) calls)) l .0 accepted tt
+          unfold answers numbered Ends in
+          lasts-first (making D) (entered h (making D) .given .answer .number) (numbered calls (historyGives (entered h (making D) .state) calls)) l .0 accepted tt

@@ -15,9 +15,9 @@ use Rattle.cube.specs.Cube.{circuitOf, sourceOf}
 use Rattle.paths.specs.Network.{Path}
 use Rattle.paths.proofs.Links.{on-first}
 use Rattle.paths.proofs.Trail.{trail-owned}
-use Rattle.table.specs.Sound.{shapeOf, net, heldBy}
-use Rattle.table.specs.SoundTest.{pathOf, isEmpty}
-use Rattle.table.proofs.Soundness.{path-is, some-hop}
+use Rattle.soundness.specs.Sound.{shapeOf, net, heldBy}
+use Rattle.soundness.specs.SoundTest.{pathOf, isEmpty}
+use Rattle.soundness.proofs.Soundness.{path-is, some-hop}
 use Rattle.ownership.specs.Calls.{Call, making, blocking, unblocking, opening, closing, tracing, channel, callTests}
 use Rattle.ownership.specs.OnTable.{openIn, askedOf}
 use Rattle.ownership.specs.History.{Circuit, History, netOn, belongs, openOn, listed, askedOn, stoppedOn}

@@ -2,24 +2,23 @@
 -- Assumes nothing.
 use mathlib.Core.Path.{_≡_, refl, ap, sym, _∙_}
 use mathlib.Core.Logic.{_⊎_, inl, inr, ⊎-elim, _≢_}
-use mathlib.Core.Bool.{Bool, true, false, not, _&&_, _||_, true≢false}
-use mathlib.Core.List.{List, [], _∷_, _++_}
-use Prim.Native.Nat.{ℕ, _^_, _≤_, _<_}
+use mathlib.Core.Bool.{Bool, true, false, not, _&&_}
+use mathlib.Core.List.{List, [], _∷_}
+use Prim.Native.Nat.{ℕ, _≤_}
 use native.Mathlib.Omega.{arith}
-use lib.Dec.{eqb, ltb, leb}
+use lib.Dec.{eqb, leb}
 use lib.ListN.{length}
-use borrow.Author.Tests.{eq-eqb, eqb-true, eqb-false, ltb-true, ltb-false, leb-true, not-false}
-use Rattle.common.specs.Tests.{Test, test, refusal}
+use borrow.Author.Tests.{eq-eqb, eqb-true, leb-true, not-false}
+use Rattle.common.specs.Tests.{test, refusal}
 use Rattle.common.specs.Decides.{Decides}
-use Rattle.common.proofs.Tests.{passed, accepted, first-passed, Numbered, refusal-behind, refusal-both}
+use Rattle.common.proofs.Tests.{passed, accepted, first-passed, Avoids, avoids, avoiding, refusal-behind, refusal-both, both}
 use Rattle.table.specs.Layout.{tableLength, dimensionAt}
 use Rattle.table.specs.View.{view}
-use Rattle.table.specs.Sound.{Sound}
-use Rattle.table.specs.SoundTest.{soundTest, tableTests}
-use Rattle.table.proofs.Passing.{usable, tested, view-framed}
-use Rattle.ownership.specs.Calls.{Call, making, blocking, unblocking, opening, closing, tracing, Asked, callTests}
+use Rattle.soundness.specs.Sound.{Sound}
+use Rattle.soundness.specs.SoundTest.{soundTest, tableTests}
+use Rattle.soundness.proofs.Passing.{usable, tested, view-framed}
+use Rattle.ownership.specs.Calls.{Call, making, blocking, unblocking, opening, closing, tracing, callTests}
 use Rattle.ownership.specs.OnTable.{askedOf, lentTests, stoppedAt}
-use Rattle.ownership.proofs.Allowed.{both}
 
 -- the tests of the lent table are all three, but for a making, which is stopped by the length alone
 pub lent-is : (b : List ℕ) (a : Call) → ((D : ℕ) × (a ≡ making D)) ⊎ (lentTests b a ≡ tableTests b)
@@ -31,14 +30,15 @@ lent-is b (opening s c t y v) = inr refl
 lent-is b (closing s c) = inr refl
 lent-is b (tracing s c buffer) = inr refl
 
-pub lent-numbered : (b : List ℕ) (a : Call) → Numbered (lentTests b a)
-lent-numbered b a = ⊎-elim (λ r. rw (r .1) (alone (r .0))) (λ e. rw e all-three) (lent-is b a)
-  where
-    alone : (D : ℕ) → Numbered (lentTests b (making D))
-    alone D = unfold Numbered lentTests in (λ z. omega arith, tt)
+pub table-numbered : (b : List ℕ) → Avoids 0 (tableTests b)
+unfolding avoids tableTests
+table-numbered b = avoiding 0 _ refl
 
-    all-three : Numbered (tableTests b)
-    all-three = unfold Numbered tableTests in (λ z. omega arith, (λ z. omega arith, (λ z. omega arith, tt)))
+pub lent-numbered : (b : List ℕ) (a : Call) → Avoids 0 (lentTests b a)
+lent-numbered b a = ⊎-elim (λ r. rw (r .1) (alone (r .0))) (λ e. rw e (table-numbered b)) (lent-is b a)
+  where
+    alone : (D : ℕ) → Avoids 0 (lentTests b (making D))
+    alone D = unfold avoids lentTests in avoiding 0 _ refl
 
 -- A call that no test stops, whatever the table: no test of the call applies;
 pub none-stops : (b : List ℕ) (a : Call) → stoppedAt b a ≡ 0 → refusal (callTests (askedOf (view b)) a) ≡ 0
@@ -61,7 +61,7 @@ pass-tests b e = go (unfold tableTests in first-passed _ 1 _ (λ z. omega arith)
     go x =
         let y = first-passed (not (leb 1 (dimensionAt b) && leb (dimensionAt b) 8)) 2 (test (not (soundTest (view b))) 3 ∷ []) (λ z. omega arith) (x .1) in
         let z = first-passed (not (soundTest (view b))) 3 [] (λ z. omega arith) (y .1) in
-        let d = both (leb 1 (dimensionAt b)) (leb (dimensionAt b) 8) (y .0) in
+        let d = both (leb 1 (dimensionAt b)) (leb (dimensionAt b) 8) (not-false _ (y .0)) in
         let long = eqb-true (length b) tableLength (not-false _ (x .0)) in
         let least = leb-true 1 (dimensionAt b) (d .0) in
         let most = leb-true (dimensionAt b) 8 (d .1) in

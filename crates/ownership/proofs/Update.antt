@@ -1,7 +1,7 @@
 -- What a table shows after a call that no test stops, from what it showed before.
 -- Assumes nothing.
 use mathlib.Core.Bool.{true, false}
-use mathlib.Core.List.{List, [], _∷_}
+use mathlib.Core.List.{[], _∷_}
 use Prim.Native.Nat.{ℕ}
 use Rattle.cube.specs.Cube.{next, circuitOf}
 use Rattle.paths.specs.Network.{Path}

@@ -2,7 +2,7 @@
 -- Assumes nothing.
 use mathlib.Core.Bool.{Bool, not, _&&_, _||_}
 use mathlib.Core.List.{List, [], _∷_, _++_}
-use Prim.Native.Nat.{ℕ, zero, suc, _^_}
+use Prim.Native.Nat.{ℕ, _^_}
 use lib.Dec.{eqb, ltb, leb}
 use lib.ListN.{length, drop}
 use Rattle.common.specs.Tests.{Test, test}
@@ -22,6 +22,11 @@ pub data Call : Type 0 where
 pub record Given : Type 0 where
   pub answer : Answer
   pub buffer : List ℕ
+
+-- what a call leaves of what it is made on, the bytes of a table or the history, and what it gives
+pub record After (S : Type 0) : Type 0 where
+  pub state : S
+  pub given : Given
 
 -- "Success is 0." "Other refused calls return zero beside the number."
 abbrev pub only : ℕ → Answer

@@ -1,6 +1,6 @@
 -- The ownership history of document 01. It is fed the calls and their arguments, never the bytes of a table: each test and each answer is read off this record.
 -- Assumes nothing.
-use mathlib.Core.Bool.{Bool, true, false, cond, _&&_, not}
+use mathlib.Core.Bool.{Bool, cond, _&&_, not}
 use mathlib.Core.List.{List, [], _∷_}
 use Prim.Native.Nat.{ℕ, _^_}
 use lib.Dec.{eqb, ltb}
@@ -8,10 +8,10 @@ use lib.ListN.{length}
 use Rattle.common.specs.Lists.{keep, any}
 use Rattle.common.specs.Tests.{refusal}
 use Rattle.paths.specs.Network.{Network, Path, Link, links, hasLink}
-use Rattle.paths.specs.Send.{Receive, channel, all-held, Outcome, acknowledged, route-rejected, receive-rejected, Sent, answered}
+use Rattle.paths.specs.Send.{Receive, channel, Outcome, acknowledged, route-rejected, receive-rejected, Sent, answered}
 use Rattle.paths.specs.CubeNetwork.{Shape, network, send}
-use Rattle.table.specs.View.{lowest}
-use Rattle.ownership.specs.Calls.{Call, making, blocking, unblocking, opening, closing, tracing, Given, Asked, only, written, callTests, lent}
+use Rattle.table.specs.View.{lowestOf}
+use Rattle.ownership.specs.Calls.{Call, making, blocking, unblocking, opening, closing, tracing, Given, Asked, only, written, callTests, lent, After}
 
 -- "each open circuit with the links and receive channel it holds": its source and send channel, its path, and the receive channel at the path's end
 pub record Circuit : Type 0 where
@@ -64,7 +64,7 @@ openOn h s c = any (belongs s c) (h .circuits)
 
 -- "its lowest receive channel that no circuit holds"
 unfoldable pub receiveOn : History → ℕ → Receive
-receiveOn h t = let k = lowest (λ k. not (takenOn h t k)) 8 0 in cond (eqb k 8) all-held (channel k)
+receiveOn h t = lowestOf (λ k. not (takenOn h t k))
 
 -- the ports of the circuit listed for a send channel
 unfoldable pub listed : List Circuit → ℕ → ℕ → Path
@@ -95,11 +95,6 @@ adds h s c t (acknowledged w k) = withCircuits h (record { source = s; channel =
 adds h s c t route-rejected = h
 adds h s c t receive-rejected = h
 
--- a history after a call, and what the call gives
-pub record Told : Type 0 where
-  pub history : History
-  pub given : Given
-
 -- "Else a making sets the dimension and clears the rest; a block adds a link, an unblock drops it; an open adds its circuit ..; a close drops its circuit."
 unfoldable pub follows : History → Call → History
 follows h (making D) = record { dimension = D; blocked = []; circuits = [] }
@@ -118,8 +113,8 @@ gives h (closing s c) = record { answer = only 0; buffer = [] }
 gives h (tracing s c buffer) =
     let w = listed (h .circuits) s c in record { answer = record { number = 0; hops = length w; receive = 0; scouts = 0 }; buffer = written w buffer }
 
--- "A refused call and a trace change nothing."
-unfoldable pub told : History → Call → Told
-told h a =
+-- a call entered in the history; "A refused call and a trace change nothing."
+unfoldable pub entered : History → Call → After History
+entered h a =
     let n = stoppedOn h a in
-    cond (eqb n 0) (record { history = follows h a; given = gives h a }) (record { history = h; given = record { answer = only n; buffer = lent a } })
+    cond (eqb n 0) (record { state = follows h a; given = gives h a }) (record { state = h; given = record { answer = only n; buffer = lent a } })

@@ -4,4 +4,5 @@ pub mod Allowed
 pub mod OnTable
 pub mod History
 pub mod Lists
+pub mod FromTable
 pub mod StillOpen

@@ -1,38 +1,44 @@
 -- Lists of calls, on a table and in the history, and what it is for both to agree: the mission's third demand.
 -- Assumes nothing.
 use mathlib.Core.Path.{_≡_}
-use mathlib.Core.Bool.{Bool, cond, not, _&&_}
+use mathlib.Core.Bool.{Bool, cond}
 use mathlib.Core.List.{List, [], _∷_}
 use Prim.Native.Nat.{ℕ, _^_, _≤_, _<_}
 use lib.ListN.{length, getD}
 use Rattle.common.specs.Lists.{_∈_, from, Sorted}
 use Rattle.cube.specs.Cube.{circuitOf}
-use Rattle.paths.specs.Network.{Network, Path, Link, links, end}
+use Rattle.paths.specs.Network.{Network, Link, links}
 use Rattle.paths.specs.Permitted.{Permitted}
 use Rattle.table.specs.Layout.{tableLength}
 use Rattle.table.specs.View.{View, view}
 use Rattle.table.specs.Encode.{encode}
-use Rattle.ownership.specs.Calls.{Call, Given}
+use Rattle.ownership.specs.Calls.{Call, Given, After}
 use Rattle.ownership.specs.OnTable.{called}
-use Rattle.ownership.specs.History.{Circuit, History, netOn, holdsLink, holdsReceive, enabledOn, told}
+use Rattle.ownership.specs.History.{Circuit, History, netOn, holdsLink, holdsReceive, enabledOn, entered}
 
--- the table after a list of calls, and what each of them gave; the step is the contracts' own definition of a call
-unfoldable pub tableAfter : List ℕ → List Call → List ℕ
-tableAfter b [] = b
-tableAfter b (a ∷ more) = tableAfter (called b a .table) more
+-- a list of calls made one after another: what they leave, and what each of them gives
+module _ {S : Type 0} (makes : S → Call → After S) where
+  unfoldable pub leaves : S → List Call → S
+  leaves s [] = s
+  leaves s (a ∷ more) = leaves (makes s a .state) more
 
-unfoldable pub tableGives : List ℕ → List Call → List Given
-tableGives b [] = []
-tableGives b (a ∷ more) = called b a .given ∷ tableGives (called b a .table) more
+  unfoldable pub answers : S → List Call → List Given
+  answers s [] = []
+  answers s (a ∷ more) = makes s a .given ∷ answers (makes s a .state) more
 
--- the history after it, and what it says that each gave
-unfoldable pub historyAfter : History → List Call → History
-historyAfter h [] = h
-historyAfter h (a ∷ more) = historyAfter (told h a .history) more
+-- on a table, where the step is the contracts' own definition of a call
+abbrev pub tableAfter : List ℕ → List Call → List ℕ
+tableAfter b calls = leaves called b calls
 
-unfoldable pub historyGives : History → List Call → List Given
-historyGives h [] = []
-historyGives h (a ∷ more) = told h a .given ∷ historyGives (told h a .history) more
+abbrev pub tableGives : List ℕ → List Call → List Given
+tableGives b calls = answers called b calls
+
+-- and in the history
+abbrev pub historyAfter : History → List Call → History
+historyAfter h calls = leaves entered h calls
+
+abbrev pub historyGives : History → List Call → List Given
+historyGives h calls = answers entered h calls
 
 -- the number of the first circuit that passes a test; 0, "no circuit", where none does
 unfoldable pub numberOf : (Circuit → Bool) → List Circuit → ℕ

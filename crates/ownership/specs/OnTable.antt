@@ -7,16 +7,15 @@ use lib.Dec.{eqb}
 use lib.ListN.{length}
 use Rattle.common.specs.Tests.{Test, test, refusal}
 use Rattle.cube.specs.Cube.{circuitOf}
-use Rattle.paths.specs.Network.{Path}
 use Rattle.paths.specs.Send.{Sent, Answer, answered}
 use Rattle.paths.specs.CubeNetwork.{send}
 use Rattle.table.specs.Layout.{tableLength, made, putEnabled, freed}
 use Rattle.table.specs.View.{View, view, receive}
-use Rattle.table.specs.Sound.{shapeOf}
-use Rattle.table.specs.SoundTest.{pathOf, isEmpty, tableTests}
+use Rattle.soundness.specs.Sound.{shapeOf}
+use Rattle.soundness.specs.SoundTest.{pathOf, isEmpty, tableTests}
 use Rattle.search.specs.Settle.{freeIn}
 use Rattle.search.specs.Sent.{marked}
-use Rattle.ownership.specs.Calls.{Call, making, blocking, unblocking, opening, closing, tracing, Given, Asked, only, written, callTests, lent}
+use Rattle.ownership.specs.Calls.{Call, making, blocking, unblocking, opening, closing, tracing, Asked, only, written, callTests, lent, After}
 
 -- "this send channel has an open circuit": the links that its circuit holds make a path
 unfoldable pub openIn : View → ℕ → ℕ → Bool
@@ -42,20 +41,16 @@ lentTests b (tracing s c buffer) = tableTests b
 unfoldable pub stoppedAt : List ℕ → Call → ℕ
 stoppedAt b a = refusal (lentTests b a ++ callTests (askedOf (view b)) a)
 
--- the table's bytes after a call, and what the call gives
-pub record Done : Type 0 where
-  pub table : List ℕ
-  pub given : Given
-
-abbrev pub done : List ℕ → Answer → List ℕ → Done
-done b answer buffer = record { table = b; given = record { answer = answer; buffer = buffer } }
+-- the table's bytes after a call, its answer and the bytes of its buffer
+abbrev pub done : List ℕ → Answer → List ℕ → After (List ℕ)
+done b answer buffer = record { state = b; given = record { answer = answer; buffer = buffer } }
 
 -- the send of an open, read on what the table shows
 unfoldable pub sendIn : View → ℕ → ℕ → ℕ → ℕ → Sent
 sendIn v s t y vector = send y (shapeOf v) (freeIn v) (receive v t) s vector t
 
 -- "The first that applies is the answer": what a call does where no test applies,
-unfoldable pub carriedOut : List ℕ → Call → Done
+unfoldable pub carriedOut : List ℕ → Call → After (List ℕ)
 carriedOut b (making D) = done (made D) (only 0) []
 carriedOut b (blocking n p) = done (putEnabled b n p false) (only 0) []
 carriedOut b (unblocking n p) = done (putEnabled b n p true) (only 0) []
@@ -65,5 +60,5 @@ carriedOut b (tracing s c buffer) =
     let w = pathOf (view b) (circuitOf s c) in done b (record { number = 0; hops = length w; receive = 0; scouts = 0 }) (written w buffer)
 
 -- and where one does: "No refusal alters any lent byte."
-unfoldable pub called : List ℕ → Call → Done
+unfoldable pub called : List ℕ → Call → After (List ℕ)
 called b a = cond (eqb (stoppedAt b a) 0) (carriedOut b a) (done b (only (stoppedAt b a)) (lent a))

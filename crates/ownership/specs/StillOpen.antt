@@ -6,8 +6,8 @@ use Prim.Native.Nat.{ℕ}
 use Rattle.common.specs.Lists.{_∈_}
 use Rattle.paths.specs.Send.{acknowledged}
 use Rattle.ownership.specs.Calls.{Call, making, blocking, unblocking, opening, closing, tracing, Given}
-use Rattle.ownership.specs.History.{Circuit, History, sendOn}
-use Rattle.ownership.specs.Lists.{historyAfter}
+use Rattle.ownership.specs.History.{Circuit, History, stoppedOn, sendOn, entered}
+use Rattle.ownership.specs.Lists.{historyAfter, historyGives}
 
 -- the calls of a list, each with the number that it answered; "Success is 0", and an accepted open is an acknowledged one
 unfoldable pub numbered : List Call → List Given → List (Call × ℕ)
@@ -38,12 +38,14 @@ pub record StillOpen (s c : ℕ) (calls : List (Call × ℕ)) : Type 0 where
   pub split : calls ≡ before ++ (opening s c target type vector, 0) ∷ after
   pub lasts : Lasts s c after
 
--- Circuit x was listed by an open of the list: one of its send channel to its target, which was acknowledged with its path and its receive channel by the rules
--- read on the history before it.
+-- Circuit x was listed by an open of the list: one of its send channel to its target that no test stopped, which was acknowledged with its path and its
+-- receive channel by the rules read on the history before it, and which no accepted call has ended since.
 pub record OpenedBy (h : History) (calls : List Call) (x : Circuit) : Type 0 where
   pub before : List Call
   pub type : ℕ
   pub vector : ℕ
   pub after : List Call
   pub split : calls ≡ before ++ opening (x .source) (x .channel) (x .target) type vector ∷ after
+  pub passes : stoppedOn (historyAfter h before) (opening (x .source) (x .channel) (x .target) type vector) ≡ 0
   pub acknowledges : sendOn (historyAfter h before) (x .source) (x .target) type vector .outcome ≡ acknowledged (x .ports) (x .receive)
+  pub lasts : Lasts (x .source) (x .channel) (numbered after (historyGives (entered (historyAfter h before) (opening (x .source) (x .channel) (x .target) type vector) .state) after))

@@ -1,0 +1,226 @@
+-- Every table that passes the tests of a lent table is covered by a history. So what the theorem about lists of calls says holds from any such table on.
+-- Assumes nothing.
+use mathlib.Core.Path.{_≡_, refl, ap, sym, _∙_, subst}
+use mathlib.Core.Logic.{⊎-elim, _≢_}
+use mathlib.Core.Bool.{Bool, true, false, _&&_, not}
+use mathlib.Core.List.{List, _∷_, map, Memᴰ·map, Memᴰ·of-map, Memᴰ·append-left, Memᴰ·append-right, List·Memᴰ·append-cases, List·Memᴰ·head, List·Memᴰ·tail}
+use Prim.Native.Nat.{ℕ, _*_, _^_, _≤_, _<_}
+use native.Mathlib.Omega.{arith}
+use lib.Dec.{eqb, ltb}
+use lib.ListN.{length, getD}
+use borrow.Author.Tests.{eqb-true, eq-eqb, lt-ltb, not-true}
+use Rattle.common.specs.Lists.{_∈_, keep, from, lowest, Sorted}
+use Rattle.common.specs.Tests.{refusal}
+use Rattle.common.proofs.Tests.{same?, clash, is-false, both-below, and}
+use Rattle.common.proofs.Lists.{keep-mem, mem-keep, keep-sorted, from-mem, mem-from, from-sorted, from-below, below-from, sorted-imp, sorted-map}
+use Rattle.common.proofs.Lowest.{lowest-passes, lowest-found}
+use Rattle.cube.specs.Cube.{circuitOf}
+use Rattle.cube.proofs.Circuits.{circuit-of-parts, channel-below}
+use Rattle.paths.specs.Network.{Link, hasLink}
+use Rattle.paths.specs.Permitted.{Permitted}
+use Rattle.paths.proofs.Links.{link-true, true-link}
+use Rattle.table.specs.View.{View, view}
+use Rattle.soundness.specs.Sound.{endFor, Stands, Sound}
+use Rattle.soundness.specs.SoundTest.{pathOf, isEmpty, tableTests}
+use Rattle.soundness.proofs.Soundness.{path-is}
+use Rattle.ownership.specs.Calls.{Call}
+use Rattle.ownership.specs.OnTable.{called}
+use Rattle.ownership.specs.History.{Circuit, History, netOn, holdsLink, holdsReceive, enabledOn}
+use Rattle.ownership.specs.Lists.{numberOf, viewOf, linksOf, Standing, Separate, Valid, Covered, Agrees}
+use Rattle.ownership.specs.FromTable.{linksOut, circuitAt, openNumbers, historyOf}
+use Rattle.ownership.proofs.Circuits.{numberFor, number-none, number-at}
+use Rattle.ownership.proofs.Standing.{holds-link, link-holds, holds-receive, receive-holds, links-once, receives-once}
+use Rattle.ownership.proofs.Stops.{pass-tests}
+use Rattle.ownership.proofs.OnSound.{path-stands, stands-path}
+use Rattle.ownership.proofs.Agreement.{covered-passes, covered-step, covered-agrees}
+
+-- the links out of some ports of some nodes
+out-mem : (ns ps : List ℕ) (n p : ℕ) → (n, p) ∈ linksOut ns ps → (n ∈ ns) × (p ∈ ps)
+unfolding linksOut
+out-mem (m ∷ ns) ps n p i =
+    ⊎-elim here (λ k. let r = out-mem ns ps n p k in (List·Memᴰ·tail (r .0), r .1)) (List·Memᴰ·append-cases (map (λ (q : ℕ). (m, q)) ps) i)
+  where
+    here : _∈_ {A = Link} (n, p) (map (λ (q : ℕ). (m, q)) ps) → (n ∈ (m ∷ ns)) × (p ∈ ps)
+    here k =
+        let r = Memᴰ·of-map (λ (q : ℕ). (m, q)) ps k in
+        (List·Memᴰ·head (sym (ap (λ (l : Link). l .0) (r .2))), subst (λ (q : ℕ). q ∈ ps) (ap (λ (l : Link). l .1) (r .2)) (r .1))
+
+mem-out : (ns ps : List ℕ) (n p : ℕ) → n ∈ ns → p ∈ ps → (n, p) ∈ linksOut ns ps
+unfolding linksOut
+mem-out (m ∷ ns) ps n p (List·Memᴰ·head e) k = rw e (Memᴰ·append-left (linksOut ns ps) (Memᴰ·map (λ (q : ℕ). (m, q)) k))
+mem-out (m ∷ ns) ps n p (List·Memᴰ·tail i) k = Memᴰ·append-right (map (λ (q : ℕ). (m, q)) ps) (mem-out ns ps n p i k)
+
+module _ (v : View) (sound : Sound v) where
+  abbrev D : ℕ
+  D = v .dimension
+
+  abbrev h : History
+  h = historyOf v
+
+  -- what it is for a number to be open: it stands, and is the number of its circuit
+  record Open (c : ℕ) : Type 0 where
+    positive : 0 < c
+    most : c ≤ 8 * 2 ^ D
+    stands : Stands v c
+
+  open-number : (c : ℕ) → c ∈ openNumbers v → Open c
+  unfolding openNumbers
+  open-number c m =
+      let r = keep-mem (λ c. not (isEmpty (pathOf v c))) (from 1 (8 * 2 ^ D)) m in
+      let i = from-mem 1 (8 * 2 ^ D) (r .0) in
+      record { positive = omega arith; most = omega arith; stands = path-stands v sound c (λ z. omega arith) (r .1) }
+
+  number-open : (c : ℕ) → Open c → c ∈ openNumbers v
+  unfolding openNumbers
+  number-open c o =
+      mem-keep (λ c. not (isEmpty (pathOf v c))) (from 1 (8 * 2 ^ D)) (mem-from 1 (8 * 2 ^ D) c (o .positive) (omega (arith, o .most)))
+      (stands-path v sound c (λ z. omega (arith, o .positive)) (o .stands))
+
+  -- the circuit of such a number has its number, and holds what the number stands on
+  module _ (c : ℕ) (o : Open c) where
+    number-is : numberFor (circuitAt v c) ≡ c
+    unfolding circuitAt
+    number-is = circuit-of-parts c (o .positive)
+
+    permitted-is : Permitted (netOn h) (circuitAt v c .source) (from 0 (h .dimension)) (circuitAt v c .target) (circuitAt v c .ports)
+    unfolding circuitAt historyOf
+    permitted-is = rw (path-is v c (o .stands)) (o .stands .permitted)
+
+    receive-is : circuitAt v c .receive ≡ o .stands .channel
+    unfolding circuitAt
+    receive-is =
+        let f : ℕ → Bool = λ k. eqb (v .receiver (endFor v c (pathOf v c)) k) c in
+        let e = path-is v c (o .stands) in
+        let there : f (o .stands .channel) ≡ true = rw e (eq-eqb _ c (o .stands .receives)) in
+        let low : lowest f 8 0 ≤ o .stands .channel = lowest-found f 8 0 (o .stands .channel) (omega arith) there in
+        let passes : f (lowest f 8 0) ≡ true = lowest-passes f 8 0 (omega (arith, o .stands .small)) in
+        o .stands .once _ _ (eqb-true _ c passes) .1
+
+    link-number : (n p : ℕ) → (n, p) ∈ linksOf (netOn h) (circuitAt v c) → v .owner n p ≡ c
+    unfolding circuitAt historyOf
+    link-number n p m = eqb-true _ c (o .stands .exactly .all n p (rw (path-is v c (o .stands)) at m))
+
+    number-link : (n p : ℕ) → v .owner n p ≡ c → (n, p) ∈ linksOf (netOn h) (circuitAt v c)
+    unfolding circuitAt historyOf
+    number-link n p e = rw (path-is v c (o .stands)) (o .stands .exactly .only n p (eq-eqb _ c e))
+
+    receive-number : (n k : ℕ) → n ≡ circuitAt v c .target → k ≡ circuitAt v c .receive → v .receiver n k ≡ c
+    unfolding circuitAt
+    receive-number n k e f = rw (e, f ∙ receive-is, path-is v c (o .stands)) (o .stands .receives)
+
+    number-receive : (n k : ℕ) → v .receiver n k ≡ c → (n ≡ circuitAt v c .target) × (k ≡ circuitAt v c .receive)
+    unfolding circuitAt
+    number-receive n k e = let r = o .stands .once n k e in (r .0 ∙ ap (endFor v c) (sym (path-is v c (o .stands))), r .1 ∙ sym receive-is)
+
+  listed-open : (x : Circuit) → x ∈ h .circuits → (c : ℕ) × Open c × (circuitAt v c ≡ x)
+  unfolding historyOf
+  listed-open x m = let r = Memᴰ·of-map (circuitAt v) (openNumbers v) m in (r .0, open-number (r .0) (r .1), r .2)
+
+  open-listed : (c : ℕ) → Open c → circuitAt v c ∈ h .circuits
+  unfolding historyOf
+  open-listed c o = Memᴰ·map (circuitAt v) (number-open c o)
+
+  -- circuits of two numbers share nothing
+  separate : (c d : ℕ) → Open c → Open d → c ≢ d → Separate (netOn h) (circuitAt v c) (circuitAt v d)
+  separate c d o u ne =
+      record {
+        send = λ e f. ne (sym (number-is c o) ∙ (λ i. circuitOf (e i) (f i)) ∙ number-is d u);
+        link = λ l m k. ne (sym (link-number c o (l .0) (l .1) m) ∙ link-number d u (l .0) (l .1) k);
+        receives = λ e f. ne (sym (receive-number c o _ _ refl refl) ∙ receive-number d u _ _ e f);
+      }
+
+  apart : Sorted (Separate (netOn h)) (h .circuits)
+  apart =
+      unfold historyOf in
+      sorted-map (λ c d. Open c × Open d × (c < d)) (Separate (netOn h)) (circuitAt v) (openNumbers v) (λ c d r. separate c d (r .0) (r .1) (λ e. omega (arith, r .2)))
+      (sorted-imp _<_ (λ c d. Open c × Open d × (c < d)) (openNumbers v) (λ c d m k l. (open-number c m, open-number d k, l))
+      (unfold openNumbers in keep-sorted (λ c. not (isEmpty (pathOf v c))) _<_ (from 1 (8 * 2 ^ D)) (from-sorted 1 (8 * 2 ^ D))))
+
+  -- what the history shows is what the table shows: its links' states
+  enabled-same : (n p : ℕ) → v .enabled n p ≡ enabledOn h n p
+  unfolding enabledOn historyOf
+  enabled-same n p = go (ltb n (2 ^ D) && ltb p D) refl (v .enabled n p) refl
+    where
+      off : Link → Bool
+      off l = not (v .enabled (l .0) (l .1))
+
+      every : List Link
+      every = linksOut (from 0 (2 ^ D)) (from 0 D)
+
+      go : (x : Bool) → (ltb n (2 ^ D) && ltb p D) ≡ x → (y : Bool) → v .enabled n p ≡ y → y ≡ (x && not (hasLink (keep off every) n p))
+      go false e y q = sym q ∙ sound .absent-link n p (λ i. clash (and (lt-ltb n _ (i .0)) (lt-ltb p _ (i .1))) e) .0
+      go true e true q = sym (ap not (is-false _ (λ f. clash q (not-true _ (keep-mem off every (true-link (keep off every) n p f) .1)))))
+      go true e false q =
+          let i = both-below e in
+          sym (ap not (link-true (keep off every) n p (mem-keep off every (mem-out (from 0 (2 ^ D)) (from 0 D) n p (below-from _ n (i .0)) (below-from _ p (i .1))) (ap not q))))
+
+  -- its links' circuits
+  owner-same : (n p : ℕ) → v .owner n p ≡ numberOf (holdsLink (netOn h) n p) (h .circuits)
+  owner-same n p = ⊎-elim free held (same? (v .owner n p) 0)
+    where
+      free : v .owner n p ≡ 0 → v .owner n p ≡ numberOf (holdsLink (netOn h) n p) (h .circuits)
+      free z =
+          z ∙ sym (number-none (holdsLink (netOn h) n p) (h .circuits)
+          (λ x m e. let r = listed-open x m in omega (arith, z, r .1 .positive, link-number (r .0) (r .1) n p (rw (r .2) (holds-link (netOn h) n p x e)))))
+
+      held : v .owner n p ≢ 0 → v .owner n p ≡ numberOf (holdsLink (netOn h) n p) (h .circuits)
+      held ne =
+          let c = v .owner n p in
+          let o : Open c = record { positive = omega (arith, ne); most = sound .link-number n p; stands = ⊎-elim (λ z. absurd (z .0 n p refl)) (λ s. s) (sound .numbers c ne) } in
+          sym (number-at (holdsLink (netOn h) n p) (h .circuits) (links-once (netOn h) n p (h .circuits) apart) (circuitAt v c) (open-listed c o) (link-holds (netOn h) n p _ (number-link c o n p refl)) ∙ number-is c o)
+
+  -- and its receive channels' circuits
+  receiver-same : (n k : ℕ) → v .receiver n k ≡ numberOf (holdsReceive n k) (h .circuits)
+  receiver-same n k = ⊎-elim free held (same? (v .receiver n k) 0)
+    where
+      free : v .receiver n k ≡ 0 → v .receiver n k ≡ numberOf (holdsReceive n k) (h .circuits)
+      free z =
+          z ∙ sym (number-none (holdsReceive n k) (h .circuits)
+          (λ x m e. let r = listed-open x m in let a = holds-receive n k (circuitAt v (r .0)) (rw (r .2) e) in omega (arith, z, r .1 .positive, receive-number (r .0) (r .1) n k (a .0) (a .1))))
+
+      held : v .receiver n k ≢ 0 → v .receiver n k ≡ numberOf (holdsReceive n k) (h .circuits)
+      held ne =
+          let c = v .receiver n k in
+          let o : Open c = record { positive = omega (arith, ne); most = sound .receive-number n k; stands = ⊎-elim (λ z. absurd (z .1 n k refl)) (λ s. s) (sound .numbers c ne) } in
+          let a = number-receive c o n k refl in
+          sym (number-at (holdsReceive n k) (h .circuits) (receives-once (netOn h) n k (h .circuits) apart) (circuitAt v c) (open-listed c o) (receive-holds n k _ (a .0) (a .1)) ∙ number-is c o)
+
+  shows-same : v ≡ viewOf h
+  unfolding viewOf historyOf
+  shows-same = λ i. record { dimension = D; enabled = λ n p. enabled-same n p i; owner = λ n p. owner-same n p i; receiver = λ n k. receiver-same n k i }
+
+  standing : (x : Circuit) → x ∈ h .circuits → Standing h x
+  standing x m = let r = listed-open x m in subst (Standing h) (r .2) (stood (r .0) (r .1))
+    where
+      stood : (c : ℕ) → Open c → Standing h (circuitAt v c)
+      stood c o =
+          record {
+            source = unfold circuitAt historyOf in omega (arith, o .positive, o .most);
+            channel = unfold circuitAt in channel-below c;
+            permitted = permitted-is c o;
+            enabled = λ l k. sym (enabled-same (l .0) (l .1)) ∙ sound .held-enabled (l .0) (l .1) (λ z. omega (arith, z, o .positive, link-number c o (l .0) (l .1) k));
+            receive = omega (arith, receive-is c o, o .stands .small);
+          }
+
+  table-valid : 1 ≤ D → D ≤ 8 → Valid h
+  table-valid least most =
+      record {
+        least = unfold historyOf in least;
+        most = unfold historyOf in most;
+        blocked = λ l m. unfold historyOf in let r = out-mem _ _ (l .0) (l .1) (keep-mem _ _ m .0) in (from-below _ _ (r .0), from-below _ _ (r .1));
+        stands = standing;
+        apart = apart;
+      }
+
+-- Every table that passes the tests of a lent table shows what its history says.
+pub sound-covered : (b : List ℕ) → ((i : ℕ) → getD b i 0 < 256) → refusal (tableTests b) ≡ 0 → Covered b (historyOf (view b))
+sound-covered b small e =
+    let p = pass-tests b e in record { length = p .0; bytes = small; shows = shows-same (view b) (p .3); valid = table-valid (view b) (p .3) (unfold view in p .1) (unfold view in p .2) }
+
+-- So lists of calls agree with that history from there on,
+pub sound-agrees : (b : List ℕ) → ((i : ℕ) → getD b i 0 < 256) → refusal (tableTests b) ≡ 0 → (calls : List Call) → Agrees b (historyOf (view b)) calls
+sound-agrees b small e calls = covered-agrees calls b (historyOf (view b)) (sound-covered b small e)
+
+-- and no call, accepted or refused, leaves a table that the next would refuse as a whole.
+pub keeps-sound : (b : List ℕ) → ((i : ℕ) → getD b i 0 < 256) → refusal (tableTests b) ≡ 0 → (a : Call) → refusal (tableTests (called b a .state)) ≡ 0
+keeps-sound b small e a = covered-passes (called b a .state) _ (covered-step b (historyOf (view b)) (sound-covered b small e) a .covered)

@@ -1,0 +1,41 @@
+-- The history that a sound table amounts to, whoever wrote its bytes: what a list of calls goes on from where the list before it is not known.
+-- Assumes nothing.
+use mathlib.Core.Bool.{not}
+use mathlib.Core.List.{List, [], _∷_, _++_, map}
+use Prim.Native.Nat.{ℕ, _*_, _^_}
+use lib.Dec.{eqb}
+use Rattle.common.specs.Lists.{keep, from, lowest}
+use Rattle.cube.specs.Cube.{sourceOf, channelOf}
+use Rattle.paths.specs.Network.{Link}
+use Rattle.table.specs.View.{View}
+use Rattle.soundness.specs.Sound.{endFor}
+use Rattle.soundness.specs.SoundTest.{pathOf, isEmpty}
+use Rattle.ownership.specs.History.{Circuit, History}
+
+-- the links out of some ports of some nodes
+unfoldable pub linksOut : List ℕ → List ℕ → List Link
+linksOut [] ps = []
+linksOut (n ∷ ns) ps = map (λ (p : ℕ). (n, p)) ps ++ linksOut ns ps
+
+-- the circuit of a number: the path that its links make, and the lowest receive channel that it holds where that ends
+unfoldable pub circuitAt : View → ℕ → Circuit
+circuitAt v c =
+    record {
+      source = sourceOf c;
+      channel = channelOf c;
+      ports = pathOf v c;
+      target = endFor v c (pathOf v c);
+      receive = lowest (λ k. eqb (v .receiver (endFor v c (pathOf v c)) k) c) 8 0;
+    }
+
+-- the numbers whose links make a path, rising
+unfoldable pub openNumbers : View → List ℕ
+openNumbers v = keep (λ c. not (isEmpty (pathOf v c))) (from 1 (8 * 2 ^ v .dimension))
+
+unfoldable pub historyOf : View → History
+historyOf v =
+    record {
+      dimension = v .dimension;
+      blocked = keep (λ l. not (v .enabled (l .0) (l .1))) (linksOut (from 0 (2 ^ v .dimension)) (from 0 (v .dimension)));
+      circuits = map (circuitAt v) (openNumbers v);
+    }
