@@ -1,38 +1,34 @@
 -- What the portions of tests are, and what a call answers where they stop it and where they do not.
 -- Assumes nothing.
-use mathlib.Core.Path.{_≡_, refl, ap, ap₂, sym, _∙_, subst}
+use mathlib.Core.Path.{_≡_, refl, ap, ap₂, sym, _∙_}
 use mathlib.Core.Logic.{_≢_}
-use mathlib.Core.Bool.{Bool, true, false, cond, not, _&&_, _||_, and-false}
+use mathlib.Core.Bool.{true, false, not, _&&_, and-false, or-self}
 use mathlib.Core.List.{List, [], _∷_, _++_}
 use Prim.Native.Nat.{ℕ, _^_, _≤_, _<_}
 use native.Mathlib.Omega.{arith}
-use lib.Dec.{eqb, ltb, leb}
+use lib.Dec.{ltb, leb}
 use lib.ListN.{length}
-use borrow.Author.Tests.{eq-eqb, ne-eqb, le-leb, lt-leb}
+use borrow.Author.Tests.{ne-eqb, le-leb, lt-leb}
 use Rattle.common.specs.Tests.{Test, test, refusal}
 use Rattle.common.proofs.Tests.{refused, passed, accepted}
 use Rattle.cube.specs.Cube.{circuitOf}
-use Rattle.paths.specs.Send.{Sent, Outcome, Answer, answered}
-use Rattle.table.specs.Layout.{tableLength, dimensionAt, made, putEnabled, freed}
+use Rattle.table.specs.Layout.{tableLength, made, putEnabled, freed}
 use Rattle.table.specs.View.{view}
-use Rattle.table.specs.SoundTest.{tableTests, pathOf, isEmpty}
-use Rattle.ownership.specs.Calls.{Call, making, blocking, unblocking, opening, closing, tracing, Asked, only, written, node, nodes, channel, port, noCircuit, linkHeld, shortBuffer, callTests, lent}
+use Rattle.soundness.specs.SoundTest.{tableTests, pathOf, isEmpty}
+use Rattle.ownership.specs.Calls.{Call, making, blocking, unblocking, opening, closing, tracing, Asked, only, written, node, nodes, channel, port, noCircuit, linkHeld, shortBuffer, callTests, lent, After}
 use Rattle.search.specs.Settle.{Settled, settled}
 use Rattle.search.specs.Sent.{sentOn, sends}
-use Rattle.ownership.specs.OnTable.{openIn, sendIn, askedOf, lentTests, stoppedAt, Done, done, carriedOut, called}
+use Rattle.ownership.specs.OnTable.{openIn, sendIn, askedOf, lentTests, stoppedAt, done, carriedOut, called}
+use Rattle.ownership.proofs.Stops.{making-stopped}
 use Rattle.ownership.proofs.Carried.{called-carried, called-stopped}
 use Rattle.router.specs.Portions.{askedAt, nodeTests, channelTests, linkTests, blockTests, closeTests, traceTests, typeTests, vectorTests, openTests}
 
 -- the test of one node is that of two which are the same
 one-node : (a : Asked) (n : ℕ) → nodes a n n ≡ node a n
-one-node a n = ap (λ w. test w 4) (twice (not (ltb n (2 ^ a .dimension))))
-  where
-    twice : (w : Bool) → w || w ≡ w
-    twice true = refl
-    twice false = refl
+one-node a n = ap (λ w. test w 4) (or-self (not (ltb n (2 ^ a .dimension))))
 
 -- the answer of a search as that of a call
-shown : Settled → Done
+shown : Settled → After (List ℕ)
 shown (settled x r h n b) = done b (record { number = x; hops = h; receive = r; scouts = n }) []
 
 -- "D outside 1 to 8"
@@ -83,10 +79,6 @@ module _ (b : List ℕ) where
     pub make-length : length b ≢ tableLength → done b (only 1) [] ≡ called b (making D)
     make-length f = unfold lent in call-stopped (making D) (sym (unfold stoppedAt lentTests in refused 1 _ (ap not (ne-eqb (length b) tableLength f)))) (λ z. omega arith)
 
-    stops : length b ≡ tableLength → refusal (callTests (askedOf (view b)) (making D)) ≡ stoppedAt b (making D)
-    unfolding stoppedAt lentTests
-    stops e = sym (passed 1 (callTests (askedOf (view b)) (making D)) (ap not (eq-eqb (length b) tableLength e)))
-
     outside : (leb 1 D && leb D 8) ≡ false → refusal (callTests (askedOf (view b)) (making D)) ≡ 2
     unfolding callTests
     outside f = refused 2 [] (ap not f)
@@ -97,11 +89,11 @@ module _ (b : List ℕ) where
 
     pub make-dimension : length b ≡ tableLength → (leb 1 D && leb D 8) ≡ false → done b (only 2) [] ≡ called b (making D)
     unfolding lent
-    make-dimension e f = call-stopped (making D) {n = 2} (sym (outside f) ∙ stops e) (λ z. omega arith)
+    make-dimension e f = call-stopped (making D) {n = 2} (sym (outside f) ∙ sym (making-stopped b e D)) (λ z. omega arith)
 
     pub make-made : length b ≡ tableLength → (leb 1 D && leb D 8) ≡ true → (b₁ : List ℕ) → b₁ ≡ made D → done b₁ (only 0) [] ≡ called b (making D)
     unfolding carriedOut
-    make-made e f b₁ q = ap (λ x. done x (only 0) []) q ∙ call-carried (making D) {n = 0} (sym (within f) ∙ stops e) refl
+    make-made e f b₁ q = ap (λ x. done x (only 0) []) q ∙ call-carried (making D) {n = 0} (sym (within f) ∙ sym (making-stopped b e D)) refl
 
   -- blocking and unblocking
   pub call-blocks : (n p : ℕ) {m : ℕ} → m ≡ refusal (blockTests b n p) → m ≡ 0 → (b₁ : List ℕ) → b₁ ≡ putEnabled b n p false → done b₁ (only 0) [] ≡ called b (blocking n p)

@@ -3,3 +3,4 @@ pub mod Stopping
 pub mod Returns
 pub mod Called
 pub mod Tracing
+pub mod Releasing

@@ -1,29 +1,28 @@
 -- What each return of the functions that make the tests answers.
 -- Assumes nothing.
-use mathlib.Core.Path.{_≡_, refl, ap, ap₂, sym, _∙_}
+use mathlib.Core.Path.{_≡_, ap, ap₂, sym, _∙_}
 use mathlib.Core.Logic.{_≢_}
 use mathlib.Core.Bool.{Bool, true, false, not, _&&_, _||_, and-false}
-use mathlib.Core.List.{List, [], _∷_, _++_}
+use mathlib.Core.List.{List}
 use Prim.Native.Nat.{ℕ, _^_, _≤_, _<_}
 use native.Mathlib.Omega.{arith}
 use lib.Dec.{eqb, ltb}
 use lib.ListN.{length}
 use borrow.Author.Tests.{lt-ltb, le-ltb, eq-eqb, ne-eqb}
-use Rattle.common.specs.Tests.{test, refusal}
+use Rattle.common.specs.Tests.{refusal}
 use Rattle.table.specs.Layout.{dimensionAt, ownerAt}
 use Rattle.table.specs.View.{view}
 use Rattle.cube.specs.Cube.{circuitOf}
-use Rattle.table.specs.SoundTest.{tableTests, pathOf, isEmpty}
+use Rattle.soundness.specs.SoundTest.{tableTests, pathOf, isEmpty}
 use Rattle.ownership.specs.OnTable.{heldIn, openIn, askedOf}
+use Rattle.ownership.proofs.Allowed.{is-below}
+use Rattle.ownership.proofs.Stops.{table-numbered}
 use Rattle.router.specs.Portions.{askedAt, nodeTests, channelTests, linkTests, blockTests, closeTests, traceTests, typeTests, vectorTests, openTests}
-use Rattle.router.proofs.Stopping.{stopped-before, stopped-here, not-stopped, table-numbered, node-numbered, channel-numbered, link-numbered, close-numbered, type-numbered, vector-numbered}
+use Rattle.router.proofs.Stopping.{stopped-before, stopped-here, not-stopped, node-numbered, channel-numbered, link-numbered, close-numbered, type-numbered, vector-numbered}
 
--- a number is not below a bound, or is
+-- a number is not below a bound
 not-below : (n m : ℕ) → m ≤ n → not (ltb n m) ≡ true
 not-below n m h = ap not (le-ltb n m h)
-
-is-below : (n m : ℕ) → n < m → not (ltb n m) ≡ false
-is-below n m h = ap not (lt-ltb n m h)
 
 -- "a node, source or target, not below 2^D"
 module _ (b : List ℕ) (s t : ℕ) {n : ℕ} (e : n ≡ refusal (tableTests b)) where

@@ -1,29 +1,29 @@
 -- The tests of a call, one after another: where an earlier one stops it, where the next does, and where none does.
 -- Assumes nothing.
-use mathlib.Core.Path.{_≡_, refl, ap, sym, _∙_}
+use mathlib.Core.Path.{_≡_, refl, sym, _∙_}
 use mathlib.Core.Logic.{_≢_}
-use mathlib.Core.Bool.{Bool, true, false, cond, not, _&&_, _||_}
+use mathlib.Core.Bool.{Bool, true, false, not}
 use mathlib.Core.List.{List, [], _∷_, _++_}
 use Prim.Native.Nat.{ℕ, _^_, _≤_, _<_}
 use native.Mathlib.Omega.{arith}
-use lib.Dec.{eqb, ltb, leb, lit<}
+use lib.Dec.{eqb, ltb}
 use lib.ListN.{length}
 use lib.Pow.{pow-mono}
 use native.Mathlib.Nat.{lt-of-lt-of-le}
-use borrow.Author.Tests.{not-false, ltb-false, lt-ltb, le-ltb, eq-eqb, ne-eqb}
+use borrow.Author.Tests.{not-false, ltb-false}
 use Rattle.common.specs.Tests.{Test, test, refusal}
-use Rattle.common.proofs.Tests.{neither, refused, passed, accepted, first-passed, Numbered, numbered-behind, refusal-behind, refusal-both, refusal-before}
+use Rattle.common.proofs.Tests.{neither, refused, passed, accepted, first-passed, Avoids, numbered-behind, refusal-behind, refusal-both, refusal-before}
 use Rattle.table.specs.Layout.{tableLength, dimensionAt, Within}
 use Rattle.table.specs.View.{view}
-use Rattle.table.specs.Sound.{Sound}
 use Rattle.cube.specs.Cube.{circuitOf}
 use Rattle.cube.proofs.Circuits.{source-of-circuit}
-use Rattle.table.specs.SoundTest.{tableTests}
-use Rattle.table.specs.Follow.{HasSource}
-use Rattle.ownership.specs.Calls.{Call, making, blocking, unblocking, opening, closing, tracing, Asked, nodes, channel, port, sendVector, noCircuit, shortBuffer, callTests}
-use Rattle.ownership.specs.OnTable.{heldIn, openIn, askedOf, lentTests, stoppedAt}
+use Rattle.soundness.specs.Sound.{Sound}
+use Rattle.soundness.specs.SoundTest.{tableTests}
+use Rattle.soundness.specs.Follow.{HasSource}
+use Rattle.ownership.specs.Calls.{nodes, channel, port, sendVector, noCircuit, shortBuffer}
+use Rattle.ownership.specs.OnTable.{openIn, askedOf}
 use Rattle.ownership.proofs.Allowed.{below}
-use Rattle.ownership.proofs.Stops.{pass-tests}
+use Rattle.ownership.proofs.Stops.{pass-tests, table-numbered}
 use Rattle.router.specs.Portions.{askedAt, nodeTests, channelTests, linkTests, blockTests, closeTests, traceTests, typeTests, vectorTests, openTests}
 
 -- an earlier test stops the call; the next one does; none does
@@ -31,7 +31,7 @@ module _ (xs : List Test) (w : Bool) (m : ℕ) where
   pub stopped-before : {n : ℕ} → n ≡ refusal xs → n ≢ 0 → n ≡ refusal (xs ++ test w m ∷ [])
   stopped-before e f = e ∙ sym (refusal-before xs (test w m ∷ []) (λ z. f (e ∙ z)))
 
-  module _ (numbered : Numbered xs) {n : ℕ} (e : n ≡ refusal xs) (z : n ≡ 0) where
+  module _ (numbered : Avoids 0 xs) {n : ℕ} (e : n ≡ refusal xs) (z : n ≡ 0) where
     pub stopped-here : w ≡ true → m ≡ refusal (xs ++ test w m ∷ [])
     stopped-here q = sym (refusal-behind xs (test w m ∷ []) numbered (sym e ∙ z) ∙ refused m [] q)
 
@@ -40,31 +40,27 @@ module _ (xs : List Test) (w : Bool) (m : ℕ) where
 
 -- The numbers of the portions are not 0, so that an answer of 0 says that none of their tests applies.
 module _ (b : List ℕ) where
-  pub table-numbered : Numbered (tableTests b)
-  unfolding Numbered tableTests
-  table-numbered = ((λ z. omega arith), ((λ z. omega arith), ((λ z. omega arith), tt)))
-
-  pub node-numbered : (s t : ℕ) → Numbered (nodeTests b s t)
+  pub node-numbered : (s t : ℕ) → Avoids 0 (nodeTests b s t)
   unfolding nodeTests
-  node-numbered s t = numbered-behind (tableTests b) _ table-numbered (λ z. omega arith)
+  node-numbered s t = numbered-behind (tableTests b) _ (table-numbered b) (λ z. omega arith)
 
-  pub channel-numbered : (s t c : ℕ) → Numbered (channelTests b s t c)
+  pub channel-numbered : (s t c : ℕ) → Avoids 0 (channelTests b s t c)
   unfolding channelTests
   channel-numbered s t c = numbered-behind (nodeTests b s t) _ (node-numbered s t) (λ z. omega arith)
 
-  pub link-numbered : (n p : ℕ) → Numbered (linkTests b n p)
+  pub link-numbered : (n p : ℕ) → Avoids 0 (linkTests b n p)
   unfolding linkTests
   link-numbered n p = numbered-behind (nodeTests b n n) _ (node-numbered n n) (λ z. omega arith)
 
-  pub close-numbered : (s c : ℕ) → Numbered (closeTests b s c)
+  pub close-numbered : (s c : ℕ) → Avoids 0 (closeTests b s c)
   unfolding closeTests
   close-numbered s c = numbered-behind (channelTests b s s c) _ (channel-numbered s s c) (λ z. omega arith)
 
-  pub type-numbered : (s c t y : ℕ) → Numbered (typeTests b s c t y)
+  pub type-numbered : (s c t y : ℕ) → Avoids 0 (typeTests b s c t y)
   unfolding typeTests
   type-numbered s c t y = numbered-behind (channelTests b s t c) _ (channel-numbered s t c) (λ z. omega arith)
 
-  pub vector-numbered : (s c t y v : ℕ) → Numbered (vectorTests b s c t y v)
+  pub vector-numbered : (s c t y v : ℕ) → Avoids 0 (vectorTests b s c t y v)
   unfolding vectorTests
   vector-numbered s c t y v = numbered-behind (typeTests b s c t y) _ (type-numbered s c t y) (λ z. omega arith)
 
@@ -73,6 +69,7 @@ pub record Inside (b : List ℕ) (s t : ℕ) : Type 0 where
   pub long : length b ≡ tableLength
   pub least : 1 ≤ dimensionAt b
   pub most : dimensionAt b ≤ 8
+  pub sound : Sound (view b)
   pub source : s < 2 ^ dimensionAt b
   pub target : t < 2 ^ dimensionAt b
 
@@ -86,7 +83,7 @@ module _ (b : List ℕ) (s t : ℕ) where
       let r = refusal-both (tableTests b) (nodes (askedAt b) s t ∷ []) (table-numbered b) (sym e ∙ z) in
       let p = pass-tests b (r .0) in
       let q = neither (not (ltb s (2 ^ dimensionAt b))) (not (ltb t (2 ^ dimensionAt b))) (first-passed _ 4 [] (λ z. omega arith) (r .1) .0) in
-      record { long = p .0; least = p .1; most = p .2; source = below s _ (q .0); target = below t _ (q .1) }
+      record { long = p .0; least = p .1; most = p .2; sound = p .3; source = below s _ (q .0); target = below t _ (q .1) }
 
   pub channel-passed : (c : ℕ) {n : ℕ} → n ≡ refusal (channelTests b s t c) → n ≡ 0 → Inside b s t × (c < 8)
   unfolding channelTests

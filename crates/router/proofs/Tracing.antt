@@ -1,26 +1,29 @@
 -- Tracing: what is followed fits the buffer, and what is written hop after hop is the path, with what was there behind it.
 -- Assumes nothing.
-use mathlib.Core.Path.{_≡_, refl, ap, sym, _∙_}
+use mathlib.Core.Path.{_≡_, ap, sym, _∙_}
 use mathlib.Core.Bool.{Bool, true, not}
-use mathlib.Core.List.{List, [], _∷_}
+use mathlib.Core.List.{List, [], _∷_, _++_}
 use Prim.Native.Nat.{ℕ, zero, suc, _+_, _-_, _^_, _≤_, _<_}
 use native.Mathlib.Omega.{arith}
-use lib.ListN.{length, set, length-set}
+use native.Mathlib.Nat.{zero-add}
+use native.Mathlib.Numerals.{add-one}
+use lib.ListN.{length, set, drop, length-set}
+use lib.Seq.{sets, sets-eq}
 use borrow.Author.Tests.{ltb-true}
-use Rattle.common.specs.Lists.{keep}
+use Rattle.common.specs.Lists.{keep, lowest}
 use Rattle.cube.specs.Cube.{next, sourceOf, NodeCount, Without}
 use Rattle.cube.proofs.Bits.{flip-inside}
 use Rattle.cube.proofs.Ports.{without-power}
 use Rattle.paths.specs.Network.{Network, Path}
 use Rattle.paths.specs.Trail.{hop, dropPort, course}
 use Rattle.table.specs.Layout.{dimensionAt}
-use Rattle.table.specs.View.{View, view, lowest}
-use Rattle.table.specs.SoundTest.{pathOf, isEmpty}
-use Rattle.table.specs.Follow.{takes, followed, firstHop, HasSource}
-use Rattle.table.proofs.Follow.{follow-on, follow-end, follow-port}
-use Rattle.table.proofs.Examine.{opened, path-behind, source-within}
+use Rattle.table.specs.View.{View, view}
+use Rattle.soundness.specs.SoundTest.{pathOf, isEmpty}
+use Rattle.soundness.specs.Follow.{takes, followed, firstHop, HasSource}
+use Rattle.soundness.proofs.Follow.{follow-on, follow-end, follow-port}
+use Rattle.soundness.proofs.Examine.{opened, path-behind, source-within}
 use Rattle.ownership.specs.Calls.{written}
-use Rattle.router.specs.Tracer.{writtenFrom, MayTrace}
+use Rattle.router.specs.Tracer.{MayTrace}
 
 -- a course is no longer than its fuel
 hop-short : (k : ℕ) (ps : List ℕ) (on : ℕ → Path) → ((p : ℕ) → length (on p) ≤ k) → length (hop ps on) ≤ suc k
@@ -39,30 +42,16 @@ unfolding followed
 followed-short v c n left = course-short 8 _ _ _ n
 
 -- writing from place 0 on leaves the path, and what was there behind it
-write-later : (i : ℕ) (w : Path) (x : ℕ) (buffer : List ℕ) → writtenFrom (suc i) w (x ∷ buffer) ≡ x ∷ writtenFrom i w buffer
-unfolding writtenFrom
-write-later i [] x buffer = refl
-write-later i (p ∷ w) x buffer =
-    let sum : suc i + 1 ≡ suc (i + 1) = omega arith in
-    ap (λ j. writtenFrom j w (x ∷ set buffer i p)) sum ∙ write-later (i + 1) w x (set buffer i p)
-
-pub written-whole : (w : Path) (buffer : List ℕ) → length w ≤ length buffer → writtenFrom 0 w buffer ≡ written w buffer
-unfolding writtenFrom written
-written-whole [] buffer h = refl
-written-whole (p ∷ w) [] h = absurd (omega arith)
-written-whole (p ∷ w) (x ∷ buffer) h = write-later 0 w p buffer ∙ ap (p ∷_) (written-whole w buffer (omega arith))
-
-write-first : (p : ℕ) (w : Path) (buffer : List ℕ) → writtenFrom 1 w (set buffer 0 p) ≡ writtenFrom 0 (p ∷ w) buffer
-unfolding writtenFrom
-write-first p w buffer = refl
+pub written-whole : (w : Path) (buffer : List ℕ) → length w ≤ length buffer → sets buffer 0 w ≡ written w buffer
+unfolding written
+written-whole w buffer h = sets-eq w buffer 0 (omega arith) ∙ ap (λ i. w ++ drop i buffer) (zero-add (length w))
 
 -- tracing on from node n, where q is the port of the hop out of it
 module _ (b : List ℕ) (c n left hops : ℕ) (buffer : List ℕ) (q : ℕ) (e : q ≡ lowest (takes (view b) c n left) 8 0) where
   pub end-count : 8 ≤ q → hops ≡ hops + length (followed (view b) c n left)
   end-count h = rw (follow-end (view b) c n left q e h) (omega arith)
 
-  pub end-bytes : 8 ≤ q → buffer ≡ writtenFrom hops (followed (view b) c n left) buffer
-  unfolding writtenFrom
+  pub end-bytes : 8 ≤ q → buffer ≡ sets buffer hops (followed (view b) c n left)
   end-bytes h = rw (follow-end (view b) c n left q e h)
 
   pub on-place : q < 8 → MayTrace b c n left hops buffer → hops < length buffer
@@ -87,9 +76,8 @@ module _ (b : List ℕ) (c n left hops : ℕ) (buffer : List ℕ) (q : ℕ) (e :
     pub on-count : (answer : ℕ) → answer ≡ hops + 1 + length (followed (view b) c m rest) → answer ≡ hops + length (followed (view b) c n left)
     on-count answer k = omega (arith, k, ap length on)
 
-    pub on-bytes : (after : List ℕ) → after ≡ writtenFrom (hops + 1) (followed (view b) c m rest) (set buffer hops q) → after ≡ writtenFrom hops (followed (view b) c n left) buffer
-    unfolding writtenFrom
-    on-bytes after k = rw on k
+    pub on-bytes : (after : List ℕ) → after ≡ sets (set buffer hops q) (hops + 1) (followed (view b) c m rest) → after ≡ sets buffer hops (followed (view b) c n left)
+    on-bytes after k = rw on (k ∙ ap (λ i. sets (set buffer hops q) i (followed (view b) c m rest)) (add-one hops))
 
 -- the whole path, of the numbers that the code has: the dimension, the count of nodes, the source and the first hop
 module _ (b : List ℕ) (c D nodes s : ℕ) (known : HasSource b c) (d : D ≡ dimensionAt b) (m : NodeCount D nodes) (q : s ≡ sourceOf c) (a : ℕ) (e : a ≡ firstHop (view b) c s (nodes - 1)) (some : not (isEmpty (pathOf (view b) c)) ≡ true) where
@@ -120,7 +108,7 @@ module _ (b : List ℕ) (c D nodes s : ℕ) (known : HasSource b c) (d : D ≡ d
     pub whole-count : (answer : ℕ) → answer ≡ 1 + length (followed (view b) c start (nodes - 1)) → answer ≡ length (pathOf (view b) c)
     whole-count answer k = omega (arith, k, ap length path-is)
 
-    pub whole-bytes : (after : List ℕ) → after ≡ writtenFrom 1 (followed (view b) c start (nodes - 1)) (set buffer 0 a) → after ≡ written (pathOf (view b) c) buffer
+    pub whole-bytes : (after : List ℕ) → after ≡ sets (set buffer 0 a) 1 (followed (view b) c start (nodes - 1)) → after ≡ written (pathOf (view b) c) buffer
     whole-bytes after k =
         let short : length (pathOf (view b) c) ≤ length buffer = omega (arith, ap length path-is, followed-short (view b) c start (nodes - 1)) in
-        k ∙ write-first a (followed (view b) c start (nodes - 1)) buffer ∙ ap (λ w. writtenFrom 0 w buffer) (sym path-is) ∙ written-whole (pathOf (view b) c) buffer short
+        k ∙ ap (sets buffer 0) (sym path-is) ∙ written-whole (pathOf (view b) c) buffer short

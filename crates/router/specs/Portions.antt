@@ -1,11 +1,11 @@
 -- The tests of each call in the portions in which the code makes them: each list is one before it and a test behind it.
--- That the last of them are the tests of document 01's calls is proved (Stopping).
+-- That the last of them are the tests of document 01's calls is proved (Called).
 -- Assumes nothing.
 use mathlib.Core.List.{List, [], _∷_, _++_}
 use Prim.Native.Nat.{ℕ}
 use Rattle.common.specs.Tests.{Test}
 use Rattle.table.specs.View.{view}
-use Rattle.table.specs.SoundTest.{tableTests}
+use Rattle.soundness.specs.SoundTest.{tableTests}
 use Rattle.ownership.specs.Calls.{Asked, nodes, channel, port, routingType, sendVector, inUse, noCircuit, linkHeld, shortBuffer}
 use Rattle.ownership.specs.OnTable.{askedOf}
 

@@ -1,18 +1,12 @@
--- Tracing as the code does it: one byte a hop, each at its place.
+-- What tracing asks.
 -- Assumes nothing.
 use mathlib.Core.Path.{_≡_}
-use mathlib.Core.List.{List, [], _∷_}
+use mathlib.Core.List.{List}
 use Prim.Native.Nat.{ℕ, _+_, _≤_, _<_}
-use lib.ListN.{length, set}
-use Rattle.paths.specs.Network.{Path}
+use lib.ListN.{length}
 use Rattle.table.specs.Layout.{tableLength}
 use Rattle.table.specs.View.{view}
-use Rattle.table.specs.Follow.{followed}
-
--- a buffer after the ports of a path are written to it, from place i on
-unfoldable pub writtenFrom : ℕ → Path → List ℕ → List ℕ
-writtenFrom i [] buffer = buffer
-writtenFrom i (p ∷ w) buffer = writtenFrom (i + 1) w (set buffer i p)
+use Rattle.soundness.specs.Follow.{followed}
 
 -- what tracing on from node n asks: the bytes of a table, ports and a node within it, and a buffer in which the hops written and those to come
 -- have their places

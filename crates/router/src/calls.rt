@@ -3,6 +3,7 @@ ghost use mathlib.Core.Path.{_≡_};
 ghost use mathlib.Core.List.{[]};
 ghost use Rattle.ownership.specs.Calls.{only, making, blocking, unblocking, opening, closing, tracing};
 ghost use Rattle.ownership.specs.OnTable.{called, done};
+use crate::release;
 use crate::stopped;
 use crate::tracer;
 use common::refusal;
@@ -97,7 +98,7 @@ pub fn close(t: &mut [u8], source: Node, channel: u16) -> u16
     if refused != refusal::ACCEPTED {
         return refused;
     }
-    table::release(t, cube::circuit_of(source, channel));
+    release::release(t, cube::circuit_of(source, channel));
     refusal::ACCEPTED
 }
 

@@ -1,5 +1,6 @@
 // The six calls on a lent table.
 mod calls;
+mod release;
 mod stopped;
 mod tracer;
 

@@ -10,7 +10,7 @@ use cube::Port;
 pub fn nodes(t: &[u8], source: Node, target: Node) -> u16
     ensures { λ r. ⌜ r ≡ refusal (nodeTests (now (t .entry)) (source .0) (target .0)) ⌝ }
 {
-    let refused = table::check(t);
+    let refused = soundness::check(t);
     if refused != refusal::ACCEPTED {
         return refused;
     }
@@ -74,7 +74,7 @@ pub fn close(t: &[u8], source: Node, channel: u16) -> u16
     if refused != refusal::ACCEPTED {
         return refused;
     }
-    if table::is_open(t, cube::circuit_of(source, channel)) {
+    if soundness::is_open(t, cube::circuit_of(source, channel)) {
         refusal::ACCEPTED
     } else {
         refusal::NO_CIRCUIT
@@ -137,7 +137,7 @@ pub fn open(t: &[u8], source: Node, channel: u16, target: Node, routing: u16, ve
     if refused != refusal::ACCEPTED {
         return refused;
     }
-    if table::is_open(t, cube::circuit_of(source, channel)) {
+    if soundness::is_open(t, cube::circuit_of(source, channel)) {
         refusal::CHANNEL_IN_USE
     } else {
         refusal::ACCEPTED

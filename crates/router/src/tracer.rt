@@ -3,11 +3,12 @@ ghost use mathlib.Core.Path.{_≡_};
 ghost use mathlib.Core.Bool.{true, not};
 ghost use Prim.Native.Nat.{_+_, _≤_};
 ghost use lib.ListN.{length};
+ghost use lib.Seq.{sets};
 ghost use Rattle.table.specs.View.{view};
-ghost use Rattle.table.specs.SoundTest.{pathOf, isEmpty};
-ghost use Rattle.table.specs.Follow.{followed, HasSource};
+ghost use Rattle.soundness.specs.SoundTest.{pathOf, isEmpty};
+ghost use Rattle.soundness.specs.Follow.{followed, HasSource};
 ghost use Rattle.ownership.specs.Calls.{written};
-ghost use Rattle.router.specs.Tracer.{writtenFrom, MayTrace};
+ghost use Rattle.router.specs.Tracer.{MayTrace};
 use cube::Circuit;
 use cube::Node;
 
@@ -16,9 +17,9 @@ use cube::Node;
 fn trace_on(t: &[u8], c: Circuit, at: Node, left: u16, hops: u16, buffer: &mut [u8]) -> u16
     requires { ⌜ MayTrace (now t) (c .0) (at .0) left hops (now buffer) ⌝ }
     ensures { λ r. ⌜ r ≡ hops + length (followed (view (now (t .entry))) (c .0) (at .0) left) ⌝ }
-    ensures { λ _. ⌜ now (buffer .exit) ≡ writtenFrom hops (followed (view (now (t .entry))) (c .0) (at .0) left) (now (buffer .entry)) ⌝ }
+    ensures { λ _. ⌜ now (buffer .exit) ≡ sets (now (buffer .entry)) hops (followed (view (now (t .entry))) (c .0) (at .0) left) ⌝ }
 {
-    let p = table::held_port(t, c, at, left);
+    let p = soundness::held_port(t, c, at, left);
     if p.0 >= 8 {
         return hops;
     }
@@ -43,7 +44,7 @@ pub fn write_path(t: &[u8], c: Circuit, buffer: &mut [u8]) -> u16
 {
     let ports = cube::node_count(table::dimension(t)) - 1;
     let source = cube::source_of(c);
-    let first = table::first_hop(t, c, source, ports);
+    let first = soundness::first_hop(t, c, source, ports);
     buffer[0] = first.0 as u8;
     trace_on(t, c, cube::neighbour(source, first), ports, 1, buffer)
 }

@@ -1,7 +1,7 @@
 -- `router::calls::close` meets its contract: its tests, then every entry of the circuit freed.
 -- Assumes nothing.
-use Rattle.router.proofs.Stopping.{close-passed, small-source}
-use Rattle.router.proofs.Called.{close-refused, call-closes}
+use Rattle.router.proofs.Stopping.{close-passed, small-source, has-source}
+use Rattle.router.proofs.Called.{close-refused, call-closes, open-path}
 use borrow.Author.Needs.{needs}
 use Rattle.router.proofs.calls.close.Statement.{statement}
 use Rattle.router.proofs.calls.close.Tie as tie
@@ -30,7 +30,10 @@ release-requires c κs =
     let e = c .before .before in
     let k = e .before in
     let s = k .before .before .before in
-    close-passed (s .args .t .now) (s .args .source .0) (s .args .channel) (k .close .ensures) (e .if1 .left) .0 .long
+    let r = close-passed (s .args .t .now) (s .args .source .0) (s .args .channel) (k .close .ensures) (e .if1 .left) in (
+      has-source (s .args .t .now) (s .args .source .0) (s .args .source .0) (s .args .channel) (r .0) (r .1) (c .circuit-of .result .0) (c .circuit-of .ensures),
+      (open-path (s .args .t .now) (s .args .source .0) (s .args .channel) (r .2) (c .circuit-of .result .0) (c .circuit-of .ensures), r .0 .sound),
+    )
 
 same-length-2 : tie.Need-same-length-2
 same-length-2 c = search needs

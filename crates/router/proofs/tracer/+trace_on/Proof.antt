@@ -7,7 +7,7 @@ use lib.Dec.{lit<}
 use lib.ListN.{length-set}
 use lib.Pow.{pow-pos}
 use Rattle.table.specs.View.{view}
-use Rattle.table.proofs.Follow.{follow-port}
+use Rattle.soundness.proofs.Follow.{follow-port}
 use Rattle.router.proofs.Tracing.{end-count, end-bytes, on-place, on-may, on-count, on-bytes}
 use borrow.Fn.Kinds.{In, Out}
 use borrow.Fn.PlainCycle.{Measures, is, falls, and}
@@ -16,7 +16,7 @@ use Rattle.router.proofs.tracer.trace_on.Kinds as trace-on-kinds
 use Rattle.router.proofs.tracer.+trace_on.Lts-trace_on as trace-on-lts
 use Rattle.cube.proofs.neighbour.Reads as neighbour-reads
 use Rattle.cube.proofs.without.Reads as without-reads
-use Rattle.table.proofs.held_port.Reads as held-port-reads
+use Rattle.soundness.proofs.held_port.Reads as held-port-reads
 use Rattle.router.proofs.tracer.+trace_on.{statement}
 use Rattle.router.proofs.tracer.+trace_on.Tie.{close}
 

@@ -3,7 +3,7 @@
 use mathlib.Core.Path.{_∙_}
 use native.Mathlib.Omega.{arith}
 use lib.ListN.{length-set}
-use Rattle.table.proofs.Examine.{source-within}
+use Rattle.soundness.proofs.Examine.{source-within}
 use Rattle.router.proofs.Tracing.{first-below, behind-may, whole-count, whole-bytes}
 use borrow.Author.Needs.{needs}
 use Rattle.router.proofs.tracer.write_path.Statement.{statement}

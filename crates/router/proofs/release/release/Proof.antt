@@ -1,0 +1,78 @@
+-- `router::release::release` meets its contract: the path of the circuit, and the receive channel at its end, are all that it holds.
+-- Assumes nothing.
+use mathlib.Core.Path.{refl, _∙_}
+use native.Mathlib.Omega.{arith}
+use lib.Dec.{lit≤}
+use borrow.Author.Needs.{needs}
+use Rattle.router.proofs.Releasing.{may-free, target-within, channel-within, all-freed}
+use Rattle.router.proofs.release.release.Statement.{statement}
+use Rattle.router.proofs.release.release.Tie as tie
+
+slice-aggregate-write-path : tie.Need-slice-aggregate-write-path
+slice-aggregate-write-path c = refl
+
+write-path-requires : tie.Need-write-path-requires
+write-path-requires c κs = let s = c .before .before .before in (s .pre .0, (s .pre .1 .0, lit≤ tt))
+
+source-of-requires : tie.Need-source-of-requires
+source-of-requires c κs = search needs
+
+slice-aggregate-free-links : tie.Need-slice-aggregate-free-links
+slice-aggregate-free-links c = search needs
+
+free-links-requires : tie.Need-free-links-requires
+free-links-requires c κs =
+    let m = c .before in
+    let w = m .before .before .before in
+    let s = w .before .before .before .before in
+    may-free (s .args .t .now) (s .args .c .0) (s .pre .0) (s .pre .1 .0) (s .pre .1 .1) _ _ (w .write-path .result) (m .source-of .result .0) (lit≤ tt) (w .write-path .ensures .0) (w .write-path .ensures .1) (m .source-of .ensures)
+
+held-channel-requires : tie.Need-held-channel-requires
+held-channel-requires c κs =
+    let f = c .before .before .before in
+    let m = f .before .before in
+    let w = m .before .before .before in
+    let s = w .before .before .before .before in
+    target-within (s .args .t .now) (s .args .c .0) (s .pre .0) (s .pre .1 .0) (s .pre .1 .1) _ _ (w .write-path .result) (m .source-of .result .0) (lit≤ tt) (w .write-path .ensures .0) (w .write-path .ensures .1) (m .source-of .ensures)
+    (f .free-links .result .0) _ (f .free-links .ensures .0) (f .free-links .ensures .1)
+
+set-receiver-requires : tie.Need-set-receiver-requires
+set-receiver-requires c κs =
+    let h = c .before in
+    let f = h .before .before .before .before in
+    let m = f .before .before in
+    let w = m .before .before .before in
+    let s = w .before .before .before .before in
+    channel-within (s .args .t .now) (s .args .c .0) (s .pre .0) (s .pre .1 .0) (s .pre .1 .1) _ _ (w .write-path .result) (m .source-of .result .0) (lit≤ tt) (w .write-path .ensures .0) (w .write-path .ensures .1) (m .source-of .ensures)
+    (f .free-links .result .0) _ (f .free-links .ensures .0) (f .free-links .ensures .1) (h .held-channel .result) (h .held-channel .ensures)
+
+same-length : tie.Need-same-length
+same-length c = search needs
+
+returns : tie.Need-returns
+returns c =
+    let r = c .before .before in
+    let h = r .before .before in
+    let f = h .before .before .before .before in
+    let m = f .before .before in
+    let w = m .before .before .before in
+    let a = w .before .before .before in
+    let s = a .before in
+    r .set-receiver .ensures
+    ∙ all-freed (s .args .t .now) (s .args .c .0) (s .pre .0) (s .pre .1 .0) (s .pre .1 .1) _ _ (w .write-path .result) (m .source-of .result .0) (lit≤ tt) (w .write-path .ensures .0) (w .write-path .ensures .1) (m .source-of .ensures)
+    (f .free-links .result .0) _ (f .free-links .ensures .0) (f .free-links .ensures .1) (h .held-channel .result) (h .held-channel .ensures)
+    record { long = s .pre .0 .bytes; small = λ i. omega (arith, a .slice-known .given i) }
+
+pub release-spec : {M : Type 1} → statement M
+release-spec =
+    tie.close
+    (tie.spec
+    slice-aggregate-write-path
+    write-path-requires
+    source-of-requires
+    slice-aggregate-free-links
+    free-links-requires
+    held-channel-requires
+    set-receiver-requires
+    same-length
+    returns)
