@@ -11,7 +11,7 @@ use Rattle.paths.specs.Send.{Answer}
 use Rattle.table.specs.Layout.{made}
 use Rattle.ownership.specs.Calls.{Call, tracing, Given}
 use Rattle.ownership.specs.OnTable.{called}
-use Rattle.ownership.specs.History.{History, told}
+use Rattle.ownership.specs.History.{History, entered}
 use Rattle.ownership.specs.Lists.{Covered}
 use Rattle.ownership.proofs.Agreement.{covered-step}
 use Rattle.ownership.proofs.Followed.{made-valid, made-view}
@@ -21,32 +21,32 @@ use Rattle.listing.specs.Examples.{input, output, printed-example}
 use Rattle.listing.specs.Lines.{lines}
 use Rattle.listing.specs.Line.{asks}
 use Rattle.listing.specs.Row.{Row, rowsText}
-use Rattle.listing.specs.Listing.{callRow, traced, rowFor, behind, rows, header, inputLimit, tooLong, empty, listing, onTable, inHistory, printed, recorded}
+use Rattle.listing.specs.Listing.{callRow, traced, rowFor, behind, rows, header, inputLimit, tooLong, empty, listing, printed, recorded}
 
 -- The list says what the ownership history says: on a table that a history covers, the printed lines are those of the history.
-traced-alike : (b : List ℕ) (h : History) → Covered b h → (n c : ℕ) → traced onTable b n c ≡ traced inHistory h n c
-unfolding traced onTable inHistory
+traced-alike : (b : List ℕ) (h : History) → Covered b h → (n c : ℕ) → traced called b n c ≡ traced entered h n c
+unfolding traced
 traced-alike b h k n c =
     ap (λ (g : Given). take (g .answer .hops) (g .buffer)) (covered-step b h k (tracing n c empty) .given)
 
-row-alike : (b : List ℕ) (h : History) → Covered b h → (n : ℕ) (a : Option Call) → rowFor onTable b n a ≡ rowFor inHistory h n a
-unfolding rowFor onTable inHistory
+row-alike : (b : List ℕ) (h : History) → Covered b h → (n : ℕ) (a : Option Call) → rowFor called b n a ≡ rowFor entered h n a
+unfolding rowFor
 row-alike b h k n none = refl
 row-alike b h k n (some a) =
     let s = covered-step b h k a in
-    ap₂ (λ (x : Answer) (w : ℕ → ℕ → List ℕ). callRow n a x w) (ap (λ (g : Given). g .answer) (s .given)) (fun-ext (λ m. fun-ext (λ c. traced-alike (called b a .table) (told h a .history) (s .covered) m c)))
+    ap₂ (λ (x : Answer) (w : ℕ → ℕ → List ℕ). callRow n a x w) (ap (λ (g : Given). g .answer) (s .given)) (fun-ext (λ m. fun-ext (λ c. traced-alike (called b a .state) (entered h a .state) (s .covered) m c)))
 
-covered-behind : (b : List ℕ) (h : History) → Covered b h → (a : Option Call) → Covered (behind onTable b a) (behind inHistory h a)
-unfolding behind onTable inHistory
+covered-behind : (b : List ℕ) (h : History) → Covered b h → (a : Option Call) → Covered (behind called b a) (behind entered h a)
+unfolding behind
 covered-behind b h k none = k
 covered-behind b h k (some a) = covered-step b h k a .covered
 
-rows-alike : (ls : List (List ℕ)) (b : List ℕ) (h : History) (n : ℕ) → Covered b h → rows onTable b n ls ≡ rows inHistory h n ls
+rows-alike : (ls : List (List ℕ)) (b : List ℕ) (h : History) (n : ℕ) → Covered b h → rows called b n ls ≡ rows entered h n ls
 unfolding rows
 rows-alike [] b h n k = refl
-rows-alike (l ∷ ls) b h n k = ap₂ _∷_ (row-alike b h k n (asks l)) (rows-alike ls (behind onTable b (asks l)) (behind inHistory h (asks l)) (suc n) (covered-behind b h k (asks l)))
+rows-alike (l ∷ ls) b h n k = ap₂ _∷_ (row-alike b h k n (asks l)) (rows-alike ls (behind called b (asks l)) (behind entered h (asks l)) (suc n) (covered-behind b h k (asks l)))
 
-pub list-alike : (b : List ℕ) (h : History) (input : List ℕ) → Covered b h → listing onTable b input ≡ listing inHistory h input
+pub list-alike : (b : List ℕ) (h : History) (input : List ℕ) → Covered b h → listing called b input ≡ listing entered h input
 unfolding listing
 list-alike b h input k = ap (λ (rs : List Row). cond (ltb inputLimit (length input)) tooLong (header ++ rowsText rs)) (rows-alike (lines input) b h 1 k)
 

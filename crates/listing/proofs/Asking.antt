@@ -8,16 +8,17 @@ use mathlib.Core.Option.{Option, none, some}
 use Prim.Native.Nat.{ℕ, suc, _+_, _≤_, _<_}
 use native.Mathlib.Omega.{arith}
 use native.Mathlib.Numerals.{add-one}
-use lib.Dec.{eqb}
+use lib.Dec.{eqb, lit≤}
 use lib.ListN.{length, getD, take, drop, set}
 use lib.Seq.{take-suc-set, append-snoc, length-take-le}
 use borrow.Author.Tests.{eq-eqb, ne-eqb, le-leb, lt-leb}
 use Rattle.common.proofs.Tests.{same?}
-use Rattle.ownership.specs.Calls.{making, blocking, unblocking, opening, closing}
+use Rattle.ownership.specs.Calls.{Call, making, blocking, unblocking, opening, closing}
 use Rattle.listing.specs.Text.{letterB, letterC, letterE, letterF, letterS, space, number}
 use Rattle.listing.specs.Lines.{onFirst, cut, fields}
-use Rattle.listing.specs.Line.{inFront, numbers, one, two, five, byLetter, withNumbers, ofFields, longest, asks}
-use Rattle.listing.specs.Printed.{numbersOf, asked, ReadNumbers}
+use Rattle.listing.specs.Line.{inFront, numbers, numbersOf, asked, byLetter, withNumbers, ofFields, longest, asks}
+use Rattle.listing.specs.Printed.{ReadNumbers}
+use Rattle.listing.proofs.Reading.{IfRead, number-small}
 
 -- numbers that were read, in front of those of the fields that are left
 unfoldable pub joined : List ℕ → Option (List ℕ) → Option (List ℕ)
@@ -37,7 +38,7 @@ joined-more vs k n h (some ms) =
     ap some (sym (append-snoc (take k vs) n ms) ∙ ap (_++ ms) (sym (ap (λ j. take j (set vs k n)) (add-one k) ∙ take-suc-set vs k n h)))
 
 -- a field that is no number, one that is, and the last one
-module _ (vs : List ℕ) (k : ℕ) (fs : List (List ℕ)) (f : List ℕ) (rest : List (List ℕ)) (cut : fs ≡ f ∷ rest) where
+module _ (vs : List ℕ) (k : ℕ) {f : List ℕ} {fs rest : List (List ℕ)} (cut : fs ≡ f ∷ rest) where
   pub numbers-none : number f ≡ none → joined (take k vs) (numbers fs) ≡ none
   unfolding numbers inFront joined
   numbers-none e = ap (λ x. joined (take k vs) (numbers x)) cut ∙ ap (λ o. joined (take k vs) (inFront o (numbers rest))) e
@@ -55,75 +56,63 @@ pub unread : (x : ℕ) (m : Option (List ℕ)) → m ≡ none → withNumbers x 
 unfolding withNumbers
 unread x m e = ap (withNumbers x) e
 
+-- What holds of the count and the call of each letter, and of those of another byte, holds of every byte.
+pub each-letter : (P : ℕ → (ℕ → ℕ → ℕ → ℕ → ℕ → Option Call) → Type 0) → P 1 (λ a b c d e. some (making a)) → P 2 (λ a b c d e. some (blocking a b)) → P 2 (λ a b c d e. some (unblocking a b))
+    → P 5 (λ a b c d e. some (opening a b c d e)) → P 2 (λ a b c d e. some (closing a b)) → P 0 (λ a b c d e. none) → (x : ℕ) → P (numbersOf x) (asked x)
+unfolding numbersOf asked
+each-letter P make block unblock opens close other x = go (eqb x letterF) (eqb x letterB) (eqb x letterE) (eqb x letterS) (eqb x letterC)
+  where
+    go : (p q r s t : Bool) → P (cond p 1 (cond q 2 (cond r 2 (cond s 5 (cond t 2 0)))))
+        (λ a b c d e. cond p (some (making a)) (cond q (some (blocking a b)) (cond r (some (unblocking a b)) (cond s (some (opening a b c d e)) (cond t (some (closing a b)) none)))))
+    go true q r s t = make
+    go false true r s t = block
+    go false false true s t = unblock
+    go false false false true t = opens
+    go false false false false true = close
+    go false false false false false = other
+
+-- a letter with another count than its own
+other-count : (x : ℕ) (ns : List ℕ) → length ns ≢ numbersOf x → byLetter x ns ≡ none
+unfolding byLetter
+other-count x ns h = rw (ne-eqb (length ns) (numbersOf x) h)
+
 -- more than five numbers go with no letter
 over-five : (x : ℕ) (ns : List ℕ) → 5 < length ns → byLetter x ns ≡ none
-unfolding byLetter one two five
-over-five x ns h =
-    go (eqb x letterF) (eqb x letterB) (eqb x letterE) (eqb x letterS) (eqb x letterC)
-    (ne-eqb (length ns) 1 (λ e. absurd (omega arith))) (ne-eqb (length ns) 2 (λ e. absurd (omega arith))) (ne-eqb (length ns) 5 (λ e. absurd (omega arith)))
-  where
-    go : (p q r s t : Bool) → eqb (length ns) 1 ≡ false → eqb (length ns) 2 ≡ false → eqb (length ns) 5 ≡ false
-        → cond p (one making ns) (cond q (two blocking ns) (cond r (two unblocking ns) (cond s (five opening ns) (cond t (two closing ns) none)))) ≡ none
-    go true q r s t a b c = rw a
-    go false true r s t a b c = rw b
-    go false false true s t a b c = rw b
-    go false false false true t a b c = rw c
-    go false false false false true a b c = rw b
-    go false false false false false a b c = refl
+over-five x ns h = other-count x ns (λ e. let few = each-letter (λ n f. n ≤ 5) (lit≤ tt) (lit≤ tt) (lit≤ tt) (lit≤ tt) (lit≤ tt) (lit≤ tt) x in absurd (omega arith))
 
-numbers-length : (fs : List (List ℕ)) (ns : List ℕ) → numbers fs ≡ some ns → length ns ≡ length fs
+-- What holds of no numbers, and stays with one more in front, holds of the numbers that fields say.
+pub numbers-hold : (P : List (List ℕ) → List ℕ → Type 0) → P [] [] → ((f : List ℕ) (fs : List (List ℕ)) (n : ℕ) (ns : List ℕ) → n < 65536 → P fs ns → P (f ∷ fs) (n ∷ ns))
+    → (fs : List (List ℕ)) → IfRead (P fs) (numbers fs)
 unfolding numbers inFront
-numbers-length [] ns e = let z : ns ≡ [] = cc in ap length z
-numbers-length (f ∷ fs) ns e = go (number f) (numbers fs) refl e (numbers-length fs)
+numbers-hold P nil more [] = nil
+numbers-hold P nil more (f ∷ fs) = go (number f) (numbers fs) (number-small f) (numbers-hold P nil more fs)
   where
-    go : (o : Option ℕ) (m : Option (List ℕ)) → numbers fs ≡ m → inFront o m ≡ some ns → ((ms : List ℕ) → numbers fs ≡ some ms → length ms ≡ length fs) → length ns ≡ suc (length fs)
-    go none m a b ih = let z : _≡_ {A = Option (List ℕ)} none (some ns) = b in let y : _≡_ {A = ℕ} 0 1 = cc in absurd (omega arith)
-    go (some n) none a b ih = let z : _≡_ {A = Option (List ℕ)} none (some ns) = b in let y : _≡_ {A = ℕ} 0 1 = cc in absurd (omega arith)
-    go (some n) (some ms) a b ih = let z : some (n ∷ ms) ≡ some ns = b in let y : n ∷ ms ≡ ns = cc in ap length (sym y) ∙ ap suc (ih ms a)
+    go : (o : Option ℕ) (m : Option (List ℕ)) → IfRead (λ n. n < 65536) o → IfRead (P fs) m → IfRead (P (f ∷ fs)) (inFront o m)
+    go none m h p = tt
+    go (some n) none h p = tt
+    go (some n) (some ns) h p = more f fs n ns h p
 
 pub many : (fs : List (List ℕ)) → 5 < length fs → (x : ℕ) → withNumbers x (numbers fs) ≡ none
 unfolding withNumbers
-many fs h x = go (numbers fs) refl
+many fs h x = go (numbers fs) (numbers-hold (λ fs ns. length ns ≡ length fs) refl (λ f fs n ns l e. ap suc e) fs)
   where
-    go : (m : Option (List ℕ)) → numbers fs ≡ m → withNumbers x m ≡ none
+    go : (m : Option (List ℕ)) → IfRead (λ ns. length ns ≡ length fs) m → withNumbers x m ≡ none
     go none e = refl
-    go (some ns) e = over-five x ns (let l = numbers-length fs ns e in omega arith)
+    go (some ns) e = over-five x ns (omega arith)
 
--- a letter with as many numbers as it has, and with another count
-module _ (x : ℕ) where
-  pub other-count : (ns : List ℕ) → length ns ≢ numbersOf x → byLetter x ns ≡ none
-  unfolding byLetter numbersOf one two five
-  other-count ns h = go (eqb x letterF) (eqb x letterB) (eqb x letterE) (eqb x letterS) (eqb x letterC) h
-    where
-      go : (p q r s t : Bool) → length ns ≢ cond p 1 (cond q 2 (cond r 2 (cond s 5 (cond t 2 0))))
-          → cond p (one making ns) (cond q (two blocking ns) (cond r (two unblocking ns) (cond s (five opening ns) (cond t (two closing ns) none)))) ≡ none
-      go true q r s t k = rw (ne-eqb (length ns) 1 k)
-      go false true r s t k = rw (ne-eqb (length ns) 2 k)
-      go false false true s t k = rw (ne-eqb (length ns) 2 k)
-      go false false false true t k = rw (ne-eqb (length ns) 5 k)
-      go false false false false true k = rw (ne-eqb (length ns) 2 k)
-      go false false false false false k = refl
-
-  pub own-count : (k : ℕ) (vs : List ℕ) → length vs ≡ 5 → k ≡ numbersOf x
-      → byLetter x (take k vs) ≡ asked x (getD vs 0 0) (getD vs 1 0) (getD vs 2 0) (getD vs 3 0) (getD vs 4 0)
-  unfolding byLetter numbersOf asked one two five
-  own-count k [] l e = absurd (omega arith)
-  own-count k (a ∷ []) l e = absurd (omega arith)
-  own-count k (a ∷ b ∷ []) l e = absurd (omega arith)
-  own-count k (a ∷ b ∷ c ∷ []) l e = absurd (omega arith)
-  own-count k (a ∷ b ∷ c ∷ d ∷ []) l e = absurd (omega arith)
-  own-count k (a ∷ b ∷ c ∷ d ∷ f ∷ []) l e = rw e (go (eqb x letterF) (eqb x letterB) (eqb x letterE) (eqb x letterS) (eqb x letterC))
-    where
-      go : (p q r s t : Bool) → let ns = take (cond p 1 (cond q 2 (cond r 2 (cond s 5 (cond t 2 0))))) (a ∷ b ∷ c ∷ d ∷ f ∷ []) in
-          cond p (one making ns) (cond q (two blocking ns) (cond r (two unblocking ns) (cond s (five opening ns) (cond t (two closing ns) none))))
-          ≡ cond p (some (making a)) (cond q (some (blocking a b)) (cond r (some (unblocking a b)) (cond s (some (opening a b c d f)) (cond t (some (closing a b)) none))))
-      go true q r s t = refl
-      go false true r s t = refl
-      go false false true s t = refl
-      go false false false true t = refl
-      go false false false false true = refl
-      go false false false false false = refl
-  own-count k (a ∷ b ∷ c ∷ d ∷ f ∷ g ∷ vs) l e = absurd (omega arith)
+-- a letter with as many numbers as it has
+own-count : (x k : ℕ) (vs : List ℕ) → length vs ≡ 5 → k ≡ numbersOf x → byLetter x (take k vs) ≡ asked x (getD vs 0 0) (getD vs 1 0) (getD vs 2 0) (getD vs 3 0) (getD vs 4 0)
+unfolding byLetter
+own-count x k [] l e = absurd (omega arith)
+own-count x k (a ∷ []) l e = absurd (omega arith)
+own-count x k (a ∷ b ∷ []) l e = absurd (omega arith)
+own-count x k (a ∷ b ∷ c ∷ []) l e = absurd (omega arith)
+own-count x k (a ∷ b ∷ c ∷ d ∷ []) l e = absurd (omega arith)
+own-count x k (a ∷ b ∷ c ∷ d ∷ f ∷ []) l e = rw e (each-letter Own refl refl refl refl refl refl x)
+  where
+    Own : ℕ → (ℕ → ℕ → ℕ → ℕ → ℕ → Option Call) → Type 0
+    Own n g = let ns = take n (a ∷ b ∷ c ∷ d ∷ f ∷ []) in cond (eqb (length ns) n) (g (getD ns 0 0) (getD ns 1 0) (getD ns 2 0) (getD ns 3 0) (getD ns 4 0)) none ≡ g a b c d f
+own-count x k (a ∷ b ∷ c ∷ d ∷ f ∷ g ∷ vs) l e = absurd (omega arith)
 
 -- the lines that a first look refuses
 pub too-long-line : (l : List ℕ) → longest < length l → asks l ≡ none
@@ -136,16 +125,8 @@ of-line l h = rw (le-leb (length l) longest h)
 
 -- a letter with no number behind it
 letter-alone : (x : ℕ) → ofFields ((x ∷ []) ∷ []) ≡ none
-unfolding ofFields withNumbers numbers byLetter one two five
-letter-alone x = go (eqb x letterF) (eqb x letterB) (eqb x letterE) (eqb x letterS) (eqb x letterC)
-  where
-    go : (p q r s t : Bool) → cond p (one making []) (cond q (two blocking []) (cond r (two unblocking []) (cond s (five opening []) (cond t (two closing []) none)))) ≡ none
-    go true q r s t = refl
-    go false true r s t = refl
-    go false false true s t = refl
-    go false false false true t = refl
-    go false false false false true = refl
-    go false false false false false = refl
+unfolding ofFields withNumbers numbers byLetter
+letter-alone x = each-letter (λ n f. cond (eqb 0 n) (f 0 0 0 0 0) none ≡ none) refl refl refl refl refl refl x
 
 pub short-line : (l : List ℕ) → length l < 2 → asks l ≡ none
 unfolding fields cut onFirst ofFields
@@ -190,7 +171,7 @@ unfolding asked
 asked-none x a b c d e z = rw z
 
 -- Lines that a look at their numbers decides: what was read of the numbers behind the second byte, a space, and of the first.
-module _ (l vs : List ℕ) (k : ℕ) (least : 2 ≤ length l) (most : length l ≤ longest) (gap : getD l 1 0 ≡ space) (numbered : ReadNumbers (fields (drop 2 l)) vs k) where
+module _ (l : List ℕ) {vs : List ℕ} {k : ℕ} (least : 2 ≤ length l) (most : length l ≤ longest) (gap : getD l 1 0 ≡ space) (numbered : ReadNumbers (fields (drop 2 l)) vs k) where
   by-count : k ≢ 0 → getD l 0 0 ≢ space → asks l ≡ byLetter (getD l 0 0) (take k vs)
   unfolding withNumbers
   by-count z s = letter-line l least most gap s ∙ ap (withNumbers (getD l 0 0)) (numbered .read z)

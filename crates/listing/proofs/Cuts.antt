@@ -1,7 +1,7 @@
 -- Laws of the parts that a byte leaves of a text.
 -- Assumes nothing.
 use mathlib.Core.Path.{_≡_, refl, ap, sym, _∙_}
-use mathlib.Core.Logic.{_≢_}
+use mathlib.Core.Logic.{_≢_, ⊎-elim}
 use mathlib.Core.Bool.{Bool, true, false, cond}
 use mathlib.Core.List.{List, [], _∷_}
 use Prim.Native.Nat.{ℕ, suc, _+_, _-_, _≤_, _<_}
@@ -11,6 +11,7 @@ use lib.Dec.{eqb}
 use lib.ListN.{length, getD, take, drop, length-drop, drop-of-length-le}
 use lib.Seq.{drop-cons, drop-drop}
 use borrow.Author.Tests.{eq-eqb, ne-eqb}
+use Rattle.common.proofs.Tests.{same?}
 use Rattle.listing.specs.Text.{newline, space}
 use Rattle.listing.specs.Lines.{onFirst, cut, lines, fields}
 use Rattle.listing.specs.Printed.{before}
@@ -41,15 +42,6 @@ module _ (text : List ℕ) (d i : ℕ) where
   pub before-end : length text ≤ i → length (before d (drop i text)) ≡ 0
   before-end h = ap length (ap (before d) (drop-of-length-le text h) ∙ before-nil d)
 
-before-length : (d : ℕ) (xs : List ℕ) → length (before d xs) ≤ length xs
-unfolding before
-before-length d [] = omega arith
-before-length d (x ∷ xs) = go (eqb x d) (before-length d xs)
-  where
-    go : (b : Bool) → length (before d xs) ≤ length xs → length (cond b [] (x ∷ before d xs)) ≤ suc (length xs)
-    go true h = omega arith
-    go false h = omega arith
-
 -- it is a beginning of the text
 pub before-take : (d : ℕ) (xs : List ℕ) → take (length (before d xs)) xs ≡ before d xs
 unfolding before
@@ -72,33 +64,26 @@ cut-more d end (x ∷ xs) h = go (eqb x d) h (cut-more d end xs)
     go true l ih = refl
     go false l ih = ap (onFirst x) (ih (omega arith))
 
--- where it does not, the text is its only part
-pub fields-last : (xs : List ℕ) → length (before space xs) ≡ length xs → fields xs ≡ before space xs ∷ []
+-- Where it does not, the text is its only part: the first byte is another, and goes in front of what is left.
+cut-last : (d : ℕ) (end : List (List ℕ)) (x : ℕ) (xs : List ℕ) → length (before d (x ∷ xs)) ≡ suc (length xs)
+    → (length (before d xs) ≡ length xs → onFirst x (cut d end xs) ≡ (x ∷ before d xs) ∷ []) → cut d end (x ∷ xs) ≡ before d (x ∷ xs) ∷ []
+unfolding cut before
+cut-last d end x xs h on = go (eqb x d) h
+  where
+    go : (b : Bool) → length (cond b [] (x ∷ before d xs)) ≡ suc (length xs) → cond b ([] ∷ cut d end xs) (onFirst x (cut d end xs)) ≡ cond b [] (x ∷ before d xs) ∷ []
+    go true l = absurd (omega arith)
+    go false l = on (omega arith)
+
+fields-last : (xs : List ℕ) → length (before space xs) ≡ length xs → fields xs ≡ before space xs ∷ []
 unfolding fields cut before onFirst
 fields-last [] h = refl
-fields-last (x ∷ xs) h = go (eqb x space) h (fields-last xs)
-  where
-    go : (b : Bool) → length (cond b [] (x ∷ before space xs)) ≡ suc (length xs)
-        → (length (before space xs) ≡ length xs → cut space ([] ∷ []) xs ≡ before space xs ∷ [])
-        → cond b ([] ∷ cut space ([] ∷ []) xs) (onFirst x (cut space ([] ∷ []) xs)) ≡ cond b [] (x ∷ before space xs) ∷ []
-    go true l ih = absurd (omega arith)
-    go false l ih = ap (onFirst x) (ih (omega arith))
+fields-last (x ∷ xs) h = cut-last space ([] ∷ []) x xs h (λ l. ap (onFirst x) (fields-last xs l))
 
 pub lines-last : (xs : List ℕ) → 0 < length xs → length (before newline xs) ≡ length xs → lines xs ≡ before newline xs ∷ []
 unfolding lines cut before onFirst
 lines-last [] s h = absurd (omega arith)
-lines-last (x ∷ []) s h = go (eqb x newline) h
-  where
-    go : (b : Bool) → length (cond b [] (x ∷ [])) ≡ 1 → cond b ([] ∷ []) ((x ∷ []) ∷ []) ≡ cond b [] (x ∷ []) ∷ []
-    go true l = absurd (omega arith)
-    go false l = refl
-lines-last (x ∷ y ∷ xs) s h = go (eqb x newline) h (lines-last (y ∷ xs) (omega arith))
-  where
-    go : (b : Bool) → length (cond b [] (x ∷ before newline (y ∷ xs))) ≡ suc (length (y ∷ xs))
-        → (length (before newline (y ∷ xs)) ≡ length (y ∷ xs) → cut newline [] (y ∷ xs) ≡ before newline (y ∷ xs) ∷ [])
-        → cond b ([] ∷ cut newline [] (y ∷ xs)) (onFirst x (cut newline [] (y ∷ xs))) ≡ cond b [] (x ∷ before newline (y ∷ xs)) ∷ []
-    go true l ih = absurd (omega arith)
-    go false l ih = ap (onFirst x) (ih (omega arith))
+lines-last (x ∷ []) s h = cut-last newline [] x [] h (λ l. refl)
+lines-last (x ∷ y ∷ xs) s h = cut-last newline [] x (y ∷ xs) h (λ l. ap (onFirst x) (lines-last (y ∷ xs) (omega arith) l))
 
 -- The same of a text from place i on, where the byte is found at place j, or none is and j is the text's length.
 module _ (text : List ℕ) (d i j : ℕ) (inside : i ≤ length text) (found : j ≡ i + length (before d (drop i text))) where
@@ -122,6 +107,12 @@ pub fields-end : (text : List ℕ) (i j : ℕ) → i ≤ length text → j ≡ i
     → fields (drop i text) ≡ take (j - i) (drop i text) ∷ []
 fields-end text i j h e l =
     let n = length-drop i text in fields-last (drop i text) (omega arith) ∙ ap (_∷ []) (sym (part-is text space i j h e))
+
+-- the first field, whether others follow or not
+pub fields-first : (text : List ℕ) (i j : ℕ) → i ≤ length text → j ≡ i + length (before space (drop i text)) → j ≤ length text
+    → (rest : List (List ℕ)) × (fields (drop i text) ≡ take (j - i) (drop i text) ∷ rest)
+fields-first text i j h e l =
+    ⊎-elim (λ (z : j ≡ length text). ([], fields-end text i j h e z)) (λ z. (fields (drop (j + 1) text), fields-more text i j h e (omega (arith, z)))) (same? j (length text))
 
 -- a text has at least one field
 pub fields-some : (xs : List ℕ) → 0 < length (fields xs)

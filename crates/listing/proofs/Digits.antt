@@ -1,14 +1,13 @@
 -- Laws of decimal digits.
 -- Assumes nothing.
 use mathlib.Core.Path.{_≡_, refl, ap, sym, _∙_}
-use mathlib.Core.Logic.{_⊎_, inl, inr}
-use mathlib.Core.Bool.{Bool, true, false}
+use mathlib.Core.Logic.{_⊎_, inl, inr, ⊎-elim}
 use mathlib.Core.List.{[], _∷_, _++_}
-use Prim.Native.Nat.{ℕ, zero, suc, _+_, _/_, _%_, _^_, _≤_, _<_}
+use Prim.Native.Nat.{ℕ, zero, suc, _/_, _%_, _^_, _≤_, _<_}
 use native.Mathlib.Omega.{arith}
-use lib.Dec.{ltb}
 use lib.ListN.{length, length-append}
-use borrow.Author.Tests.{lt-ltb, le-ltb, ltb-true, ltb-false}
+use borrow.Author.Tests.{lt-ltb, le-ltb}
+use Rattle.common.proofs.Tests.{below-or}
 use Rattle.listing.specs.Text.{digit, digits, decimal}
 
 digits-short : (k n : ℕ) → n < 10 → digits k n ≡ digit n ∷ []
@@ -24,13 +23,9 @@ digits-long k n h = rw (le-ltb n 10 h)
 digits-enough : (k m n : ℕ) → n ≤ k → n ≤ m → digits k n ≡ digits m n
 digits-enough zero m n h l = digits-short zero n (omega arith) ∙ sym (digits-short m n (omega arith))
 digits-enough (suc k) zero n h l = digits-short (suc k) n (omega arith) ∙ sym (digits-short zero n (omega arith))
-digits-enough (suc k) (suc m) n h l = go (ltb n 10) refl (digits-enough k m (n / 10))
-  where
-    go : (b : Bool) → ltb n 10 ≡ b → (n / 10 ≤ k → n / 10 ≤ m → digits k (n / 10) ≡ digits m (n / 10)) → digits (suc k) n ≡ digits (suc m) n
-    go true e ih = let s = ltb-true n 10 e in digits-short (suc k) n s ∙ sym (digits-short (suc m) n s)
-    go false e ih =
-        let s = ltb-false n 10 e in
-        digits-long k n s ∙ ap (_++ (digit (n % 10) ∷ [])) (ih (omega arith) (omega arith)) ∙ sym (digits-long m n s)
+digits-enough (suc k) (suc m) n h l =
+    ⊎-elim (λ s. digits-short (suc k) n s ∙ sym (digits-short (suc m) n s))
+    (λ s. digits-long k n s ∙ ap (_++ (digit (n % 10) ∷ [])) (digits-enough k m (n / 10) (omega arith) (omega arith)) ∙ sym (digits-long m n s)) (below-or 10 n)
 
 -- a number below ten is one digit; another has the digits of its tenth, and one more
 pub decimal-short : (n : ℕ) → n < 10 → decimal n ≡ digit n ∷ []
@@ -42,17 +37,10 @@ unfolding decimal
 decimal-long zero h = absurd (omega arith)
 decimal-long (suc k) h = digits-long k (suc k) h ∙ ap (_++ (digit (suc k % 10) ∷ [])) (digits-enough k (suc k / 10) (suc k / 10) (omega arith) (omega arith))
 
-pub below-ten : (n : ℕ) → (n < 10) ⊎ (10 ≤ n)
-below-ten n = go (ltb n 10) refl
-  where
-    go : (b : Bool) → ltb n 10 ≡ b → (n < 10) ⊎ (10 ≤ n)
-    go true e = inl (ltb-true n 10 e)
-    go false e = inr (ltb-false n 10 e)
-
 -- how many digits a number has
 pub decimal-length : (k n : ℕ) → n < 10 ^ suc k → length (decimal n) ≤ suc k
 decimal-length zero n h = rw (decimal-short n h) (omega arith)
-decimal-length (suc k) n h = go (below-ten n) (decimal-length k (n / 10))
+decimal-length (suc k) n h = go (below-or 10 n) (decimal-length k (n / 10))
   where
     go : (n < 10) ⊎ (10 ≤ n) → (n / 10 < 10 ^ suc k → length (decimal (n / 10)) ≤ suc k) → length (decimal n) ≤ suc (suc k)
     go (inl s) ih = rw (decimal-short n s) (omega arith)

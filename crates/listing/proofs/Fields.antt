@@ -10,7 +10,7 @@ use lib.Seq.{drop-cons}
 use Rattle.listing.specs.Text.{digit, decimal}
 use Rattle.listing.specs.Row.{inTurn}
 use Rattle.listing.specs.Printed.{Wrote}
-use Rattle.listing.proofs.Writing.{followed}
+use Rattle.listing.proofs.Writing.{_then_}
 use Rattle.listing.proofs.Digits.{decimal-short, decimal-long, decimal-length}
 
 -- a number of 16 bits has at most 5 digits, one of 32 bits at most 10, and a byte at most 3
@@ -34,16 +34,16 @@ module _ (n at : ℕ) (b : List ℕ) (room : at + length (decimal n) ≤ length 
   pub room-long : 10 ≤ n → at + length (decimal (n / 10)) ≤ length b
   room-long h = let e = long-length h in omega arith
 
-  pub room-last : 10 ≤ n → (c : List ℕ) (j : ℕ) → length c ≡ length b → Wrote (length (decimal (n / 10))) b at (decimal (n / 10)) c j → j < length c
-  room-last h c j l w = let e = long-length h in let p = w .place in omega arith
+  pub room-last : 10 ≤ n → {c : List ℕ} {j : ℕ} → length c ≡ length b → Wrote (length (decimal (n / 10))) b at (decimal (n / 10)) c j → j < length c
+  room-last h l w = let e = long-length h in let p = w .place in omega arith
 
-pub wrote-short : (n at d r : ℕ) (b c : List ℕ) → n < 10 → d ≡ 48 + n → Wrote 1 b at (d ∷ []) c r → Wrote (length (decimal n)) b at (decimal n) c r
-wrote-short n at d r b c h e w = rw (decimal-short n h, ← e) w
+pub wrote-short : (n : ℕ) {at d r : ℕ} {b c : List ℕ} → n < 10 → d ≡ 48 + n → Wrote 1 b at (d ∷ []) c r → Wrote (length (decimal n)) b at (decimal n) c r
+wrote-short n h e w = rw (decimal-short n h, ← e) w
 
-pub wrote-long : (n at d j r : ℕ) (b c x : List ℕ) → 10 ≤ n → d ≡ 48 + n % 10 → Wrote (length (decimal (n / 10))) b at (decimal (n / 10)) c j → Wrote 1 c j (d ∷ []) x r
+pub wrote-long : (n : ℕ) {at d j r : ℕ} {b c x : List ℕ} → 10 ≤ n → d ≡ 48 + n % 10 → Wrote (length (decimal (n / 10))) b at (decimal (n / 10)) c j → Wrote 1 c j (d ∷ []) x r
     → Wrote (length (decimal n)) b at (decimal n) x r
-wrote-long n at d j r b c x h e w v =
-    rw (decimal-long n h, ← e, length-append (decimal (n / 10)) (d ∷ [])) (followed (length (decimal (n / 10))) 1 w v)
+wrote-long n {d = d} h e w v =
+    rw (decimal-long n h, ← e, length-append (decimal (n / 10)) (d ∷ [])) (w then v)
 
 -- the ports of a path from place i on
 pub turn-step : (path : List ℕ) (i : ℕ) → i < length path → inTurn (drop i path) ≡ decimal (getD path i 0) ++ inTurn (drop (i + 1) path)

@@ -12,3 +12,4 @@ pub mod Theorems
 pub mod Agreeing
 pub mod ShownPath
 pub mod ReadBack
+pub mod Fitting

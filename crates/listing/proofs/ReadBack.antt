@@ -9,8 +9,9 @@ use Prim.Native.Nat.{ℕ, zero, suc, _+_, _-_, _*_, _/_, _%_, _≤_, _<_}
 use native.Mathlib.Omega.{arith}
 use lib.ListN.{length, getD}
 use borrow.Author.Tests.{ne-eqb, le-leb}
+use Rattle.common.proofs.Tests.{below-or}
 use Rattle.listing.specs.Text.{digit, isDigit, decimal, allDigits, value, leadingZero, largest, number}
-use Rattle.listing.proofs.Digits.{decimal-short, decimal-long, below-ten}
+use Rattle.listing.proofs.Digits.{decimal-short, decimal-long}
 
 value-behind : (xs : List ℕ) (n x : ℕ) → value n (xs ++ x ∷ []) ≡ 10 * value n xs + (x - 48)
 unfolding value
@@ -46,7 +47,7 @@ says-behind n (y ∷ xs) h s =
 
 says-decimal : (k n : ℕ) → n ≤ k → Says n (decimal n)
 says-decimal zero n h = rw (decimal-short n (omega arith)) (says-digit n (omega arith))
-says-decimal (suc k) n h = go (below-ten n) (says-decimal k (n / 10))
+says-decimal (suc k) n h = go (below-or 10 n) (says-decimal k (n / 10))
   where
     go : (n < 10) ⊎ (10 ≤ n) → (n / 10 ≤ k → Says (n / 10) (decimal (n / 10))) → Says n (decimal n)
     go (inl s) ih = rw (decimal-short n s) (says-digit n s)
@@ -65,7 +66,7 @@ reads (x ∷ xs) n s z h = rw (s .all-digits, z, s .says, le-leb n largest h)
 
 -- "Numbers are decimal, 0 to 65,535": printing such a number and reading it gives it back.
 pub reads-back : (n : ℕ) → n ≤ largest → number (decimal n) ≡ some n
-reads-back n h = reads (decimal n) n (says-decimal n n (omega arith)) (go (below-ten n)) h
+reads-back n h = reads (decimal n) n (says-decimal n n (omega arith)) (go (below-or 10 n)) h
   where
     go : (n < 10) ⊎ (10 ≤ n) → leadingZero (decimal n) ≡ false
     go (inl s) = rw (decimal-short n s) (unfold leadingZero in refl)

@@ -18,10 +18,11 @@ use Rattle.listing.specs.Text.{newline}
 use Rattle.listing.specs.Lines.{cut, lines}
 use Rattle.listing.specs.Line.{asks}
 use Rattle.listing.specs.Row.{rowText, rowsText}
-use Rattle.listing.specs.Listing.{onTable, rowFor, behind, rows, header, inputLimit, tooLong, listing, printed}
+use Rattle.listing.specs.Listing.{rowFor, behind, rows, header, inputLimit, tooLong, listing, printed}
 use Rattle.listing.specs.Printed.{before, Wrote, Answered, outputBytes, Filled, lists}
 use Rattle.listing.proofs.Cuts.{part-is, part-more, lines-last}
 use Rattle.listing.proofs.Writing.{carries, carries-place}
+use Rattle.ownership.specs.OnTable.{called}
 
 -- behind an input there is no line
 none-left : (input : List ℕ) (n : ℕ) → length input < n → [] ≡ lines (drop n input)
@@ -47,33 +48,33 @@ module _ (input : List ℕ) (i j : ℕ) (inside : i < length input) (found : j �
   line-length = let n = length-drop i input in length-take (j - i) (drop i input) ∙ omega arith
 
   -- the printed line of it, and those behind it
-  pub rows-step : (b : List ℕ) (n : ℕ) → rowsText (rows onTable b n (lines (drop i input)))
-      ≡ rowText (rowFor onTable b n (asks (take (j - i) (drop i input)))) ++ rowsText (rows onTable (behind onTable b (asks (take (j - i) (drop i input)))) (n + 1) (lines (drop (j + 1) input)))
+  pub rows-step : (b : List ℕ) (n : ℕ) → rowsText (rows called b n (lines (drop i input)))
+      ≡ rowText (rowFor called b n (asks (take (j - i) (drop i input)))) ++ rowsText (rows called (behind called b (asks (take (j - i) (drop i input)))) (n + 1) (lines (drop (j + 1) input)))
   unfolding rowsText rows
   rows-step b n = rw (line-step, add-one n)
 
   -- what is left to write, after that line
-  module _ (k : ℕ) (b b′ out out′ : List ℕ) (n p q : ℕ) (w : Answered k b n (asks (take (j - i) (drop i input))) out p b′ out′ q) where
-    left-is : rowText (rowFor onTable b n (asks (take (j - i) (drop i input)))) ++ rowsText (rows onTable b′ (n + 1) (lines (drop (j + 1) input))) ≡ rowsText (rows onTable b n (lines (drop i input)))
+  module _ {k n p q : ℕ} {b b′ out out′ : List ℕ} (w : Answered k b n (asks (take (j - i) (drop i input))) out p b′ out′ q) where
+    left-is : rowText (rowFor called b n (asks (take (j - i) (drop i input)))) ++ rowsText (rows called b′ (n + 1) (lines (drop (j + 1) input))) ≡ rowsText (rows called b n (lines (drop i input)))
     left-is = rw (w .table) (sym (rows-step b n))
 
-    pub left-bytes : sets out′ q (rowsText (rows onTable b′ (n + 1) (lines (drop (j + 1) input)))) ≡ sets out p (rowsText (rows onTable b n (lines (drop i input))))
-    left-bytes = carries k (rowsText (rows onTable b′ (n + 1) (lines (drop (j + 1) input)))) (w .text) ∙ ap (λ (xs : List ℕ). sets out p xs) left-is
+    pub left-bytes : sets out′ q (rowsText (rows called b′ (n + 1) (lines (drop (j + 1) input)))) ≡ sets out p (rowsText (rows called b n (lines (drop i input))))
+    left-bytes = carries (rowsText (rows called b′ (n + 1) (lines (drop (j + 1) input)))) (w .text) ∙ ap (λ (xs : List ℕ). sets out p xs) left-is
 
-    pub left-place : q + length (rowsText (rows onTable b′ (n + 1) (lines (drop (j + 1) input)))) ≡ p + length (rowsText (rows onTable b n (lines (drop i input))))
-    left-place = carries-place k (rowsText (rows onTable b′ (n + 1) (lines (drop (j + 1) input)))) (w .text) ∙ ap (λ (xs : List ℕ). p + length xs) left-is
+    pub left-place : q + length (rowsText (rows called b′ (n + 1) (lines (drop (j + 1) input)))) ≡ p + length (rowsText (rows called b n (lines (drop i input))))
+    left-place = carries-place (rowsText (rows called b′ (n + 1) (lines (drop (j + 1) input)))) (w .text) ∙ ap (λ (xs : List ℕ). p + length xs) left-is
 
 -- behind the last line nothing is left
-pub left-none : (input b : List ℕ) (n i : ℕ) → length input ≤ i → rowsText (rows onTable b n (lines (drop i input))) ≡ []
+pub left-none : (input b : List ℕ) (n i : ℕ) → length input ≤ i → rowsText (rows called b n (lines (drop i input))) ≡ []
 unfolding lines cut rows rowsText
-left-none input b n i h = ap (λ (xs : List ℕ). rowsText (rows onTable b n (cut newline [] xs))) (drop-of-length-le input h)
+left-none input b n i h = ap (λ (xs : List ℕ). rowsText (rows called b n (cut newline [] xs))) (drop-of-length-le input h)
 
 -- the text of an input that is too long, and of one that is listed
 pub printed-long : (input : List ℕ) → inputLimit < length input → tooLong ≡ printed input
 unfolding printed listing
 printed-long input h = rw (lt-ltb inputLimit (length input) h)
 
-pub printed-rows : (input b : List ℕ) → length input ≤ inputLimit → b ≡ made 1 → header ++ rowsText (rows onTable b 1 (lines input)) ≡ printed input
+pub printed-rows : (input b : List ℕ) → length input ≤ inputLimit → b ≡ made 1 → header ++ rowsText (rows called b 1 (lines input)) ≡ printed input
 unfolding printed listing
 printed-rows input b h e = rw (e, le-ltb inputLimit (length input) h)
 
@@ -82,10 +83,10 @@ pub lists-short : (input out : List ℕ) → length out < outputBytes → record
 unfolding lists
 lists-short input out h = rw (lt-ltb (length out) outputBytes h)
 
-pub lists-all : (k : ℕ) (input out text out′ : List ℕ) (r : ℕ) → outputBytes ≤ length out → k ≤ outputBytes → text ≡ printed input → Wrote k out 0 text out′ r
+pub lists-all : (input : List ℕ) {k r : ℕ} {out text out′ : List ℕ} → outputBytes ≤ length out → k ≤ outputBytes → text ≡ printed input → Wrote k out 0 text out′ r
     → record { short = false; written = r; output = out′ } ≡ lists input out
 unfolding lists
-lists-all k input out text out′ r h l e w = rw (le-ltb (length out) outputBytes h, ← e) (λ i. record { short = false; written = place i; output = bytes i })
+lists-all input {r = r} {out = out} {text = text} {out′ = out′} h l e w = rw (le-ltb (length out) outputBytes h, ← e) (λ i. record { short = false; written = place i; output = bytes i })
   where
     place : r ≡ length text
     place = w .place ∙ zero-add (length text)

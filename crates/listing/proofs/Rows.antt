@@ -2,17 +2,17 @@
 -- Assumes nothing.
 use mathlib.Core.Path.{_≡_, refl, sym, _∙_}
 use mathlib.Core.List.{List, [], _∷_, _++_, append-assoc, append-nil}
-use Prim.Native.Nat.{ℕ, _+_, _<_}
+use Prim.Native.Nat.{ℕ, _<_}
 use native.Mathlib.Omega.{arith}
 use lib.ListN.{length}
 use Rattle.listing.specs.Text.{newline, space, dash, decimal}
-use Rattle.listing.specs.Row.{Field, nothing, shows, path, bytesOf, inTurn, inOrder, spaced, ended, rowText}
+use Rattle.listing.specs.Row.{Field, nothing, shows, path, bytesOf, inTurn, inOrder, spaced, ended, rowText, row}
 use Rattle.listing.specs.Listing.{unreadable}
-use Rattle.listing.specs.Printed.{Wrote, row, front}
+use Rattle.listing.specs.Printed.{Wrote, front}
 
 -- the same bytes under another name
-pub retext : (k : ℕ) {b c xs ys : List ℕ} {i j : ℕ} → xs ≡ ys → Wrote k b i xs c j → Wrote k b i ys c j
-retext k {b} {c} {xs} {ys} {i} {j} e w = rw e at w
+pub retext : {k i j : ℕ} {b c xs ys : List ℕ} → xs ≡ ys → Wrote k b i xs c j → Wrote k b i ys c j
+retext e w = rw e at w
 
 -- a printed line is its front, the other five fields behind a space each, and a newline
 pub row-text : (n x a : ℕ) (d e f g h : Field) → rowText (row n x a d e f g h)

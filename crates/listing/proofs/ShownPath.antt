@@ -1,24 +1,24 @@
 -- The line of an acknowledged open shows the path that was found.
 -- Assumes nothing.
-use mathlib.Core.Path.{_≡_, refl, ap, ap₂, sym, _∙_, subst}
-use mathlib.Core.Bool.{Bool, true, false, cond, _&&_, _||_}
-use mathlib.Core.List.{List, [], _∷_, _++_}
+use mathlib.Core.Path.{_≡_, refl, ap, ap₂, _∙_}
+use mathlib.Core.Bool.{true, cond, _&&_, _||_}
+use mathlib.Core.List.{_∷_, _++_}
 use mathlib.Core.Option.{some}
-use Prim.Native.Nat.{ℕ, _≤_, _<_}
-use lib.Dec.{eqb, lit≤}
+use Prim.Native.Nat.{ℕ}
+use lib.Dec.{lit≤}
 use lib.ListN.{length, take, drop}
 use lib.Seq.{take-append-seam}
 use borrow.Author.Tests.{eq-eqb}
 use Rattle.common.specs.Lists.{any}
 use Rattle.paths.specs.Network.{Path}
-use Rattle.paths.specs.Send.{Sent, Outcome, acknowledged, answered}
-use Rattle.ownership.specs.Calls.{Call, opening, tracing, Given, written}
+use Rattle.paths.specs.Send.{acknowledged, answered}
+use Rattle.ownership.specs.Calls.{opening, tracing, written, After}
 use Rattle.ownership.specs.Allowed.{Allowed}
-use Rattle.ownership.specs.History.{Circuit, History, belongs, openOn, listed, askedOn, stoppedOn, sendOn, withCircuits, adds, follows, gives, Told, told}
+use Rattle.ownership.specs.History.{Circuit, History, belongs, openOn, listed, askedOn, stoppedOn, sendOn, withCircuits, adds, follows, gives, entered}
 use Rattle.ownership.proofs.Allowed.{allowed-on, allowed-passes}
-use Rattle.ownership.proofs.Told.{told-passed}
-use Rattle.listing.specs.Row.{Field, path}
-use Rattle.listing.specs.Listing.{portsOf, callRow, Made, empty, traced, rowFor, inHistory}
+use Rattle.ownership.proofs.Entered.{entered-passed}
+use Rattle.listing.specs.Row.{path}
+use Rattle.listing.specs.Listing.{callRow, empty, traced, rowFor}
 
 module _ (h : History) (s c t y v : ℕ) (w : Path) (k : ℕ) (passes : stoppedOn h (opening s c t y v) ≡ 0) (sends : sendOn h s t y v .outcome ≡ acknowledged w k) where
   new : Circuit
@@ -27,9 +27,9 @@ module _ (h : History) (s c t y v : ℕ) (w : Path) (k : ℕ) (passes : stoppedO
   after : History
   after = withCircuits h (new ∷ h .circuits)
 
-  opened : told h (opening s c t y v) .history ≡ after
+  opened : entered h (opening s c t y v) .state ≡ after
   unfolding follows adds after new
-  opened = ap (λ (x : Told). x .history) (told-passed h (opening s c t y v) passes) ∙ ap (adds h s c t) sends
+  opened = ap (λ (x : After History). x .state) (entered-passed h (opening s c t y v) passes) ∙ ap (adds h s c t) sends
 
   its-own : belongs s c new ≡ true
   unfolding belongs new
@@ -45,17 +45,17 @@ module _ (h : History) (s c t y v : ℕ) (w : Path) (k : ℕ) (passes : stoppedO
       let r = allowed-on h (opening s c t y v) passes in
       allowed-passes (askedOn after) (tracing s c empty) (r .0, r .2, ap (_|| any (belongs s c) (h .circuits)) its-own, lit≤ tt)
 
-  traced-path : traced inHistory after s c ≡ w
-  unfolding traced inHistory gives written
+  traced-path : traced entered after s c ≡ w
+  unfolding traced gives written
   traced-path =
-      ap (λ (x : Told). take (x .given .answer .hops) (x .given .buffer)) (told-passed after (tracing s c empty) trace-passes)
+      ap (λ (x : After History). take (x .given .answer .hops) (x .given .buffer)) (entered-passed after (tracing s c empty) trace-passes)
       ∙ ap (λ u. take (length u) (u ++ drop (length u) empty)) listed-path ∙ take-append-seam w (drop (length w) empty)
 
-  accepted-number : told h (opening s c t y v) .given .answer .number ≡ 0
+  accepted-number : entered h (opening s c t y v) .given .answer .number ≡ 0
   unfolding gives answered
-  accepted-number = ap (λ (x : Told). x .given .answer .number) (told-passed h (opening s c t y v) passes) ∙ ap (λ o. answered o (sendOn h s t y v .scouts) .number) sends
+  accepted-number = ap (λ (x : After History). x .given .answer .number) (entered-passed h (opening s c t y v) passes) ∙ ap (λ o. answered o (sendOn h s t y v .scouts) .number) sends
 
   -- "ports in path order": those of the path with which the open was acknowledged
-  pub shows-path : (n : ℕ) → rowFor inHistory h n (some (opening s c t y v)) .ports ≡ path w
-  unfolding rowFor callRow portsOf inHistory
-  shows-path n = rw (eq-eqb (told h (opening s c t y v) .given .answer .number) 0 accepted-number) (ap path (ap (λ x. traced inHistory x s c) opened ∙ traced-path))
+  pub shows-path : (n : ℕ) → rowFor entered h n (some (opening s c t y v)) .ports ≡ path w
+  unfolding rowFor callRow
+  shows-path n = rw (eq-eqb (entered h (opening s c t y v) .given .answer .number) 0 accepted-number) (ap path (ap (λ x. traced entered x s c) opened ∙ traced-path))

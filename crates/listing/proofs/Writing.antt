@@ -7,7 +7,7 @@ use native.Mathlib.Nat.{add-zero}
 use native.Mathlib.Numerals.{add-one}
 use native.Mathlib.Omega.{arith}
 use lib.ListN.{length, getD, set, drop, length-append, drop-of-length-le}
-use lib.Seq.{sets, length-sets, drop-cons}
+use lib.Seq.{sets, drop-cons}
 use Rattle.listing.specs.Printed.{Wrote}
 
 -- two texts, the second behind the first, are one
@@ -17,21 +17,22 @@ sets-append b i (x ∷ xs) ys =
     let e : suc i + length xs ≡ i + suc (length xs) = omega arith in
     sets-append (set b i x) (suc i) xs ys ∙ ap (λ j. sets (sets (set b i x) (suc i) xs) j ys) e
 
-pub followed : (k m : ℕ) {b c d xs ys : List ℕ} {i j n : ℕ} → Wrote k b i xs c j → Wrote m c j ys d n → Wrote (k + m) b i (xs ++ ys) d n
-followed k m {b} {c} {d} {xs} {ys} {i} {j} {n} u v =
-    record {
-      bytes = v .bytes ∙ ap (λ (l : List ℕ). sets l j ys) (u .bytes) ∙ ap (λ p. sets (sets b i xs) p ys) (u .place) ∙ sym (sets-append b i xs ys);
-      place = v .place ∙ ap (_+ length ys) (u .place) ∙ (let e = length-append xs ys in omega arith);
-      most = let p = u .most in let q = v .most in omega arith;
-    }
+-- what is left to write behind a text that was written
+pub carries : (ys : List ℕ) {k i j : ℕ} {b c xs : List ℕ} → Wrote k b i xs c j → sets c j ys ≡ sets b i (xs ++ ys)
+carries ys {i = i} {j = j} {b = b} {xs = xs} u = ap (λ (l : List ℕ). sets l j ys) (u .bytes) ∙ ap (λ p. sets (sets b i xs) p ys) (u .place) ∙ sym (sets-append b i xs ys)
+
+pub carries-place : (ys : List ℕ) {k i j : ℕ} {b c xs : List ℕ} → Wrote k b i xs c j → j + length ys ≡ i + length (xs ++ ys)
+carries-place ys {xs = xs} u = let e = length-append xs ys in let p = u .place in omega arith
+
+infixl 30 _then_
+-- a text, and another behind it
+pub _then_ : {k m i j n : ℕ} {b c d xs ys : List ℕ} → Wrote k b i xs c j → Wrote m c j ys d n → Wrote (k + m) b i (xs ++ ys) d n
+_then_ {ys = ys} u v =
+    record { bytes = v .bytes ∙ carries ys u; place = v .place ∙ carries-place ys u; most = let p = u .most in let q = v .most in omega arith }
 
 -- the same text, within more places
-pub within : (k m : ℕ) {b c xs : List ℕ} {i j : ℕ} → k ≤ m → Wrote k b i xs c j → Wrote m b i xs c j
-within k m h u = record { bytes = u .bytes; place = u .place; most = let p = u .most in omega arith }
-
--- what was written keeps the length of the output
-pub wrote-length : (k : ℕ) {b c xs : List ℕ} {i j : ℕ} → Wrote k b i xs c j → length c ≡ length b
-wrote-length k {b} {c} {xs} {i} u = ap length (u .bytes) ∙ length-sets b i xs
+pub within : {k m i j : ℕ} {b c xs : List ℕ} → k ≤ m → Wrote k b i xs c j → Wrote m b i xs c j
+within h u = record { bytes = u .bytes; place = u .place; most = let p = u .most in omega arith }
 
 -- one byte of a text, and all of them
 module _ (b text : List ℕ) (at i : ℕ) where
@@ -42,10 +43,3 @@ module _ (b text : List ℕ) (at i : ℕ) where
 
   pub text-end : length text ≤ i → sets b (at + i) (drop i text) ≡ b
   text-end h = ap (λ (xs : List ℕ). sets b (at + i) xs) (drop-of-length-le text h)
-
--- what is left to write behind a text that was written
-pub carries : (k : ℕ) (ys : List ℕ) {b c xs : List ℕ} {i j : ℕ} → Wrote k b i xs c j → sets c j ys ≡ sets b i (xs ++ ys)
-carries k ys {b} {c} {xs} {i} {j} u = ap (λ (l : List ℕ). sets l j ys) (u .bytes) ∙ ap (λ p. sets (sets b i xs) p ys) (u .place) ∙ sym (sets-append b i xs ys)
-
-pub carries-place : (k : ℕ) (ys : List ℕ) {b c xs : List ℕ} {i j : ℕ} → Wrote k b i xs c j → j + length ys ≡ i + length (xs ++ ys)
-carries-place k ys {b} {c} {xs} {i} {j} u = let e = length-append xs ys in let p = u .place in omega arith

@@ -20,24 +20,27 @@ unfoldable pub numbers : List (List ℕ) → Option (List ℕ)
 numbers [] = some []
 numbers (f ∷ fs) = inFront (number f) (numbers fs)
 
--- a call of one, two or five numbers
-unfoldable pub one : (ℕ → Call) → List ℕ → Option Call
-one f ns = cond (eqb (length ns) 1) (some (f (getD ns 0 0))) none
+-- "`F D` make, `B node port` block, `E node port` unblock, `S node channel target type vector` open, `C node channel` close": how many numbers stand
+-- behind a call letter, 0 behind another byte, and the call that a letter asks for, with as many of five numbers as it has
+unfoldable pub numbersOf : ℕ → ℕ
+numbersOf x =
+    cond (eqb x letterF) 1
+    (cond (eqb x letterB) 2
+    (cond (eqb x letterE) 2
+    (cond (eqb x letterS) 5
+    (cond (eqb x letterC) 2 0))))
 
-unfoldable pub two : (ℕ → ℕ → Call) → List ℕ → Option Call
-two f ns = cond (eqb (length ns) 2) (some (f (getD ns 0 0) (getD ns 1 0))) none
+unfoldable pub asked : ℕ → ℕ → ℕ → ℕ → ℕ → ℕ → Option Call
+asked x a b c d e =
+    cond (eqb x letterF) (some (making a))
+    (cond (eqb x letterB) (some (blocking a b))
+    (cond (eqb x letterE) (some (unblocking a b))
+    (cond (eqb x letterS) (some (opening a b c d e))
+    (cond (eqb x letterC) (some (closing a b)) none))))
 
-unfoldable pub five : (ℕ → ℕ → ℕ → ℕ → ℕ → Call) → List ℕ → Option Call
-five f ns = cond (eqb (length ns) 5) (some (f (getD ns 0 0) (getD ns 1 0) (getD ns 2 0) (getD ns 3 0) (getD ns 4 0))) none
-
--- "`F D` make, `B node port` block, `E node port` unblock, `S node channel target type vector` open, `C node channel` close"
+-- a letter and the numbers behind it, where they are as many as it has
 unfoldable pub byLetter : ℕ → List ℕ → Option Call
-byLetter x ns =
-    cond (eqb x letterF) (one making ns)
-    (cond (eqb x letterB) (two blocking ns)
-    (cond (eqb x letterE) (two unblocking ns)
-    (cond (eqb x letterS) (five opening ns)
-    (cond (eqb x letterC) (two closing ns) none))))
+byLetter x ns = cond (eqb (length ns) (numbersOf x)) (asked x (getD ns 0 0) (getD ns 1 0) (getD ns 2 0) (getD ns 3 0) (getD ns 4 0)) none
 
 -- a letter that stands alone in its field, and the numbers behind it
 unfoldable pub withNumbers : ℕ → Option (List ℕ) → Option Call

@@ -9,104 +9,46 @@ use lib.Dec.{eqb, ltb}
 use lib.ListN.{length, take, replicate}
 use Rattle.paths.specs.Send.{Answer}
 use Rattle.table.specs.Layout.{made}
-use Rattle.ownership.specs.Calls.{Call, making, blocking, unblocking, opening, closing, tracing, Given}
+use Rattle.ownership.specs.Calls.{Call, making, blocking, unblocking, opening, closing, tracing, After}
 use Rattle.ownership.specs.OnTable.{called}
-use Rattle.ownership.specs.History.{History, told}
+use Rattle.ownership.specs.History.{entered}
 use Rattle.listing.specs.Text.{letterB, letterC, letterE, letterF, letterS}
 use Rattle.listing.specs.Lines.{lines}
 use Rattle.listing.specs.Line.{asks}
-use Rattle.listing.specs.Row.{Field, nothing, shows, letter, path, Row, ended, rowsText}
+use Rattle.listing.specs.Row.{Field, nothing, shows, path, Row, row, lone, ended, rowsText}
 
--- "call letter". No line asks for a trace.
-unfoldable pub letterOf : Call → Field
-letterOf (making D) = letter letterF
-letterOf (blocking n p) = letter letterB
-letterOf (unblocking n p) = letter letterE
-letterOf (opening s c t y v) = letter letterS
-letterOf (closing s c) = letter letterC
-letterOf (tracing s c buffer) = nothing
-
--- "node as given (source for S)"
-unfoldable pub nodeOf : Call → Field
-nodeOf (making D) = nothing
-nodeOf (blocking n p) = shows n
-nodeOf (unblocking n p) = shows n
-nodeOf (opening s c t y v) = shows s
-nodeOf (closing s c) = shows s
-nodeOf (tracing s c buffer) = nothing
-
--- "channel as given"
-unfoldable pub channelOf : Call → Field
-channelOf (making D) = nothing
-channelOf (blocking n p) = nothing
-channelOf (unblocking n p) = nothing
-channelOf (opening s c t y v) = shows c
-channelOf (closing s c) = shows c
-channelOf (tracing s c buffer) = nothing
-
--- "Success is 0."
+-- "Success is 0."; "S answered 0, 10 or 11"
 abbrev pub accepted : Answer → Bool
 accepted a = eqb (a .number) 0
 
--- "receive channel taken"; "A refused S shows `-` for receive and ports."
-unfoldable pub receiveOf : Call → Answer → Field
-receiveOf (making D) a = nothing
-receiveOf (blocking n p) a = nothing
-receiveOf (unblocking n p) a = nothing
-receiveOf (opening s c t y v) a = cond (accepted a) (shows (a .receive)) nothing
-receiveOf (closing s c) a = nothing
-receiveOf (tracing s c buffer) a = nothing
+abbrev pub sent : Answer → Bool
+sent a = eqb (a .number) 0 || eqb (a .number) 10 || eqb (a .number) 11
 
--- "scouts (S answered 0, 10 or 11)"
-abbrev pub sent : ℕ → Bool
-sent n = eqb n 0 || eqb n 10 || eqb n 11
+-- a field that shows nothing unless something holds
+abbrev pub showsIf : Bool → Field → Field
+showsIf b f = cond b f nothing
 
-unfoldable pub scoutsOf : Call → Answer → Field
-scoutsOf (making D) a = nothing
-scoutsOf (blocking n p) a = nothing
-scoutsOf (unblocking n p) a = nothing
-scoutsOf (opening s c t y v) a = cond (sent (a .number)) (shows (a .scouts)) nothing
-scoutsOf (closing s c) a = nothing
-scoutsOf (tracing s c buffer) a = nothing
-
--- "ports in path order, or the port of B and E as given", where the send channel's path is what `way` says
-unfoldable pub portsOf : Call → Answer → (ℕ → ℕ → List ℕ) → Field
-portsOf (making D) a way = nothing
-portsOf (blocking n p) a way = shows p
-portsOf (unblocking n p) a way = shows p
-portsOf (opening s c t y v) a way = cond (accepted a) (path (way s c)) nothing
-portsOf (closing s c) a way = nothing
-portsOf (tracing s c buffer) a way = nothing
-
--- "Fields: input line from 1; call letter; refusal number; ..": the line of a call that was read
+-- "Fields: input line from 1; call letter; refusal number; node as given (source for S); channel as given; receive channel taken; scouts (S answered 0, 10
+-- or 11); ports in path order, or the port of B and E as given. A refused S shows `-` for receive and ports." The path of a send channel is what `way` says.
 unfoldable pub callRow : ℕ → Call → Answer → (ℕ → ℕ → List ℕ) → Row
-callRow n a x way =
-    record {
-      line = shows n;
-      call = letterOf a;
-      answer = shows (x .number);
-      node = nodeOf a;
-      channel = channelOf a;
-      receive = receiveOf a x;
-      scouts = scoutsOf a x;
-      ports = portsOf a x way;
-    }
+callRow n (making D) x way = row n letterF (x .number) nothing nothing nothing nothing nothing
+callRow n (blocking m p) x way = row n letterB (x .number) (shows m) nothing nothing nothing (shows p)
+callRow n (unblocking m p) x way = row n letterE (x .number) (shows m) nothing nothing nothing (shows p)
+callRow n (opening s c t y v) x way =
+    row n letterS (x .number) (shows s) (shows c) (showsIf (accepted x) (shows (x .receive))) (showsIf (sent x) (shows (x .scouts))) (showsIf (accepted x) (path (way s c)))
+callRow n (closing s c) x way = row n letterC (x .number) (shows s) (shows c) nothing nothing nothing
+-- no line asks for a trace
+callRow n (tracing s c buffer) x way = lone n (x .number)
 
 -- "For number 20 every field but line and answer is `-`."
 unfoldable pub unreadable : ℕ → Row
-unreadable n =
-    record { line = shows n; call = nothing; answer = shows 20; node = nothing; channel = nothing; receive = nothing; scouts = nothing; ports = nothing }
-
--- what a call leaves and gives
-pub record Made (S : Type 0) : Type 0 where
-  pub state : S
-  pub given : Given
+unreadable n = lone n 20
 
 -- the buffer that a trace is lent
 abbrev pub empty : List ℕ
 empty = replicate 9 0
 
-module _ {S : Type 0} (makes : S → Call → Made S) where
+module _ {S : Type 0} (makes : S → Call → After S) where
   -- the ports that a trace of a send channel writes
   unfoldable pub traced : S → ℕ → ℕ → List ℕ
   traced s n c = take (makes s (tracing n c empty) .given .answer .hops) (makes s (tracing n c empty) .given .buffer)
@@ -150,19 +92,12 @@ inputLimit = 60000
 unfoldable pub tooLong : List ℕ
 tooLong = ended ((116 ∷ 111 ∷ 111 ∷ []) ∷ (108 ∷ 111 ∷ 110 ∷ 103 ∷ []) ∷ [])
 
-unfoldable pub listing : {S : Type 0} → (S → Call → Made S) → S → List ℕ → List ℕ
+unfoldable pub listing : {S : Type 0} → (S → Call → After S) → S → List ℕ → List ℕ
 listing makes s input = cond (ltb inputLimit (length input)) tooLong (header ++ rowsText (rows makes s 1 (lines input)))
 
--- calls made on a table, by the definition that the contracts of the calls cite, and in the ownership history
-unfoldable pub onTable : List ℕ → Call → Made (List ℕ)
-onTable b a = record { state = called b a .table; given = called b a .given }
-
-unfoldable pub inHistory : History → Call → Made History
-inHistory h a = record { state = told h a .history; given = told h a .given }
-
--- "It starts from a made table of dimension 1."
+-- "It starts from a made table of dimension 1.": on the bytes of a table, by the definition that the contracts of the calls cite, and in the ownership history
 unfoldable pub printed : List ℕ → List ℕ
-printed input = listing onTable (made 1) input
+printed input = listing called (made 1) input
 
 unfoldable pub recorded : List ℕ → List ℕ
-recorded input = listing inHistory (record { dimension = 1; blocked = []; circuits = [] }) input
+recorded input = listing entered (record { dimension = 1; blocked = []; circuits = [] }) input

@@ -9,11 +9,12 @@ use Prim.Native.Nat.{ℕ, _+_, _*_, _≤_}
 use lib.Dec.{eqb, ltb, leb}
 use lib.ListN.{length, take, drop}
 use lib.Seq.{sets}
-use Rattle.ownership.specs.Calls.{Call, making, blocking, unblocking, opening, closing}
-use Rattle.listing.specs.Text.{letterB, letterC, letterE, letterF, letterS, space, decimal, allDigits, value, largest}
+use Rattle.ownership.specs.Calls.{Call}
+use Rattle.listing.specs.Text.{space, decimal, allDigits, value, largest}
 use Rattle.listing.specs.Line.{numbers, withNumbers}
-use Rattle.listing.specs.Row.{Field, shows, letter, Row, rowText}
-use Rattle.listing.specs.Listing.{onTable, rowFor, behind, printed}
+use Rattle.listing.specs.Row.{rowText}
+use Rattle.listing.specs.Listing.{rowFor, behind, printed}
+use Rattle.ownership.specs.OnTable.{called}
 
 -- a text was written from place i on, byte by byte; place j is behind it, at most k places on
 pub record Wrote (k : ℕ) (b : List ℕ) (i : ℕ) (text : List ℕ) (after : List ℕ) (j : ℕ) : Type 0 where
@@ -35,24 +36,6 @@ orNone (some n) = n
 unfoldable pub said : ℕ → List ℕ → ℕ
 said n xs = cond (allDigits xs && leb (value n xs) largest) (value n xs) 65536
 
--- how many numbers stand behind a call letter; 0 behind another byte
-unfoldable pub numbersOf : ℕ → ℕ
-numbersOf x =
-    cond (eqb x letterF) 1
-    (cond (eqb x letterB) 2
-    (cond (eqb x letterE) 2
-    (cond (eqb x letterS) 5
-    (cond (eqb x letterC) 2 0))))
-
--- what a line that was read asks: its letter and its numbers, as many as the letter has
-unfoldable pub asked : ℕ → ℕ → ℕ → ℕ → ℕ → ℕ → Option Call
-asked x a b c d e =
-    cond (eqb x letterF) (some (making a))
-    (cond (eqb x letterB) (some (blocking a b))
-    (cond (eqb x letterE) (some (unblocking a b))
-    (cond (eqb x letterS) (some (opening a b c d e))
-    (cond (eqb x letterC) (some (closing a b)) none))))
-
 -- the numbers of some fields were read: r of them, in front of five values; 0 where no letter goes with these fields
 pub record ReadNumbers (fs : List (List ℕ)) (values : List ℕ) (r : ℕ) : Type 0 where
   pub room : length values ≡ 5
@@ -60,19 +43,14 @@ pub record ReadNumbers (fs : List (List ℕ)) (values : List ℕ) (r : ℕ) : Ty
   pub read : r ≢ 0 → numbers fs ≡ some (take r values)
   pub unread : r ≡ 0 → (x : ℕ) → withNumbers x (numbers fs) ≡ none
 
--- a printed line of a call: its line, letter, answer, node, channel, receive channel, scouts and ports
-abbrev pub row : ℕ → ℕ → ℕ → Field → Field → Field → Field → Field → Row
-row n x a node channel receive scouts ports =
-    record { line = shows n; call = letter x; answer = shows a; node = node; channel = channel; receive = receive; scouts = scouts; ports = ports }
-
--- its first three fields
+-- the first three fields of a printed line
 unfoldable pub front : ℕ → ℕ → ℕ → List ℕ
 front n x a = decimal n ++ space ∷ x ∷ space ∷ decimal a
 
 -- What an input line asks was carried out on a table b and printed as line n: the text within k places, and the table afterwards.
 pub record Answered (k : ℕ) (b : List ℕ) (n : ℕ) (a : Option Call) (out : List ℕ) (i : ℕ) (after : List ℕ) (out′ : List ℕ) (j : ℕ) : Type 0 where
-  pub text : Wrote k out i (rowText (rowFor onTable b n a)) out′ j
-  pub table : after ≡ behind onTable b a
+  pub text : Wrote k out i (rowText (rowFor called b n a)) out′ j
+  pub table : after ≡ behind called b a
 
 -- the size of an output that is enough for every input: the header, and 24 bytes for each byte of input and one more
 abbrev pub outputBytes : ℕ

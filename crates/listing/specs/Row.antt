@@ -34,6 +34,16 @@ pub record Row : Type 0 where
   pub scouts : Field
   pub ports : Field
 
+-- the line of a call: its number, letter, answer, node, channel, receive channel, scouts and ports
+abbrev pub row : ℕ → ℕ → ℕ → Field → Field → Field → Field → Field → Row
+row n x a node channel receive scouts ports =
+    record { line = shows n; call = letter x; answer = shows a; node = node; channel = channel; receive = receive; scouts = scouts; ports = ports }
+
+-- a line that shows its number and an answer alone
+abbrev pub lone : ℕ → ℕ → Row
+lone n a =
+    record { line = shows n; call = nothing; answer = shows a; node = nothing; channel = nothing; receive = nothing; scouts = nothing; ports = nothing }
+
 -- "line call answer node channel receive scouts ports"
 unfoldable pub inOrder : Row → List Field
 inOrder r = r .line ∷ r .call ∷ r .answer ∷ r .node ∷ r .channel ∷ r .receive ∷ r .scouts ∷ r .ports ∷ []

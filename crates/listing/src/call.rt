@@ -6,9 +6,10 @@ ghost use lib.ListN.{length};
 ghost use Rattle.ownership.specs.Calls.{making, blocking, unblocking, opening, closing};
 ghost use Rattle.listing.specs.Text.{letterS};
 ghost use Rattle.listing.specs.Line.{asks};
-ghost use Rattle.listing.specs.Row.{shows, path, rowText};
-ghost use Rattle.listing.specs.Listing.{onTable, traced};
-ghost use Rattle.listing.specs.Printed.{Wrote, row, Answered};
+ghost use Rattle.listing.specs.Row.{shows, path, rowText, row};
+ghost use Rattle.listing.specs.Listing.{traced};
+ghost use Rattle.listing.specs.Printed.{Wrote, Answered};
+ghost use Rattle.ownership.specs.OnTable.{called};
 use crate::line;
 use crate::row;
 use common::refusal;
@@ -23,27 +24,27 @@ fn make(t: &mut [u8], out: &mut [u8], at: usize, line: u16, dimension: u16) -> u
     row::made(out, at, line, b'F', answer)
 }
 
-fn block(t: &mut [u8], out: &mut [u8], at: usize, line: u16, node: u16, port: u16) -> usize
+fn block(t: &mut [u8], out: &mut [u8], at: usize, line: u16, node: Node, port: Port) -> usize
     requires { ⌜ at + 72 ≤ length (now out) ⌝ }
-    ensures { λ r. ⌜ Answered 72 (now (t .entry)) line (some (blocking node port)) (now (out .entry)) at (now (t .exit)) (now (out .exit)) r ⌝ }
+    ensures { λ r. ⌜ Answered 72 (now (t .entry)) line (some (blocking (node .0) (port .0))) (now (out .entry)) at (now (t .exit)) (now (out .exit)) r ⌝ }
 {
-    let answer = router::block(t, Node(node), Port(port));
+    let answer = router::block(t, node, port);
     row::link(out, at, line, b'B', answer, node, port)
 }
 
-fn unblock(t: &mut [u8], out: &mut [u8], at: usize, line: u16, node: u16, port: u16) -> usize
+fn unblock(t: &mut [u8], out: &mut [u8], at: usize, line: u16, node: Node, port: Port) -> usize
     requires { ⌜ at + 72 ≤ length (now out) ⌝ }
-    ensures { λ r. ⌜ Answered 72 (now (t .entry)) line (some (unblocking node port)) (now (out .entry)) at (now (t .exit)) (now (out .exit)) r ⌝ }
+    ensures { λ r. ⌜ Answered 72 (now (t .entry)) line (some (unblocking (node .0) (port .0))) (now (out .entry)) at (now (t .exit)) (now (out .exit)) r ⌝ }
 {
-    let answer = router::unblock(t, Node(node), Port(port));
+    let answer = router::unblock(t, node, port);
     row::link(out, at, line, b'E', answer, node, port)
 }
 
-fn close(t: &mut [u8], out: &mut [u8], at: usize, line: u16, source: u16, channel: u16) -> usize
+fn close(t: &mut [u8], out: &mut [u8], at: usize, line: u16, source: Node, channel: u16) -> usize
     requires { ⌜ at + 72 ≤ length (now out) ⌝ }
-    ensures { λ r. ⌜ Answered 72 (now (t .entry)) line (some (closing source channel)) (now (out .entry)) at (now (t .exit)) (now (out .exit)) r ⌝ }
+    ensures { λ r. ⌜ Answered 72 (now (t .entry)) line (some (closing (source .0) channel)) (now (out .entry)) at (now (t .exit)) (now (out .exit)) r ⌝ }
 {
-    let answer = router::close(t, Node(source), channel);
+    let answer = router::close(t, source, channel);
     row::channel(out, at, line, b'C', answer, source, channel)
 }
 
@@ -59,16 +60,16 @@ fn acknowledged(
     out: &mut [u8],
     at: usize,
     line: u16,
-    source: u16,
+    source: Node,
     channel: u16,
     receive: u16,
     scouts: u32,
 ) -> usize
     requires { ⌜ at + 72 ≤ length (now out) ⌝ }
-    ensures { λ r. ⌜ Wrote 71 (now (out .entry)) at (rowText (row line letterS 0 (shows source) (shows channel) (shows receive) (shows scouts) (path (traced onTable (now (t .entry)) source channel)))) (now (out .exit)) r ⌝ }
+    ensures { λ r. ⌜ Wrote 71 (now (out .entry)) at (rowText (row line letterS 0 (shows (source .0)) (shows channel) (shows receive) (shows scouts) (path (traced called (now (t .entry)) (source .0) channel)))) (now (out .exit)) r ⌝ }
 {
     let mut buffer = [0u8; 9];
-    let hops = at_most_nine(router::trace(t, Node(source), channel, &mut buffer).hops);
+    let hops = at_most_nine(router::trace(t, source, channel, &mut buffer).hops);
     row::acknowledged(
         out,
         at,
@@ -86,16 +87,16 @@ fn open(
     out: &mut [u8],
     at: usize,
     line: u16,
-    source: u16,
+    source: Node,
     channel: u16,
-    target: u16,
+    target: Node,
     routing: u16,
     vector: u16,
 ) -> usize
     requires { ⌜ at + 72 ≤ length (now out) ⌝ }
-    ensures { λ r. ⌜ Answered 72 (now (t .entry)) line (some (opening source channel target routing vector)) (now (out .entry)) at (now (t .exit)) (now (out .exit)) r ⌝ }
+    ensures { λ r. ⌜ Answered 72 (now (t .entry)) line (some (opening (source .0) channel (target .0) routing vector)) (now (out .entry)) at (now (t .exit)) (now (out .exit)) r ⌝ }
 {
-    let got = router::open(t, Node(source), channel, Node(target), routing, vector);
+    let got = router::open(t, source, channel, target, routing, vector);
     let number = got.number;
     if number == refusal::ACCEPTED {
         return acknowledged(t, out, at, line, source, channel, got.receive, got.scouts);
@@ -119,10 +120,10 @@ pub fn answer(t: &mut [u8], out: &mut [u8], at: usize, line: u16, text: &[u8]) -
         return make(t, out, at, line, asked.a);
     }
     if letter == b'B' {
-        return block(t, out, at, line, asked.a, asked.b);
+        return block(t, out, at, line, Node(asked.a), Port(asked.b));
     }
     if letter == b'E' {
-        return unblock(t, out, at, line, asked.a, asked.b);
+        return unblock(t, out, at, line, Node(asked.a), Port(asked.b));
     }
     if letter == b'S' {
         return open(
@@ -130,15 +131,15 @@ pub fn answer(t: &mut [u8], out: &mut [u8], at: usize, line: u16, text: &[u8]) -
             out,
             at,
             line,
-            asked.a,
+            Node(asked.a),
             asked.b,
-            asked.c,
+            Node(asked.c),
             asked.d,
             asked.e,
         );
     }
     if letter == b'C' {
-        return close(t, out, at, line, asked.a, asked.b);
+        return close(t, out, at, line, Node(asked.a), asked.b);
     }
     row::unreadable(out, at, line)
 }

@@ -4,8 +4,8 @@ ghost use mathlib.Core.Logic.{_≢_};
 ghost use Prim.Native.Nat.{_+_, _≤_};
 ghost use lib.ListN.{length, drop};
 ghost use Rattle.listing.specs.Lines.{fields};
-ghost use Rattle.listing.specs.Line.{asks};
-ghost use Rattle.listing.specs.Printed.{before, numbersOf, asked, ReadNumbers};
+ghost use Rattle.listing.specs.Line.{numbersOf, asked, asks};
+ghost use Rattle.listing.specs.Printed.{before, ReadNumbers};
 use crate::number;
 
 const LONGEST: usize = 40;

@@ -2,10 +2,12 @@
 ghost use Prim.Native.Nat.{_+_, _≤_};
 ghost use lib.ListN.{length};
 ghost use Rattle.listing.specs.Text.{letterS};
-ghost use Rattle.listing.specs.Row.{nothing, shows, path as showsPath, rowText};
+ghost use Rattle.listing.specs.Row.{nothing, shows, path as showsPath, rowText, row};
 ghost use Rattle.listing.specs.Listing.{unreadable};
-ghost use Rattle.listing.specs.Printed.{Wrote, front, row};
+ghost use Rattle.listing.specs.Printed.{Wrote, front};
 use crate::put;
+use cube::Node;
+use cube::Port;
 
 // The line, the letter and the answer.
 fn front(out: &mut [u8], at: usize, line: u16, letter: u8, answer: u16) -> usize
@@ -34,16 +36,16 @@ pub fn link(
     line: u16,
     letter: u8,
     answer: u16,
-    node: u16,
-    port: u16,
+    node: Node,
+    port: Port,
 ) -> usize
     requires { ⌜ at + 32 ≤ length (now out) ⌝ }
-    ensures { λ r. ⌜ Wrote 32 (now (out .entry)) at (rowText (row line letter answer (shows node) nothing nothing nothing (shows port))) (now (out .exit)) r ⌝ }
+    ensures { λ r. ⌜ Wrote 32 (now (out .entry)) at (rowText (row line letter answer (shows (node .0)) nothing nothing nothing (shows (port .0)))) (now (out .exit)) r ⌝ }
 {
     let end = front(out, at, line, letter, answer);
-    let between = put::field(out, end, node);
+    let between = put::field(out, end, node.0);
     let last = put::text(out, between, b" - - -");
-    let newline = put::field(out, last, port);
+    let newline = put::field(out, last, port.0);
     put::byte(out, newline, b'\n')
 }
 
@@ -54,14 +56,14 @@ pub fn channel(
     line: u16,
     letter: u8,
     answer: u16,
-    node: u16,
+    node: Node,
     channel: u16,
 ) -> usize
     requires { ⌜ at + 32 ≤ length (now out) ⌝ }
-    ensures { λ r. ⌜ Wrote 32 (now (out .entry)) at (rowText (row line letter answer (shows node) (shows channel) nothing nothing nothing)) (now (out .exit)) r ⌝ }
+    ensures { λ r. ⌜ Wrote 32 (now (out .entry)) at (rowText (row line letter answer (shows (node .0)) (shows channel) nothing nothing nothing)) (now (out .exit)) r ⌝ }
 {
     let end = front(out, at, line, letter, answer);
-    let next = put::field(out, end, node);
+    let next = put::field(out, end, node.0);
     let last = put::field(out, next, channel);
     put::text(out, last, b" - - -\n")
 }
@@ -72,15 +74,15 @@ pub fn rejected(
     at: usize,
     line: u16,
     answer: u16,
-    node: u16,
+    node: Node,
     channel: u16,
     scouts: u32,
 ) -> usize
     requires { ⌜ at + 41 ≤ length (now out) ⌝ }
-    ensures { λ r. ⌜ Wrote 41 (now (out .entry)) at (rowText (row line letterS answer (shows node) (shows channel) nothing (shows scouts) nothing)) (now (out .exit)) r ⌝ }
+    ensures { λ r. ⌜ Wrote 41 (now (out .entry)) at (rowText (row line letterS answer (shows (node .0)) (shows channel) nothing (shows scouts) nothing)) (now (out .exit)) r ⌝ }
 {
     let end = front(out, at, line, b'S', answer);
-    let next = put::field(out, end, node);
+    let next = put::field(out, end, node.0);
     let between = put::field(out, next, channel);
     let sent = put::text(out, between, b" -");
     let last = put::wide_field(out, sent, scouts);
@@ -92,17 +94,17 @@ pub fn acknowledged(
     out: &mut [u8],
     at: usize,
     line: u16,
-    node: u16,
+    node: Node,
     channel: u16,
     receive: u16,
     scouts: u32,
     path: &[u8],
 ) -> usize
     requires { ⌜ (at + 71 ≤ length (now out)) × (length (now path) ≤ 9) ⌝ }
-    ensures { λ r. ⌜ Wrote 71 (now (out .entry)) at (rowText (row line letterS 0 (shows node) (shows channel) (shows receive) (shows scouts) (showsPath (now (path .entry))))) (now (out .exit)) r ⌝ }
+    ensures { λ r. ⌜ Wrote 71 (now (out .entry)) at (rowText (row line letterS 0 (shows (node .0)) (shows channel) (shows receive) (shows scouts) (showsPath (now (path .entry))))) (now (out .exit)) r ⌝ }
 {
     let end = front(out, at, line, b'S', 0);
-    let next = put::field(out, end, node);
+    let next = put::field(out, end, node.0);
     let taken = put::field(out, next, channel);
     let sent = put::field(out, taken, receive);
     let ports = put::wide_field(out, sent, scouts);

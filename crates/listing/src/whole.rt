@@ -4,8 +4,9 @@ ghost use Prim.Native.Nat.{_+_, _*_, _≤_};
 ghost use lib.ListN.{length};
 ghost use Rattle.listing.specs.Lines.{lines};
 ghost use Rattle.listing.specs.Row.{rowsText};
-ghost use Rattle.listing.specs.Listing.{onTable, rows};
+ghost use Rattle.listing.specs.Listing.{rows};
 ghost use Rattle.listing.specs.Printed.{Wrote, lists};
+ghost use Rattle.ownership.specs.OnTable.{called};
 use crate::call;
 use crate::line;
 use crate::put;
@@ -19,7 +20,7 @@ pub const OUTPUT_BYTES: usize = 1440075;
 // The printed lines of an input, from a place on. Each line of input is found, carried out on the table and printed.
 fn rows(input: &[u8], t: &mut [u8], out: &mut [u8], at: usize) -> usize
     requires { ⌜ (length (now input) ≤ 60000) × (at + 24 * 60001 ≤ length (now out)) ⌝ }
-    ensures { λ r. ⌜ Wrote (24 * 60001) (now (out .entry)) at (rowsText (rows onTable (now (t .entry)) 1 (lines (now (input .entry))))) (now (out .exit)) r ⌝ }
+    ensures { λ r. ⌜ Wrote (24 * 60001) (now (out .entry)) at (rowsText (rows called (now (t .entry)) 1 (lines (now (input .entry))))) (now (out .exit)) r ⌝ }
 {
     let mut place = at;
     let mut from: usize = 0;

@@ -1,12 +1,9 @@
 -- `listing::call::unblock` meets its contract.
 -- Assumes nothing.
-use mathlib.Core.List.{[]}
+use mathlib.Core.Path.{refl}
 use lib.Dec.{lit≤}
-use Rattle.ownership.specs.Calls.{unblocking, only}
-use Rattle.listing.specs.Row.{nothing, shows}
-use Rattle.listing.specs.Listing.{onTable, traced}
-use Rattle.listing.specs.Printed.{row}
-use Rattle.listing.proofs.Answers.{answered, unblock-row}
+use Rattle.listing.specs.Listing.{callRow}
+use Rattle.listing.proofs.Answers.{answered}
 use borrow.Author.Needs.{needs}
 use Rattle.listing.proofs.call.unblock.Statement.{statement}
 use Rattle.listing.proofs.call.unblock.Tie as tie
@@ -24,14 +21,8 @@ same-length-2 : tie.Need-same-length-2
 same-length-2 c = search needs
 
 returns : tie.Need-returns
-returns c =
-    let w = c .before .before in
-    let m = w .before .before .before .before in
-    let s = m .before .before .before .before in
-    let t = s .args .t .now in
-    let t′ = m .unblock .last .0 in
-    let r = m .unblock .result in
-    answered t t′ (unblocking (s .args .node) (s .args .port)) (only r) [] (m .unblock .ensures) 32 72 (s .args .line) (s .args .at) (w .link .result) (s .args .out .now) (w .link .last .0) (row (s .args .line) 69 r (shows (s .args .node)) nothing nothing nothing (shows (s .args .port))) (unblock-row (s .args .line) (traced onTable t′) (s .args .node) (s .args .port) r) (lit≤ tt) (w .link .ensures)
+unfolding callRow
+returns c = let w = c .before .before in let m = w .before .before .before .before in answered (m .unblock .ensures) refl (lit≤ tt) (w .link .ensures)
 
 pub unblock-spec : {M : Type 1} → statement M
 unblock-spec =

@@ -1,8 +1,7 @@
 -- `listing::line::numbers` meets its contract: the numbers read so far stand in front of those of the fields that are left.
 -- Assumes nothing.
 use mathlib.Core.Path.{_≡_, refl, sym, _∙_, ap}
-use mathlib.Core.Logic.{⊎-elim}
-use mathlib.Core.List.{List, []}
+use mathlib.Core.List.{List}
 use mathlib.Core.Option.{none, some}
 use Prim.Native.Nat.{ℕ, _+_, _-_, _≤_, _<_}
 use native.Mathlib.Omega.{arith}
@@ -10,21 +9,16 @@ use borrow.Author.Needs.{needs}
 use lib.ListN.{length, take, drop, set, length-set}
 use Rattle.listing.specs.Text.{number}
 use Rattle.listing.specs.Lines.{fields}
-use Rattle.listing.specs.Line.{numbers}
+use Rattle.listing.specs.Line.{numbers, withNumbers}
 use Rattle.listing.specs.Printed.{ReadNumbers}
-use Rattle.common.proofs.Tests.{same?}
 use Rattle.listing.proofs.Asking.{joined, joined-none, numbers-none, numbers-more, numbers-last, unread, many}
 use Rattle.listing.proofs.Reading.{read-most, read-not}
-use Rattle.listing.proofs.Cuts.{fields-more, fields-end, fields-some}
+use Rattle.listing.proofs.Cuts.{fields-more, fields-end, fields-first, fields-some}
 use Rattle.listing.proofs.line.numbers.Statement.{statement}
 use Rattle.listing.proofs.line.numbers.Tie as tie
-use Rattle.listing.proofs.line.numbers.Reads as reads
-use Rattle.listing.proofs.line.numbers.Lts as lts
-use Rattle.listing.proofs.line.find.Reads as find-reads
-use Rattle.listing.proofs.number.read.Reads as read-reads
 
-unread-all : (fs : List (List ℕ)) (vs : List ℕ) → length vs ≡ 5 → numbers fs ≡ none → ReadNumbers fs vs 0
-unread-all fs vs l e = record { room = l; few = omega arith; read = λ z. absurd (z refl); unread = λ z x. unread x (numbers fs) e }
+none-read : {fs : List (List ℕ)} {vs : List ℕ} → length vs ≡ 5 → ((x : ℕ) → withNumbers x (numbers fs) ≡ none) → ReadNumbers fs vs 0
+none-read l e = record { room = l; few = omega arith; read = λ z. absurd (z refl); unread = λ z. e }
 
 abbrev Inv-loop : tie.InvT-loop
 Inv-loop line from values₀ at₀ count₀ values at count =
@@ -62,13 +56,9 @@ returns c =
     let line = s .args .line .now in
     let at = l .loop .at in
     let j = f .find .result in
-    let found = f .find .ensures .0 in
     let bad : number (take (j - at) (drop at line)) ≡ none = read-not (take (j - at) (drop at line)) (sym (r .read .ensures) ∙ c .if1 .taken) in
-    let fs = fields (drop at line) in
-    ⊎-elim
-    (λ (e : j ≡ length line). unread-all (fields (drop (s .args .from) line)) (l .loop .values) (l .loop .inv .2) (l .loop .inv .3 ∙ numbers-none (l .loop .values) (l .loop .count) fs (take (j - at) (drop at line)) [] (fields-end line at j (l .loop .inv .0) found e) bad))
-    (λ e. unread-all (fields (drop (s .args .from) line)) (l .loop .values) (l .loop .inv .2) (l .loop .inv .3 ∙ numbers-none (l .loop .values) (l .loop .count) fs (take (j - at) (drop at line)) (fields (drop (j + 1) line)) (fields-more line at j (l .loop .inv .0) found (omega (arith, f .find .ensures .1, e))) bad))
-    (same? j (length line))
+    let first = fields-first line at j (l .loop .inv .0) (f .find .ensures .0) (f .find .ensures .1) in
+    none-read (l .loop .inv .2) (λ x. unread x (numbers (fields (drop (s .args .from) line))) (l .loop .inv .3 ∙ numbers-none (l .loop .values) (l .loop .count) (first .1) bad))
 
 cast-values : tie.Need-cast-values Inv-loop μ-loop
 cast-values c =
@@ -107,7 +97,7 @@ returns-2 c =
     record {
       room = length-set vs k n ∙ l .loop .inv .2;
       few = omega (arith, f .before .loop-test .taken);
-      read = λ z. l .loop .inv .3 ∙ numbers-more vs k (fields (drop at line)) part [] (fields-end line at j (l .loop .inv .0) (f .find .ensures .0) whole) n small good ∙ numbers-last (set vs k n) (k + 1);
+      read = λ z. l .loop .inv .3 ∙ numbers-more vs k (fields-end line at j (l .loop .inv .0) (f .find .ensures .0) whole) n small good ∙ numbers-last (set vs k n) (k + 1);
       unread = λ z. absurd (omega arith);
     }
 
@@ -137,7 +127,7 @@ loop-again c =
       omega arith,
       omega (arith, f .before .loop-test .taken),
       length-set vs k n ∙ l .loop .inv .2,
-      l .loop .inv .3 ∙ numbers-more vs k (fields (drop at line)) part (fields (drop (j + 1) line)) more n small good,
+      l .loop .inv .3 ∙ numbers-more vs k more n small good,
       omega (arith, ap length more, l .loop .inv .4),
     )
 
@@ -147,12 +137,7 @@ returns-3 c =
     let s = l .before .before in
     let line = s .args .line .now in
     let some-left = fields-some (drop (l .loop .at) line) in
-    record {
-      room = l .loop .inv .2;
-      few = omega arith;
-      read = λ z. absurd (z refl);
-      unread = λ z x. many (fields (drop (s .args .from) line)) (omega (arith, some-left, l .loop .inv .4, c .loop-test .left)) x;
-    }
+    none-read (l .loop .inv .2) (many (fields (drop (s .args .from) line)) (omega (arith, some-left, l .loop .inv .4, c .loop-test .left)))
 
 pub numbers-spec : {M : Type 1} → statement M
 numbers-spec =

@@ -12,18 +12,16 @@ unreadable-requires c κs = search needs
 
 returns : tie.Need-returns
 returns c =
-    let r = c .unreadable .result in
     let line = c .before .before .before .args .line .now in
-    refused-line line (r .letter) (r .a) (r .b) (r .c) (r .d) (r .e) (c .unreadable .ensures) (too-long-line line (c .before .if1 .taken))
+    refused-line line _ _ _ _ _ _ (c .unreadable .ensures) (too-long-line line (c .before .if1 .taken))
 
 unreadable-requires-2 : tie.Need-unreadable-requires-2
 unreadable-requires-2 c κs = search needs
 
 returns-2 : tie.Need-returns-2
 returns-2 c =
-    let r = c .unreadable2 .result in
     let line = c .before .before .before .before .args .line .now in
-    refused-line line (r .letter) (r .a) (r .b) (r .c) (r .d) (r .e) (c .unreadable2 .ensures) (short-line line (c .before .if2 .taken))
+    refused-line line _ _ _ _ _ _ (c .unreadable2 .ensures) (short-line line (c .before .if2 .taken))
 
 shared-slice-read-if3 : tie.Need-shared-slice-read-if3
 shared-slice-read-if3 c = search needs
@@ -33,9 +31,8 @@ unreadable-requires-3 c κs = search needs
 
 returns-3 : tie.Need-returns-3
 returns-3 c =
-    let r = c .unreadable3 .result in
     let line = c .before .before .before .before .before .before .args .line .now in
-    refused-line line (r .letter) (r .a) (r .b) (r .c) (r .d) (r .e) (c .unreadable3 .ensures) (second-byte line (omega arith) (omega arith) (c .before .if3 .taken))
+    refused-line line _ _ _ _ _ _ (c .unreadable3 .ensures) (second-byte line (omega arith) (omega arith) (c .before .if3 .taken))
 
 shared-slice-read-letter : tie.Need-shared-slice-read-letter
 shared-slice-read-letter c = search needs
@@ -50,9 +47,8 @@ returns-4 : tie.Need-returns-4
 returns-4 c =
     let n = c .before .before in
     let s = n .before .before .before .before .before .before .before .before in
-    let r = c .unreadable4 .result in
     let line = s .args .line .now in
-    refused-line line (r .letter) (r .a) (r .b) (r .c) (r .d) (r .e) (c .unreadable4 .ensures) (unread-line line (n .numbers .last .1 .1 .0) (n .numbers .result) (omega arith) (omega arith) (n .before .before .before .if3 .left) (n .numbers .ensures) (c .before .if4 .taken))
+    refused-line line _ _ _ _ _ _ (c .unreadable4 .ensures) (unread-line line (omega arith) (omega arith) (n .before .before .before .if3 .left) (n .numbers .ensures) (c .before .if4 .taken))
 
 wanted-requires : tie.Need-wanted-requires
 wanted-requires c κs = search needs
@@ -65,9 +61,8 @@ returns-5 c =
     let w = c .before .before in
     let n = w .before .before in
     let s = n .before .before .before .before .before .before .before .before in
-    let r = c .unreadable5 .result in
     let line = s .args .line .now in
-    refused-line line (r .letter) (r .a) (r .b) (r .c) (r .d) (r .e) (c .unreadable5 .ensures) (other-line line (n .numbers .last .1 .1 .0) (n .numbers .result) (omega arith) (omega arith) (n .before .before .before .if3 .left) (n .numbers .ensures) (w .before .if4 .left) (λ e. c .before .if5 .taken (e ∙ sym (w .wanted .ensures))))
+    refused-line line _ _ _ _ _ _ (c .unreadable5 .ensures) (other-line line (omega arith) (omega arith) (n .before .before .before .if3 .left) (n .numbers .ensures) (w .before .if4 .left) (λ e. c .before .if5 .taken (e ∙ sym (w .wanted .ensures))))
 
 array-read-t13 : tie.Need-array-read-t13
 array-read-t13 c = search needs
@@ -90,7 +85,7 @@ returns-6 c =
     let n = w .before .before in
     let s = n .before .before .before .before .before .before .before .before in
     let line = s .args .line .now in
-    (own-line line (n .numbers .last .1 .1 .0) (n .numbers .result) (omega arith) (omega arith) (n .before .before .before .if3 .left) (n .numbers .ensures) (w .before .if4 .left) (c .if5 .left ∙ w .wanted .ensures), λ z. omega arith)
+    (own-line line (omega arith) (omega arith) (n .before .before .before .if3 .left) (n .numbers .ensures) (w .before .if4 .left) (c .if5 .left ∙ w .wanted .ensures), λ z. omega arith)
 
 pub read-spec : {M : Type 1} → statement M
 read-spec =

@@ -6,7 +6,7 @@ use native.Mathlib.Omega.{arith}
 use borrow.Author.Needs.{needs}
 use lib.ListN.{length, getD, drop}
 use Rattle.listing.specs.Printed.{said}
-use Rattle.listing.proofs.Reading.{field-end, field-digit, field-low, field-high, field-over}
+use Rattle.listing.proofs.Reading.{field-end, field-digit, field-low, field-high, said-over}
 use Rattle.listing.proofs.number.digits.Statement.{statement}
 use Rattle.listing.proofs.number.digits.Tie as tie
 
@@ -54,7 +54,7 @@ returns-3 c =
     let low : 48 ≤ getD f (l .loop .i) 0 = omega (arith, w .wide .ensures, c .before .before .if1 .left) in
     let high : getD f (l .loop .i) 0 ≤ 57 = omega (arith, w .wide .ensures, c .before .if2 .left) in
     let n = 10 * l .loop .n + (getD f (l .loop .i) 0 - 48) in
-    sym (field-over f n (l .loop .i + 1) (omega (arith, w .wide .ensures, c .if3 .taken))) ∙ field-digit f (l .loop .n) (l .loop .i) inside low high ∙ l .loop .inv .2
+    sym (said-over n (drop (l .loop .i + 1) f) (omega (arith, w .wide .ensures, c .if3 .taken))) ∙ field-digit f (l .loop .n) (l .loop .i) inside low high ∙ l .loop .inv .2
 
 add-i : tie.Need-add-i Inv-loop μ-loop
 add-i c = omega arith

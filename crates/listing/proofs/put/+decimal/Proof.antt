@@ -66,7 +66,7 @@ decimal-returns : (t : ℕ) → decimal-lts.Need-returns (
 decimal-returns t c =
     let b = c .before .before in
     let s = b .before .before .before .before .before in
-    wrote-short (s .args .n) (s .args .at) (b .before .digit .result) (b .byte .result) (s .args .out .now) (b .byte .last .0) (b .before .before .before .if1 .taken) (b .before .digit .ensures) (b .byte .ensures)
+    wrote-short (s .args .n) (b .before .before .before .if1 .taken) (b .before .digit .ensures) (b .byte .ensures)
 
 decimal-decimal-requires : (t : ℕ) → decimal-lts.Need-decimal-requires (
   digit-reads.Asked,
@@ -102,7 +102,7 @@ decimal-byte-requires-2 : (t : ℕ) → decimal-lts.Need-byte-requires-2 (
 decimal-byte-requires-2 t c κs =
     let d = c .before .before .before .before in
     let s = d .before .before .before .before in
-    room-last (s .args .n) (s .args .at) (s .args .out .now) (s .pre .1) (d .before .before .if1 .left) (d .decimal .last .0) (d .decimal .result) (d .decimal .kept .0) (d .decimal .ensures)
+    room-last (s .args .n) (s .args .at) (s .args .out .now) (s .pre .1) (d .before .before .if1 .left) (d .decimal .kept .0) (d .decimal .ensures)
 
 decimal-same-length-2 : (t : ℕ) → decimal-lts.Need-same-length-2 (
   digit-reads.Asked,
@@ -129,7 +129,7 @@ decimal-returns-2 t c =
     let b = c .before .before in
     let d = b .before .before .before .before .before in
     let s = d .before .before .before .before in
-    wrote-long (s .args .n) (s .args .at) (b .before .digit2 .result) (d .decimal .result) (b .byte2 .result) (s .args .out .now) (d .decimal .last .0) (b .byte2 .last .0) (d .before .before .if1 .left) (b .before .digit2 .ensures) (d .decimal .ensures) (b .byte2 .ensures)
+    wrote-long (s .args .n) (d .before .before .if1 .left) (b .before .digit2 .ensures) (d .decimal .ensures) (b .byte2 .ensures)
 
 pub +decimal-spec : {M : Type 1} → statement M
 +decimal-spec = close μ-decimal λ t. decimal-lts.spec (

@@ -1,7 +1,7 @@
 -- `listing::put::field` meets its contract: a space, and the number behind it.
 -- Assumes nothing.
 use borrow.Author.Needs.{needs}
-use Rattle.listing.proofs.Writing.{followed}
+use Rattle.listing.proofs.Writing.{_then_}
 use Rattle.listing.proofs.put.field.Statement.{statement}
 use Rattle.listing.proofs.put.field.Tie as tie
 
@@ -15,7 +15,7 @@ same-length : tie.Need-same-length
 same-length c = search needs
 
 returns : tie.Need-returns
-returns c = followed 1 5 (c .before .before .before .before .before .before .byte .ensures) (c .before .before .number .ensures)
+returns c = c .before .before .before .before .before .before .byte .ensures then c .before .before .number .ensures
 
 pub field-spec : {M : Type 1} → statement M
 field-spec = tie.close (tie.spec byte-requires number-requires same-length returns)

@@ -2,8 +2,6 @@
 -- Assumes nothing.
 use native.Mathlib.Omega.{arith}
 use borrow.Author.Needs.{needs}
-use lib.ListN.{length}
-use Rattle.listing.specs.Text.{decimal}
 use Rattle.listing.proofs.Writing.{within}
 use Rattle.listing.proofs.Fields.{five-digits}
 use Rattle.listing.proofs.put.number.Statement.{statement}
@@ -19,7 +17,7 @@ returns : tie.Need-returns
 returns c =
     let d = c .before .before in
     let s = d .before .before .before in
-    within (length (decimal (s .args .n))) 5 (five-digits (s .args .n) (omega arith)) (d .decimal .ensures)
+    within (five-digits (s .args .n) (omega arith)) (d .decimal .ensures)
 
 pub number-spec : {M : Type 1} → statement M
 number-spec = tie.close (tie.spec decimal-requires same-length returns)

@@ -1,13 +1,11 @@
 -- `listing::put::path` meets its contract.
 -- Assumes nothing.
-use mathlib.Core.Path.{ap, sym}
 use mathlib.Core.List.{_∷_}
-use Prim.Native.Nat.{_+_, _*_}
+use mathlib.Core.Path.{ap, sym}
 use native.Mathlib.Omega.{arith}
 use lib.Dec.{lit≤}
-use lib.ListN.{length}
 use Rattle.listing.specs.Text.{space}
-use Rattle.listing.proofs.Writing.{followed, within}
+use Rattle.listing.proofs.Writing.{_then_, within}
 use Rattle.listing.proofs.Rows.{retext, no-path, some-path}
 use borrow.Author.Needs.{needs}
 use Rattle.listing.proofs.put.path.Statement.{statement}
@@ -27,7 +25,7 @@ returns c =
     let d = c .before .before in
     let b = d .before .before .before .before .before in
     let s = b .before .before .before .before in
-    within 2 28 (lit≤ tt) (retext 2 (ap (space ∷_) (sym (no-path (s .args .path .now) (d .before .before .if1 .taken)))) (followed 1 1 (b .byte .ensures) (d .byte2 .ensures)))
+    within (lit≤ tt) (retext (ap (space ∷_) (sym (no-path (s .args .path .now) (d .before .before .if1 .taken)))) (b .byte .ensures then d .byte2 .ensures))
 
 ports-requires : tie.Need-ports-requires
 ports-requires c κs = search needs
@@ -41,7 +39,7 @@ returns-2 c =
     let b = d .before .before .before .before .before in
     let s = b .before .before .before .before in
     let w = s .args .path .now in
-    within (1 + 3 * length w) 28 (omega (arith, s .pre .1)) (retext (1 + 3 * length w) (ap (space ∷_) (sym (some-path w (omega (arith, d .before .before .if1 .left))))) (followed 1 (3 * length w) (b .byte .ensures) (d .ports .ensures)))
+    within (omega (arith, s .pre .1)) (retext (ap (space ∷_) (sym (some-path w (omega (arith, d .before .before .if1 .left))))) (b .byte .ensures then d .ports .ensures))
 
 pub path-spec : {M : Type 1} → statement M
 path-spec =

@@ -59,8 +59,8 @@ loop-again c =
       omega arith,
       d .decimal .kept .0 ∙ l .loop .inv .1,
       omega (arith, three-digits (getD path i 0) (omega arith), w .place, l .loop .inv .2),
-      carries n (inTurn (drop (i + 1) path)) w ∙ ap (λ (xs : List ℕ). sets (l .loop .out) (l .loop .end) xs) (sym step) ∙ l .loop .inv .3,
-      carries-place n (inTurn (drop (i + 1) path)) w ∙ ap (λ (xs : List ℕ). l .loop .end + length xs) (sym step) ∙ l .loop .inv .4,
+      carries (inTurn (drop (i + 1) path)) w ∙ ap (λ (xs : List ℕ). sets (l .loop .out) (l .loop .end) xs) (sym step) ∙ l .loop .inv .3,
+      carries-place (inTurn (drop (i + 1) path)) w ∙ ap (λ (xs : List ℕ). l .loop .end + length xs) (sym step) ∙ l .loop .inv .4,
     )
 
 same-length : tie.Need-same-length Inv-loop μ-loop

@@ -2,9 +2,7 @@
 -- Assumes nothing.
 use native.Mathlib.Omega.{arith}
 use borrow.Author.Needs.{needs}
-use lib.ListN.{length}
-use Rattle.listing.specs.Text.{decimal}
-use Rattle.listing.proofs.Writing.{followed, within}
+use Rattle.listing.proofs.Writing.{_then_, within}
 use Rattle.listing.proofs.Fields.{ten-digits}
 use Rattle.listing.proofs.put.wide_field.Statement.{statement}
 use Rattle.listing.proofs.put.wide_field.Tie as tie
@@ -26,7 +24,7 @@ returns c =
     let d = c .before .before in
     let b = d .before .before .before .before in
     let s = b .before .before .before in
-    followed 1 10 (b .byte .ensures) (within (length (decimal (s .args .n))) 10 (ten-digits (s .args .n) (omega arith)) (d .decimal .ensures))
+    b .byte .ensures then within (ten-digits (s .args .n) (omega arith)) (d .decimal .ensures)
 
 pub wide-field-spec : {M : Type 1} → statement M
 wide-field-spec = tie.close (tie.spec byte-requires decimal-requires same-length returns)

@@ -1,6 +1,6 @@
 -- `listing::row::acknowledged` meets its contract.
 -- Assumes nothing.
-use Rattle.listing.proofs.Writing.{followed}
+use Rattle.listing.proofs.Writing.{_then_}
 use Rattle.listing.proofs.Rows.{retext, acknowledged-text}
 use borrow.Author.Needs.{needs}
 use Rattle.listing.proofs.row.acknowledged.Statement.{statement}
@@ -39,8 +39,7 @@ returns c =
     let p2 = p3 .before .before .before .before in
     let p1 = p2 .before .before .before .before in
     let p0 = p1 .before .before .before .before in
-    let s = p0 .before .before .before .before in
-    retext 71 (acknowledged-text (s .args .line) 83 0 (s .args .node) (s .args .channel) (s .args .receive) (s .args .scouts) (s .args .path .now)) (followed 70 1 (followed 42 28 (followed 31 11 (followed 25 6 (followed 19 6 (followed 13 6 (p0 .front .ensures) (p1 .field .ensures)) (p2 .field2 .ensures)) (p3 .field3 .ensures)) (p4 .wide-field .ensures)) (p5 .path .ensures)) (p6 .byte .ensures))
+    retext (acknowledged-text _ _ _ _ _ _ _ _) (p0 .front .ensures then p1 .field .ensures then p2 .field2 .ensures then p3 .field3 .ensures then p4 .wide-field .ensures then p5 .path .ensures then p6 .byte .ensures)
 
 pub acknowledged-spec : {M : Type 1} → statement M
 acknowledged-spec =

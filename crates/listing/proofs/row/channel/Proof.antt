@@ -1,6 +1,6 @@
 -- `listing::row::channel` meets its contract.
 -- Assumes nothing.
-use Rattle.listing.proofs.Writing.{followed}
+use Rattle.listing.proofs.Writing.{_then_}
 use Rattle.listing.proofs.Rows.{retext, channel-text}
 use borrow.Author.Needs.{needs}
 use Rattle.listing.proofs.row.channel.Statement.{statement}
@@ -30,8 +30,7 @@ returns c =
     let p2 = p3 .before .before .before .before .before in
     let p1 = p2 .before .before .before .before in
     let p0 = p1 .before .before .before .before in
-    let s = p0 .before .before .before in
-    retext 32 (channel-text (s .args .line) (s .args .letter) (s .args .answer) (s .args .node) (s .args .channel)) (followed 25 7 (followed 19 6 (followed 13 6 (p0 .front .ensures) (p1 .field .ensures)) (p2 .field2 .ensures)) (p3 .text .ensures))
+    retext (channel-text _ _ _ _ _) (p0 .front .ensures then p1 .field .ensures then p2 .field2 .ensures then p3 .text .ensures)
 
 pub channel-spec : {M : Type 1} → statement M
 channel-spec =

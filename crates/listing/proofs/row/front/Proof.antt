@@ -1,6 +1,6 @@
 -- `listing::row::front` meets its contract.
 -- Assumes nothing.
-use Rattle.listing.proofs.Writing.{followed}
+use Rattle.listing.proofs.Writing.{_then_}
 use Rattle.listing.proofs.Rows.{retext, front-text}
 use borrow.Author.Needs.{needs}
 use Rattle.listing.proofs.row.front.Statement.{statement}
@@ -27,8 +27,7 @@ returns c =
     let p2 = p3 .before .before .before .before in
     let p1 = p2 .before .before .before .before in
     let p0 = p1 .before .before .before .before in
-    let s = p0 .before .before .before in
-    retext 13 (front-text (s .args .line) (s .args .letter) (s .args .answer)) (followed 7 6 (followed 6 1 (followed 5 1 (p0 .number .ensures) (p1 .byte .ensures)) (p2 .byte2 .ensures)) (p3 .field .ensures))
+    retext (front-text _ _ _) (p0 .number .ensures then p1 .byte .ensures then p2 .byte2 .ensures then p3 .field .ensures)
 
 pub front-spec : {M : Type 1} → statement M
 front-spec =

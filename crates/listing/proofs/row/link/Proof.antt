@@ -1,6 +1,6 @@
 -- `listing::row::link` meets its contract.
 -- Assumes nothing.
-use Rattle.listing.proofs.Writing.{followed}
+use Rattle.listing.proofs.Writing.{_then_}
 use Rattle.listing.proofs.Rows.{retext, link-text}
 use borrow.Author.Needs.{needs}
 use Rattle.listing.proofs.row.link.Statement.{statement}
@@ -34,8 +34,7 @@ returns c =
     let p2 = p3 .before .before .before .before in
     let p1 = p2 .before .before .before .before .before in
     let p0 = p1 .before .before .before .before in
-    let s = p0 .before .before .before in
-    retext 32 (link-text (s .args .line) (s .args .letter) (s .args .answer) (s .args .node) (s .args .port)) (followed 31 1 (followed 25 6 (followed 19 6 (followed 13 6 (p0 .front .ensures) (p1 .field .ensures)) (p2 .text .ensures)) (p3 .field2 .ensures)) (p4 .byte .ensures))
+    retext (link-text _ _ _ _ _) (p0 .front .ensures then p1 .field .ensures then p2 .text .ensures then p3 .field2 .ensures then p4 .byte .ensures)
 
 pub link-spec : {M : Type 1} → statement M
 link-spec =

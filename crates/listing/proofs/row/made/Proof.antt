@@ -1,6 +1,6 @@
 -- `listing::row::made` meets its contract.
 -- Assumes nothing.
-use Rattle.listing.proofs.Writing.{followed}
+use Rattle.listing.proofs.Writing.{_then_}
 use Rattle.listing.proofs.Rows.{retext, made-text}
 use borrow.Author.Needs.{needs}
 use Rattle.listing.proofs.row.made.Statement.{statement}
@@ -22,8 +22,7 @@ returns : tie.Need-returns
 returns c =
     let p1 = c .before .before in
     let p0 = p1 .before .before .before .before .before in
-    let s = p0 .before .before .before in
-    retext 24 (made-text (s .args .line) (s .args .letter) (s .args .answer)) (followed 13 11 (p0 .front .ensures) (p1 .text .ensures))
+    retext (made-text _ _ _) (p0 .front .ensures then p1 .text .ensures)
 
 pub made-spec : {M : Type 1} → statement M
 made-spec =

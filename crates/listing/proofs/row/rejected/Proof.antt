@@ -1,6 +1,6 @@
 -- `listing::row::rejected` meets its contract.
 -- Assumes nothing.
-use Rattle.listing.proofs.Writing.{followed}
+use Rattle.listing.proofs.Writing.{_then_}
 use Rattle.listing.proofs.Rows.{retext, rejected-text}
 use borrow.Author.Needs.{needs}
 use Rattle.listing.proofs.row.rejected.Statement.{statement}
@@ -41,8 +41,7 @@ returns c =
     let p2 = p3 .before .before .before .before .before in
     let p1 = p2 .before .before .before .before in
     let p0 = p1 .before .before .before .before in
-    let s = p0 .before .before .before in
-    retext 41 (rejected-text (s .args .line) 83 (s .args .answer) (s .args .node) (s .args .channel) (s .args .scouts)) (followed 38 3 (followed 27 11 (followed 25 2 (followed 19 6 (followed 13 6 (p0 .front .ensures) (p1 .field .ensures)) (p2 .field2 .ensures)) (p3 .text .ensures)) (p4 .wide-field .ensures)) (p5 .text2 .ensures))
+    retext (rejected-text _ _ _ _ _ _) (p0 .front .ensures then p1 .field .ensures then p2 .field2 .ensures then p3 .text .ensures then p4 .wide-field .ensures then p5 .text2 .ensures)
 
 pub rejected-spec : {M : Type 1} → statement M
 rejected-spec =

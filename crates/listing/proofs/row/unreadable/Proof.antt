@@ -1,7 +1,7 @@
 -- `listing::row::unreadable` meets its contract.
 -- Assumes nothing.
 use lib.Dec.{lit≤}
-use Rattle.listing.proofs.Writing.{followed, within}
+use Rattle.listing.proofs.Writing.{_then_, within}
 use Rattle.listing.proofs.Rows.{retext, unreadable-text}
 use borrow.Author.Needs.{needs}
 use Rattle.listing.proofs.row.unreadable.Statement.{statement}
@@ -23,8 +23,7 @@ returns : tie.Need-returns
 returns c =
     let p1 = c .before .before in
     let p0 = p1 .before .before .before .before .before in
-    let s = p0 .before .before .before in
-    within 21 24 (lit≤ tt) (retext 21 (unreadable-text (s .args .line)) (followed 5 16 (p0 .number .ensures) (p1 .text .ensures)))
+    within (lit≤ tt) (retext (unreadable-text _) (p0 .number .ensures then p1 .text .ensures))
 
 pub unreadable-spec : {M : Type 1} → statement M
 unreadable-spec =

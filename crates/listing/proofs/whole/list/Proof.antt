@@ -1,13 +1,10 @@
 -- `listing::whole::list` meets its contract: the header and the lines behind it are the printed list.
 -- Assumes nothing.
-use mathlib.Core.List.{_++_}
-use Prim.Native.Nat.{_+_, _*_}
 use native.Mathlib.Omega.{arith}
 use lib.Dec.{lit≤}
-use Rattle.listing.specs.Lines.{lines}
-use Rattle.listing.specs.Row.{spaced, ended, rowsText}
-use Rattle.listing.specs.Listing.{header, tooLong, onTable, rows}
-use Rattle.listing.proofs.Writing.{followed}
+use Rattle.listing.specs.Row.{spaced, ended}
+use Rattle.listing.specs.Listing.{header, tooLong}
+use Rattle.listing.proofs.Writing.{_then_}
 use Rattle.listing.proofs.Remaining.{printed-long, printed-rows, lists-short, lists-all}
 use borrow.Author.Needs.{needs}
 use Rattle.listing.proofs.whole.list.Statement.{statement}
@@ -31,7 +28,7 @@ returns-2 c =
     let w = c .before .before in
     let i = w .before .before .before in
     let s = i .before .before .before .before in
-    lists-all 9 (s .args .input .now) (s .args .output .now) tooLong (w .text .last .0) (w .text .result) (omega (arith, i .before .if1 .left)) (lit≤ tt) (printed-long (s .args .input .now) (i .if2 .taken)) (w .text .ensures)
+    lists-all (s .args .input .now) (omega (arith, i .before .if1 .left)) (lit≤ tt) (printed-long (s .args .input .now) (i .if2 .taken)) (w .text .ensures)
 
 slice-aggregate-make : tie.Need-slice-aggregate-make
 slice-aggregate-make c = search needs
@@ -63,8 +60,7 @@ returns-3 c =
     let i = m .before .before in
     let s = i .before .before .before .before in
     let input = s .args .input .now in
-    let t = m .make .last .0 in
-    lists-all (51 + 24 * 60001) input (s .args .output .now) (header ++ rowsText (rows onTable t 1 (lines input))) (w .rows .last .1 .1 .0) (w .rows .result) (omega (arith, i .before .if1 .left)) (lit≤ tt) (printed-rows input t (omega (arith, i .if2 .left)) (m .make .ensures)) (followed 51 (24 * 60001) (h .text2 .ensures) (w .rows .ensures))
+    lists-all input (omega (arith, i .before .if1 .left)) (lit≤ tt) (printed-rows input (m .make .last .0) (omega (arith, i .if2 .left)) (m .make .ensures)) (h .text2 .ensures then w .rows .ensures)
 
 pub list-spec : {M : Type 1} → statement M
 list-spec =

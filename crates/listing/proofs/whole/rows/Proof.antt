@@ -5,20 +5,21 @@ use mathlib.Core.List.{List}
 use Prim.Native.Nat.{ℕ, _+_, _-_, _*_, _≤_}
 use native.Mathlib.Omega.{arith}
 use borrow.Author.Needs.{needs}
-use lib.ListN.{length, take, drop}
+use lib.ListN.{length, drop}
 use lib.Seq.{sets}
 use Rattle.listing.specs.Lines.{lines}
 use Rattle.listing.specs.Row.{rowsText}
-use Rattle.listing.specs.Listing.{onTable, rows}
+use Rattle.listing.specs.Listing.{rows}
 use Rattle.listing.proofs.Remaining.{line-length, left-bytes, left-place, left-none}
 use Rattle.listing.proofs.whole.rows.Statement.{statement}
 use Rattle.listing.proofs.whole.rows.Tie as tie
+use Rattle.ownership.specs.OnTable.{called}
 
 abbrev Inv-loop : tie.InvT-loop
 Inv-loop input t₀ out₀ at place₀ from₀ line₀ t out place from line =
     (from ≤ length input + 1) × (line ≤ from + 1) × (place ≤ at + 24 * from) × (length t ≡ length t₀) × (length out ≡ length out₀)
-    × (sets out place (rowsText (rows onTable t line (lines (drop from input)))) ≡ sets out₀ at (rowsText (rows onTable t₀ 1 (lines input))))
-    × (place + length (rowsText (rows onTable t line (lines (drop from input)))) ≡ at + length (rowsText (rows onTable t₀ 1 (lines input))))
+    × (sets out place (rowsText (rows called t line (lines (drop from input)))) ≡ sets out₀ at (rowsText (rows called t₀ 1 (lines input))))
+    × (place + length (rowsText (rows called t line (lines (drop from input)))) ≡ at + length (rowsText (rows called t₀ 1 (lines input))))
 
 abbrev μ-loop : tie.MeasureT-loop
 μ-loop input t₀ out₀ at place₀ from₀ line₀ t out place from line = length input + 1 - from
@@ -67,17 +68,14 @@ loop-again c =
     let inside = f .before .loop-test .taken in
     let found = f .find .ensures .0 in
     let ends = f .find .ensures .1 in
-    let part = line-length input i j inside found ends in
-    let k = 24 * (length (take (j - i) (drop i input)) + 1) in
-    let t′ = w .answer .last .0 in
-    let out′ = w .answer .last .1 .0 in (
+    let part = line-length input i j inside found ends in (
       omega (arith, ends),
       omega (arith, l .loop .inv .1, found),
       omega (arith, l .loop .inv .2, part, w .answer .ensures .text .most, found),
       w .answer .kept .0 ∙ l .loop .inv .3,
       w .answer .kept .1 .0 ∙ l .loop .inv .4,
-      left-bytes input i j inside found ends k (l .loop .t) t′ (l .loop .out) out′ (l .loop .line) (l .loop .place) (w .answer .result) (w .answer .ensures) ∙ l .loop .inv .5,
-      left-place input i j inside found ends k (l .loop .t) t′ (l .loop .out) out′ (l .loop .line) (l .loop .place) (w .answer .result) (w .answer .ensures) ∙ l .loop .inv .6,
+      left-bytes input i j inside found ends (w .answer .ensures) ∙ l .loop .inv .5,
+      left-place input i j inside found ends (w .answer .ensures) ∙ l .loop .inv .6,
     )
 
 same-length : tie.Need-same-length Inv-loop μ-loop

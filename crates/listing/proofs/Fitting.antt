@@ -1,0 +1,220 @@
+-- The text of every input fits the output that the listing function asks for.
+-- Assumes nothing.
+use mathlib.Core.Path.{_≡_, refl, ap, sym, _∙_}
+use mathlib.Core.Logic.{⊎-elim, _≢_}
+use mathlib.Core.Bool.{Bool, true, false, cond}
+use mathlib.Core.List.{List, [], _∷_, _++_, List·Memᴰ·head, List·Memᴰ·tail}
+use mathlib.Core.Option.{Option, none, some}
+use Prim.Native.Nat.{ℕ, zero, suc, _+_, _*_, _≤_, _<_}
+use native.Mathlib.Omega.{arith}
+use lib.Dec.{eqb, ltb, leb, lit≤, lit<}
+use lib.ListN.{length, getD, take, drop, length-append}
+use lib.Seq.{take-append-seam}
+use borrow.Author.Tests.{eqb-true, ltb-false}
+use Rattle.common.proofs.Tests.{same?, below-or}
+use Rattle.cube.specs.Cube.{circuitOf}
+use Rattle.paths.specs.Network.{Path}
+use Rattle.paths.proofs.Apart.{permitted-below}
+use Rattle.paths.proofs.CubeNetwork.{path-hops}
+use Rattle.table.specs.Layout.{made}
+use Rattle.table.specs.View.{view}
+use Rattle.soundness.specs.Sound.{shapeOf}
+use Rattle.soundness.specs.SoundTest.{pathOf}
+use Rattle.soundness.proofs.Soundness.{path-is}
+use Rattle.ownership.specs.Calls.{Call, making, blocking, unblocking, opening, closing, tracing, written, After}
+use Rattle.ownership.specs.OnTable.{askedOf, stoppedAt, carriedOut, called}
+use Rattle.ownership.specs.Allowed.{Allowed}
+use Rattle.ownership.proofs.Allowed.{allowed}
+use Rattle.ownership.proofs.Stops.{none-stops, none-stops-lent, pass-tests}
+use Rattle.ownership.proofs.Carried.{called-carried, called-stopped}
+use Rattle.ownership.proofs.Shows.{PortsBelow}
+use Rattle.ownership.proofs.OnSound.{open-says, open-stands}
+use Rattle.listing.specs.Text.{newline, decimal}
+use Rattle.listing.specs.Lines.{onFirst, cut, lines, fields}
+use Rattle.listing.specs.Line.{numbers, numbersOf, byLetter, withNumbers, ofFields, longest, asks}
+use Rattle.listing.specs.Row.{Field, nothing, shows, path, inTurn, bytesOf, Row, inOrder, spaced, ended, rowText, rowsText}
+use Rattle.listing.specs.Listing.{accepted, sent, callRow, unreadable, empty, traced, rowFor, behind, rows, header, inputLimit, tooLong, listing, printed}
+use Rattle.listing.specs.Printed.{outputBytes}
+use Rattle.listing.proofs.Digits.{decimal-length}
+use Rattle.listing.proofs.Fields.{five-digits}
+use Rattle.listing.proofs.Reading.{IfRead}
+use Rattle.listing.proofs.Asking.{numbers-hold, each-letter, short-line}
+use Rattle.listing.proofs.Theorems.{call-below}
+
+-- how many bytes a field takes
+abbrev width : Field → ℕ
+width f = length (bytesOf f)
+
+-- a printed line is its eight fields, seven spaces and a newline
+row-length : (r : Row) → length (rowText r)
+    ≡ width (r .line) + width (r .call) + width (r .answer) + width (r .node) + width (r .channel) + width (r .receive) + width (r .scouts) + width (r .ports) + 8
+unfolding rowText ended spaced inOrder
+row-length r = simp length-append (omega arith)
+
+-- a field that is shown in one case only
+if-fits : (k : ℕ) (b : Bool) (f : Field) → 1 ≤ k → (b ≡ true → width f ≤ k) → width (cond b f nothing) ≤ k
+unfolding bytesOf
+if-fits k true f h l = l refl
+if-fits k false f h l = h
+
+-- what is read in one case only
+if-read : {A : Type 0} (P : A → Type 0) (b : Bool) (o : Option A) → IfRead P o → IfRead P (cond b o none)
+if-read P true o h = h
+if-read P false o h = tt
+
+-- the numbers of a line are at most 65,535
+abbrev Small : List ℕ → Type 0
+Small ns = (i : ℕ) → getD ns i 0 < 65536
+
+in-front : (n : ℕ) (ns : List ℕ) → n < 65536 → Small ns → Small (n ∷ ns)
+in-front n ns h l zero = h
+in-front n ns h l (suc i) = l i
+
+numbers-small : (fs : List (List ℕ)) → IfRead Small (numbers fs)
+numbers-small = numbers-hold (λ fs. Small) (λ i. omega arith) (λ f fs. in-front)
+
+-- the numbers of a call that its line shows as given
+abbrev Given : Call → Type 0
+Given (making D) = Unit
+Given (blocking n p) = (n < 65536) × (p < 65536)
+Given (unblocking n p) = (n < 65536) × (p < 65536)
+Given (opening s c t y v) = (s < 65536) × (c < 65536)
+Given (closing s c) = (s < 65536) × (c < 65536)
+Given (tracing s c buffer) = Unit
+
+given-letter : (x : ℕ) (ns : List ℕ) → Small ns → IfRead Given (byLetter x ns)
+unfolding byLetter
+given-letter x ns h =
+    if-read Given (eqb (length ns) (numbersOf x)) _ (each-letter (λ n f. IfRead Given (f (getD ns 0 0) (getD ns 1 0) (getD ns 2 0) (getD ns 3 0) (getD ns 4 0))) tt (h 0, h 1) (h 0, h 1) (h 0, h 1) (h 0, h 1) tt x)
+
+given : (l : List ℕ) → IfRead Given (asks l)
+unfolding asks
+given l = if-read Given (leb (length l) longest) (ofFields (fields l)) (of (fields l))
+  where
+    behind-letter : (x : ℕ) (m : Option (List ℕ)) → IfRead Small m → IfRead Given (withNumbers x m)
+    behind-letter x none h = unfold withNumbers in tt
+    behind-letter x (some ns) h = unfold withNumbers in given-letter x ns h
+
+    of : (fs : List (List ℕ)) → IfRead Given (ofFields fs)
+    of [] = unfold ofFields in tt
+    of ([] ∷ fs) = unfold ofFields in tt
+    of ((x ∷ []) ∷ fs) = unfold ofFields in behind-letter x (numbers fs) (numbers-small fs)
+    of ((x ∷ y ∷ xs) ∷ fs) = unfold ofFields in tt
+
+-- A path that a trace tells: at most nine ports, of one digit each.
+turn-length : (D : ℕ) (w : Path) → D ≤ 10 → PortsBelow D w → length (inTurn w) ≤ length w
+unfolding inTurn PortsBelow
+turn-length D [] h b = omega arith
+turn-length D (p ∷ w) h b =
+    let l = b p (List·Memᴰ·head refl) in
+    omega (arith, length-append (decimal p) (inTurn w), decimal-length 0 p (omega arith), turn-length D w h (λ q m. b q (List·Memᴰ·tail m)))
+
+path-width : (w : Path) → length w ≤ 9 → length (inTurn w) ≤ length w → width (path w) ≤ 9
+unfolding bytesOf
+path-width [] h l = lit≤ tt
+path-width (p ∷ w) h l = omega arith
+
+module _ (b : List ℕ) (s c : ℕ) where
+  abbrev trace : Call
+  trace = tracing s c empty
+
+  entered-path : stoppedAt b trace ≡ 0 → traced called b s c ≡ pathOf (view b) (circuitOf s c)
+  unfolding traced carriedOut written
+  entered-path e =
+      ap (λ (d : After (List ℕ)). take (d .given .answer .hops) (d .given .buffer)) (called-carried b trace e)
+      ∙ take-append-seam (pathOf (view b) (circuitOf s c)) (drop (length (pathOf (view b) (circuitOf s c))) empty)
+
+  no-path : stoppedAt b trace ≢ 0 → traced called b s c ≡ []
+  unfolding traced
+  no-path e = ap (λ (d : After (List ℕ)). take (d .given .answer .hops) (d .given .buffer)) (called-stopped b trace e)
+
+  found-path : stoppedAt b trace ≡ 0 → width (path (pathOf (view b) (circuitOf s c))) ≤ 9
+  unfolding Allowed askedOf PortsBelow
+  found-path e =
+      let t = pass-tests b (none-stops-lent b trace (λ D q. let z : _≡_ {A = ℕ} 0 1 = cc in omega arith) e) in
+      let stands = open-stands (view b) (t .3) s c .0 (allowed (askedOf (view b)) trace (none-stops b trace e) .2) in
+      let most : view b .dimension ≤ 8 = unfold view in t .2 in
+      let below = permitted-below (shapeOf (view b)) _ _ (stands .path) (stands .permitted) in
+      let hops = path-hops (shapeOf (view b)) _ _ _ (stands .path) (stands .permitted) .1 in
+      rw (path-is (view b) (circuitOf s c) stands) (path-width (stands .path) (omega arith) (turn-length (view b .dimension) (stands .path) (omega arith) below))
+
+  traced-width : width (path (traced called b s c)) ≤ 9
+  unfolding bytesOf
+  traced-width = ⊎-elim (λ e. rw (entered-path e) (found-path e)) (λ e. rw (no-path e) (lit≤ tt)) (same? (stoppedAt b trace) 0)
+
+-- the receive channel and the scouts of an open
+module _ (b : List ℕ) (s c t y v : ℕ) where
+  abbrev opens : Call
+  opens = opening s c t y v
+
+  open-scouts : called b opens .given .answer .scouts ≤ 123300
+  open-scouts = ⊎-elim (λ e. open-says b s c t y v e .bounded) (λ e. rw (called-stopped b opens e) (lit≤ tt)) (same? (stoppedAt b opens) 0)
+
+  open-receive : called b opens .given .answer .number ≡ 0 → called b opens .given .answer .receive < 8
+  open-receive z = ⊎-elim (λ e. open-says b s c t y v e .lowest z .small) (λ e. absurd (e (rw (called-stopped b opens e) at z))) (same? (stoppedAt b opens) 0)
+
+-- the line of each call
+module _ (b : List ℕ) (n : ℕ) (small : n < 65536) where
+  answer-digits : (a : Call) → length (decimal (called b a .given .answer .number)) ≤ 2
+  answer-digits a = decimal-length 1 _ (let l = call-below b a in omega arith)
+
+  call-length : (a : Call) → Given a → length (rowText (rowFor called b n (some a))) ≤ 72
+  unfolding rowFor callRow bytesOf
+  call-length (making D) g = rw row-length (omega (arith, five-digits n small, answer-digits (making D)))
+  call-length (blocking m p) g = rw row-length (omega (arith, five-digits n small, answer-digits (blocking m p), five-digits m (g .0), five-digits p (g .1)))
+  call-length (unblocking m p) g = rw row-length (omega (arith, five-digits n small, answer-digits (unblocking m p), five-digits m (g .0), five-digits p (g .1)))
+  call-length (opening s c t y v) g =
+      let x = called b (opening s c t y v) .given .answer in
+      let receive = if-fits 1 (accepted x) (shows (x .receive)) (lit≤ tt) (λ e. decimal-length 0 (x .receive) (let l = open-receive b s c t y v (eqb-true _ 0 e) in omega arith)) in
+      let scouts = if-fits 6 (sent x) (shows (x .scouts)) (lit≤ tt) (λ e. decimal-length 5 (x .scouts) (let l = open-scouts b s c t y v in omega arith)) in
+      let ports = if-fits 9 (accepted x) (path (traced called (called b (opening s c t y v) .state) s c)) (lit≤ tt) (λ e. traced-width (called b (opening s c t y v) .state) s c) in
+      rw row-length (omega (arith, five-digits n small, answer-digits (opening s c t y v), five-digits s (g .0), five-digits c (g .1), receive, scouts, ports))
+  call-length (closing s c) g = rw row-length (omega (arith, five-digits n small, answer-digits (closing s c), five-digits s (g .0), five-digits c (g .1)))
+  call-length (tracing s c buffer) g = rw row-length (omega (arith, five-digits n small, answer-digits (tracing s c buffer)))
+
+  unreadable-length : length (rowText (unreadable n)) ≤ 24
+  unfolding unreadable bytesOf
+  unreadable-length = rw row-length (omega (arith, five-digits n small, decimal-length 1 20 (lit< tt)))
+
+  -- 24 bytes for each byte of a line and its newline: a line with a call has two bytes at least
+  line-length : (l : List ℕ) → length (rowText (rowFor called b n (asks l))) ≤ 24 * suc (length l)
+  line-length l = go (asks l) refl (given l)
+    where
+      go : (o : Option Call) → asks l ≡ o → IfRead Given o → length (rowText (rowFor called b n o)) ≤ 24 * suc (length l)
+      go none e g = unfold rowFor in omega (arith, unreadable-length)
+      go (some a) e g =
+          ⊎-elim (λ h. absurd (let z : _≡_ {A = Option Call} none (some a) = sym (short-line l h) ∙ e in let y : _≡_ {A = ℕ} 0 1 = cc in omega arith)) (λ h. omega (arith, call-length a g)) (below-or 2 (length l))
+
+-- what the lines of an input take: its bytes, and one more where the last newline is absent
+abbrev taken : List (List ℕ) → ℕ
+taken [] = 0
+taken (l ∷ ls) = suc (length l) + taken ls
+
+taken-lines : (input : List ℕ) → taken (lines input) ≤ suc (length input)
+unfolding lines cut
+taken-lines [] = omega arith
+taken-lines (x ∷ xs) = go (eqb x newline) (cut newline [] xs) (taken-lines xs)
+  where
+    go : (b : Bool) (ls : List (List ℕ)) → taken ls ≤ suc (length xs) → taken (cond b ([] ∷ ls) (onFirst x ls)) ≤ suc (suc (length xs))
+    go true ls h = omega arith
+    go false [] h = unfold onFirst in omega arith
+    go false (l ∷ ls) h = unfold onFirst in omega arith
+
+rows-length : (ls : List (List ℕ)) (b : List ℕ) (n : ℕ) → n + taken ls ≤ 65536 → length (rowsText (rows called b n ls)) ≤ 24 * taken ls
+unfolding rows rowsText
+rows-length [] b n h = omega arith
+rows-length (l ∷ ls) b n h =
+    omega (arith, length-append (rowText (rowFor called b n (asks l))) (rowsText (rows called (behind called b (asks l)) (suc n) ls)), line-length b n (omega arith) l, rows-length ls (behind called b (asks l)) (suc n) (omega arith))
+
+-- The printed text of every input fits an output of the size that the listing function asks for.
+pub text-fits : (input : List ℕ) → length (printed input) ≤ outputBytes
+unfolding printed listing
+text-fits input = go (ltb inputLimit (length input)) refl
+  where
+    go : (x : Bool) → ltb inputLimit (length input) ≡ x → length (cond x tooLong (header ++ rowsText (rows called (made 1) 1 (lines input)))) ≤ outputBytes
+    go true e = unfold tooLong ended spaced in lit≤ tt
+    go false e =
+        let long : length header ≡ 51 = unfold header ended spaced in refl in
+        let few = ltb-false inputLimit (length input) e in
+        let most = taken-lines input in
+        omega (arith, length-append header (rowsText (rows called (made 1) 1 (lines input))), rows-length (lines input) (made 1) 1 (omega arith))
