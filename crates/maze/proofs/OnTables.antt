@@ -6,9 +6,8 @@ use Prim.Native.Nat.{ℕ, _≤_}
 use lib.Dec.{lit≤}
 use lib.ListN.{length}
 use Rattle.table.specs.Layout.{tableLength}
-use Rattle.ownership.specs.Calls.{Call, making, blocking, unblocking, opening, closing, tracing}
-use Rattle.ownership.specs.History.{History}
-use Rattle.ownership.specs.Lists.{tableGives, historyGives}
+use Rattle.ownership.specs.Calls.{making, blocking, unblocking, opening, closing, tracing}
+use Rattle.ownership.specs.Lists.{tableGives}
 use Rattle.ownership.proofs.Agreement.{making-accepted, demand-3}
 use Rattle.maze.specs.Examples.{Input, calls, read, write, before, shown, result, inputs, results, examples}
 

@@ -2,24 +2,23 @@
 -- history gives (demand-3), so the calls are computed on the history.
 -- Assumes nothing.
 use mathlib.Core.Path.{_≡_, refl}
-use mathlib.Core.List.{List, [], _∷_, _++_, map}
+use mathlib.Core.List.{List, [], _∷_, map}
 use Prim.Native.Nat.{ℕ}
-use lib.ListN.{drop}
-use Rattle.common.specs.Lists.{keep, from, any}
+use Rattle.common.specs.Lists.{keep, from, any, lowest}
 use Rattle.common.specs.Tests.{refusal}
-use Rattle.cube.specs.Bits.{bitAt, has, flip}
+use Rattle.cube.specs.Bits.{has, flip}
 use Rattle.cube.specs.Cube.{uphill}
 use Rattle.cube.specs.Helical.{helical}
 use Rattle.paths.specs.Network.{offered, end, links, hasLink, freePath}
-use Rattle.paths.specs.Pass.{over, ways, beginnings, scan, whole, attempt, pass, scouts}
+use Rattle.paths.specs.Pass.{over, ways, beginnings, scan, whole, pass, scouts}
 use Rattle.paths.specs.Send.{received, outcome, goesOn, runs, answered}
 use Rattle.paths.specs.CubeNetwork.{network, sendPorts, otherPorts, maze, alternateMaze, send}
-use Rattle.table.specs.View.{lowest}
 use Rattle.command_word.specs.Commands.{commands, valuesIn, values, reserved}
-use Rattle.command_word.specs.Word.{readTests, carriedOf, reading, noReading, readWord, writeTests, writing, noWriting, writeWord}
-use Rattle.ownership.specs.Calls.{Call, making, blocking, unblocking, opening, closing, tracing, Given, written, callTests, lent}
-use Rattle.ownership.specs.History.{History, holdsLink, holdsReceive, belongs, enabledOn, heldOn, freeOn, takenOn, openOn, receiveOn, listed, askedOn, stoppedOn, sendOn, adds, follows, gives, told}
-use Rattle.ownership.specs.Lists.{historyGives}
+use Rattle.command_word.specs.Word.{readTests, reading, readWord, writeTests, writing, writeWord}
+use Rattle.table.specs.View.{lowestOf}
+use Rattle.ownership.specs.Calls.{Call, making, blocking, opening, closing, tracing, Given, written, callTests, lent}
+use Rattle.ownership.specs.History.{History, holdsLink, holdsReceive, belongs, enabledOn, heldOn, freeOn, takenOn, openOn, receiveOn, listed, askedOn, stoppedOn, sendOn, adds, follows, gives, entered}
+use Rattle.ownership.specs.Lists.{historyGives, answers}
 
 -- an input: a list of calls, a word to read, a command and a carried number to write
 pub data Input : Type 0 where
@@ -80,5 +79,5 @@ results =
     ∷ []
 
 pub examples : map result inputs ≡ results
-unfolding historyGives told stoppedOn callTests refusal askedOn openOn heldOn takenOn any holdsLink holdsReceive belongs enabledOn freeOn receiveOn lowest listed sendOn adds follows gives written lent send maze alternateMaze network sendPorts otherPorts keep from has flip uphill helical offered end links hasLink freePath over ways beginnings scan whole attempt pass scouts received outcome goesOn runs answered commands valuesIn values reserved readTests reading readWord writeTests writing writeWord
+unfolding answers entered stoppedOn callTests refusal askedOn openOn heldOn takenOn any holdsLink holdsReceive belongs enabledOn freeOn receiveOn lowestOf lowest listed sendOn adds follows gives written lent send maze alternateMaze network sendPorts otherPorts keep from has flip uphill helical offered end links hasLink freePath over ways beginnings scan whole pass scouts received outcome goesOn runs answered commands valuesIn values reserved readTests reading readWord writeTests writing writeWord
 examples = refl

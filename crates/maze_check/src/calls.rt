@@ -11,23 +11,23 @@ fn make(t: &mut [u8], dimension: u16) {
     print::end();
 }
 
-fn block(t: &mut [u8], node: u16, port: u16) {
+fn block(t: &mut [u8], node: Node, port: Port) {
     print::text(b"block");
-    print::number(node);
-    print::number(port);
+    print::number(node.0);
+    print::number(port.0);
     print::text(b":");
-    print::number(router::block(t, Node(node), Port(port)));
+    print::number(router::block(t, node, port));
     print::end();
 }
 
-fn open(t: &mut [u8], channel: u16, target: u16, routing: u16, vector: u16) {
+fn open(t: &mut [u8], channel: u16, target: Node, routing: u16, vector: u16) {
     print::text(b"open 0");
     print::number(channel);
-    print::number(target);
+    print::number(target.0);
     print::number(routing);
     print::number(vector);
     print::text(b":");
-    let r = router::open(t, Node(0), channel, Node(target), routing, vector);
+    let r = router::open(t, Node(0), channel, target, routing, vector);
     print::number(r.number);
     print::number(r.hops);
     print::number(r.receive);
@@ -59,53 +59,53 @@ fn trace(t: &[u8], channel: u16) {
 // 1: nothing blocked.
 fn nothing_blocked(t: &mut [u8]) {
     make(t, 3);
-    open(t, 0, 7, 0, 7);
+    open(t, 0, Node(7), 0, 7);
     trace(t, 0);
 }
 
 // 2: figure 7, with two links blocked.
 fn figure_7(t: &mut [u8]) {
     make(t, 3);
-    block(t, 1, 2);
-    block(t, 3, 2);
-    open(t, 0, 7, 0, 7);
+    block(t, Node(1), Port(2));
+    block(t, Node(3), Port(2));
+    open(t, 0, Node(7), 0, 7);
     trace(t, 0);
 }
 
 // 3 and 4: back to the source, and away from the target first.
 fn detours(t: &mut [u8]) {
     make(t, 1);
-    open(t, 0, 0, 0, 1);
+    open(t, 0, Node(0), 0, 1);
     trace(t, 0);
     make(t, 2);
-    open(t, 0, 1, 0, 2);
+    open(t, 0, Node(1), 0, 2);
     trace(t, 0);
 }
 
 // 5: through the source.
 fn through_the_source(t: &mut [u8]) {
     make(t, 2);
-    block(t, 2, 0);
-    open(t, 0, 1, 0, 2);
+    block(t, Node(2), Port(0));
+    open(t, 0, Node(1), 0, 2);
     trace(t, 0);
 }
 
 // 6: the second pass.
 fn second_pass(t: &mut [u8]) {
     make(t, 2);
-    block(t, 0, 0);
-    open(t, 0, 1, 0, 1);
-    open(t, 0, 1, 4, 1);
+    block(t, Node(0), Port(0));
+    open(t, 0, Node(1), 0, 1);
+    open(t, 0, Node(1), 4, 1);
     trace(t, 0);
 }
 
 // 7: a link that is held and freed.
 fn link_freed(t: &mut [u8]) {
     make(t, 1);
-    open(t, 0, 1, 0, 1);
-    open(t, 1, 1, 0, 1);
+    open(t, 0, Node(1), 0, 1);
+    open(t, 1, Node(1), 0, 1);
     close(t, 0);
-    open(t, 1, 1, 0, 1);
+    open(t, 1, Node(1), 0, 1);
 }
 
 // 9: the edges of dimension, node, vector and length.
@@ -113,14 +113,14 @@ fn edges(t: &mut [u8]) {
     make(t, 8);
     make(t, 9);
     make(t, 3);
-    open(t, 0, 7, 0, 7);
-    open(t, 1, 8, 0, 7);
-    open(t, 1, 7, 0, 8);
+    open(t, 0, Node(7), 0, 7);
+    open(t, 1, Node(8), 0, 7);
+    open(t, 1, Node(7), 0, 8);
 }
 
 fn too_short(t: &mut [u8]) {
     make(t, 3);
-    open(t, 0, 7, 0, 7);
+    open(t, 0, Node(7), 0, 7);
 }
 
 pub fn examples() {

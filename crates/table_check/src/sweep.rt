@@ -14,7 +14,7 @@ fn with_change(t: &mut [u8], at: usize, change: u8) -> u16 {
     }
     let old = t[at];
     t[at] = changed(old, change);
-    let answer = table::check(t);
+    let answer = soundness::check(t);
     t[at] = old;
     answer
 }
@@ -64,7 +64,7 @@ pub fn changes(t: &mut [u8], dimension: u8, table: u8) {
     let mut cleared = [0u64; 5];
     title(dimension, table);
     print::text(b": as made ");
-    print::number(table::check(t) as u64);
+    print::number(soundness::check(t) as u64);
     every_bit(t, &mut flipped);
     print::text(b"; of 67592 changed, ");
     counts(flipped[0], flipped[2], flipped[3]);
@@ -78,7 +78,7 @@ pub fn answer(t: &[u8], which: u16) {
     print::text(b"single ");
     print::number(which as u64);
     print::text(b": ");
-    print::number(table::check(t) as u64);
+    print::number(soundness::check(t) as u64);
     print::text(b"\n");
 }
 
@@ -87,7 +87,7 @@ pub fn lengths(t: &[u8]) {
     let mut refused: u64 = 0;
     let mut n: usize = 0;
     while n < t.len() {
-        if table::check(&t[0..n]) == 1 {
+        if soundness::check(&t[0..n]) == 1 {
             refused = num::wrapping_add_u64(refused, 1);
         }
         n += 1;

@@ -15,14 +15,17 @@ fn empty(t: &mut [u8], dimension: u8) {
     }
 }
 
+fn port(number: u8) -> Port {
+    Port(number as u16)
+}
+
 // Gives a circuit one link: the node that it leads to.
-fn hop(t: &mut [u8], c: u16, n: u16, port: u8) -> u16 {
-    let p = port as u16;
+fn hop(t: &mut [u8], c: Circuit, n: Node, p: Port) -> Node {
     if t.len() == 8449 {
-        if n < 256 {
-            if p < 8 {
-                table::set_owner(t, Node(n), Port(p), Circuit(c));
-                return cube::neighbour(Node(n), Port(p)).0;
+        if n.0 < 256 {
+            if p.0 < 8 {
+                table::set_owner(t, n, p, c);
+                return cube::neighbour(n, p);
             }
         }
     }
@@ -30,21 +33,21 @@ fn hop(t: &mut [u8], c: u16, n: u16, port: u8) -> u16 {
 }
 
 // The hops of a circuit from its source: the node that they lead to.
-fn lay(t: &mut [u8], c: u16, source: u16, ports: &[u8]) -> u16 {
+fn lay(t: &mut [u8], c: Circuit, source: Node, ports: &[u8]) -> Node {
     let mut n = source;
     let mut i: usize = 0;
     while i < ports.len() {
-        n = hop(t, c, n, ports[i]);
+        n = hop(t, c, n, port(ports[i]));
         i += 1;
     }
     n
 }
 
-fn receive(t: &mut [u8], c: u16, n: u16, channel: u16) {
+fn receive(t: &mut [u8], c: Circuit, n: Node, channel: u16) {
     if t.len() == 8449 {
-        if n < 256 {
+        if n.0 < 256 {
             if channel < 8 {
-                table::set_receiver(t, Node(n), channel, Circuit(c));
+                table::set_receiver(t, n, channel, c);
             }
         }
     }
@@ -54,12 +57,12 @@ fn receive(t: &mut [u8], c: u16, n: u16, channel: u16) {
 pub fn two_ways(t: &mut [u8], dimension: u8) {
     if dimension < 9 {
         empty(t, dimension);
-        let n = lay(t, 1, 0, b"\x00");
-        receive(t, 1, n, 0);
+        let n = lay(t, Circuit(1), Node(0), b"\x00");
+        receive(t, Circuit(1), n, 0);
         let nodes = cube::node_count(dimension as u16);
         let skip = 8 - dimension as usize;
-        let m = lay(t, 8 * nodes, nodes - 1, &DOWN[skip..]);
-        receive(t, 8 * nodes, m, 3);
+        let m = lay(t, Circuit(8 * nodes), Node(nodes - 1), &DOWN[skip..]);
+        receive(t, Circuit(8 * nodes), m, 3);
     }
 }
 
@@ -68,73 +71,73 @@ pub fn through_the_source(t: &mut [u8], dimension: u8) {
     if dimension < 9 {
         empty(t, dimension);
         let hops = 1 + dimension as usize;
-        let n = lay(t, 14, 1, &UP[0..hops]);
-        receive(t, 14, n, 6);
+        let n = lay(t, Circuit(14), Node(1), &UP[0..hops]);
+        receive(t, Circuit(14), n, 6);
         if dimension > 1 {
-            let m = lay(t, 2, 0, b"\x01\x00");
-            receive(t, 2, m, 0);
+            let m = lay(t, Circuit(2), Node(0), b"\x01\x00");
+            receive(t, Circuit(2), m, 0);
         }
     }
 }
 
 // Circuit 1 in a cube of dimension 3: its hops, and the node at which it has a receive channel.
-fn one(t: &mut [u8], source: u16, ports: &[u8], n: u16, channel: u16) {
+fn one(t: &mut [u8], source: Node, ports: &[u8], n: Node, channel: u16) {
     empty(t, 3);
-    lay(t, 1, source, ports);
-    receive(t, 1, n, channel);
+    lay(t, Circuit(1), source, ports);
+    receive(t, Circuit(1), n, channel);
 }
 
 // The ways that a table may have it. 0, 1 and 8 are sound.
 pub fn single(t: &mut [u8], which: u16) {
     if which == 0 {
         // ports in an order that goes round
-        one(t, 0, b"\x00\x01\x00", 2, 0);
+        one(t, Node(0), b"\x00\x01\x00", Node(2), 0);
         return;
     }
     if which == 1 {
         // a send to the node itself
-        one(t, 0, b"\x02\x02", 0, 7);
+        one(t, Node(0), b"\x02\x02", Node(0), 7);
         return;
     }
     if which == 2 {
         // the receive channel is not at the path's end
-        one(t, 0, b"\x00\x01", 1, 0);
+        one(t, Node(0), b"\x00\x01", Node(1), 0);
         return;
     }
     if which == 3 {
         // a later hop is not uphill
-        one(t, 0, b"\x00\x01\x02\x01", 5, 0);
+        one(t, Node(0), b"\x00\x01\x02\x01", Node(5), 0);
         return;
     }
     if which == 4 {
         // links off the path
-        one(t, 0, b"\x00", 1, 0);
-        lay(t, 1, 6, b"\x00\x00");
+        one(t, Node(0), b"\x00", Node(1), 0);
+        lay(t, Circuit(1), Node(6), b"\x00\x00");
         return;
     }
     if which == 5 {
         // links alone
         empty(t, 3);
-        lay(t, 1, 0, b"\x00\x01");
+        lay(t, Circuit(1), Node(0), b"\x00\x01");
         return;
     }
     if which == 6 {
         // a receive channel alone
         empty(t, 3);
-        receive(t, 1, 1, 0);
+        receive(t, Circuit(1), Node(1), 0);
         return;
     }
     if which == 7 {
         // two receive channels
-        one(t, 0, b"\x00", 1, 0);
-        receive(t, 1, 1, 1);
+        one(t, Node(0), b"\x00", Node(1), 0);
+        receive(t, Circuit(1), Node(1), 1);
         return;
     }
     if which == 8 {
         // out by a port that is not the lowest, back, and on
-        one(t, 0, b"\x02\x02\x00", 1, 0);
+        one(t, Node(0), b"\x02\x02\x00", Node(1), 0);
         return;
     }
     // a path that does not begin at the source
-    one(t, 2, b"\x00", 3, 0);
+    one(t, Node(2), b"\x00", Node(3), 0);
 }

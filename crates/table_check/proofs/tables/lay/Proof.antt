@@ -1,6 +1,6 @@
 -- `table_check::tables::lay` meets its contract: it stays within the ports.
 -- Assumes nothing.
-use mathlib.Core.Path.{_≡_, refl, _∙_, sym}
+use mathlib.Core.Path.{_≡_, refl}
 use Prim.Native.Nat.{_-_, _≤_}
 use native.Mathlib.Omega.{arith}
 use borrow.Author.Needs.{needs}
@@ -9,16 +9,19 @@ use Rattle.table_check.proofs.tables.lay.Statement.{statement}
 use Rattle.table_check.proofs.tables.lay.Tie as tie
 
 abbrev Inv-loop : tie.InvT-loop
-Inv-loop t₀ c source ports n₀ i₀ t n i = (i ≤ length ports) × (length t ≡ length t₀)
+Inv-loop t₀ c ports n₀ i₀ t n i = (i ≤ length ports) × (length t ≡ length t₀)
 
 abbrev μ-loop : tie.MeasureT-loop
-μ-loop t₀ c source ports n₀ i₀ t n i = length ports - i
+μ-loop t₀ c ports n₀ i₀ t n i = length ports - i
 
 loop-holds : tie.Need-loop-holds Inv-loop μ-loop
 loop-holds c = (omega arith, refl)
 
-shared-slice-read-hop : tie.Need-shared-slice-read-hop Inv-loop μ-loop
-shared-slice-read-hop c = omega arith
+shared-slice-read-port : tie.Need-shared-slice-read-port Inv-loop μ-loop
+shared-slice-read-port c = omega arith
+
+port-requires : tie.Need-port-requires Inv-loop μ-loop
+port-requires c κs = search needs
 
 hop-requires : tie.Need-hop-requires Inv-loop μ-loop
 hop-requires c κs = search needs
@@ -45,7 +48,8 @@ lay-spec =
     Inv-loop
     μ-loop
     loop-holds
-    shared-slice-read-hop
+    shared-slice-read-port
+    port-requires
     hop-requires
     add-i
     loop-less
