@@ -76,100 +76,101 @@ static void full_of_long(void) {
     base_close(table, BYTES, 0, 0);
 }
 
+/* Every word once, and every command with every number of six bits once, in an order that a processor cannot foresee: so they come from
+ * boards. */
+static uint16_t words[4096], pairs[1024];
+
+static void mix(uint16_t *numbers, unsigned count) {
+    unsigned x = 1;
+    for (unsigned i = 0; i < count; i++) {
+        unsigned j = (x = x * 1664525u + 1013904223u) % 65536 * (i + 1) / 65536;
+        numbers[i] = numbers[j];
+        numbers[j] = (uint16_t)i;
+    }
+}
+
+static void mixed_words(void) {
+    mix(words, 4096);
+    mix(pairs, 1024);
+}
+
 /* ---- one turn of each line: answers a sum that both versions must agree on ---- */
 
-static unsigned long turn_make(const struct calls *c) {
+/* What a turn is made with. Opens are on send channel 0; `other` is their target, the port of a link, or the channel that is traced. */
+struct with {
+    uint16_t node, other, vector;
+};
+
+static unsigned long turn_make(const struct calls *c, struct with with) {
+    (void)with;
     return c->make(table, BYTES, 8);
 }
 
-static unsigned long turn_open_1(const struct calls *c) {
-    maze_opened opened = c->open(table, BYTES, 0, 0, 1, 0, 1);
-    return opened.number + 100ul * opened.scouts + c->close(table, BYTES, 0, 0);
-}
-
-static unsigned long turn_open_3(const struct calls *c) {
-    maze_opened opened = c->open(table, BYTES, 0, 0, 7, 0, 7);
-    return opened.number + 100ul * opened.scouts + c->close(table, BYTES, 0, 0);
-}
-
-static unsigned long turn_open_8(const struct calls *c) {
-    maze_opened opened = c->open(table, BYTES, 0, 0, 255, 0, 255);
-    return opened.number + 100ul * opened.scouts + c->close(table, BYTES, 0, 0);
-}
-
-static unsigned long turn_open_most(const struct calls *c) {
-    maze_opened opened = c->open(table, BYTES, 0, 0, 254, 0, 255);
+static unsigned long turn_open(const struct calls *c, struct with with) {
+    maze_opened opened = c->open(table, BYTES, with.node, 0, with.other, 0, with.vector);
     return opened.number + 100ul * opened.scouts;
 }
 
-static unsigned long turn_open_rejected(const struct calls *c) {
-    maze_opened opened = c->open(table, BYTES, 0, 0, 255, 0, 255);
-    return opened.number + 100ul * opened.scouts;
+static unsigned long turn_open_close(const struct calls *c, struct with with) {
+    unsigned long sum = turn_open(c, with);
+    return sum + c->close(table, BYTES, with.node, 0);
 }
 
-static unsigned long turn_block(const struct calls *c) {
-    unsigned long number = c->block(table, BYTES, 200, 5);
-    return number + c->unblock(table, BYTES, 200, 5);
+static unsigned long turn_block(const struct calls *c, struct with with) {
+    unsigned long number = c->block(table, BYTES, with.node, with.other);
+    return number + c->unblock(table, BYTES, with.node, with.other);
 }
 
-static unsigned long turn_block_last_free(const struct calls *c) {
-    unsigned long number = c->block(table, BYTES, 0, 0);
-    return number + c->unblock(table, BYTES, 0, 0);
-}
-
-static unsigned long turn_trace(const struct calls *c) {
-    maze_traced traced = c->trace(table, BYTES, 0, 0, buffer, sizeof buffer);
+static unsigned long turn_trace(const struct calls *c, struct with with) {
+    maze_traced traced = c->trace(table, BYTES, with.node, with.other, buffer, sizeof buffer);
     return traced.number + 100ul * traced.hops + buffer[0];
 }
 
-static unsigned long turn_trace_5(const struct calls *c) {
-    maze_traced traced = c->trace(table, BYTES, 255, 5, buffer, sizeof buffer);
-    return traced.number + 100ul * traced.hops + buffer[0];
-}
-
-static unsigned long turn_words_read(const struct calls *c) {
+static unsigned long turn_words_read(const struct calls *c, struct with with) {
+    (void)with;
     unsigned long sum = 0;
-    for (unsigned word = 0; word < 4096; word++) {
-        maze_word_read_answer read = c->word_read((uint16_t)word);
+    for (unsigned i = 0; i < 4096; i++) {
+        maze_word_read_answer read = c->word_read(words[i]);
         sum += read.number + read.command + (unsigned long)read.carried;
     }
     return sum;
 }
 
-static unsigned long turn_words_write(const struct calls *c) {
+static unsigned long turn_words_write(const struct calls *c, struct with with) {
+    (void)with;
     unsigned long sum = 0;
-    for (unsigned command = 0; command < 16; command++)
-        for (unsigned carried = 0; carried < 64; carried++) {
-            maze_word_written written = c->word_write((uint16_t)command, (uint16_t)carried);
-            sum += written.number + (unsigned long)written.word;
-        }
+    for (unsigned i = 0; i < 1024; i++) {
+        maze_word_written written = c->word_write(pairs[i] / 64, pairs[i] % 64);
+        sum += written.number + (unsigned long)written.word;
+    }
     return sum;
 }
 
 static const struct {
     const char *what;
     void (*prepare)(void);
-    unsigned long (*turn)(const struct calls *);
+    unsigned long (*turn)(const struct calls *, struct with);
+    struct with with;
     unsigned turns;   /* of a round */
     unsigned divisor; /* calls of a turn that the time is given for; 1 for the whole turn */
 } lines[] = {
-    {"make, dimension 8", empty_8, turn_make, 10000, 1},
-    {"open and close, 3 hops, dimension 3", empty_3, turn_open_3, 5000, 1},
-    {"open and close, 1 hop, dimension 8", empty_8, turn_open_1, 5000, 1},
-    {"open and close, 8 hops", empty_8, turn_open_8, 5000, 1},
-    {"open, 77,940 scouts, rejected", walled, turn_open_most, 10, 1},
-    {"block and unblock", empty_8, turn_block, 5000, 1},
-    {"trace of 9 hops", nine_hops, turn_trace, 5000, 1},
-    {"2,047 circuits of 1 hop: open and close", full_of_short, turn_open_1, 300, 1},
-    {"  open, rejected", full_of_short, turn_open_rejected, 300, 1},
-    {"  block and unblock", full_of_short, turn_block_last_free, 300, 1},
-    {"  trace", full_of_short, turn_trace_5, 300, 1},
-    {"circuits of all lengths, 2,047 links: open and close", full_of_long, turn_open_1, 300, 1},
-    {"  open, rejected", full_of_long, turn_open_rejected, 300, 1},
-    {"  block and unblock", full_of_long, turn_block_last_free, 300, 1},
-    {"  trace", full_of_long, turn_trace_5, 300, 1},
-    {"reading a word, of 4,096", empty_8, turn_words_read, 50, 4096},
-    {"writing a word, of 1,024", empty_8, turn_words_write, 200, 1024},
+    {"make, dimension 8", empty_8, turn_make, {0, 0, 0}, 10000, 1},
+    {"open and close, 3 hops, dimension 3", empty_3, turn_open_close, {0, 7, 7}, 5000, 1},
+    {"open and close, 1 hop, dimension 8", empty_8, turn_open_close, {0, 1, 1}, 5000, 1},
+    {"open and close, 8 hops", empty_8, turn_open_close, {0, 255, 255}, 5000, 1},
+    {"open, 77,940 scouts, rejected", walled, turn_open, {0, 254, 255}, 10, 1},
+    {"block and unblock", empty_8, turn_block, {200, 5, 0}, 5000, 1},
+    {"trace of 9 hops", nine_hops, turn_trace, {0, 0, 0}, 5000, 1},
+    {"2,047 circuits of 1 hop: open and close", full_of_short, turn_open_close, {0, 1, 1}, 300, 1},
+    {"  open, rejected", full_of_short, turn_open, {0, 255, 255}, 300, 1},
+    {"  block and unblock", full_of_short, turn_block, {0, 0, 0}, 300, 1},
+    {"  trace", full_of_short, turn_trace, {255, 5, 0}, 300, 1},
+    {"circuits of all lengths, 2,047 links: open and close", full_of_long, turn_open_close, {0, 1, 1}, 300, 1},
+    {"  open, rejected", full_of_long, turn_open, {0, 255, 255}, 300, 1},
+    {"  block and unblock", full_of_long, turn_block, {0, 0, 0}, 300, 1},
+    {"  trace", full_of_long, turn_trace, {255, 5, 0}, 300, 1},
+    {"reading a word, of 4,096", mixed_words, turn_words_read, {0, 0, 0}, 50, 4096},
+    {"writing a word, of 1,024", mixed_words, turn_words_write, {0, 0, 0}, 200, 1024},
 };
 
 /* ---- time ---- */
@@ -195,7 +196,7 @@ int main(int count, char **arguments) {
                 const struct calls *calls = version == 0 ? &plain : &library;
                 double start = now(), time;
                 sum[version] = 0;
-                for (unsigned turn = 0; turn < lines[i].turns; turn++) sum[version] += lines[i].turn(calls);
+                for (unsigned turn = 0; turn < lines[i].turns; turn++) sum[version] += lines[i].turn(calls, lines[i].with);
                 time = (now() - start) / lines[i].turns / lines[i].divisor;
                 if (round == 0 || time < best[version]) best[version] = time;
                 if (memcmp(before, table, BYTES) != 0) differs = 1;

@@ -5,15 +5,8 @@
  * 4353 + 16 n + 2 c, and the enabled links of node n are at 1 + n. */
 #include "subject.h"
 
-#include <stddef.h>
 #include <stdio.h>
 #include <string.h>
-
-_Static_assert(sizeof(maze_opened) == 12 && offsetof(maze_opened, number) == 0 && offsetof(maze_opened, hops) == 2 &&
-                   offsetof(maze_opened, receive) == 4 && offsetof(maze_opened, scouts) == 8,
-               "an open answers three 16-bit numbers and a 32-bit number");
-_Static_assert(sizeof(((maze_opened *)0)->scouts) == 4, "scouts have 32 bits");
-_Static_assert(sizeof(maze_traced) == 4 && offsetof(maze_traced, number) == 0 && offsetof(maze_traced, hops) == 2, "a trace answers two 16-bit numbers");
 
 enum { BYTES = 8449, SPARE = 64, BUFFER = 16, MOST = 24 };
 
@@ -43,9 +36,19 @@ static int unaltered_table(void) {
     return memcmp(kept_table, table, sizeof table) == 0;
 }
 
+static void fresh_buffer(void) {
+    for (size_t i = 0; i < sizeof buffer; i++) buffer[i] = (uint8_t)(0xc0 + i);
+}
+
+/* Whether the buffer has what fresh_buffer() left, from a place on. */
+static int fresh_from(size_t i) {
+    while (i < sizeof buffer && buffer[i] == 0xc0 + i) i++;
+    return i == sizeof buffer;
+}
+
 static void fresh(unsigned dimension) {
     for (size_t i = 0; i < sizeof table; i++) table[i] = (uint8_t)(i % 251 + 1);
-    for (size_t i = 0; i < sizeof buffer; i++) buffer[i] = (uint8_t)(0xc0 + i);
+    fresh_buffer();
     expect(maze_make(table, BYTES, (uint16_t)dimension) == 0, "make", dimension, 0);
 }
 
@@ -70,12 +73,12 @@ static void expect_table(const char *what, unsigned dimension, const struct plac
 static void expect_trace(const char *what, unsigned node, unsigned channel, const char *ports) {
     maze_traced got;
     int good;
-    for (size_t i = 0; i < sizeof buffer; i++) buffer[i] = (uint8_t)(0xc0 + i);
+    fresh_buffer();
     keep();
     got = maze_trace(table, BYTES, (uint16_t)node, (uint16_t)channel, buffer, BUFFER);
-    good = got.number == 0 && got.hops == strlen(ports);
-    for (size_t i = 0; i < sizeof buffer; i++) good &= buffer[i] == (i < strlen(ports) ? ports[i] - '0' : (int)(0xc0 + i));
-    expect(good && memcmp(kept_table, table, sizeof table) == 0, what, got.number, got.hops);
+    good = got.number == 0 && got.hops == strlen(ports) && fresh_from(strlen(ports)) && unaltered_table();
+    for (size_t i = 0; ports[i]; i++) good &= buffer[i] == ports[i] - '0';
+    expect(good, what, got.number, got.hops);
 }
 
 /* ---- opens ---- */
@@ -463,15 +466,11 @@ static void buffers(void) {
     for (size_t length = 9; length <= BUFFER; length++) {
         static const uint8_t nine[] = {0, 1, 2, 3, 4, 5, 6, 7, 0};
         maze_traced got;
-        int good = 1;
-        for (size_t i = 0; i < sizeof buffer; i++) buffer[i] = (uint8_t)(0xc0 + i);
+        fresh_buffer();
         got = maze_trace(table, BYTES, 7, 2, buffer, length);
-        for (size_t i = 1; i < sizeof buffer; i++) good &= buffer[i] == 0xc0 + i;
-        expect(got.number == 0 && got.hops == 1 && buffer[0] == 2 && good, "trace one hop", length, got.hops);
-        good = 1;
+        expect(got.number == 0 && got.hops == 1 && buffer[0] == 2 && fresh_from(1), "trace one hop", length, got.hops);
         got = maze_trace(table, BYTES, 0, 0, buffer, length);
-        for (size_t i = 9; i < sizeof buffer; i++) good &= buffer[i] == 0xc0 + i;
-        expect(got.number == 0 && got.hops == 9 && memcmp(buffer, nine, 9) == 0 && good, "trace nine hops", length, got.hops);
+        expect(got.number == 0 && got.hops == 9 && memcmp(buffer, nine, 9) == 0 && fresh_from(9), "trace nine hops", length, got.hops);
     }
 }
 

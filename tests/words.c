@@ -84,25 +84,11 @@ static void write_high_commands(void) {
     expect(good, "write high commands", 16, 65535);
 }
 
-/* The vectors of document 01's example 8. */
-static void examples(void) {
-    static const struct { uint16_t word, number, command, carried; } read[] = {
-        {2175, 0, 1, 0}, {2437, 0, 6, 5}, {3649, 0, 9, 1}, {3136, 17, 0, 0}, {2240, 18, 0, 0},
-    };
-    for (unsigned i = 0; i < sizeof read / sizeof *read; i++) {
-        maze_word_read_answer got = maze_word_read(read[i].word);
-        expect(got.number == read[i].number && got.command == read[i].command && got.carried == read[i].carried, "example", read[i].word, got.number);
-    }
-    maze_word_written got = maze_word_write(1, 0);
-    expect(got.number == 0 && got.word == 2112, "example", 2112, got.word);
-}
-
 int main(void) {
     for (unsigned first = 0; first < 65536; first += 64) read_statuses(first);
     for (unsigned command = 0; command < 64; command++) write_every_pair(command);
     for (unsigned command = 64; command < 65536; command += 4091) write_every_pair(command);
     write_high_commands();
-    examples();
     printf("%u passed, %u failed\n", passed, failed);
     return failed != 0;
 }
