@@ -18,7 +18,7 @@ use Rattle.cube.specs.Cube.{next, uphill}
 use Rattle.cube.specs.Helical.{portsOf}
 use Rattle.cube.proofs.Bits.{bit-lt, bit-flipped, bit-kept, flip-inside, same-bits}
 use Rattle.cube.proofs.Ports.{uphill-of}
-use Rattle.cube.proofs.Order.{ports-wider}
+use Rattle.cube.proofs.Order.{ports-mem, mem-ports, ports-sorted, ports-wider}
 use Rattle.paths.specs.Network.{Path, offered, Nearing, Leading}
 use Rattle.paths.specs.Permitted.{Permitted}
 use Rattle.paths.specs.Sentences.{Says}
@@ -120,8 +120,7 @@ module _ (S : Shape) where
 
   -- a send's ports are those below D that its vector has, the other ports those below D that it has not
   pub send-port : (v p : ℕ) → (p ∈ sendPorts S v) ↔ ((p < S .dimension) × (has v p ≡ true))
-  unfolding sendPorts
-  send-port v p = (kept-below (has v) (S .dimension) p, λ h. below-kept (has v) (S .dimension) p (h .0) (h .1))
+  send-port v p = (ports-mem (S .dimension) v, λ h. mem-ports (S .dimension) v p (h .0) (h .1))
 
   pub other-port : (v p : ℕ) → (p ∈ otherPorts S v) ↔ ((p < S .dimension) × (has v p ≡ false))
   unfolding otherPorts
@@ -132,8 +131,8 @@ module _ (S : Shape) where
 
   -- both rise
   pub send-ports-rise : (v : ℕ) → Sorted _<_ (sendPorts S v) × Sorted _<_ (otherPorts S v)
-  unfolding sendPorts otherPorts
-  send-ports-rise v = (keep-sorted _ _<_ _ (from-sorted 0 (S .dimension)), keep-sorted _ _<_ _ (from-sorted 0 (S .dimension)))
+  unfolding otherPorts
+  send-ports-rise v = (ports-sorted (S .dimension) v, keep-sorted _ _<_ _ (from-sorted 0 (S .dimension)))
 
   -- What document 01 says of a pass holds in the cube, of the pass with the given vector and of the one with the other ports.
   pub cube-says : (free : ℕ → ℕ → Bool) (s v t : ℕ) → Node S s → Node S t → Says (network S) free s (sendPorts S v) t (pass (network S) free s (sendPorts S v) t)
@@ -145,7 +144,7 @@ module _ (S : Shape) where
   -- "Both passes together never send more than 123,300", for every dimension up to 8, source, target, vector and test of free links.
   pub scouts-bound : S .dimension ≤ 8 → (s t v : ℕ) (f g : ℕ → ℕ → Bool)
       → scouts (pass (network S) f s (sendPorts S v) t) + scouts (pass (network S) g s (otherPorts S v) t) ≤ 123300
-  unfolding sendPorts otherPorts network
+  unfolding portsOf otherPorts network
   scouts-bound h s t v f g = two-passes-bound (cube-nearing t) (cube-cubical t) h s (has v) f g
 
 -- the ports offered in the cube are those of the uphill vector

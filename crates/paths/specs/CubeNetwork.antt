@@ -8,6 +8,7 @@ use lib.ListN.{length}
 use Rattle.common.specs.Lists.{keep, from}
 use Rattle.cube.specs.Bits.{has}
 use Rattle.cube.specs.Cube.{next, uphill}
+use Rattle.cube.specs.Helical.{portsOf}
 use Rattle.paths.specs.Network.{Network}
 use Rattle.paths.specs.Pass.{pass}
 use Rattle.paths.specs.Send.{Receive, Sent, runs}
@@ -32,8 +33,8 @@ network S =
     }
 
 -- the ports of a send vector, and "every port below D that was not in the given vector (perhaps none)", both rising
-unfoldable pub sendPorts : Shape → ℕ → List ℕ
-sendPorts S vector = keep (has vector) (from 0 (S .dimension))
+abbrev pub sendPorts : Shape → ℕ → List ℕ
+sendPorts S vector = portsOf (S .dimension) vector
 
 unfoldable pub otherPorts : Shape → ℕ → List ℕ
 otherPorts S vector = keep (λ p. not (has vector p)) (from 0 (S .dimension))

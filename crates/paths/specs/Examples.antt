@@ -8,11 +8,11 @@ use lib.Dec.{eqb}
 use Rattle.common.specs.Lists.{keep, from}
 use Rattle.cube.specs.Bits.{has, flip}
 use Rattle.cube.specs.Cube.{uphill}
-use Rattle.cube.specs.Helical.{helical}
+use Rattle.cube.specs.Helical.{helical, portsOf}
 use Rattle.paths.specs.Network.{Link, offered, end, freePath}
 use Rattle.paths.specs.Pass.{over, ways, beginnings, scan, whole, pass, scouts}
 use Rattle.paths.specs.Send.{channel, all-held, Outcome, acknowledged, route-rejected, receive-rejected, received, outcome, Sent, goesOn, runs}
-use Rattle.paths.specs.CubeNetwork.{Shape, network, sendPorts, otherPorts, maze, alternateMaze}
+use Rattle.paths.specs.CubeNetwork.{Shape, network, otherPorts, maze, alternateMaze}
 
 -- every link is free but those listed
 abbrev freeBut : List Link → ℕ → ℕ → Bool
@@ -55,24 +55,24 @@ answers =
     ∷ []
 
 examples-1-to-6 : sends ≡ answers
-unfolding maze alternateMaze network sendPorts otherPorts keep from has flip uphill helical offered end freePath over ways beginnings scan whole pass scouts received outcome goesOn runs
+unfolding maze alternateMaze network portsOf otherPorts keep from has flip uphill helical offered end freePath over ways beginnings scan whole pass scouts received outcome goesOn runs
 examples-1-to-6 = refl
 
 -- Two passes that both send scouts: D 2, 0 to 3, vector 1, link 1 to 3 blocked. The first sends one, over port 0; the second two.
 two-passes : alternateMaze (cube 2) (freeBut ((1, 1) ∷ [])) (channel 4) 0 1 3 ≡ answer (acknowledged (1 ∷ 0 ∷ []) 4) 3
-unfolding alternateMaze network sendPorts otherPorts keep from has flip uphill helical offered end freePath over ways beginnings scan whole pass scouts received outcome goesOn runs
+unfolding alternateMaze network portsOf otherPorts keep from has flip uphill helical offered end freePath over ways beginnings scan whole pass scouts received outcome goesOn runs
 two-passes = refl
 
 -- With all receive channels held: type 0 is receive rejected; type 4 goes on, and its second pass, with no port left, is route rejected.
 receive-rejected-once : maze (cube 1) (freeBut []) all-held 0 1 1 ≡ answer receive-rejected 1
-unfolding maze network sendPorts keep from has flip uphill helical offered end freePath over ways beginnings scan whole pass scouts received outcome runs
+unfolding maze network portsOf keep from has flip uphill helical offered end freePath over ways beginnings scan whole pass scouts received outcome runs
 receive-rejected-once = refl
 
 receive-rejected-twice : alternateMaze (cube 1) (freeBut []) all-held 0 1 1 ≡ answer route-rejected 1
-unfolding alternateMaze network sendPorts otherPorts keep from has flip uphill helical offered end freePath over ways beginnings scan whole pass scouts received outcome goesOn runs
+unfolding alternateMaze network portsOf otherPorts keep from has flip uphill helical offered end freePath over ways beginnings scan whole pass scouts received outcome goesOn runs
 receive-rejected-twice = refl
 
 -- A type 4 send that is acknowledged at once makes no second pass.
 acknowledged-at-once : alternateMaze (cube 2) (freeBut []) (channel 6) 0 1 1 ≡ answer (acknowledged (0 ∷ []) 6) 1
-unfolding alternateMaze network sendPorts otherPorts keep from has flip uphill helical offered end freePath over ways beginnings scan whole pass scouts received outcome goesOn runs
+unfolding alternateMaze network portsOf otherPorts keep from has flip uphill helical offered end freePath over ways beginnings scan whole pass scouts received outcome goesOn runs
 acknowledged-at-once = refl

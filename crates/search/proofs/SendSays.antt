@@ -1,4 +1,4 @@
--- A send says what the mission's second demand asks: for both routing types, on any table of a cube up to dimension 8.
+-- A send says what the users' second demand asks: for both routing types, on any table of a cube up to dimension 8.
 -- Assumes nothing.
 use mathlib.Core.Path.{_≡_, refl, ap, sym, _∙_, subst}
 use mathlib.Core.Logic.{_⊎_, inl, inr, _↔_, ⊎-elim}
@@ -157,7 +157,7 @@ send-bounded S free r s vector t type h = go (eqb type 4)
     go true = sends-bounded S free r s vector t h .1
     go false = sends-bounded S free r s vector t h .0
 
--- The mission's second demand: of any answer that the contract of `search::send` allows.
+-- The users' second demand: of any answer that the contract of `search::send` allows.
 pub demand-2 : (b : List ℕ) (s t c type vector : ℕ) → MaySend b s t c vector → (x k h n : ℕ) (b′ : List ℕ) → settled x k h n b′ ≡ sends b s t c type vector → SendSays b s t c type vector x k h n b′
 unfolding sends Says S Route
 demand-2 b s t c type vector may x k h n b′ q = answers (send type (shapeOf (view b)) (freeIn (view b)) (receive (view b) t) s vector t .outcome) said q few

@@ -47,7 +47,7 @@ passOf b s t vector = pass (net (view b)) (freeIn (view b)) s (sendPorts (shapeO
 
 module _ (b : List ℕ) (s t c vector : ℕ) (may : MaySend b s t c vector) where
   ports-listed : portsOf 8 vector ≡ sendPorts (shapeOf (view b)) vector
-  ports-listed = unfold view in ports-wider (dimensionAt b) 8 vector (may .fits) (may .ports) ∙ (unfold portsOf sendPorts in refl)
+  ports-listed = unfold view in ports-wider (dimensionAt b) 8 vector (may .fits) (may .ports)
 
   -- ports after arrival port 7 are tried from 0 upward: the search is the pass
   pub tries-pass : tries b t c s vector 7 0 0 ≡ settle b c s 0 (receive (view b) t) (passOf b s t vector)
@@ -223,7 +223,7 @@ module _ (b : List ℕ) (s t c vector : ℕ) (may : MaySend b s t c vector) (x k
         }
 
     ports-other : sendPorts S others ≡ otherPorts S vector
-    unfolding sendPorts otherPorts S view
+    unfolding portsOf otherPorts S view
     ports-other = rw e (other-ports (dimensionAt b) vector (may .fits))
 
     module _ (x₂ k₂ h₂ n₂ : ℕ) (b₂ : List ℕ) (again : settled x₂ k₂ h₂ n₂ b₂ ≡ sendsMaze b₁ s t c others) where

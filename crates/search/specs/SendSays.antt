@@ -1,4 +1,4 @@
--- The mission's second demand, in one statement about a send on the bytes of a table.
+-- The users' second demand, in one statement about a send on the bytes of a table.
 -- Assumes nothing.
 use mathlib.Core.Path.{_≡_}
 use mathlib.Core.Logic.{_↔_, _≢_}

@@ -63,7 +63,7 @@ pub struct Pass {
 
 // A node tries the ports of a vector, all of them enabled, in the helical order. Each hop is held as the scout goes, and given back when it is
 // rejected.
-pub fn try_ports(
+fn try_ports(
     t: &mut [u8],
     at: Node,
     target: Node,
@@ -116,7 +116,7 @@ pub fn try_ports(
 
 // A scout arrives: at the target, whose lowest receive channel that nobody holds is answered, or at a node that tries its uphill ports, if any is
 // enabled.
-pub fn arrive(
+fn arrive(
     t: &mut [u8],
     at: Node,
     target: Node,
@@ -164,7 +164,7 @@ pub fn arrive(
 
 // A pass from a source, over the ports of a send vector: a send tries them from 0 upward, as a scout does that came in on port 7. Where it is
 // acknowledged, the links of the path and the receive channel are held by the circuit. Routing type 0 is one pass.
-pub fn maze(
+fn maze(
     t: &mut [u8],
     source: Node,
     target: Node,
@@ -186,7 +186,7 @@ pub fn maze(
 
 // Routing type 4: where the pass is not acknowledged, a second one over the ports of the cube that are not in the vector. The answer is that of
 // the last pass, with the scouts of both.
-pub fn alternate_maze(
+fn alternate_maze(
     t: &mut [u8],
     source: Node,
     target: Node,
