@@ -20,7 +20,7 @@ use Rattle.table.specs.View.{View, view}
 use Rattle.soundness.specs.Sound.{shapeOf, net, heldBy, Stands, Sound}
 use Rattle.soundness.specs.SoundTest.{pathOf, isEmpty, soundTest, tableTests}
 use Rattle.soundness.proofs.Soundness.{path-is, some-hop}
-use Rattle.soundness.proofs.Passing.{tested, view-framed}
+use Rattle.soundness.proofs.Passing.{decided}
 use Rattle.search.specs.Sent.{sentOn, sends, MaySend}
 use Rattle.search.specs.SendSays.{SendSays}
 use Rattle.search.proofs.SendSays.{demand-2}
@@ -47,7 +47,7 @@ may-open b s c t y v e =
       small = circuit-small b (p .0) (p .2) s c (r .0) (r .2);
     }
 
--- The mission's second demand of the open call: one that no test stops before the search says what a send says.
+-- The users' second demand of the open call: one that no test stops before the search says what a send says.
 pub open-says : (b : List ℕ) (s c t y v : ℕ) → stoppedAt b (opening s c t y v) ≡ 0
     → SendSays b s t (circuitOf s c) y v (called b (opening s c t y v) .given .answer .number) (called b (opening s c t y v) .given .answer .receive)
     (called b (opening s c t y v) .given .answer .hops) (called b (opening s c t y v) .given .answer .scouts) (called b (opening s c t y v) .state)
@@ -106,7 +106,7 @@ lent-three b sound = go (not (eqb (length b) tableLength)) (leb 1 (dimensionAt b
         most = leb-true (dimensionAt b) 8 (and-eq-true-iff (leb 1 (dimensionAt b)) (leb (dimensionAt b) 8) .0 q .1)
 
         rest : (x : Bool) → soundTest (view b) ≡ x → ⊥
-        rest false z = tested (view b) (unfold view in most) (view-framed b) .fails z sound
+        rest false z = decided b most .fails z sound
         rest true z =
             let a : refusal (test false 1 ∷ test false 2 ∷ test (not (soundTest (view b))) 3 ∷ []) ≡ refusal (test (not (soundTest (view b))) 3 ∷ []) = passed {b = false} 1 _ refl ∙ passed {b = false} 2 _ refl in
             omega (arith, a, passed 3 [] (ap not z), accepted, e)

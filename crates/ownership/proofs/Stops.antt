@@ -10,13 +10,12 @@ use lib.Dec.{eqb, leb}
 use lib.ListN.{length}
 use borrow.Author.Tests.{eq-eqb, eqb-true, leb-true, not-false}
 use Rattle.common.specs.Tests.{test, refusal}
-use Rattle.common.specs.Decides.{Decides}
 use Rattle.common.proofs.Tests.{passed, accepted, first-passed, Avoids, avoids, avoiding, refusal-behind, refusal-both, both}
 use Rattle.table.specs.Layout.{tableLength, dimensionAt}
 use Rattle.table.specs.View.{view}
 use Rattle.soundness.specs.Sound.{Sound}
 use Rattle.soundness.specs.SoundTest.{soundTest, tableTests}
-use Rattle.soundness.proofs.Passing.{usable, tested, view-framed}
+use Rattle.soundness.proofs.Passing.{usable, decided}
 use Rattle.ownership.specs.Calls.{Call, making, blocking, unblocking, opening, closing, tracing, callTests}
 use Rattle.ownership.specs.OnTable.{askedOf, lentTests, stoppedAt}
 
@@ -85,12 +84,9 @@ module _ (b : List ℕ) (long : length b ≡ tableLength) where
     pub tests-pass : refusal (tableTests b) ≡ 0
     tests-pass = sym (usable b long least most (go (soundTest (view b)) refl) .tests)
       where
-        decided : Decides (Sound (view b)) (soundTest (view b))
-        decided = unfold view in tested (view b) most (view-framed b)
-
         go : (x : Bool) → soundTest (view b) ≡ x → x ≡ true
         go true e = refl
-        go false e = absurd (decided .fails e sound)
+        go false e = absurd (decided b most .fails e sound)
 
     -- so that a call on it is stopped by the tests of the call alone.
     pub stopped-is : (a : Call) → stoppedAt b a ≡ refusal (callTests (askedOf (view b)) a)

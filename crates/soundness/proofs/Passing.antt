@@ -107,6 +107,11 @@ pub view-framed : (b : List ℕ) → Framed (view b)
 unfolding view enabledAt ownerAt receiverAt entryAt
 view-framed b = record { no-link = λ n p h. (rw (outside n p h), rw (outside n p h)); no-receive = λ n k h. rw (outside n k h) }
 
+-- so the test decides whether a table of a cube is sound
+pub decided : (b : List ℕ) → dimensionAt b ≤ 8 → Decides (Sound (view b)) (soundTest (view b))
+unfolding view
+decided b h = tested (view b) h (view-framed b)
+
 -- the answers of checking a table
 module _ (b : List ℕ) where
   pub wrong-length : length b ≢ tableLength → TableAnswer b 1
@@ -136,12 +141,8 @@ module _ (b : List ℕ) where
     unfolding tableTests
     third = passed 1 _ (rw (eq-eqb (length b) tableLength l)) ∙ passed 2 _ (rw (le-leb 1 (dimensionAt b) k, le-leb (dimensionAt b) 8 h))
 
-    decided : Decides (Sound (view b)) (soundTest (view b))
-    unfolding view
-    decided = tested (view b) h (view-framed b)
-
     pub not-sound : soundTest (view b) ≡ false → TableAnswer b 3
-    not-sound e = record { tests = sym (third ∙ refused 3 _ (rw e)); sound = λ e. absurd (omega arith); not-sound = λ z. decided .fails e }
+    not-sound e = record { tests = sym (third ∙ refused 3 _ (rw e)); sound = λ e. absurd (omega arith); not-sound = λ z. decided b h .fails e }
 
     pub usable : soundTest (view b) ≡ true → TableAnswer b 0
-    usable e = record { tests = sym (third ∙ passed 3 _ (rw e) ∙ accepted); sound = λ z. decided .holds e; not-sound = λ z. absurd (omega arith) }
+    usable e = record { tests = sym (third ∙ passed 3 _ (rw e) ∙ accepted); sound = λ z. decided b h .holds e; not-sound = λ z. absurd (omega arith) }
