@@ -1,4 +1,4 @@
--- The mission's third demand: one theorem about lists of calls. A table that a history covers stays covered by every call, and an accepted making covers any bytes.
+-- The users' third demand: one theorem about lists of calls. A table that a history covers stays covered by every call, and an accepted making covers any bytes.
 -- Assumes nothing.
 use mathlib.Core.Path.{_≡_, refl, ap, ap₂, sym, _∙_, subst}
 use mathlib.Core.Logic.{⊎-elim, _≢_}
@@ -29,6 +29,7 @@ use Rattle.ownership.specs.Allowed.{Allowed}
 use Rattle.ownership.proofs.Allowed.{allowed}
 use Rattle.ownership.proofs.Stops.{none-stops, making-stopped, tests-pass, stopped-is}
 use Rattle.ownership.proofs.Carried.{called-carried, called-stopped, called-shows, called-bytes, made-shows}
+use Rattle.ownership.proofs.Refused.{refused-within}
 use Rattle.ownership.proofs.Sameness.{send-same}
 use Rattle.ownership.proofs.Standing.{valid-sound}
 use Rattle.ownership.proofs.Stopped.{path-listed, stopped-same}
@@ -128,7 +129,7 @@ covered-gives (a ∷ more) b h k = let s = covered-step b h k a in ap₂ _∷_ (
 
 pub covered-agrees : (calls : List Call) (b : List ℕ) (h : History) → Covered b h → Agrees b h calls
 covered-agrees calls b h k =
-    let after = covered-after calls b h k in record { bytes = covered-bytes _ _ after; gives = covered-gives calls b h k; valid = after .valid }
+    let after = covered-after calls b h k in record { bytes = covered-bytes _ _ after; gives = covered-gives calls b h k; valid = after .valid; refused = λ before a more e. refused-within before b a }
 
 -- an accepted call is one that no test stops, or a send that goes through
 accepted-passes : (b : List ℕ) (a : Call) → Accepted b a → stoppedAt b a ≡ 0
@@ -163,9 +164,9 @@ module _ (b : List ℕ) (h : History) (D : ℕ) (e : Accepted b (making D)) wher
       subst (λ (x : After History). Covered (called b (making D) .state) (x .state)) (sym (entered-passed h (making D) making-passes))
       record { length = m .bytes .long; bytes = m .bytes .small; shows = m .shows ∙ sym (made-view D); valid = made-valid D (m .least) (m .most) }
 
--- The mission's third demand. From any bytes, after an accepted making and any list of calls, refused ones included.
+-- The users' third demand. From any bytes, after an accepted making and any list of calls, refused ones included.
 pub demand-3 : (b : List ℕ) (h : History) (D : ℕ) → Accepted b (making D) → (calls : List Call) → Agrees b h (making D ∷ calls)
 unfolding leaves answers
 demand-3 b h D e calls =
     let r = covered-agrees calls (called b (making D) .state) (entered h (making D) .state) (made-covered b h D e) in
-    record { bytes = r .bytes; gives = ap₂ _∷_ (made-given b h D e) (r .gives); valid = r .valid }
+    record { bytes = r .bytes; gives = ap₂ _∷_ (made-given b h D e) (r .gives); valid = r .valid; refused = λ before a more e. refused-within before b a }

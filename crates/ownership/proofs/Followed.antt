@@ -16,8 +16,8 @@ use Rattle.paths.specs.Send.{Outcome, acknowledged, route-rejected, receive-rej
 use Rattle.paths.specs.CubeNetwork.{Shape, network, send}
 use Rattle.table.specs.View.{View, setAt, setOwner, setReceiver, setEnabled, freeing, fresh}
 use Rattle.ownership.specs.Calls.{Call, making, blocking, unblocking, opening, closing, tracing}
-use Rattle.ownership.specs.History.{Circuit, History, shapeOn, netOn, holdsLink, holdsReceive, belongs, enabledOn, heldOn, freeOn, takenOn, openOn, receiveOn, askedOn, stoppedOn, sendOn, withBlocked, withCircuits, adds, follows}
-use Rattle.ownership.specs.Lists.{numberOf, viewOf, linksOf, Standing, Separate, Valid}
+use Rattle.ownership.specs.History.{Circuit, History, shapeOn, netOn, linksOf, holdsLink, holdsReceive, belongs, enabledOn, heldOn, freeOn, takenOn, openOn, receiveOn, askedOn, stoppedOn, sendOn, withBlocked, withCircuits, adds, follows}
+use Rattle.ownership.specs.Lists.{numberOf, viewOf, Standing, Separate, Valid}
 use Rattle.ownership.proofs.Update.{holdLinks, marking, updated}
 use Rattle.ownership.proofs.Circuits.{some-any, parts-belong, number-drop}
 use Rattle.ownership.proofs.Sameness.{send-same}

@@ -25,8 +25,8 @@ use Rattle.soundness.specs.SoundTest.{pathOf, isEmpty, tableTests}
 use Rattle.soundness.proofs.Soundness.{path-is}
 use Rattle.ownership.specs.Calls.{Call}
 use Rattle.ownership.specs.OnTable.{called}
-use Rattle.ownership.specs.History.{Circuit, History, netOn, holdsLink, holdsReceive, enabledOn}
-use Rattle.ownership.specs.Lists.{numberOf, viewOf, linksOf, Standing, Separate, Valid, Covered, Agrees}
+use Rattle.ownership.specs.History.{Circuit, History, netOn, linksOf, holdsLink, holdsReceive, enabledOn}
+use Rattle.ownership.specs.Lists.{numberOf, viewOf, Standing, Separate, Valid, Covered, Agrees}
 use Rattle.ownership.specs.FromTable.{linksOut, circuitAt, openNumbers, historyOf}
 use Rattle.ownership.proofs.Circuits.{numberFor, number-none, number-at}
 use Rattle.ownership.proofs.Standing.{holds-link, link-holds, holds-receive, receive-holds, links-once, receives-once}

@@ -15,6 +15,7 @@ pub mod Range
 pub mod Shows
 pub mod Stops
 pub mod Carried
+pub mod Refused
 pub mod Agreement
 pub mod OnSound
 pub mod FromTable

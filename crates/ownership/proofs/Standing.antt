@@ -18,8 +18,8 @@ use Rattle.paths.proofs.Sentences.{permitted-end}
 use Rattle.paths.proofs.Links.{On, link-true, true-link}
 use Rattle.paths.proofs.Apart.{permitted-inside}
 use Rattle.soundness.specs.Sound.{Stands, Nowhere, Sound}
-use Rattle.ownership.specs.History.{Circuit, History, shapeOn, netOn, holdsLink, holdsReceive, enabledOn}
-use Rattle.ownership.specs.Lists.{viewOf, linksOf, Separate, Valid}
+use Rattle.ownership.specs.History.{Circuit, History, shapeOn, netOn, linksOf, holdsLink, holdsReceive, enabledOn}
+use Rattle.ownership.specs.Lists.{viewOf, Separate, Valid}
 use Rattle.ownership.proofs.Circuits.{any-some, some-any, sorted-one, numberFor, circuit-parts, Once, number-some, number-circuit, number-at}
 
 -- what it is for a circuit to hold a link, or a receive channel

@@ -33,9 +33,13 @@ shapeOn h = record { dimension = h .dimension }
 abbrev pub netOn : History → Network
 netOn h = network (shapeOn h)
 
+-- a circuit's links
+abbrev pub linksOf : Network → Circuit → List Link
+linksOf N x = links N (x .source) (x .ports)
+
 -- a circuit holds a link: it is on its path
 unfoldable pub holdsLink : Network → ℕ → ℕ → Circuit → Bool
-holdsLink N n p x = hasLink (links N (x .source) (x .ports)) n p
+holdsLink N n p x = hasLink (linksOf N x) n p
 
 -- a circuit holds a receive channel of a node
 unfoldable pub holdsReceive : ℕ → ℕ → Circuit → Bool

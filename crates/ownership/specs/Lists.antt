@@ -1,20 +1,21 @@
--- Lists of calls, on a table and in the history, and what it is for both to agree: the mission's third demand.
+-- Lists of calls, on a table and in the history, and what it is for both to agree: the users' third demand.
 -- Assumes nothing.
 use mathlib.Core.Path.{_≡_}
 use mathlib.Core.Bool.{Bool, cond}
-use mathlib.Core.List.{List, [], _∷_}
+use mathlib.Core.Logic.{_≢_}
+use mathlib.Core.List.{List, [], _∷_, _++_}
 use Prim.Native.Nat.{ℕ, _^_, _≤_, _<_}
 use lib.ListN.{length, getD}
 use Rattle.common.specs.Lists.{_∈_, from, Sorted}
 use Rattle.cube.specs.Cube.{circuitOf}
-use Rattle.paths.specs.Network.{Network, Link, links}
+use Rattle.paths.specs.Network.{Network, Link}
 use Rattle.paths.specs.Permitted.{Permitted}
 use Rattle.table.specs.Layout.{tableLength}
 use Rattle.table.specs.View.{View, view}
 use Rattle.table.specs.Encode.{encode}
-use Rattle.ownership.specs.Calls.{Call, Given, After}
+use Rattle.ownership.specs.Calls.{Call, Given, lent, After}
 use Rattle.ownership.specs.OnTable.{called}
-use Rattle.ownership.specs.History.{Circuit, History, netOn, holdsLink, holdsReceive, enabledOn, entered}
+use Rattle.ownership.specs.History.{Circuit, History, netOn, linksOf, holdsLink, holdsReceive, enabledOn, entered}
 
 -- a list of calls made one after another: what they leave, and what each of them gives
 module _ {S : Type 0} (makes : S → Call → After S) where
@@ -59,10 +60,6 @@ viewOf h =
 unfoldable pub bytesOf : History → List ℕ
 bytesOf h = encode (viewOf h)
 
--- a circuit's links
-abbrev pub linksOf : Network → Circuit → List Link
-linksOf N x = links N (x .source) (x .ports)
-
 -- What holds of each listed circuit: it is a send channel's of the cube, its path is permitted and ends on its target, and its links are not blocked.
 pub record Standing (h : History) (x : Circuit) : Type 0 where
   pub source : x .source < 2 ^ h .dimension
@@ -92,13 +89,16 @@ pub record Covered (b : List ℕ) (h : History) : Type 0 where
   pub shows : view b ≡ viewOf h
   pub valid : Valid h
 
--- The mission's third demand for a list of calls, refused ones included: table and history agree in every byte, each answer and each lent buffer is the
--- history's, and what always holds of a history holds of it (no two of its circuits share a link or a receive channel). The table's side of it runs the very
--- definitions that the contracts of the calls cite. The calls are lent no second table, so nothing else could be taken for this one.
+-- The users' third demand for a list of calls, refused ones included: table and history agree in every byte, each answer and each lent buffer is the
+-- history's, what always holds of a history holds of it (no two of its circuits share a link or a receive channel), and wherever a call of the list is refused,
+-- so where a search is rejected too, each byte of the table and of the lent buffer is as it was. The table's side of it runs the very definitions that the
+-- contracts of the calls cite. The calls are lent no second table, so nothing else could be taken for this one.
 pub record Agrees (b : List ℕ) (h : History) (calls : List Call) : Type 0 where
   pub bytes : tableAfter b calls ≡ bytesOf (historyAfter h calls)
   pub gives : tableGives b calls ≡ historyGives h calls
   pub valid : Valid (historyAfter h calls)
+  pub refused : (before : List Call) (a : Call) (more : List Call) → calls ≡ before ++ a ∷ more → called (tableAfter b before) a .given .answer .number ≢ 0
+      → (tableAfter b (before ++ a ∷ []) ≡ tableAfter b before) × (called (tableAfter b before) a .given .buffer ≡ lent a)
 
 -- "accepted": the call answers 0
 abbrev pub Accepted : List ℕ → Call → Type 0

@@ -37,7 +37,7 @@ lentTests b (opening s c t y v) = tableTests b
 lentTests b (closing s c) = tableTests b
 lentTests b (tracing s c buffer) = tableTests b
 
--- all tests of a call, in rising order of number; the number of the first that applies, 0 where none does
+-- all tests of a call, in rising order of number. "The first that applies is the answer": its number, 0 where none does
 unfoldable pub stoppedAt : List ℕ → Call → ℕ
 stoppedAt b a = refusal (lentTests b a ++ callTests (askedOf (view b)) a)
 
@@ -49,7 +49,7 @@ done b answer buffer = record { state = b; given = record { answer = answer; buf
 unfoldable pub sendIn : View → ℕ → ℕ → ℕ → ℕ → Sent
 sendIn v s t y vector = send y (shapeOf v) (freeIn v) (receive v t) s vector t
 
--- "The first that applies is the answer": what a call does where no test applies,
+-- what a call does where no test applies,
 unfoldable pub carriedOut : List ℕ → Call → After (List ℕ)
 carriedOut b (making D) = done (made D) (only 0) []
 carriedOut b (blocking n p) = done (putEnabled b n p false) (only 0) []

@@ -1,0 +1,66 @@
+-- A refused call: no byte that it is lent alters, and its answer carries nothing beside its number but the scouts of a rejected search.
+-- Assumes nothing.
+use mathlib.Core.Path.{_≡_, refl, _∙_}
+use mathlib.Core.Logic.{⊎-elim, _≢_}
+use mathlib.Core.List.{List, [], _∷_, _++_}
+use Prim.Native.Nat.{ℕ}
+use Rattle.common.proofs.Tests.{same?}
+use Rattle.cube.specs.Cube.{circuitOf}
+use Rattle.paths.specs.Send.{Outcome, acknowledged, route-rejected, receive-rejected, Answer, answered}
+use Rattle.table.specs.View.{view}
+use Rattle.search.specs.Sent.{marked}
+use Rattle.ownership.specs.Calls.{Call, making, blocking, unblocking, opening, closing, tracing, lent, After}
+use Rattle.ownership.specs.OnTable.{stoppedAt, sendIn, carriedOut, called}
+use Rattle.ownership.specs.Lists.{tableAfter, leaves}
+use Rattle.ownership.proofs.Carried.{called-carried, called-stopped}
+
+-- "When refused, all but the number are 0, except that 10 and 11 carry their scouts."
+abbrev pub Zero : Answer → Type 0
+Zero x = (x .hops ≡ 0) × (x .receive ≡ 0) × (x .number ≢ 10 → x .number ≢ 11 → x .scouts ≡ 0)
+
+-- a call that is refused: the bytes of the table and of what else is lent are as they were, and its answer is so
+Refused : List ℕ → Call → After (List ℕ) → Type 0
+Refused b a x = (x .state ≡ b) × (x .given .buffer ≡ lent a) × Zero (x .given .answer)
+
+module _ (b : List ℕ) where
+  -- a rejected search leaves each byte of the table as it was
+  send-refused : (o : Outcome) (n c s t : ℕ) → answered o n .number ≢ 0 → (marked b c s t o ≡ b) × Zero (answered o n)
+  unfolding answered marked
+  send-refused (acknowledged w k) n c s t f = absurd (f refl)
+  send-refused route-rejected n c s t f = (refl, (refl, refl, λ g h. absurd (g refl)))
+  send-refused receive-rejected n c s t f = (refl, (refl, refl, λ g h. absurd (h refl)))
+
+  carried-refused : (a : Call) → carriedOut b a .given .answer .number ≢ 0 → Refused b a (carriedOut b a)
+  unfolding carriedOut lent Refused
+  carried-refused (making D) f = absurd (f refl)
+  carried-refused (blocking n p) f = absurd (f refl)
+  carried-refused (unblocking n p) f = absurd (f refl)
+  carried-refused (opening s c t y v) f =
+      let r = send-refused (sendIn (view b) s t y v .outcome) (sendIn (view b) s t y v .scouts) (circuitOf s c) s t f in (r .0, refl, r .1)
+  carried-refused (closing s c) f = absurd (f refl)
+  carried-refused (tracing s c buffer) f = absurd (f refl)
+
+  refused-call : (a : Call) → called b a .given .answer .number ≢ 0 → Refused b a (called b a)
+  refused-call a f =
+      ⊎-elim (λ z. let e = called-carried b a z in rw e (carried-refused a (rw e at f)))
+      (λ z. rw (called-stopped b a z) (unfold Refused in (refl, refl, (refl, refl, λ g h. refl)))) (same? (stoppedAt b a) 0)
+
+  -- "No refusal alters any lent byte": of any call on any bytes.
+  pub refused-leaves : (a : Call) → called b a .given .answer .number ≢ 0 → (called b a .state ≡ b) × (called b a .given .buffer ≡ lent a)
+  unfolding Refused
+  refused-leaves a f = let r = refused-call a f in (r .0, r .1)
+
+  -- and its answer is so.
+  pub refused-zero : (a : Call) → called b a .given .answer .number ≢ 0 → Zero (called b a .given .answer)
+  unfolding Refused
+  refused-zero a f = refused-call a f .2
+
+-- so wherever it stands in a list of calls, it leaves the table that it met
+after-all : (before : List Call) (b : List ℕ) (a : Call) → tableAfter b (before ++ a ∷ []) ≡ called (tableAfter b before) a .state
+unfolding leaves
+after-all [] b a = refl
+after-all (x ∷ before) b a = after-all before (called b x .state) a
+
+pub refused-within : (before : List Call) (b : List ℕ) (a : Call) → called (tableAfter b before) a .given .answer .number ≢ 0
+    → (tableAfter b (before ++ a ∷ []) ≡ tableAfter b before) × (called (tableAfter b before) a .given .buffer ≡ lent a)
+refused-within before b a f = let r = refused-leaves (tableAfter b before) a f in (after-all before b a ∙ r .0, r .1)
