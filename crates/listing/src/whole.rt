@@ -42,7 +42,7 @@ pub struct Listed {
 
 // Writes the printed list of an input to the start of an output. Later bytes keep their content.
 pub fn list(input: &[u8], output: &mut [u8]) -> Listed
-    ensures { λ r. ⌜ record { short = r .short; written = r .written; output = now (output .exit) } ≡ lists (now (input .entry)) (now (output .entry)) ⌝ }
+    ensures { λ r. ⌜ (record { short = r .short; written = r .written; output = now (output .exit) } ≡ lists (now (input .entry)) (now (output .entry))) × (now (input .exit) ≡ now (input .entry)) ⌝ }
 {
     if output.len() < OUTPUT_BYTES {
         return Listed {

@@ -1,7 +1,8 @@
 // The listing program: reads standard input, and writes its printed list to standard output.
 ghost use mathlib.Core.Path.{_≡_};
 ghost use Prim.Native.Nat.{_+_, _≤_};
-ghost use lib.ListN.{length};
+ghost use lib.ListN.{length, take};
+ghost use Rattle.listing.specs.Printed.{lists};
 use libc::STDIN_FILENO;
 use libc::STDOUT_FILENO;
 
@@ -11,10 +12,10 @@ struct Got {
     bytes: usize,
 }
 
-// One read to the rest of a buffer.
+// One read to the rest of a buffer: what was read before stays.
 fn read_on(input: &mut [u8], at: usize) -> Got
     requires { ⌜ at ≤ length (now input) ⌝ }
-    ensures { λ r. ⌜ at + r .bytes ≤ length (now (input .entry)) ⌝ }
+    ensures { λ r. ⌜ (at + r .bytes ≤ length (now (input .entry))) × (take at (now (input .exit)) ≡ take at (now (input .entry))) ⌝ }
 {
     let rest = &mut input[at..];
     let got = libc::read(STDIN_FILENO, rest);
@@ -61,6 +62,7 @@ fn room() -> [u8; 1440075]
 // Writes the list of the first bytes of a buffer.
 fn print(input: &[u8], bytes: usize, output: &mut [u8])
     requires { ⌜ bytes ≤ length (now input) ⌝ }
+    ensures { λ _. ⌜ now (output .exit) ≡ lists (take bytes (now (input .entry))) (now (output .entry)) .output ⌝ }
 {
     let listed = listing::list(&input[0..bytes], output);
     let written = listed.written;

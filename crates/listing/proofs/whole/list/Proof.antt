@@ -1,5 +1,6 @@
 -- `listing::whole::list` meets its contract: the header and the lines behind it are the printed list.
 -- Assumes nothing.
+use mathlib.Core.Path.{refl}
 use native.Mathlib.Omega.{arith}
 use lib.Dec.{lit≤}
 use Rattle.listing.specs.Row.{spaced, ended}
@@ -11,7 +12,7 @@ use Rattle.listing.proofs.whole.list.Statement.{statement}
 use Rattle.listing.proofs.whole.list.Tie as tie
 
 returns : tie.Need-returns
-returns c = let s = c .before .before .before in lists-short (s .args .input .now) (s .args .output .now) (c .if1 .taken)
+returns c = let s = c .before .before .before in (lists-short (s .args .input .now) (s .args .output .now) (c .if1 .taken), refl)
 
 slice-aggregate-text : tie.Need-slice-aggregate-text
 slice-aggregate-text c = search needs
@@ -28,7 +29,7 @@ returns-2 c =
     let w = c .before .before in
     let i = w .before .before .before in
     let s = i .before .before .before .before in
-    lists-all (s .args .input .now) (omega (arith, i .before .if1 .left)) (lit≤ tt) (printed-long (s .args .input .now) (i .if2 .taken)) (w .text .ensures)
+    (lists-all (s .args .input .now) (omega (arith, i .before .if1 .left)) (lit≤ tt) (printed-long (s .args .input .now) (i .if2 .taken)) (w .text .ensures), refl)
 
 slice-aggregate-make : tie.Need-slice-aggregate-make
 slice-aggregate-make c = search needs
@@ -60,7 +61,7 @@ returns-3 c =
     let i = m .before .before in
     let s = i .before .before .before .before in
     let input = s .args .input .now in
-    lists-all input (omega (arith, i .before .if1 .left)) (lit≤ tt) (printed-rows input (m .make .last .0) (omega (arith, i .if2 .left)) (m .make .ensures)) (h .text2 .ensures then w .rows .ensures)
+    (lists-all input (omega (arith, i .before .if1 .left)) (lit≤ tt) (printed-rows input (m .make .last .0) (omega (arith, i .if2 .left)) (m .make .ensures)) (h .text2 .ensures then w .rows .ensures), refl)
 
 pub list-spec : {M : Type 1} → statement M
 list-spec =
