@@ -46,4 +46,4 @@ all-same b e (i ∷ is) h = ap₂ _∷_ (same b e i (h .0)) (all-same b e is (h 
 
 pub examples-on-tables : (b : List ℕ) → length b ≡ tableLength → map (resultOn b) inputs ≡ results
 unfolding All Begins
-examples-on-tables b e = all-same b e inputs ((lit≤ tt, lit≤ tt), ((lit≤ tt, lit≤ tt), ((lit≤ tt, lit≤ tt), ((lit≤ tt, lit≤ tt), ((lit≤ tt, lit≤ tt), ((lit≤ tt, lit≤ tt), ((lit≤ tt, lit≤ tt), (tt, (tt, (tt, (tt, (tt, (tt, tt))))))))))))) ∙ examples
+examples-on-tables b e = all-same b e inputs ((lit≤ tt, lit≤ tt), ((lit≤ tt, lit≤ tt), ((lit≤ tt, lit≤ tt), ((lit≤ tt, lit≤ tt), ((lit≤ tt, lit≤ tt), ((lit≤ tt, lit≤ tt), ((lit≤ tt, lit≤ tt), ((lit≤ tt, lit≤ tt), (tt, (tt, (tt, (tt, (tt, (tt, tt)))))))))))))) ∙ examples

@@ -8,11 +8,11 @@ use Rattle.common.specs.Lists.{keep, from, any, lowest}
 use Rattle.common.specs.Tests.{refusal}
 use Rattle.cube.specs.Bits.{has, flip}
 use Rattle.cube.specs.Cube.{uphill}
-use Rattle.cube.specs.Helical.{helical}
+use Rattle.cube.specs.Helical.{helical, portsOf}
 use Rattle.paths.specs.Network.{offered, end, links, hasLink, freePath}
 use Rattle.paths.specs.Pass.{over, ways, beginnings, scan, whole, pass, scouts}
 use Rattle.paths.specs.Send.{received, outcome, goesOn, runs, answered}
-use Rattle.paths.specs.CubeNetwork.{network, sendPorts, otherPorts, maze, alternateMaze, send}
+use Rattle.paths.specs.CubeNetwork.{network, otherPorts, maze, alternateMaze, send}
 use Rattle.command_word.specs.Commands.{commands, valuesIn, values, reserved}
 use Rattle.command_word.specs.Word.{readTests, reading, readWord, writeTests, writing, writeWord}
 use Rattle.table.specs.View.{lowestOf}
@@ -55,8 +55,9 @@ inputs =
     ∷ calls (making 2 ∷ opening 0 0 1 0 2 ∷ trace 0 ∷ [])
     -- 5: as 4, link 2 to 3 blocked
     ∷ calls (making 2 ∷ blocking 2 0 ∷ opening 0 0 1 0 2 ∷ trace 0 ∷ [])
-    -- 6: D 2, 0 to 1, vector 1, link 0 to 1 blocked; type 0, then type 4
-    ∷ calls (making 2 ∷ blocking 0 0 ∷ opening 0 0 1 0 1 ∷ opening 0 0 1 4 1 ∷ trace 0 ∷ [])
+    -- 6: D 2, 0 to 1, vector 1, link 0 to 1 blocked; type 0, and type 4
+    ∷ calls (making 2 ∷ blocking 0 0 ∷ opening 0 0 1 0 1 ∷ [])
+    ∷ calls (making 2 ∷ blocking 0 0 ∷ opening 0 0 1 4 1 ∷ trace 0 ∷ [])
     -- 7: D 1, 0 to 1, vector 1, on channel 0, then on channel 1; after closing channel 0, channel 1
     ∷ calls (making 1 ∷ opening 0 0 1 0 1 ∷ opening 0 1 1 0 1 ∷ closing 0 0 ∷ opening 0 1 1 0 1 ∷ [])
     -- 8: words read and written
@@ -73,11 +74,12 @@ results =
     ∷ (done ∷ (0 ∷ 2 ∷ 0 ∷ 2 ∷ []) ∷ (0 ∷ 2 ∷ 0 ∷ 0 ∷ 0 ∷ 0 ∷ 9 ∷ 9 ∷ 9 ∷ 9 ∷ 9 ∷ 9 ∷ 9 ∷ []) ∷ [])
     ∷ (done ∷ (0 ∷ 3 ∷ 0 ∷ 3 ∷ []) ∷ (0 ∷ 3 ∷ 0 ∷ 0 ∷ 1 ∷ 0 ∷ 1 ∷ 9 ∷ 9 ∷ 9 ∷ 9 ∷ 9 ∷ 9 ∷ []) ∷ [])
     ∷ (done ∷ done ∷ (0 ∷ 3 ∷ 0 ∷ 3 ∷ []) ∷ (0 ∷ 3 ∷ 0 ∷ 0 ∷ 1 ∷ 1 ∷ 0 ∷ 9 ∷ 9 ∷ 9 ∷ 9 ∷ 9 ∷ 9 ∷ []) ∷ [])
-    ∷ (done ∷ done ∷ (10 ∷ 0 ∷ 0 ∷ 0 ∷ []) ∷ (0 ∷ 3 ∷ 0 ∷ 3 ∷ []) ∷ (0 ∷ 3 ∷ 0 ∷ 0 ∷ 1 ∷ 0 ∷ 1 ∷ 9 ∷ 9 ∷ 9 ∷ 9 ∷ 9 ∷ 9 ∷ []) ∷ [])
+    ∷ (done ∷ done ∷ (10 ∷ 0 ∷ 0 ∷ 0 ∷ []) ∷ [])
+    ∷ (done ∷ done ∷ (0 ∷ 3 ∷ 0 ∷ 3 ∷ []) ∷ (0 ∷ 3 ∷ 0 ∷ 0 ∷ 1 ∷ 0 ∷ 1 ∷ 9 ∷ 9 ∷ 9 ∷ 9 ∷ 9 ∷ 9 ∷ []) ∷ [])
     ∷ (done ∷ (0 ∷ 1 ∷ 0 ∷ 1 ∷ []) ∷ (10 ∷ 0 ∷ 0 ∷ 0 ∷ []) ∷ done ∷ (0 ∷ 1 ∷ 0 ∷ 1 ∷ []) ∷ [])
     ∷ ((0 ∷ 1 ∷ 0 ∷ []) ∷ []) ∷ ((0 ∷ 2112 ∷ []) ∷ []) ∷ ((0 ∷ 6 ∷ 5 ∷ []) ∷ []) ∷ ((0 ∷ 9 ∷ 1 ∷ []) ∷ []) ∷ ((17 ∷ 0 ∷ 0 ∷ []) ∷ []) ∷ ((18 ∷ 0 ∷ 0 ∷ []) ∷ [])
     ∷ []
 
 pub examples : map result inputs ≡ results
-unfolding answers entered stoppedOn callTests refusal askedOn openOn heldOn takenOn any holdsLink holdsReceive belongs enabledOn freeOn receiveOn lowestOf lowest listed sendOn adds follows gives written lent send maze alternateMaze network sendPorts otherPorts keep from has flip uphill helical offered end links hasLink freePath over ways beginnings scan whole pass scouts received outcome goesOn runs answered commands valuesIn values reserved readTests reading readWord writeTests writing writeWord
+unfolding answers entered stoppedOn callTests refusal askedOn openOn heldOn takenOn any holdsLink holdsReceive belongs enabledOn freeOn receiveOn lowestOf lowest listed sendOn adds follows gives written lent send maze alternateMaze network portsOf otherPorts keep from has flip uphill helical offered end links hasLink freePath over ways beginnings scan whole pass scouts received outcome goesOn runs answered commands valuesIn values reserved readTests reading readWord writeTests writing writeWord
 examples = refl

@@ -95,6 +95,8 @@ fn second_pass(t: &mut [u8]) {
     make(t, 2);
     block(t, Node(0), Port(0));
     open(t, 0, Node(1), 0, 1);
+    make(t, 2);
+    block(t, Node(0), Port(0));
     open(t, 0, Node(1), 4, 1);
     trace(t, 0);
 }

@@ -8,7 +8,7 @@ const UP: [u8; 9] = [0, 0, 1, 2, 3, 4, 5, 6, 7];
 const DOWN: [u8; 8] = [7, 6, 5, 4, 3, 2, 1, 0];
 
 fn empty(t: &mut [u8], dimension: u8) {
-    if t.len() == 8449 {
+    if t.len() == table::BYTES {
         if dimension < 9 {
             table::make(t, dimension);
         }
@@ -21,7 +21,7 @@ fn port(number: u8) -> Port {
 
 // Gives a circuit one link: the node that it leads to.
 fn hop(t: &mut [u8], c: Circuit, n: Node, p: Port) -> Node {
-    if t.len() == 8449 {
+    if t.len() == table::BYTES {
         if n.0 < 256 {
             if p.0 < 8 {
                 table::set_owner(t, n, p, c);
@@ -44,7 +44,7 @@ fn lay(t: &mut [u8], c: Circuit, source: Node, ports: &[u8]) -> Node {
 }
 
 fn receive(t: &mut [u8], c: Circuit, n: Node, channel: u16) {
-    if t.len() == 8449 {
+    if t.len() == table::BYTES {
         if n.0 < 256 {
             if channel < 8 {
                 table::set_receiver(t, n, channel, c);
