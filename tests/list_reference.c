@@ -52,7 +52,7 @@ static void print_path(uint16_t node, uint16_t channel) {
 }
 
 static void answer(unsigned number, const char *bytes, size_t length) {
-    struct line line;
+    struct line line = {0};
     if (!read_line(bytes, length, &line)) {
         printf("%u - 20 - - - - -\n", number);
         return;
@@ -101,10 +101,10 @@ static void list(void) {
 
 /* ---- lists of calls ---- */
 
-static unsigned long state;
+static uint64_t state;
 
 static unsigned below(unsigned n) {
-    state = state * 6364136223846793005ul + 1442695040888963407ul;
+    state = state * 6364136223846793005u + 1442695040888963407u;
     return (unsigned)(state >> 33) % n;
 }
 

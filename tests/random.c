@@ -4,8 +4,8 @@
  *
  * runs that many streams of calls of each kind and dimension (20 without an argument), each from a seed of its own. At the first difference it
  * shortens the list of calls as long as they still differ, prints it and stops. Otherwise it prints how often each case has occurred. Calls are
- * written as in the printed list, and beside them `T node channel` traces, `P place value` writes one byte of the table, and a number after `/`
- * is the length of the table lent, of the buffer lent, or of both. */
+ * written as in the printed list, and beside them `T node channel` traces, `P place value` writes one byte of the table, and `/ table of N` or
+ * `/ buffer of N` behind a call says that it was lent N bytes. */
 #include "reference.h"
 #include "subject.h"
 
@@ -586,13 +586,35 @@ int main(int count, char **arguments) {
     print_seen();
     /* Streams that no longer reach the edges compare nothing worth comparing. */
     if (streams >= 20) {
-        const unsigned long edges[] = {seen.first_hop_away, seen.through_source, seen.to_itself, seen.second_accepted, seen.second_rejected,
-                                       seen.rejected_1000, seen.rejected_10000, seen.nearly_full_accepted, seen.full, seen.all_received,
-                                       seen.one_changed_sound, seen.several_changed, seen.moved, seen.laid_sound, seen.wrong_length,
-                                       seen.short_buffer, seen.hops[9], seen.answers[letter_place('S')][MAZE_CHANNEL_IN_USE]};
+        const struct {
+            const char *what;
+            unsigned long times;
+        } edges[] = {
+            {"a first hop away from the target", seen.first_hop_away},
+            {"a path through the source", seen.through_source},
+            {"a path to the source itself", seen.to_itself},
+            {"a path of nine hops", seen.hops[9]},
+            {"a second pass accepted", seen.second_accepted},
+            {"a second pass rejected", seen.second_rejected},
+            {"a rejection after 1,000 scouts", seen.rejected_1000},
+            {"a rejection after 10,000 scouts", seen.rejected_10000},
+            {"an open accepted with nine tenths of the links held", seen.nearly_full_accepted},
+            {"an open with all links held", seen.full},
+            {"an open with all receive channels held", seen.all_received},
+            {"an open on a channel in use", seen.answers[letter_place('S')][MAZE_CHANNEL_IN_USE]},
+            {"one byte changed, still sound", seen.one_changed_sound},
+            {"one byte changed, not sound", seen.one_changed - seen.one_changed_sound},
+            {"several bytes changed, still sound", seen.several_changed_sound},
+            {"several bytes changed, not sound", seen.several_changed - seen.several_changed_sound},
+            {"a receive channel moved", seen.moved},
+            {"a circuit written entry by entry, sound", seen.laid_sound},
+            {"a circuit written entry by entry, not sound", seen.laid - seen.laid_sound},
+            {"a wrong length", seen.wrong_length},
+            {"a short buffer", seen.short_buffer},
+        };
         for (size_t i = 0; i < sizeof edges / sizeof *edges; i++)
-            if (edges[i] == 0) {
-                printf("edge %zu never occurred\n%lu passed, 1 failed\n", i, passed);
+            if (edges[i].times == 0) {
+                printf("never occurred: %s\n%lu passed, 1 failed\n", edges[i].what, passed);
                 return 1;
             }
     }

@@ -7,9 +7,10 @@
  * changed tables are accepted and how many are refused, and why.  The counts
  * printed by the proved program are compared with the counts printed here.
  *
- * Nothing here is shared with the library.  A circuit is judged by looking
- * for a permitted path among all the paths that its own links allow, by an
- * exhaustive depth-first search.
+ * Nothing here is shared with the library, nor with the check in reference.c:
+ * what one of the two has wrong shows in the other's test.  A circuit is judged
+ * by looking for a permitted path among all the paths that its own links allow,
+ * by an exhaustive depth-first search.
  */
 #include <stddef.h>
 #include <stdint.h>
