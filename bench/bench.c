@@ -6,7 +6,6 @@
  * leaves the table as it found it. Rounds of both are taken by turns, and the best round of each counts (15 without an argument). */
 #define _POSIX_C_SOURCE 199309L
 #include "baseline.h"
-#include "../tests/subject.h"
 
 #include <stdio.h>
 #include <stdlib.h>
@@ -94,7 +93,7 @@ static void mixed_words(void) {
     mix(pairs, 1024);
 }
 
-/* ---- one turn of each line: answers a sum that both versions must agree on ---- */
+/* ---- one turn of each line: answers a sum that both versions must agree on; its last two digits are the numbers that the calls answered ---- */
 
 /* What a turn is made with. Opens are on send channel 0; `other` is their target, the port of a link, or the channel that is traced. */
 struct with {
@@ -123,7 +122,7 @@ static unsigned long turn_block(const struct calls *c, struct with with) {
 
 static unsigned long turn_trace(const struct calls *c, struct with with) {
     maze_traced traced = c->trace(table, BYTES, with.node, with.other, buffer, sizeof buffer);
-    return traced.number + 100ul * traced.hops + buffer[0];
+    return traced.number + 100ul * traced.hops + 10000ul * buffer[0];
 }
 
 static unsigned long turn_words_read(const struct calls *c, struct with with) {
@@ -133,7 +132,7 @@ static unsigned long turn_words_read(const struct calls *c, struct with with) {
         maze_word_read_answer read = c->word_read(words[i]);
         sum += read.number + read.command + (unsigned long)read.carried;
     }
-    return sum;
+    return 100 * sum;
 }
 
 static unsigned long turn_words_write(const struct calls *c, struct with with) {
@@ -143,7 +142,7 @@ static unsigned long turn_words_write(const struct calls *c, struct with with) {
         maze_word_written written = c->word_write(pairs[i] / 64, pairs[i] % 64);
         sum += written.number + (unsigned long)written.word;
     }
-    return sum;
+    return 100 * sum;
 }
 
 static const struct {
@@ -151,26 +150,27 @@ static const struct {
     void (*prepare)(void);
     unsigned long (*turn)(const struct calls *, struct with);
     struct with with;
+    unsigned number;  /* what the calls of the turn answer */
     unsigned turns;   /* of a round */
     unsigned divisor; /* calls of a turn that the time is given for; 1 for the whole turn */
 } lines[] = {
-    {"make, dimension 8", empty_8, turn_make, {0, 0, 0}, 10000, 1},
-    {"open and close, 3 hops, dimension 3", empty_3, turn_open_close, {0, 7, 7}, 5000, 1},
-    {"open and close, 1 hop, dimension 8", empty_8, turn_open_close, {0, 1, 1}, 5000, 1},
-    {"open and close, 8 hops", empty_8, turn_open_close, {0, 255, 255}, 5000, 1},
-    {"open, 77,940 scouts, rejected", walled, turn_open, {0, 254, 255}, 10, 1},
-    {"block and unblock", empty_8, turn_block, {200, 5, 0}, 5000, 1},
-    {"trace of 9 hops", nine_hops, turn_trace, {0, 0, 0}, 5000, 1},
-    {"2,047 circuits of 1 hop: open and close", full_of_short, turn_open_close, {0, 1, 1}, 300, 1},
-    {"  open, rejected", full_of_short, turn_open, {0, 255, 255}, 300, 1},
-    {"  block and unblock", full_of_short, turn_block, {0, 0, 0}, 300, 1},
-    {"  trace", full_of_short, turn_trace, {255, 5, 0}, 300, 1},
-    {"circuits of all lengths, 2,047 links: open and close", full_of_long, turn_open_close, {0, 1, 1}, 300, 1},
-    {"  open, rejected", full_of_long, turn_open, {0, 255, 255}, 300, 1},
-    {"  block and unblock", full_of_long, turn_block, {0, 0, 0}, 300, 1},
-    {"  trace", full_of_long, turn_trace, {255, 5, 0}, 300, 1},
-    {"reading a word, of 4,096", mixed_words, turn_words_read, {0, 0, 0}, 50, 4096},
-    {"writing a word, of 1,024", mixed_words, turn_words_write, {0, 0, 0}, 200, 1024},
+    {"make, dimension 8", empty_8, turn_make, {0, 0, 0}, MAZE_ACCEPTED, 10000, 1},
+    {"open and close, 3 hops, dimension 3", empty_3, turn_open_close, {0, 7, 7}, MAZE_ACCEPTED, 5000, 1},
+    {"open and close, 1 hop, dimension 8", empty_8, turn_open_close, {0, 1, 1}, MAZE_ACCEPTED, 5000, 1},
+    {"open and close, 8 hops", empty_8, turn_open_close, {0, 255, 255}, MAZE_ACCEPTED, 5000, 1},
+    {"open, 77,940 scouts, rejected", walled, turn_open, {0, 254, 255}, MAZE_ROUTE_REJECTED, 10, 1},
+    {"block and unblock", empty_8, turn_block, {200, 5, 0}, MAZE_ACCEPTED, 5000, 1},
+    {"trace of 9 hops", nine_hops, turn_trace, {0, 0, 0}, MAZE_ACCEPTED, 5000, 1},
+    {"2,047 circuits of 1 hop: open and close", full_of_short, turn_open_close, {0, 1, 1}, MAZE_ACCEPTED, 300, 1},
+    {"  open, rejected", full_of_short, turn_open, {0, 255, 255}, MAZE_ROUTE_REJECTED, 300, 1},
+    {"  block and unblock", full_of_short, turn_block, {0, 0, 0}, MAZE_ACCEPTED, 300, 1},
+    {"  trace", full_of_short, turn_trace, {255, 5, 0}, MAZE_ACCEPTED, 300, 1},
+    {"circuits of all lengths, 2,047 links: open and close", full_of_long, turn_open_close, {0, 1, 1}, MAZE_ACCEPTED, 300, 1},
+    {"  open, rejected", full_of_long, turn_open, {0, 255, 255}, MAZE_ROUTE_REJECTED, 300, 1},
+    {"  block and unblock", full_of_long, turn_block, {0, 0, 0}, MAZE_ACCEPTED, 300, 1},
+    {"  trace of 8 hops", full_of_long, turn_trace, {220, 1, 0}, MAZE_ACCEPTED, 300, 1},
+    {"reading a word, of 4,096", mixed_words, turn_words_read, {0, 0, 0}, MAZE_ACCEPTED, 50, 4096},
+    {"writing a word, of 1,024", mixed_words, turn_words_write, {0, 0, 0}, MAZE_ACCEPTED, 200, 1024},
 };
 
 /* ---- time ---- */
@@ -191,6 +191,10 @@ int main(int count, char **arguments) {
         static uint8_t before[BYTES];
         lines[i].prepare();
         memcpy(before, table, BYTES);
+        if (lines[i].turn(&library, lines[i].with) % 100 != lines[i].number) {
+            printf("bench: %s does not answer %u\n", lines[i].what, lines[i].number);
+            return 1;
+        }
         for (unsigned long round = 0; round < rounds; round++)
             for (int version = 0; version < 2; version++) {
                 const struct calls *calls = version == 0 ? &plain : &library;
