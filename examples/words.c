@@ -3,12 +3,13 @@
 #include <stdio.h>
 #include <stdlib.h>
 
-static const char *command_name(unsigned command) {
+/* Commands 4 and 14 mean two things, by the bit that they carry. */
+static const char *command_name(unsigned command, unsigned carried) {
     switch (command) {
     case MAZE_PACKET_ACKNOWLEDGE: return "packet acknowledge";
     case MAZE_ROUTE_ACKNOWLEDGE: return "route acknowledge";
     case MAZE_ROUTE_REJECTED_COMMAND: return "route rejected";
-    case MAZE_RECEIVE_REJECTED_COMMAND: return "receive rejected";
+    case MAZE_RECEIVE_REJECTED_COMMAND: return carried == 0 ? "receive rejected" : "parity error flushed back";
     case MAZE_FORWARDED_ROUTE_REJECTED: return "forwarded route rejected";
     case MAZE_END_TO_END_ACKNOWLEDGE: return "end-to-end acknowledge";
     case MAZE_END_TO_END_NOT_ACKNOWLEDGED: return "end-to-end not acknowledged";
@@ -16,7 +17,7 @@ static const char *command_name(unsigned command) {
     case MAZE_END_OF_TRANSMISSION: return "end of transmission";
     case MAZE_RESET_CPU: return "reset CPU";
     case MAZE_RESET_NODE: return "reset node";
-    default: return "flush path";
+    default: return carried == 0 ? "flush path" : "parity error flushed forward";
     }
 }
 
@@ -39,7 +40,7 @@ int main(int count, char **words) {
         }
         maze_word_read_answer read = maze_word_read((uint16_t)word);
         if (read.number == MAZE_ACCEPTED)
-            printf("%lu: %s, carrying %u\n", word, command_name(read.command), (unsigned)read.carried);
+            printf("%lu: %s, carrying %u\n", word, command_name(read.command, read.carried), (unsigned)read.carried);
         else
             printf("%lu: refused as %u, %s\n", word, (unsigned)read.number, refusal_name(read.number));
     }

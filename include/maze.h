@@ -11,8 +11,8 @@
  *   alignment is asked for.
  * - The buffer of maze_trace does not overlap the table.
  * - During a call nobody else reads or writes the table or the buffer. A search marks the links of its path in the table as it goes and
- *   gives them back when they are rejected, so a table looked at during a call may show circuits that are never opened, even where the call
- *   is refused in the end. Between calls anybody may read the table. Calls on different tables may run at the same time: the library keeps
+ *   frees each of them again where it goes back, so a table looked at during a call may show circuits that are never opened, even where the
+ *   call is refused in the end. Between calls anybody may read the table. Calls on different tables may run at the same time: the library keeps
  *   nothing of its own between calls.
  * The padding of an answer struct has no meaning. */
 #ifndef MAZE_H
