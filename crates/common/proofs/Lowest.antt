@@ -1,6 +1,6 @@
 -- The lowest number that passes a test: as a loop finds it, and what it says.
 -- Assumes nothing.
-use mathlib.Core.Path.{_≡_, refl, ap, _∙_}
+use mathlib.Core.Path.{_≡_, refl, sym, ap, _∙_, subst}
 use mathlib.Core.Logic.{_⊎_, inl, inr, ⊎-elim, _≢_}
 use mathlib.Core.Bool.{Bool, true, false, cond}
 use Prim.Native.Nat.{ℕ, zero, suc, _+_, _-_, _≤_, _<_}
@@ -22,6 +22,13 @@ module _ (f : ℕ → Bool) (n k : ℕ) (h : k < n) where
 
 pub lowest-end : (f : ℕ → Bool) (n k : ℕ) → k ≡ n → lowest f (n - k) k ≡ k
 lowest-end f n k e = let z : n - k ≡ 0 = omega arith in rw z (unfold lowest in refl)
+
+-- where none below k passes, the lowest from k on is the lowest of all
+pub lowest-skip : (f : ℕ → Bool) (n k : ℕ) → k ≤ n → ((j : ℕ) → j < k → f j ≡ false) → lowest f (n - k) k ≡ lowest f n 0
+lowest-skip f n zero h e = let z : n - 0 ≡ n = omega arith in rw z
+lowest-skip f n (suc k) h e =
+    let next : k + 1 ≡ suc k = omega arith in
+    subst (λ m. lowest f (n - m) m ≡ lowest f n 0) next (sym (lowest-on f n k (omega arith) (e k (omega arith))) ∙ lowest-skip f n k (omega arith) (λ j l. e j (omega arith)))
 
 -- the lowest of all is what was found below k, or else the lowest from k on
 pub found-on : (f : ℕ → Bool) (n k found next : ℕ) → k < n → next ≡ cond (ltb found n) found (cond (f k) k n) → cond (ltb found n) found (lowest f (n - k) k) ≡ cond (ltb next n) next (lowest f (n - (k + 1)) (k + 1))

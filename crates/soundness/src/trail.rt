@@ -48,12 +48,12 @@ fn comes_back(t: &[u8], c: Circuit, n: Node, vector: u16, p: Port) -> bool
     }
 }
 
-// The lowest port of a vector whose link a circuit holds at a node: 8 where there is none.
+// The lowest port of a vector whose link a circuit holds at a node: 8 where there is none. No port below the lowest of the vector is looked at.
 pub fn held_port(t: &[u8], c: Circuit, n: Node, vector: u16) -> Port
-    requires { ⌜ Within (now t) (n .0) 0 ⌝ }
+    requires { ⌜ Within (now t) (n .0) 0 × (vector < 256) ⌝ }
     ensures { λ r. ⌜ r .0 ≡ lowest (takes (view (now (t .entry))) (c .0) (n .0) vector) 8 0 ⌝ }
 {
-    let mut p: u16 = 0;
+    let mut p = cube::lowest_bit(vector);
     while p < 8 {
         if takes(t, c, n, vector, Port(p)) {
             return Port(p);
@@ -65,7 +65,7 @@ pub fn held_port(t: &[u8], c: Circuit, n: Node, vector: u16) -> Port
 
 // The same where it should come to its end at a known node. It holds no link there, which the row tells in one look.
 fn port_on(t: &[u8], c: Circuit, n: Node, vector: u16, end: Node) -> Port
-    requires { ⌜ Within (now t) (n .0) 0 ⌝ }
+    requires { ⌜ Within (now t) (n .0) 0 × (vector < 256) ⌝ }
     ensures { λ r. ⌜ r .0 ≡ lowest (takes (view (now (t .entry))) (c .0) (n .0) vector) 8 0 ⌝ }
 {
     if n.0 == end.0 {

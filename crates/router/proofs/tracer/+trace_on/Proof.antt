@@ -49,7 +49,7 @@ trace-on-At P t = P (trace-on-in t) (trace-on-at t) trace-on.Post
 held-port-requires : (t : ℕ) → trace-on-At trace-on-lts.Need-held-port-requires t
 held-port-requires t c κs =
     let s = c .before .before in
-    record { bytes = s .pre .1 .bytes; node = s .pre .1 .node; port = lit< tt }
+    (record { bytes = s .pre .1 .bytes; node = s .pre .1 .node; port = lit< tt }, s .pre .1 .ports)
 
 returns : (t : ℕ) → trace-on-At trace-on-lts.Need-returns t
 returns t c =

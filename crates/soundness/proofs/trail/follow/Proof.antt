@@ -30,7 +30,7 @@ abbrev μ-loop : tie.MeasureT-loop
 μ-loop t c vector target marks₀ at₀ left₀ q₀ marks at left q = left
 
 port-on-requires : tie.Need-port-on-requires Inv-loop μ-loop
-port-on-requires c κs = let s = c .before .before in record { bytes = s .pre .1 .bytes; node = s .pre .1 .node; port = lit< tt }
+port-on-requires c κs = let s = c .before .before in (record { bytes = s .pre .1 .bytes; node = s .pre .1 .node; port = lit< tt }, s .pre .0)
 
 loop-holds : tie.Need-loop-holds Inv-loop μ-loop
 loop-holds c = let s = c .before .before .before in (s .pre .1 .node, s .pre .0, c .port-on .ensures, refl, s .pre .2, λ a b h l. refl)
@@ -53,7 +53,10 @@ port-on-requires-2 c κs =
     let i = c .before .before .before .before .before .before in
     let l = i .before .before in
     let s = l .before .before .before .before in
-    record { bytes = s .pre .1 .bytes; node = rw (c .neighbour .ensures) (flip-inside 8 (l .loop .at .0) (l .loop .q .0) (l .loop .inv .0) (i .if1 .taken)); port = lit< tt }
+    (
+      record { bytes = s .pre .1 .bytes; node = rw (c .neighbour .ensures) (flip-inside 8 (l .loop .at .0) (l .loop .q .0) (l .loop .inv .0) (i .if1 .taken)); port = lit< tt },
+      omega (arith, c .before .without .ensures .value, l .loop .inv .1),
+    )
 
 loop-less : tie.Need-loop-less Inv-loop μ-loop
 loop-less c = let w = c .before .before in let l = w .before .before .before .before .before .before .before in omega (arith, w .without .ensures .value, pow-pos (l .loop .q .0))
