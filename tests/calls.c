@@ -168,20 +168,24 @@ static void example_8(void) {
 }
 
 static void example_9(void) {
-    /* circuit 57 from node 7 to node 0 over ports 0, 1 and 2; then circuit 1 the other way */
-    static const struct place one[] = {{369, 57}, {355, 57}, {325, 57}, {4353, 57}, {0, 0}};
-    static const struct place both[] = {{369, 57}, {355, 57}, {325, 57}, {4353, 57}, {257, 1}, {275, 1}, {309, 1}, {4465, 1}, {0, 0}};
+    /* circuit 57 from node 7 to node 0 over ports 0, 1 and 2; circuit 1 the other way */
+    static const struct place back[] = {{369, 57}, {355, 57}, {325, 57}, {4353, 57}, {0, 0}};
+    static const struct place forth[] = {{257, 1}, {275, 1}, {309, 1}, {4465, 1}, {0, 0}};
     fresh(8);
     expect(maze_make(table, BYTES, 9) == 2, "example 9, dimension", 9, 0);
     expect_table("example 9, still dimension 8", 8, NULL);
     fresh(3);
     expect(maze_open(table, BYTES, 7, 0, 0, 0, 7).number == 0, "example 9, node", 7, 0);
-    expect_table("example 9, from node 7", 3, one);
-    expect(maze_open(table, BYTES, 8, 0, 0, 0, 7).number == 4, "example 9, node", 8, 0);
+    expect_table("example 9, from node 7", 3, back);
+    fresh(3);
     expect(maze_open(table, BYTES, 0, 0, 7, 0, 7).number == 0, "example 9, vector", 7, 0);
-    expect_table("example 9, vector 7", 3, both);
-    expect(maze_open(table, BYTES, 0, 1, 7, 0, 8).number == 8, "example 9, vector", 8, 0);
-    expect(maze_open(table, 8448, 0, 1, 7, 0, 7).number == 1, "example 9, length", 8448, 0);
+    expect_table("example 9, vector 7 to node 7", 3, forth);
+    fresh(3);
+    expect(maze_open(table, BYTES, 8, 0, 0, 0, 7).number == 4, "example 9, source", 8, 0);
+    expect(maze_open(table, BYTES, 0, 0, 8, 0, 7).number == 4, "example 9, target", 8, 0);
+    expect(maze_open(table, BYTES, 0, 0, 7, 0, 8).number == 8, "example 9, vector", 8, 0);
+    expect(maze_open(table, 8448, 0, 0, 7, 0, 7).number == 1, "example 9, length", 8448, 0);
+    expect_table("example 9, nothing opened", 3, NULL);
 }
 
 /* The eight links into the target are blocked: every beginning that is not a whole path is sent, 123,300 - 45,360 of them. */

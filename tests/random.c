@@ -199,9 +199,9 @@ static void tally(const struct call *call, const struct answers *answers, unsign
     }
     if (ref_last_send.passes == 2) *(number == MAZE_ACCEPTED ? &seen.second_accepted : &seen.second_rejected) += 1;
     if (number == MAZE_ACCEPTED) {
-        unsigned away = (a[0] ^ a[2]) >> ref_last_send.ports[0] & 1;
+        unsigned uphill = (a[0] ^ a[2]) >> ref_last_send.ports[0] & 1;
         seen.hops[ref_last_send.hops]++;
-        seen.first_hop_away += !away;
+        seen.first_hop_away += !uphill;
         seen.through_source += ref_last_send.hops > 2 && ref_last_send.ports[0] == ref_last_send.ports[1];
         seen.to_itself += a[0] == a[2];
     } else {

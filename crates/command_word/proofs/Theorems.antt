@@ -3,13 +3,14 @@
 use mathlib.Core.Path.{_≡_, refl, ap, sym, _∙_, subst}
 use mathlib.Core.Logic.{_≢_}
 use mathlib.Core.Bool.{Bool, true, false, cond}
-use Prim.Native.Nat.{ℕ, _≤_, _<_}
+use Prim.Native.Nat.{ℕ, _/_, _%_, _≤_, _<_}
 use native.Mathlib.Omega.{arith}
 use native.Mathlib.Nat.{mod-lt, mod-eq-of-lt}
 use lib.Dec.{eqb, leb, ltb}
 use borrow.Author.Tests.{ltb-true, ltb-false, leb-true, leb-false, eqb-true, eqb-false}
 use Rattle.common.specs.Tests.{refusal}
-use Rattle.command_word.specs.Commands.{wordOf, typeOf, commandOf, statusOf, typeFor, values}
+use Rattle.command_word.specs.declared.WordRead.{WordRead}
+use Rattle.command_word.specs.Commands.{wordOf, typeOf, commandOf, statusOf, typeFor, endToEndNotAcknowledged, codeOf, errorOf, commands, valuesIn, values}
 use Rattle.command_word.specs.Word.{readTests, carriedOf, reading, noReading, readWord, writeTests, writing, noWriting, writeWord, cleared}
 use Rattle.command_word.specs.Reasons.{ReadReason, too-large, no-command, wrong-type, reserved-command, readable, WriteReason, above-15, reserved-number, too-much, writable}
 use Rattle.command_word.proofs.Answers.{reason-number, read-accepted, write-number, write-accepted}
@@ -62,14 +63,19 @@ every-word word = let r = reason word in subst (ReadReason word) (sym (number-re
 pub one-reason : (word : ℕ) {n : ℕ} → ReadReason word n → readWord word .number ≡ n
 one-reason word r = number-read word ∙ reason-number word r
 
+-- The same of a command and a number to be written.
+pub every-pair : (command carried : ℕ) → WriteReason command carried (writeWord command carried .number)
+every-pair command carried =
+    let r = reason-to-write command carried in
+    subst (WriteReason command carried) (sym (number-written command carried ∙ write-number command carried (r .1))) (r .1)
+
+pub one-write-reason : (command carried : ℕ) {n : ℕ} → WriteReason command carried n → writeWord command carried .number ≡ n
+one-write-reason command carried r = number-written command carried ∙ write-number command carried r
+
 -- a pair that is written is in the list
 accepted-pair : (command carried : ℕ) → writeWord command carried .number ≡ 0 → (command ≤ 15) × (carried < values command)
-accepted-pair command carried e =
-    go (subst (WriteReason command carried) (sym (write-number command carried (r .1)) ∙ sym (number-written command carried) ∙ e) (r .1))
+accepted-pair command carried e = go (subst (WriteReason command carried) e (every-pair command carried))
   where
-    r : (n : ℕ) × WriteReason command carried n
-    r = reason-to-write command carried
-
     go : WriteReason command carried 0 → (command ≤ 15) × (carried < values command)
     go (writable h l) = (h, l)
 
@@ -139,3 +145,15 @@ read-writes-cleared word e = go (accepted-word word e)
         let same : cleared word ≡ wordOf (typeFor (commandOf word)) (commandOf word) k = rw (← m) (omega arith) in
         rw (← read-accepted word (commandOf word) (carriedOf word) (readable h t m z) refl refl)
         (sym (write-accepted (commandOf word) k (cleared word) (writable (omega arith) below) same))
+
+-- Command 7 carries its whole status: "upper two status bits code, lower four error".
+seven-carries : (word : ℕ) → commandOf word ≡ endToEndNotAcknowledged → carriedOf word ≡ statusOf word
+unfolding commands valuesIn values
+seven-carries word e = rw e (omega arith)
+
+pub code-and-error : (word : ℕ) → readWord word .number ≡ 0 → readWord word .command ≡ endToEndNotAcknowledged
+    → (codeOf (readWord word .carried) ≡ statusOf word / 16) × (errorOf (readWord word .carried) ≡ statusOf word % 16)
+code-and-error word e c =
+    let same = read-accepted word (commandOf word) (carriedOf word) (accepted-word word e) refl refl in
+    let carried : readWord word .carried ≡ statusOf word = sym (ap (λ (r : WordRead). r .carried) same) ∙ seven-carries word (ap (λ (r : WordRead). r .command) same ∙ c) in
+    (ap codeOf carried, ap errorOf carried)

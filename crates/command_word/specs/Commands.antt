@@ -93,6 +93,13 @@ commands =
     ∷ carrying flushPath 1
     ∷ []
 
+-- "7 end-to-end not acknowledged, upper two status bits code, lower four error": the code and the error in what command 7 carries
+abbrev pub codeOf : ℕ → ℕ
+codeOf carried = carried / 16
+
+abbrev pub errorOf : ℕ → ℕ
+errorOf carried = carried % 16
+
 -- how many numbers, from 0 upward, a command of a list carries; none where the list does not have it
 unfoldable pub valuesIn : List Command → ℕ → ℕ
 valuesIn [] c = 0

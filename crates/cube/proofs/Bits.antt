@@ -207,3 +207,14 @@ zero-has p = high-has 0 0 p (pow-pos 0) (omega arith)
 pub no-ports : (w n : ℕ) → n < 2 ^ w → ((p : ℕ) → p < w → has n p ≡ false) → n ≡ 0
 no-ports w n h z =
     same-bits w n 0 h (pow-pos w) (λ p l. has-no-bit n p (z p l) ∙ sym (bit-high 0 0 p (pow-pos 0) (omega arith)))
+
+-- and a number that has no bit at D or above is below 2 ^ D
+below-power : (n : ℕ) → n < 2 ^ n
+below-power zero = pow-pos 0
+below-power (suc n) = omega (arith, pow-succ' 2 n, below-power n)
+
+pub no-bit-above : (D n : ℕ) → ((p : ℕ) → D ≤ p → has n p ≡ false) → n < 2 ^ D
+unfolding has
+no-bit-above zero n h = omega (arith, no-ports n n (below-power n) (λ p l. h p (omega arith)), pow-pos 0)
+no-bit-above (suc D) n h =
+    omega (arith, pow-succ' 2 D, no-bit-above D (n / 2) (λ p l. ap (λ x. eqb x 1) (sym (bit-suc n p)) ∙ h (suc p) (omega arith)))

@@ -1,4 +1,4 @@
--- The printed list: document 01, section "The printed list", in its order.
+-- The printed list: document 01, section "The printed list". From numbers and lines of text up to the whole list.
 pub mod Text
 pub mod Lines
 pub mod Line

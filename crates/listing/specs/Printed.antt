@@ -52,7 +52,7 @@ pub record Answered (k : ℕ) (b : List ℕ) (n : ℕ) (a : Option Call) (out : 
   pub text : Wrote k out i (rowText (rowFor called b n a)) out′ j
   pub table : after ≡ behind called b a
 
--- the size of an output that is enough for every input: the header, and 24 bytes for each byte of input and one more
+-- the size of an output that is enough for every input: the header, and 24 bytes for each of 60,001 bytes, one more than the longest input has
 abbrev pub outputBytes : ℕ
 outputBytes = 51 + 24 * 60001
 

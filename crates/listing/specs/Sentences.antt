@@ -13,6 +13,11 @@ unfoldable pub Above : ℕ → List ℕ → Type 0
 Above b [] = Unit
 Above b (x ∷ xs) = (b < x) × Above b xs
 
+-- and so of each text of a list
+unfoldable pub AllAbove : ℕ → List (List ℕ) → Type 0
+AllAbove b [] = Unit
+AllAbove b (f ∷ fs) = Above b f × AllAbove b fs
+
 -- a field that shows a number
 unfoldable pub Shown : Field → Type 0
 Shown nothing = ⊥
@@ -32,8 +37,3 @@ IsOpen (tracing s c buffer) = ⊥
 -- "S answered 0, 10 or 11"
 abbrev pub WasSent : Call → Answer → Type 0
 WasSent a x = IsOpen a × ((x .number ≡ 0) ⊎ ((x .number ≡ 10) ⊎ (x .number ≡ 11)))
-
--- each of some texts is
-unfoldable pub AllAbove : ℕ → List (List ℕ) → Type 0
-AllAbove b [] = Unit
-AllAbove b (f ∷ fs) = Above b f × AllAbove b fs

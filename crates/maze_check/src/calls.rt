@@ -116,8 +116,9 @@ fn edges(t: &mut [u8]) {
     make(t, 9);
     make(t, 3);
     open(t, 0, Node(7), 0, 7);
-    open(t, 1, Node(8), 0, 7);
-    open(t, 1, Node(7), 0, 8);
+    make(t, 3);
+    open(t, 0, Node(8), 0, 7);
+    open(t, 0, Node(7), 0, 8);
 }
 
 fn too_short(t: &mut [u8]) {

@@ -11,6 +11,7 @@ use lib.ListN.{length}
 use borrow.Author.Tests.{eqb-true, eqb-false, eq-eqb, ne-eqb, ltb-true, ltb-false, lt-ltb, le-ltb, leb-true, le-leb, not-false}
 use Rattle.common.specs.Tests.{refusal}
 use Rattle.common.proofs.Tests.{neither, passed, accepted, first-passed, both}
+use Rattle.cube.proofs.Bits.{high-has, no-bit-above}
 use Rattle.ownership.specs.Calls.{Call, making, blocking, unblocking, opening, closing, tracing, Asked, callTests}
 use Rattle.ownership.specs.Allowed.{Allowed}
 use Rattle.ownership.specs.History.{History, askedOn, stoppedOn}
@@ -62,7 +63,7 @@ allowed a (opening s c t y v) e =
     let x₅ = first-passed _ 9 _ (λ z. omega arith) (x₄ .1) in
     let ends = neither (not (ltb s (2 ^ a .dimension))) _ (x₁ .0) in
     let vector = neither (eqb v 0) _ (x₄ .0) in
-    (below s _ (ends .0), below t _ (ends .1), channel-below c (x₂ .0), eqb-false v 0 (vector .0), below v _ (vector .1), x₅ .0, a-type y (x₃ .0))
+    (below s _ (ends .0), below t _ (ends .1), channel-below c (x₂ .0), eqb-false v 0 (vector .0), λ p l. high-has _ v p (below v _ (vector .1)) l, x₅ .0, a-type y (x₃ .0))
 allowed a (closing s c) e =
     let x = first-passed _ 4 _ (λ z. omega arith) e in
     let y = first-passed _ 5 _ (λ z. omega arith) (x .1) in
@@ -83,7 +84,7 @@ allowed-passes a (blocking n p) h = passed 4 _ (is-below n _ (h .0)) ∙ passed 
 allowed-passes a (unblocking n p) h = passed 4 _ (is-below n _ (h .0)) ∙ passed 6 _ (is-below p _ (h .1)) ∙ accepted
 allowed-passes a (opening s c t y v) h =
     passed 4 _ (ap₂ _||_ (is-below s _ (h .0)) (is-below t _ (h .1))) ∙ passed 5 _ (channel-is c (h .2)) ∙ passed 7 _ (type-is y (h .6))
-    ∙ passed 8 _ (ap₂ _||_ (ne-eqb v 0 (h .3)) (is-below v _ (h .4))) ∙ passed 9 _ (h .5) ∙ accepted
+    ∙ passed 8 _ (ap₂ _||_ (ne-eqb v 0 (h .3)) (is-below v _ (no-bit-above _ v (h .4)))) ∙ passed 9 _ (h .5) ∙ accepted
 allowed-passes a (closing s c) h = passed 4 _ (is-below s _ (h .0)) ∙ passed 5 _ (channel-is c (h .1)) ∙ passed 12 _ (ap not (h .2)) ∙ accepted
 allowed-passes a (tracing s c buffer) h =
     passed 4 _ (is-below s _ (h .0)) ∙ passed 5 _ (channel-is c (h .1)) ∙ passed 12 _ (ap not (h .2)) ∙ passed 14 _ (le-ltb (length buffer) 9 (h .3)) ∙ accepted

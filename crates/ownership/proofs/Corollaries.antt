@@ -48,7 +48,7 @@ module _ (b : List ℕ) (h : History) (D : ℕ) (e : Accepted b (making D)) (cal
   abbrev pub Listed : ℕ → ℕ → (Circuit → Type 0) → Type 0
   Listed s c Holds = (x : Circuit) × (x ∈ history .circuits) × ((x .source ≡ s) × (x .channel ≡ c)) × Holds x
 
-  -- "a circuit holds a link or receive channel in the table exactly when it does in the history"
+  -- a circuit holds a link or a receive channel in the table exactly when it does in the history
   pub table-holds-link : (s c : ℕ) → c < 8 → (n p : ℕ)
       → (ownerAt table n p ≡ circuitOf s c) ↔ Listed s c (λ x. (n, p) ∈ linksOf (netOn history) x)
   unfolding view
@@ -59,11 +59,12 @@ module _ (b : List ℕ) (h : History) (D : ℕ) (e : Accepted b (making D)) (cal
   unfolding view
   table-holds-receive s c l n k = subst (λ (v : View). (v .receiver n k ≡ circuitOf s c) ↔ Listed s c (λ x. (n ≡ x .target) × (k ≡ x .receive))) (sym (reached-covered .shows)) (receiver-exactly history (reached-covered .valid) s c l n k)
 
-  -- it is listed "exactly when the list has an acknowledged open of it with no accepted making and no accepted close of it afterwards", by the table's own answers
+  -- it is listed exactly when the list has an acknowledged open of it, and no accepted making and no accepted close of it afterwards, by the answers of the calls
+  -- on the table
   pub listed-exactly : (s c : ℕ) → (openOn history s c ≡ true) ↔ StillOpen s c (numbered (making D ∷ calls) (tableGives b (making D ∷ calls)))
   listed-exactly s c = rw (demand-3 b h D e calls .gives) (open-exactly s c h D (making-passes b h D e) calls)
 
-  -- each listed circuit has the path and the receive channel with which an open of the list was acknowledged that nothing accepted has ended since
+  -- each listed circuit has the path and the receive channel of an acknowledged open of the list, and no accepted call after that open ends it
   pub listed-opened : (x : Circuit) → x ∈ history .circuits → OpenedBy h (making D ∷ calls) x
   unfolding leaves
   listed-opened x m =
@@ -78,7 +79,7 @@ module _ (b : List ℕ) (h : History) (D : ℕ) (e : Accepted b (making D)) (cal
       let r = any-some (belongs s c) (history .circuits) (listed-exactly s c .1 k) in
       (r .0, r .1, belongs-parts s c (r .0) (r .2), r .1)
 
-  -- so a circuit holds a link in the table, and a receive channel, exactly when the list has an acknowledged open of it that nothing accepted has ended since
+  -- so a circuit holds a link in the table, and a receive channel, exactly when the list has an acknowledged open of it, and no accepted call after that ends it
   pub link-shown-exactly : (s c : ℕ) → c < 8 → ((n : ℕ) × ((p : ℕ) × (ownerAt table n p ≡ circuitOf s c))) ↔ StillOpen s c (numbered (making D ∷ calls) (tableGives b (making D ∷ calls)))
   link-shown-exactly s c l = ((λ r. still-open s c (table-holds-link s c l (r .0) (r .1 .0) .0 (r .1 .1))), (λ k. shows (some-listed s c k)))
     where
@@ -93,14 +94,14 @@ module _ (b : List ℕ) (h : History) (D : ℕ) (e : Accepted b (making D)) (cal
       shows : Listed s c (λ x. x ∈ history .circuits) → (n : ℕ) × ((k : ℕ) × (receiverAt table n k ≡ circuitOf s c))
       shows r = (r .0 .target, (r .0 .receive, table-holds-receive s c l (r .0 .target) (r .0 .receive) .1 (r .0, r .1, r .2, (refl, refl))))
 
-  -- "no two open circuits share a link or a receive channel"
+  -- no two open circuits share a link or a receive channel
   pub no-link-shared : (x y : Circuit) → x ∈ history .circuits → y ∈ history .circuits → (l : Link) → l ∈ linksOf (netOn history) x → l ∈ linksOf (netOn history) y → x ≡ y
   no-link-shared x y m k l i j = sorted-one (Separate (netOn history)) (history .circuits) (reached-covered .valid .apart) x y m k (λ r. r .link l i j) (λ r. r .link l j i)
 
   pub no-receive-shared : (x y : Circuit) → x ∈ history .circuits → y ∈ history .circuits → x .target ≡ y .target → x .receive ≡ y .receive → x ≡ y
   no-receive-shared x y m k t r = sorted-one (Separate (netOn history)) (history .circuits) (reached-covered .valid .apart) x y m k (λ z. z .receives t r) (λ z. z .receives (sym t) (sym r))
 
-  -- "every table so reached is sound", and none of tests 1 to 3 stops a call on it but a making's 2
+  -- every table so reached is sound, and none of tests 1 to 3 stops a call on it but a making's 2
   pub reached-sound : Sound (view table)
   reached-sound = covered-sound table history reached-covered
 

@@ -12,6 +12,7 @@ use borrow.Author.Tests.{eqb-true, eq-eqb, lt-ltb, leb-true}
 use Rattle.common.specs.Tests.{test, refusal}
 use Rattle.common.proofs.Tests.{clash, same?, refused, passed, accepted, refusal-before, refusal-behind, Avoids, avoids, avoiding, never-answered}
 use Rattle.cube.specs.Cube.{circuitOf, sourceOf}
+use Rattle.cube.proofs.Bits.{no-bit-above}
 use Rattle.paths.specs.Network.{Path}
 use Rattle.paths.proofs.Links.{on-first}
 use Rattle.paths.proofs.Trail.{trail-owned}
@@ -42,7 +43,7 @@ may-open b s c t y v e =
       fits = p .2;
       source = r .0;
       target = r .1;
-      ports = r .4;
+      ports = no-bit-above _ v (r .4);
       circuit = λ z. omega arith;
       small = circuit-small b (p .0) (p .2) s c (r .0) (r .2);
     }

@@ -1,4 +1,4 @@
--- Each listed circuit has the path and the receive channel with which an open of the list was acknowledged that nothing has ended since.
+-- Each listed circuit has the path and the receive channel of an acknowledged open of the list, and no accepted call after that open ends it.
 -- Assumes nothing.
 use mathlib.Core.Path.{_≡_, refl, ap, sym, subst, _∙_}
 use mathlib.Core.Logic.{_⊎_, inl, inr, ⊎-elim}

@@ -4,8 +4,9 @@
 use mathlib.Core.Path.{_≡_}
 use mathlib.Core.Logic.{_⊎_, _≢_}
 use mathlib.Core.Bool.{true, false}
-use Prim.Native.Nat.{_^_, _≤_, _<_}
+use Prim.Native.Nat.{ℕ, _^_, _≤_, _<_}
 use lib.ListN.{length}
+use Rattle.cube.specs.Bits.{has}
 use Rattle.ownership.specs.Calls.{Call, making, blocking, unblocking, opening, closing, tracing, Asked}
 
 unfoldable pub Allowed : Asked → Call → Type 0
@@ -13,6 +14,7 @@ Allowed a (making D) = (1 ≤ D) × (D ≤ 8)
 Allowed a (blocking n p) = (n < 2 ^ a .dimension) × (p < a .dimension) × (a .held n p ≡ false)
 Allowed a (unblocking n p) = (n < 2 ^ a .dimension) × (p < a .dimension)
 Allowed a (opening s c t y v) =
-    (s < 2 ^ a .dimension) × (t < 2 ^ a .dimension) × (c < 8) × (v ≢ 0) × (v < 2 ^ a .dimension) × (a .isOpen s c ≡ false) × ((y ≡ 0) ⊎ (y ≡ 4))
+    (s < 2 ^ a .dimension) × (t < 2 ^ a .dimension) × (c < 8) × (v ≢ 0) × ((p : ℕ) → a .dimension ≤ p → has v p ≡ false) × (a .isOpen s c ≡ false)
+    × ((y ≡ 0) ⊎ (y ≡ 4))
 Allowed a (closing s c) = (s < 2 ^ a .dimension) × (c < 8) × (a .isOpen s c ≡ true)
 Allowed a (tracing s c buffer) = (s < 2 ^ a .dimension) × (c < 8) × (a .isOpen s c ≡ true) × (9 ≤ length buffer)

@@ -45,6 +45,10 @@ pub record Asked : Type 0 where
   -- "this send channel has an open circuit", by source and channel
   pub isOpen : ℕ → ℕ → Bool
 
+-- "D outside 1 to 8: the one given when making, else the one stored": the one given
+abbrev pub dimensionGiven : ℕ → Test
+dimensionGiven D = test (not (leb 1 D && leb D 8)) 2
+
 -- "a node, source or target, not below 2^D"; "channel above 7"; "port not below D"
 abbrev pub absent : Asked → ℕ → Bool
 absent a n = not (ltb n (2 ^ a .dimension))
@@ -80,10 +84,6 @@ linkHeld a n p = test (a .held n p) 13
 
 abbrev pub shortBuffer : List ℕ → Test
 shortBuffer buffer = test (ltb (length buffer) 9) 14
-
--- D outside 1 to 8
-abbrev pub dimensionGiven : ℕ → Test
-dimensionGiven D = test (not (leb 1 D && leb D 8)) 2
 
 -- "Within one call the tests run in rising order of number." Those of each call behind the tests of the lent table:
 unfoldable pub callTests : Asked → Call → List Test

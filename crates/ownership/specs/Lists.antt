@@ -1,7 +1,7 @@
 -- Lists of calls, on a table and in the history, and what it is for both to agree: the users' third demand.
 -- Assumes nothing.
 use mathlib.Core.Path.{_≡_}
-use mathlib.Core.Bool.{Bool, cond}
+use mathlib.Core.Bool.{Bool, true, cond}
 use mathlib.Core.Logic.{_≢_}
 use mathlib.Core.List.{List, [], _∷_, _++_}
 use Prim.Native.Nat.{ℕ, _^_, _≤_, _<_}
@@ -65,7 +65,7 @@ pub record Standing (h : History) (x : Circuit) : Type 0 where
   pub source : x .source < 2 ^ h .dimension
   pub channel : x .channel < 8
   pub permitted : Permitted (netOn h) (x .source) (from 0 (h .dimension)) (x .target) (x .ports)
-  pub enabled : (l : Link) → l ∈ linksOf (netOn h) x → enabledOn h (l .0) (l .1) ≡ mathlib.Core.Bool.true
+  pub enabled : (l : Link) → l ∈ linksOf (netOn h) x → enabledOn h (l .0) (l .1) ≡ true
   pub receive : x .receive < 8
 
 -- "no two open circuits share a link or receive channel"; nor a send channel

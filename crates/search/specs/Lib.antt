@@ -1,4 +1,4 @@
--- A pass on a lent table: what it answers, and its bytes afterwards.
+-- A pass and a whole send on a lent table: what they answer, and its bytes afterwards; and the users' second demand.
 pub mod Settle
 pub mod Turns
 pub mod Sent

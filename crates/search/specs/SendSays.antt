@@ -43,17 +43,17 @@ module _ (N : Network) (free : ℕ → ℕ → Bool) (s t : ℕ) (r : Receive) w
     two : {o o₂ : Outcome} {n n₂ : ℕ} → type ≡ 4 → AnswerSays N free s ports t r o n → (Acknowledged o → ⊥) → AnswerSays N free s others t r o₂ n₂
         → PassesSay type ports others o₂ (n + n₂)
 
--- What a send of circuit c from s to t answers, x k h n, with the bytes b′ afterwards, on a table with the bytes b: an acknowledgement is number 0.
-pub record SendSays (b : List ℕ) (s t c type vector : ℕ) (x k h n : ℕ) (b′ : List ℕ) : Type 0 where
+-- What a send of circuit c from s to t answers, and the bytes after it, on a table with the bytes b. An acknowledgement is number 0.
+pub record SendSays (b : List ℕ) (s t c type vector : ℕ) (number receives hops scouts : ℕ) (after : List ℕ) : Type 0 where
   pub outcome : Outcome
   -- the outcome and the scouts are those of the passes: the first free permitted path, and the free beginnings up to it (AnswerSays)
-  pub says : PassesSay (net (view b)) (freeIn (view b)) s t (receive (view b) t) type (sendPorts (shapeOf (view b)) vector) (otherPorts (shapeOf (view b)) vector) outcome n
+  pub says : PassesSay (net (view b)) (freeIn (view b)) s t (receive (view b) t) type (sendPorts (shapeOf (view b)) vector) (otherPorts (shapeOf (view b)) vector) outcome scouts
   -- the numbers and the bytes are those of that outcome: an acknowledged path's links and its receive channel are held, nothing else changes
-  pub answer : settled x k h n b′ ≡ sentOn b c s t (record { outcome = outcome; scouts = n })
+  pub answer : settled number receives hops scouts after ≡ sentOn b c s t (record { outcome = outcome; scouts = scouts })
   -- "acknowledged exactly when a free permitted path exists and a receive channel is available"
-  pub exactly : (x ≡ 0) ↔ (((ports : List ℕ) × (ports ∈ passesOf (shapeOf (view b)) type vector) × FreeRoute (view b) s t ports) × Available (view b) t)
-  pub lowest : x ≡ 0 → Lowest (view b) t k
+  pub exactly : (number ≡ 0) ↔ (((ports : List ℕ) × (ports ∈ passesOf (shapeOf (view b)) type vector) × FreeRoute (view b) s t ports) × Available (view b) t)
+  pub lowest : number ≡ 0 → Lowest (view b) t receives
   -- a rejected search leaves each byte as it was
-  pub unchanged : x ≢ 0 → b′ ≡ b
+  pub unchanged : number ≢ 0 → after ≡ b
   -- "Both passes together never send more than 123,300."
-  pub bounded : n ≤ 123300
+  pub bounded : scouts ≤ 123300

@@ -18,7 +18,7 @@ use Rattle.table.specs.View.{View, view, receive}
 use Rattle.soundness.specs.Sound.{net}
 use Rattle.search.specs.Settle.{freeIn, Settled, settle, behindPort}
 
--- the farthest from a target of the nodes behind the ports of a list
+-- the largest distance to a target among the nodes behind the ports of a list
 unfoldable pub farthest : Network → ℕ → ℕ → List ℕ → ℕ
 farthest N t n [] = 0
 farthest N t n (p ∷ ps) = cond (leb (farthest N t n ps) (N .far t (N .next n p))) (N .far t (N .next n p)) (farthest N t n ps)

@@ -26,7 +26,7 @@ unfoldable pub isEmpty : Path → Bool
 isEmpty [] = true
 isEmpty (p ∷ w) = false
 
--- The number is in range, its path is not empty, and it holds one channel where that ends. That is not yet to stand: a link off the path, or a
+-- The number is in range, its path is not empty, and it holds one channel where that ends. This is weaker than `Stands`: a link off the path, or a
 -- channel elsewhere, fails at its own entry.
 unfoldable pub reaches : View → ℕ → Bool
 reaches v c = leb c (8 * 2 ^ v .dimension) && (not (isEmpty (pathOf v c)) && eqb (channelsHeld v c (endFor v c (pathOf v c))) 1)
@@ -76,14 +76,14 @@ pub record Usable (b : List ℕ) (dimension : ℕ) : Type 0 where
   pub stored : dimension ≡ dimensionAt b
   pub most : dimension < 9
 
--- the links, or the receive channels, of the nodes from n₀ and before n₁ that are from k₀ and before k₁ pass
+-- the test passes for nodes n₀ ≤ n < n₁ and their ports k₀ ≤ p < k₁, or their receive channels k₀ ≤ k < k₁
 unfoldable pub LinksPass : View → ℕ → ℕ → ℕ → ℕ → Type 0
 LinksPass v n₀ n₁ k₀ k₁ = (n p : ℕ) → n₀ ≤ n → n < n₁ → k₀ ≤ p → p < k₁ → linkTest v n p ≡ true
 
 unfoldable pub ReceivesPass : View → ℕ → ℕ → ℕ → ℕ → Type 0
 ReceivesPass v n₀ n₁ k₀ k₁ = (n k : ℕ) → n₀ ≤ n → n < n₁ → k₀ ≤ k → k < k₁ → receiveTest v n k ≡ true
 
--- every mark is of a link that the path of a circuit passes which reaches its end
+-- every marked link is on the path of some circuit that reaches its end
 unfoldable pub Fair : View → List ℕ → Type 0
 Fair v m = (n p : ℕ) → n < 256 → p < 8 → marked m n p ≡ true → (c : ℕ) × (reaches v c ≡ true) × (passes v c n p ≡ true)
 

@@ -109,8 +109,8 @@ freed b c = freeFrom c b linkPart 4096
 pub record Gathered (b : List ℕ) (i count : ℕ) (all : ℕ) : Type 0 where
   pub none-above : (j : ℕ) → j < count → getD b (i + j) 0 ≤ all
 
--- What the enable bits of a node are below where it has links of a cube of dimension D alone, or none where that cube does not have the node; and
--- that those of every node are.
+-- A bound on a node's byte of enable bits in a cube of dimension D: 2^D for a node of the cube, 1 (no bit) for any other. Every node keeps it where no absent
+-- link is enabled.
 unfoldable pub enableLimit : ℕ → ℕ → ℕ
 enableLimit D n = cond (ltb n (2 ^ D)) (2 ^ D) 1
 

@@ -87,7 +87,7 @@ fn one(t: &mut [u8], source: Node, ports: &[u8], n: Node, channel: u16) {
     receive(t, Circuit(1), n, channel);
 }
 
-// The ways that a table may have it. 0, 1 and 8 are sound.
+// Ten tables that hold circuit 1. 0, 1 and 8 are sound.
 pub fn single(t: &mut [u8], which: u16) {
     if which == 0 {
         // ports in an order that goes round

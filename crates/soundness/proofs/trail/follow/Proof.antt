@@ -52,8 +52,7 @@ port-on-requires-2 : tie.Need-port-on-requires-2 Inv-loop μ-loop
 port-on-requires-2 c κs =
     let i = c .before .before .before .before .before .before in
     let l = i .before .before in
-    let s = l .before .before .before .before in
-    (
+    let s = l .before .before .before .before in (
       record { bytes = s .pre .1 .bytes; node = rw (c .neighbour .ensures) (flip-inside 8 (l .loop .at .0) (l .loop .q .0) (l .loop .inv .0) (i .if1 .taken)); port = lit< tt },
       omega (arith, c .before .without .ensures .value, l .loop .inv .1),
     )
