@@ -39,10 +39,13 @@ int main(int count, char **words) {
             continue;
         }
         maze_word_read_answer read = maze_word_read((uint16_t)word);
-        if (read.number == MAZE_ACCEPTED)
-            printf("%lu: %s, carrying %u\n", word, command_name(read.command, read.carried), (unsigned)read.carried);
-        else
+        unsigned carried = read.carried;
+        if (read.number != MAZE_ACCEPTED)
             printf("%lu: refused as %u, %s\n", word, (unsigned)read.number, refusal_name(read.number));
+        else if (read.command == MAZE_END_TO_END_NOT_ACKNOWLEDGED)
+            printf("%lu: %s, code %u, error %u\n", word, command_name(read.command, carried), carried / MAZE_STATUS_CODE_PLACE, carried % MAZE_STATUS_CODE_PLACE);
+        else
+            printf("%lu: %s, carrying %u\n", word, command_name(read.command, carried), carried);
     }
     return 0;
 }

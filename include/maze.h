@@ -3,7 +3,7 @@
  * Every call finishes, takes any numbers, and answers MAZE_ACCEPTED or a refusal number. The tests of a call run in rising order of
  * number, and the first that applies is the answer. A refused call alters no byte lent to it and answers zero beside its number; only
  * MAZE_ROUTE_REJECTED and MAZE_RECEIVE_REJECTED carry their scouts. Numbers are tested at their 16 bits and never cut: node 256 is not
- * node 0.
+ * node 0. (C itself cuts a wider number to 16 bits before the call.)
  *
  * What the caller sees to:
  * - A pointer comes with a length, and points to at least that many bytes that stay valid during the call; those of a table may be
@@ -50,9 +50,9 @@ extern "C" {
 
 /* ---- The table of one cube ----
  *
- * A cube of dimension D has the nodes 0 to 2^D - 1. Port p, below D, of a node leads to the node whose number differs in bit p alone, and
- * arrives there on port p. Each direction is a link of its own. A node has send channels 0 to 7 and receive channels 0 to 7. The circuit of
- * send channel c at node s has the number 8 * s + c + 1; zero means no circuit.
+ * In a cube of dimension D nodes are numbered from 0 to 2^D - 1, and each has D ports, numbered from 0. The link out of port p goes to port p of
+ * the node whose number has bit p changed; the link back is another one, with a state of its own. Each node has 8 send channels and 8 receive
+ * channels, numbered from 0. Send channel c of node s has at most one circuit, number 8 * s + c + 1; 0 stands for none.
  *
  * The table is MAZE_TABLE_BYTES bytes of the caller's, first written by maze_make:
  *   1 byte                             the dimension
@@ -61,11 +61,12 @@ extern "C" {
  *   4,096 bytes from MAZE_RECEIVES_AT  for each node and receive channel, the circuit that holds it, two bytes, low byte first
  * Rows run node by node. A link is free if it is enabled and held by no circuit.
  *
- * A table is sound if everything in it for absent nodes and ports is zero, held links are enabled, no circuit number is above 8 * 2^D, and each
- * circuit number either occurs nowhere or stands on exactly the links of one permitted path from its source and on exactly one receive channel,
- * at that path's end. A permitted path leaves its source by any port below D; each later hop is over a port in whose bit the node and the path's
- * end differ; and it ends where it first arrives at its end, after at least one hop. Every call but maze_make refuses a table that is not
- * sound. */
+ * A path is permitted if its first hop is over a port of the send vector, each later hop over a port in whose bit the node and the target differ,
+ * and it ends where it first arrives at the target, after at least one hop.
+ *
+ * A table is sound if what it says of nodes and ports that the cube lacks is zero, no blocked link is held, no circuit number is above 8 * 2^D,
+ * and every circuit in it holds all links of one path from its source that is permitted for some send vector, one receive channel at the end of
+ * that path, and nothing else. Every call but maze_make refuses a table that is not sound. */
 #define MAZE_TABLE_BYTES 8449
 #define MAZE_NODES 256         /* nodes that have a row, present in the cube or not */
 #define MAZE_PORTS 8           /* ports in a row */
@@ -87,7 +88,7 @@ extern "C" {
      256u * (table)[MAZE_RECEIVES_AT + 2 * (MAZE_CHANNELS * (node) + (channel)) + 1])
 
 /* The number of a circuit, and back: the source and the send channel of a circuit number that is not zero. */
-#define MAZE_CIRCUIT(node, channel) (8u * (node) + (channel) + 1u)
+#define MAZE_CIRCUIT(node, channel) (8u * (unsigned)(node) + (unsigned)(channel) + 1u)
 #define MAZE_CIRCUIT_NODE(circuit) (((circuit) - 1) / 8)
 #define MAZE_CIRCUIT_CHANNEL(circuit) (((circuit) - 1) % 8)
 
@@ -103,7 +104,7 @@ typedef struct {
     uint16_t number;
     uint16_t hops;    /* links of the path */
     uint16_t receive; /* the receive channel taken at the target */
-    uint32_t scouts;  /* address packets sent by the search */
+    uint32_t scouts;  /* address packets sent by the search, over both passes */
 } maze_opened;
 
 typedef struct {
@@ -125,11 +126,12 @@ uint16_t maze_block(uint8_t *table, size_t table_len, uint16_t node, uint16_t po
  * Answers 0, or the first of 1, 2, 3, 4 and 6 that applies. */
 uint16_t maze_unblock(uint8_t *table, size_t table_len, uint16_t node, uint16_t port);
 
-/* Opens the circuit of a send channel of a node: looks for the first free permitted path to the target, in helical order, beginning with a port
- * of the send vector (bit p for port p). With MAZE_TYPE_ALTERNATE_MAZE, if that is rejected, a second pass begins with the ports below the
- * dimension that the vector left out; the answer is then that of the second pass, with the scouts of both. An accepted open holds the links
- * of that path and the target's lowest receive channel that no circuit holds; maze_trace tells the path. Alters the entries of those and leaves
- * the rest alone.
+/* Opens the circuit of a send channel of a node: looks for the first permitted path to the target, for the send vector (bit p for port p), whose
+ * links are all free. The source tries its ports from 0 upward; a node that was reached on port a tries those above a upward and then those from
+ * 0 up to a, so the order is helical. A scout, an address packet, goes over each free link that is tried, and goes back where it finds no way on.
+ * With MAZE_TYPE_ALTERNATE_MAZE, if that is rejected, a second pass begins with the ports below the dimension that the vector left out; the answer
+ * is then that of the second pass, with the scouts of both. An accepted open holds the links of that path and the target's lowest receive channel
+ * that no circuit holds; maze_trace tells the path. Alters the entries of those and leaves the rest alone.
  * Answers 0 with hops, receive channel and scouts, or the first of 1, 2, 3, 4, 5, 7, 8, 9, 10 and 11 that applies; 10 and 11 with scouts. On a
  * sound table a target whose eight receive channels are held has no free link into it, so 10 comes in place of 11. */
 maze_opened maze_open(uint8_t *table, size_t table_len, uint16_t node, uint16_t channel, uint16_t target, uint16_t type, uint16_t vector);

@@ -3,22 +3,12 @@
  *
  * A byte of a table is given by its place: the link out of port p of node n is held at 257 + 16 n + 2 p, receive channel c of node n at
  * 4353 + 16 n + 2 c, and the enabled links of node n are at 1 + n. */
+#include "expect.h"
 #include "subject.h"
 
-#include <stdio.h>
 #include <string.h>
 
 enum { BYTES = 8449, SPARE = 64, BUFFER = 16, MOST = 24 };
-
-static unsigned passed, failed;
-
-static void expect(int ok, const char *what, unsigned long a, unsigned long b) {
-    if (ok) {
-        passed++;
-        return;
-    }
-    if (failed++ < 40) printf("calls: %s %lu %lu\n", what, a, b);
-}
 
 /* The table and the buffer lent, and what they were before a call. Both go on behind what is lent. */
 static uint8_t table[BYTES + SPARE], kept_table[BYTES + SPARE], buffer[BUFFER], kept_buffer[BUFFER];
@@ -589,6 +579,5 @@ int main(void) {
     buffers();
     alignments();
     soundness();
-    printf("%u passed, %u failed\n", passed, failed);
-    return failed != 0;
+    return verdict();
 }

@@ -1,7 +1,8 @@
 /* The header's names: each has document 01's number, each answer the layout that the library writes, and each call the type that it has. */
+#include "expect.h"
+
 #include <maze.h>
 #include <stddef.h>
-#include <stdio.h>
 
 _Static_assert(sizeof(maze_word_read_answer) == 6 && offsetof(maze_word_read_answer, command) == 2 && offsetof(maze_word_read_answer, carried) == 4, "a reading is three 16-bit numbers");
 _Static_assert(sizeof(maze_word_written) == 4 && offsetof(maze_word_written, word) == 2, "a writing is two 16-bit numbers");
@@ -102,17 +103,11 @@ static int reads_table(void) {
 int main(void) {
     maze_word_read_answer (*read)(uint16_t) = maze_word_read;
     maze_word_written (*write)(uint16_t, uint16_t) = maze_word_write;
-    unsigned passed = 0, failed = 0;
-    for (unsigned i = 0; i < sizeof names / sizeof *names; i++) {
-        if (names[i].number == names[i].document) passed++;
-        else failed++, printf("header: %s is %d\n", names[i].name, names[i].number);
-    }
+    for (unsigned i = 0; i < sizeof names / sizeof *names; i++)
+        expect(names[i].number == names[i].document, names[i].name, (unsigned long)names[i].number, (unsigned long)names[i].document);
     maze_word_written written = write(MAZE_END_OF_TRANSMISSION, MAZE_STATUS_END_TO_END);
     maze_word_read_answer back = read(written.word);
-    if (written.number == MAZE_ACCEPTED && back.command == MAZE_END_OF_TRANSMISSION && back.carried == MAZE_STATUS_END_TO_END) passed++;
-    else failed++, printf("header: the names do not read back\n");
-    if (reads_table()) passed++;
-    else failed++, printf("header: the macros read another layout\n");
-    printf("%u passed, %u failed\n", passed, failed);
-    return failed != 0;
+    expect(written.number == MAZE_ACCEPTED && back.command == MAZE_END_OF_TRANSMISSION && back.carried == MAZE_STATUS_END_TO_END, "the names read back", written.word, back.carried);
+    expect(reads_table(), "the macros read document 01's layout", 0, 0);
+    return verdict();
 }

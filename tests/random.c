@@ -541,7 +541,7 @@ static const struct {
 };
 
 static void print_seen(void) {
-    printf("calls compared: %lu\n", seen.calls);
+    printf("calls compared: %lu; the numbers that each answered, and how often:\n", seen.calls);
     for (int i = 0; i < 6; i++) {
         printf("%c:", letters[i]);
         for (int number = 0; number < 15; number++)
@@ -618,6 +618,6 @@ int main(int count, char **arguments) {
                 return 1;
             }
     }
-    printf("%lu passed, 0 failed\n", passed);
+    printf("streams of calls, %lu for each kind and dimension:\n%lu passed, 0 failed\n", streams, passed);
     return passed == 0;
 }

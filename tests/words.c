@@ -1,17 +1,8 @@
 /* Command words from C: every one of the 65,536 words read, and every command written with every carried number, beside a
  * check written separately from document 01's list and from the patent's patterns of status bits. */
+#include "expect.h"
+
 #include <maze.h>
-#include <stdio.h>
-
-static unsigned passed, failed;
-
-static void expect(int ok, const char *what, unsigned a, unsigned b) {
-    if (ok) {
-        passed++;
-        return;
-    }
-    if (failed++ < 20) printf("words: %s %u %u\n", what, a, b);
-}
 
 /* The patent's command list, a row for each command: the pattern of its six status bits, where x is ignored and s says something;
  * NULL where the command is reserved. */
@@ -89,6 +80,5 @@ int main(void) {
     for (unsigned command = 0; command < 64; command++) write_every_pair(command);
     for (unsigned command = 64; command < 65536; command += 4091) write_every_pair(command);
     write_high_commands();
-    printf("%u passed, %u failed\n", passed, failed);
-    return failed != 0;
+    return verdict();
 }
