@@ -105,6 +105,9 @@ static const struct send sends[] = {
     {"out and back", 3, NONE, 5, 0, 5, 0, 6, 0, 0, 2, "11", {{339, 41}, {371, 41}, {4433, 41}}},
     {"one pass rejected", 2, {{1, 1}, {0, 99}}, 0, 0, 3, 0, 1, 10, 0, 1, "", {{2, 1}}},
     {"a second pass accepted", 2, {{1, 1}, {0, 99}}, 0, 0, 3, 4, 1, 0, 0, 3, "10", {{2, 1}, {259, 1}, {289, 1}, {4401, 1}}},
+    /* the first pass finds its only link blocked; the second goes back from node 1, and then by port 2 */
+    {"a second pass past a blocked link", 5, {{0, 1}, {1, 4}, {0, 99}}, 0, 0, 17, 4, 2, 0, 0, 5, "2402",
+     {{1, 29}, {2, 15}, {261, 1}, {329, 1}, {577, 1}, {597, 1}, {4625, 1}}},
     {"both passes rejected", 2, {{1, 1}, {2, 0}, {0, 99}}, 0, 0, 3, 4, 1, 10, 0, 2, "", {{2, 1}, {3, 2}}},
     {"a second pass with no port", 2, {{1, 1}, {2, 0}, {0, 99}}, 0, 0, 3, 4, 3, 10, 0, 2, "", {{2, 1}, {3, 2}}},
     {"type 4 with one pass", 3, NONE, 0, 0, 7, 4, 7, 0, 0, 3, "012", {{257, 1}, {275, 1}, {309, 1}, {4465, 1}}},
@@ -207,6 +210,15 @@ static void receive_channels(void) {
     got = maze_open(table, BYTES, 1, 0, 3, 0, 2); /* circuit 9 by port 1 */
     expect(got.number == 0 && got.receive == 0, "the lowest again", got.number, got.receive);
     expect_table("receive channels", 2, three);
+
+    /* every receive channel of node 0, in the order of the ports by which circuits come in; then no link into it is free */
+    fresh(8);
+    for (unsigned port = 0; port < 8; port++) {
+        got = maze_open(table, BYTES, (uint16_t)(1u << port), 1, 0, 0, (uint16_t)(1u << port));
+        expect(got.number == 0 && got.hops == 1 && got.receive == port && table[4353 + 2 * port] + 256u * table[4354 + 2 * port] == 8 * (1u << port) + 2, "receive channel", port, got.receive);
+    }
+    got = maze_open(table, BYTES, 3, 0, 0, 4, 3);
+    expect(got.number == 10 && got.receive == 0, "all receive channels held", got.number, got.scouts);
 }
 
 /* ---- blocking ---- */
@@ -468,6 +480,22 @@ static void buffers(void) {
     }
 }
 
+/* Buffers of every length up to some hundreds of bytes: a trace writes its hops and no other byte, and a refused one writes none. */
+static void long_buffers(void) {
+    static uint8_t lent[700], kept[700];
+    fresh(8);
+    expect(maze_open(table, BYTES, 7, 2, 3, 0, 4).number == 0, "open one hop", 0, 0);
+    for (size_t length = 0; length <= sizeof lent - 8; length++) {
+        maze_traced got;
+        for (size_t i = 0; i < sizeof lent; i++) kept[i] = lent[i] = (uint8_t)(3 * i + length + 1);
+        got = maze_trace(table, BYTES, 7, 3, lent, length);
+        expect(got.number == 12 && got.hops == 0 && memcmp(lent, kept, sizeof lent) == 0, "refused trace, buffer", length, got.number);
+        got = maze_trace(table, BYTES, 7, 2, lent, length);
+        if (length >= 9) kept[0] = 2;
+        expect(got.number == (length < 9 ? 14 : 0) && got.hops == (length < 9 ? 0 : 1) && memcmp(lent, kept, sizeof lent) == 0, "trace, buffer", length, got.number);
+    }
+}
+
 /* A table and a buffer may lie anywhere. */
 static void alignments(void) {
     static uint8_t room[BYTES + 16], ports[9 + 16];
@@ -577,6 +605,7 @@ int main(void) {
     sweeps();
     long_ones();
     buffers();
+    long_buffers();
     alignments();
     soundness();
     return verdict();

@@ -108,12 +108,14 @@ static unsigned below(unsigned n) {
     return (unsigned)(state >> 33) % n;
 }
 
+/* A number below a bound; now and then one at it or just above, or any of 16 bits. */
 static unsigned some(unsigned bound) {
-    return below(20) == 0 ? bound + below(3) : below(bound);
+    if (below(20) != 0) return below(bound);
+    return below(2) == 0 ? bound + below(3) : below(65536);
 }
 
 static void generate(unsigned lines) {
-    unsigned dimension = 1 + below(5);
+    unsigned dimension = 1 + below(8);
     printf("F %u\n", dimension);
     for (unsigned i = 1; i < lines; i++) {
         unsigned nodes = 1u << dimension;
@@ -121,7 +123,7 @@ static void generate(unsigned lines) {
         case 0: printf("B %u %u\n", some(nodes), some(dimension)); break;
         case 1: printf("E %u %u\n", some(nodes), some(dimension)); break;
         case 2: case 3: case 4: printf("C %u %u\n", some(nodes), some(8)); break;
-        case 5: if (below(30) == 0) printf("F %u\n", dimension = 1 + below(5)); else printf("S 0%u 0 0 0 1\n", below(9)); break;
+        case 5: if (below(30) == 0) printf("F %u\n", dimension = 1 + below(8)); else printf("S 0%u 0 0 0 1\n", below(9)); break;
         case 6: {
             static const char *const odd[] = {"", " ", "F", "C 0", "C 0 0 0", "s 0 0 0 0 1", "B 0  0", "E 0 0 ", "F\t1", "F 65536", "F 01", "F -1"};
             printf("%s\n", odd[below(sizeof odd / sizeof *odd)]);

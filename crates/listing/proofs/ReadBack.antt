@@ -1,15 +1,16 @@
--- A number that is printed reads back.
+-- A field reads as a number exactly if it is what that number is printed as.
 -- Assumes nothing.
-use mathlib.Core.Path.{_≡_, refl, _∙_}
-use mathlib.Core.Logic.{_≢_, _⊎_, inl, inr}
-use mathlib.Core.Bool.{true, false, and-eq-true-iff}
-use mathlib.Core.List.{List, [], _∷_, _++_}
-use mathlib.Core.Option.{some}
+use mathlib.Core.Path.{_≡_, refl, ap, ap₂, sym, _∙_}
+use mathlib.Core.Logic.{_≢_, _⊎_, inl, inr, _↔_}
+use mathlib.Core.Bool.{Bool, true, false, cond, not, _&&_, and-eq-true-iff}
+use mathlib.Core.List.{List, [], _∷_, _++_, append-nil, append-assoc}
+use mathlib.Core.Option.{some, none, Option·some-injective, Option·none-ne-some}
 use Prim.Native.Nat.{ℕ, zero, suc, _+_, _-_, _*_, _/_, _%_, _≤_, _<_}
 use native.Mathlib.Omega.{arith}
+use lib.Dec.{eqb, leb}
 use lib.ListN.{length, getD}
-use borrow.Author.Tests.{ne-eqb, le-leb}
-use Rattle.common.proofs.Tests.{below-or}
+use borrow.Author.Tests.{ne-eqb, le-leb, leb-true, eqb-false, not-true}
+use Rattle.common.proofs.Tests.{below-or, both}
 use Rattle.listing.specs.Text.{digit, isDigit, decimal, allDigits, value, leadingZero, largest, number}
 use Rattle.listing.proofs.Digits.{decimal-short, decimal-long}
 
@@ -71,3 +72,60 @@ reads-back n h = reads (decimal n) n (says-decimal n n (omega arith)) (go (below
     go : (n < 10) ⊎ (10 ≤ n) → leadingZero (decimal n) ≡ false
     go (inl s) = rw (decimal-short n s) (unfold leadingZero in refl)
     go (inr l) = no-zero (decimal n) (says-decimal n n (omega arith) .first (omega arith))
+
+-- a digit is the decimal of what it says
+digit-decimal : (x : ℕ) → isDigit x ≡ true → decimal (10 * 0 + (x - 48)) ≡ x ∷ []
+digit-decimal x e =
+    let d = both (leb 48 x) (leb x 57) e in
+    let low = leb-true 48 x (d .0) in
+    let high = leb-true x 57 (d .1) in
+    let same : digit (10 * 0 + (x - 48)) ≡ x = omega arith in
+    decimal-short (10 * 0 + (x - 48)) (omega arith) ∙ ap (_∷ []) same
+
+-- digits behind the decimal of a number that is not zero make the decimal of what they say together
+digits-on : (xs : List ℕ) (n : ℕ) → 0 < n → allDigits xs ≡ true → decimal n ++ xs ≡ decimal (value n xs)
+unfolding allDigits value
+digits-on [] n h e = append-nil (decimal n)
+digits-on (x ∷ xs) n h e =
+    let r = both (isDigit x) (allDigits xs) e in
+    let d = both (leb 48 x) (leb x 57) (r .0) in
+    let low = leb-true 48 x (d .0) in
+    let high = leb-true x 57 (d .1) in
+    let m : ℕ = 10 * n + (x - 48) in
+    let tenth : m / 10 ≡ n = omega arith in
+    let last : digit (m % 10) ≡ x = omega arith in
+    let more : decimal m ≡ decimal n ++ (x ∷ []) = decimal-long m (omega arith) ∙ ap₂ (λ (k y : ℕ). decimal k ++ (y ∷ [])) tenth last in
+    sym (append-assoc (decimal n) (x ∷ []) xs) ∙ ap (_++ xs) (sym more) ∙ digits-on xs m (omega arith) (r .1)
+
+-- so digits without a leading zero are the decimal of what they say
+is-decimal : (x : ℕ) (xs : List ℕ) → allDigits (x ∷ xs) ≡ true → leadingZero (x ∷ xs) ≡ false → x ∷ xs ≡ decimal (value 0 (x ∷ xs))
+unfolding allDigits leadingZero value
+is-decimal x [] e z = sym (digit-decimal x (both (isDigit x) true e .0))
+is-decimal x (y ∷ ys) e z =
+    let r = both (isDigit x) (allDigits (y ∷ ys)) e in
+    let low = leb-true 48 x (both (leb 48 x) (leb x 57) (r .0) .0) in
+    let other = eqb-false x 48 z in
+    ap (_++ (y ∷ ys)) (sym (digit-decimal x (r .0))) ∙ digits-on (y ∷ ys) (10 * 0 + (x - 48)) (omega arith) (r .1)
+
+-- a text that reads as n is such digits, and n is what they say
+said-by : (x : ℕ) (xs : List ℕ) (n : ℕ) → number (x ∷ xs) ≡ some n → (x ∷ xs ≡ decimal n) × (n ≤ largest)
+unfolding number
+said-by x xs n = go (allDigits (x ∷ xs) && not (leadingZero (x ∷ xs)) && leb (value 0 (x ∷ xs)) largest) refl
+  where
+    go : (b : Bool) → (allDigits (x ∷ xs) && not (leadingZero (x ∷ xs)) && leb (value 0 (x ∷ xs)) largest) ≡ b
+        → cond b (some (value 0 (x ∷ xs))) none ≡ some n → (x ∷ xs ≡ decimal n) × (n ≤ largest)
+    go true e q =
+        let same : value 0 (x ∷ xs) ≡ n = Option·some-injective _ _ q in
+        let r = both (allDigits (x ∷ xs) && not (leadingZero (x ∷ xs))) (leb (value 0 (x ∷ xs)) largest) e in
+        let s = both (allDigits (x ∷ xs)) (not (leadingZero (x ∷ xs))) (r .0) in
+        (is-decimal x xs (s .0) (not-true _ (s .1)) ∙ ap decimal same, omega (arith, leb-true (value 0 (x ∷ xs)) largest (r .1), same))
+    go false e q = absurd (Option·none-ne-some n q)
+
+-- "Numbers are decimal, 0 to 65,535, no sign, no leading zeros": a field reads as n exactly if it is the decimal of n, and n is at most 65,535.
+pub reads-exactly : (xs : List ℕ) (n : ℕ) → (number xs ≡ some n) ↔ ((xs ≡ decimal n) × (n ≤ largest))
+unfolding number
+reads-exactly xs n = (forth xs, (λ r. rw (r .0) (reads-back n (r .1))))
+  where
+    forth : (xs : List ℕ) → number xs ≡ some n → (xs ≡ decimal n) × (n ≤ largest)
+    forth [] e = absurd (Option·none-ne-some n e)
+    forth (x ∷ xs) e = said-by x xs n e
