@@ -96,10 +96,10 @@ module _ (b : List ℕ) (h : History) (D : ℕ) (e : Accepted b (making D)) (cal
 
   -- no two open circuits share a link or a receive channel
   pub no-link-shared : (x y : Circuit) → x ∈ history .circuits → y ∈ history .circuits → (l : Link) → l ∈ linksOf (netOn history) x → l ∈ linksOf (netOn history) y → x ≡ y
-  no-link-shared x y m k l i j = sorted-one (Separate (netOn history)) (history .circuits) (reached-covered .valid .apart) x y m k (λ r. r .link l i j) (λ r. r .link l j i)
+  no-link-shared x y m k l i j = sorted-one (Separate (netOn history)) (history .circuits) (demand-3 b h D e calls .valid .apart) x y m k (λ r. r .link l i j) (λ r. r .link l j i)
 
   pub no-receive-shared : (x y : Circuit) → x ∈ history .circuits → y ∈ history .circuits → x .target ≡ y .target → x .receive ≡ y .receive → x ≡ y
-  no-receive-shared x y m k t r = sorted-one (Separate (netOn history)) (history .circuits) (reached-covered .valid .apart) x y m k (λ z. z .receives t r) (λ z. z .receives (sym t) (sym r))
+  no-receive-shared x y m k t r = sorted-one (Separate (netOn history)) (history .circuits) (demand-3 b h D e calls .valid .apart) x y m k (λ z. z .receives t r) (λ z. z .receives (sym t) (sym r))
 
   -- every table so reached is sound, and none of tests 1 to 3 stops a call on it but a making's 2
   pub reached-sound : Sound (view table)
