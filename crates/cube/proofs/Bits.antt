@@ -1,7 +1,7 @@
 -- Bits by arithmetic: of a power of two, of `^` of two numbers, and of a number with one bit changed. All hold at every width.
 -- Assumes nothing.
 use mathlib.Core.Path.{_≡_, refl, ap, sym, _∙_}
-use mathlib.Core.Logic.{_≢_}
+use mathlib.Core.Logic.{_≢_, _⊎_, inl, inr, ⊎-elim}
 use mathlib.Core.Bool.{Bool, true, false, cond, not, _&&_, _||_, Bool·beq}
 use Prim.Native.Nat.{ℕ, zero, suc, _+_, _-_, _*_, _/_, _%_, _^_, _≤_, _<_}
 use native.Mathlib.Omega.{arith}
@@ -11,6 +11,8 @@ use lib.Dec.{eqb, ltb}
 use lib.Pow.{pow-pos, pow-mono, pow-lt, pow-add, shl-shr}
 use lib.Bits.{bitXor, bitAnd, bitOr, or-add-and, or-shr, or-mod, and-high, and-shr, and-mod, xor-add-and, xor-shr, xor-mod, xor-lt, xor-zero-r, and-le-l}
 use borrow.Author.Tests.{ltb-true, ltb-false, eqb-true, eqb-false, ne-eqb}
+use Rattle.common.proofs.Every.{decide}
+use Rattle.common.proofs.Tests.{below-or}
 use Rattle.cube.specs.Bits.{bitAt, has, flip, withBit}
 
 pub bit-lt : (n p : ℕ) → bitAt n p < 2
@@ -218,3 +220,16 @@ unfolding has
 no-bit-above zero n h = omega (arith, no-ports n n (below-power n) (λ p l. h p (omega arith)), pow-pos 0)
 no-bit-above (suc D) n h =
     omega (arith, pow-succ' 2 D, no-bit-above D (n / 2) (λ p l. ap (λ x. eqb x 1) (sym (bit-suc n p)) ∙ h (suc p) (omega arith)))
+
+-- and one that is not below 2 ^ D has a bit there
+pub has-bit-above : (D n : ℕ) → 2 ^ D ≤ n → (p : ℕ) × (D ≤ p) × (has n p ≡ true)
+has-bit-above D n h = go (decide n (λ k. has n (D + k)))
+  where
+    go : ((k : ℕ) × (k < n) × (has n (D + k) ≡ true)) ⊎ ((k : ℕ) → k < n → has n (D + k) ≡ false) → (p : ℕ) × (D ≤ p) × (has n p ≡ true)
+    go (inl s) = (D + s .0, omega arith, s .2)
+    go (inr z) = absurd (omega (arith, no-bit-above D n none))
+      where
+        none : (p : ℕ) → D ≤ p → has n p ≡ false
+        none p l =
+            let same : D + (p - D) ≡ p = omega arith in
+            ⊎-elim (λ i. rw same at (z (p - D) (omega arith))) (λ i. high-has n n p (below-power n) i) (below-or n p)

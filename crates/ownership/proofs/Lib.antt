@@ -6,6 +6,7 @@ pub mod Standing
 pub mod Stopped
 pub mod Acknowledged
 pub mod Allowed
+pub mod Reasons
 pub mod Enabled
 pub mod Followed
 pub mod Entered

@@ -1,6 +1,7 @@
 -- The six calls: what each does to the bytes of a table, what the ownership history makes of it, and what it is for both to agree.
 pub mod Calls
 pub mod Allowed
+pub mod Reasons
 pub mod OnTable
 pub mod History
 pub mod Lists
