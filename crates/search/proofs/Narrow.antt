@@ -56,9 +56,9 @@ module _ {v : View} {n vector left : ℕ} (narrow : Narrowed v n vector left) wh
   narrow-mem p m = let r = ports-mem 8 left m in mem-ports 8 vector p (r .0) (narrow .among p (r .1))
 
 -- the answer is that of the whole vector
-pub narrow-tries : (b : List ℕ) (t c n vector left a h s : ℕ) → Narrowed (view b) n vector left → tries b t c n left a h s ≡ tries b t c n vector a h s
+pub narrow-tries : (b : List ℕ) (t c a h s : ℕ) {n vector left : ℕ} → Narrowed (view b) n vector left → tries b t c n left a h s ≡ tries b t c n vector a h s
 unfolding tries
-narrow-tries b t c n vector left a h s narrow =
+narrow-tries b t c a h s {n} {vector} {left} narrow =
     let on : ℕ → ℕ → Pass = behindPort (net (view b)) (freeIn (view b)) t n in
     ap (settle b c n h (receive (view b) t))
     (ap (λ ps. trying (freeIn (view b) n) on (helical a ps) s) (ports-kept narrow)

@@ -163,7 +163,7 @@ unfolding sends Says S Route
 demand-2 b s t c type vector may x k h n b′ q = answers (send type (shapeOf (view b)) (freeIn (view b)) (receive (view b) t) s vector t .outcome) said q few
   where
     counted : n ≡ send type (shapeOf (view b)) (freeIn (view b)) (receive (view b) t) s vector t .scouts
-    counted = sent-scouts b c s t (send type (shapeOf (view b)) (freeIn (view b)) (receive (view b) t) s vector t .outcome) (send type (shapeOf (view b)) (freeIn (view b)) (receive (view b) t) s vector t .scouts) x k h n b′ q
+    counted = sent-scouts b c s t (send type (shapeOf (view b)) (freeIn (view b)) (receive (view b) t) s vector t .outcome) (send type (shapeOf (view b)) (freeIn (view b)) (receive (view b) t) s vector t .scouts) q
 
     inside : (m : ℕ) → m < 2 ^ dimensionAt b → m < 2 ^ shapeOf (view b) .dimension
     inside m l = unfold view in l
@@ -185,6 +185,6 @@ demand-2 b s t c type vector may x k h n b′ q = answers (send type (shapeOf (v
           answer = e ∙ ap (λ i. sentOn b c s t (record { outcome = o; scouts = i })) (sym counted);
           exactly = ((λ z. acknowledged-route (view b) s t type vector o n says (number .0 z)), (λ y. number .1 (route-acknowledged (view b) s t type vector o n says y)));
           lowest = λ z. channel-says (view b) s t type vector o n says (number-channel b c s t o m x k h n b′ e (number .0 z));
-          unchanged = λ f. sent-goes-on b c s t o m x k h n b′ e f .1;
+          unchanged = λ f. sent-goes-on b c s t o m e f .1;
           bounded = bound;
         }

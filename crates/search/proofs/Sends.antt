@@ -15,6 +15,7 @@ use borrow.Author.Tests.{eq-eqb, ne-eqb, lt-ltb}
 use Rattle.common.specs.Lists.{keep, from}
 use Rattle.common.proofs.Lists.{keep-same, from-below}
 use Rattle.cube.specs.Bits.{bitAt, has}
+use Rattle.cube.specs.Cube.{NodeCount}
 use Rattle.cube.proofs.Bits.{bit-lt, bit-xor, has-bit}
 use Rattle.cube.specs.Helical.{portsOf}
 use Rattle.cube.proofs.Order.{helical-last, ports-wider, ports-mem, length-ports}
@@ -33,8 +34,9 @@ use Rattle.soundness.specs.Sound.{net, shapeOf}
 use Rattle.table.proofs.Made.{ones}
 use Rattle.table.proofs.Receives.{chosen}
 use Rattle.search.specs.Settle.{freeIn, hold, Settled, settled, settle, behindPort}
-use Rattle.search.specs.Turns.{reach, tries, MayTry}
+use Rattle.search.specs.Turns.{reach, tries, Narrowed, MayTry}
 use Rattle.search.specs.Sent.{marked, sentOn, sendsMaze, sendsAlternate, sends, MaySend}
+use Rattle.search.proofs.Narrow.{narrow-tries}
 use Rattle.search.proofs.Turns.{farthest-most}
 
 -- what one pass comes to for a send
@@ -45,7 +47,7 @@ oneOf r x = record { outcome = outcome r x; scouts = scouts x }
 abbrev passOf : List ℕ → ℕ → ℕ → ℕ → Pass
 passOf b s t vector = pass (net (view b)) (freeIn (view b)) s (sendPorts (shapeOf (view b)) vector) t
 
-module _ (b : List ℕ) (s t c vector : ℕ) (may : MaySend b s t c vector) where
+module _ {b : List ℕ} {s t c vector : ℕ} (may : MaySend b s t c vector) where
   ports-listed : portsOf 8 vector ≡ sendPorts (shapeOf (view b)) vector
   ports-listed = unfold view in ports-wider (dimensionAt b) 8 vector (may .fits) (may .ports)
 
@@ -81,19 +83,19 @@ receive-small v t k e = chosen (available v t) k e .0
 
 -- The answer of a pass that was acknowledged, with the receive channel taken; and of one that was not.
 module _ (b : List ℕ) (c s t : ℕ) (r : Receive) where
-  pub pass-channel : (p : Pass) (x k h n : ℕ) (b₁ : List ℕ) → settled x k h n b₁ ≡ settle b c s 0 r p → x ≡ 0 → r ≡ channel k
+  pub pass-channel : (p : Pass) {x k h n : ℕ} {b₁ : List ℕ} → settled x k h n b₁ ≡ settle b c s 0 r p → x ≡ 0 → r ≡ channel k
   unfolding settle
-  pass-channel (none m) x k h n b₁ q z = let y : x ≡ 10 = cc in absurd (omega arith)
-  pass-channel (found w m) x k h n b₁ q z = go r q
+  pass-channel (none m) {x} q z = let y : x ≡ 10 = cc in absurd (omega arith)
+  pass-channel (found w m) {x} {k} {h} {n} {b₁} q z = go r q
     where
       go : (r : Receive) → settled x k h n b₁ ≡ settle b c s 0 r (found w m) → r ≡ channel k
       go all-held u = let y : x ≡ 11 = cc in absurd (omega arith)
       go (channel j) u = let i : j ≡ k = cc in ap channel i
 
-  pub pass-taken : (p : Pass) (x k h n : ℕ) (b₁ b₂ : List ℕ) → settled x k h n b₁ ≡ settle b c s 0 r p → x ≡ 0 → b₂ ≡ putReceiver b₁ t k c → settled x k h n b₂ ≡ sentOn b c s t (oneOf r p)
+  pub pass-taken : (p : Pass) {x k h n : ℕ} {b₁ b₂ : List ℕ} → settled x k h n b₁ ≡ settle b c s 0 r p → x ≡ 0 → b₂ ≡ putReceiver b₁ t k c → settled x k h n b₂ ≡ sentOn b c s t (oneOf r p)
   unfolding settle sentOn marked answered outcome received scouts
-  pass-taken (none m) x k h n b₁ b₂ q z e = let y : x ≡ 10 = cc in absurd (omega arith)
-  pass-taken (found w m) x k h n b₁ b₂ q z e = go r q
+  pass-taken (none m) {x} q z e = let y : x ≡ 10 = cc in absurd (omega arith)
+  pass-taken (found w m) {x} {k} {h} {n} {b₁} {b₂} q z e = go r q
     where
       go : (r : Receive) → settled x k h n b₁ ≡ settle b c s 0 r (found w m) → settled x k h n b₂ ≡ sentOn b c s t (oneOf r (found w m))
       go all-held u = let y : x ≡ 11 = cc in absurd (omega arith)
@@ -105,10 +107,10 @@ module _ (b : List ℕ) (c s t : ℕ) (r : Receive) where
           let d : b₁ ≡ hold b c s w = cc in
           rw (z, l, o, e, d, i) refl
 
-  pub pass-rejected : (p : Pass) (x k h n : ℕ) (b₁ : List ℕ) → settled x k h n b₁ ≡ settle b c s 0 r p → x ≢ 0 → settled x k h n b₁ ≡ sentOn b c s t (oneOf r p)
+  pub pass-rejected : (p : Pass) {x k h n : ℕ} {b₁ : List ℕ} → settled x k h n b₁ ≡ settle b c s 0 r p → x ≢ 0 → settled x k h n b₁ ≡ sentOn b c s t (oneOf r p)
   unfolding settle sentOn marked answered outcome received scouts
-  pass-rejected (none m) x k h n b₁ q f = q
-  pass-rejected (found w m) x k h n b₁ q f = go r q
+  pass-rejected (none m) q f = q
+  pass-rejected (found w m) {x} {k} {h} {n} {b₁} q f = go r q
     where
       go : (r : Receive) → settled x k h n b₁ ≡ settle b c s 0 r (found w m) → settled x k h n b₁ ≡ sentOn b c s t (oneOf r (found w m))
       go all-held u = u
@@ -116,30 +118,30 @@ module _ (b : List ℕ) (c s t : ℕ) (r : Receive) where
 
 -- What the answer of a send tells: whether another pass follows, that a rejection leaves each byte as it was, and its scouts.
 module _ (b : List ℕ) (c s t : ℕ) where
-  pub sent-stops : (o : Outcome) (m x k h n : ℕ) (b₁ : List ℕ) → settled x k h n b₁ ≡ sentOn b c s t (record { outcome = o; scouts = m }) → x ≡ 0 → goesOn o ≡ false
+  pub sent-stops : (o : Outcome) (m : ℕ) {x k h n : ℕ} {b₁ : List ℕ} → settled x k h n b₁ ≡ sentOn b c s t (record { outcome = o; scouts = m }) → x ≡ 0 → goesOn o ≡ false
   unfolding sentOn marked answered goesOn
-  sent-stops (acknowledged w j) m x k h n b₁ q z = refl
-  sent-stops route-rejected m x k h n b₁ q z = let y : x ≡ 10 = cc in absurd (omega arith)
-  sent-stops receive-rejected m x k h n b₁ q z = let y : x ≡ 11 = cc in absurd (omega arith)
+  sent-stops (acknowledged w j) m q z = refl
+  sent-stops route-rejected m {x} q z = let y : x ≡ 10 = cc in absurd (omega arith)
+  sent-stops receive-rejected m {x} q z = let y : x ≡ 11 = cc in absurd (omega arith)
 
-  pub sent-goes-on : (o : Outcome) (m x k h n : ℕ) (b₁ : List ℕ) → settled x k h n b₁ ≡ sentOn b c s t (record { outcome = o; scouts = m }) → x ≢ 0 → (goesOn o ≡ true) × (b₁ ≡ b)
+  pub sent-goes-on : (o : Outcome) (m : ℕ) {x k h n : ℕ} {b₁ : List ℕ} → settled x k h n b₁ ≡ sentOn b c s t (record { outcome = o; scouts = m }) → x ≢ 0 → (goesOn o ≡ true) × (b₁ ≡ b)
   unfolding sentOn marked answered goesOn
-  sent-goes-on (acknowledged w j) m x k h n b₁ q f = let y : x ≡ 0 = cc in absurd (f y)
-  sent-goes-on route-rejected m x k h n b₁ q f = (refl, cc)
-  sent-goes-on receive-rejected m x k h n b₁ q f = (refl, cc)
+  sent-goes-on (acknowledged w j) m {x} q f = let y : x ≡ 0 = cc in absurd (f y)
+  sent-goes-on route-rejected m q f = (refl, cc)
+  sent-goes-on receive-rejected m q f = (refl, cc)
 
-  pub sent-scouts : (o : Outcome) (m x k h n : ℕ) (b₁ : List ℕ) → settled x k h n b₁ ≡ sentOn b c s t (record { outcome = o; scouts = m }) → n ≡ m
+  pub sent-scouts : (o : Outcome) (m : ℕ) {x k h n : ℕ} {b₁ : List ℕ} → settled x k h n b₁ ≡ sentOn b c s t (record { outcome = o; scouts = m }) → n ≡ m
   unfolding sentOn marked answered
-  sent-scouts (acknowledged w j) m x k h n b₁ q = cc
-  sent-scouts route-rejected m x k h n b₁ q = cc
-  sent-scouts receive-rejected m x k h n b₁ q = cc
+  sent-scouts (acknowledged w j) m q = cc
+  sent-scouts route-rejected m q = cc
+  sent-scouts receive-rejected m q = cc
 
   -- the same answer with other scouts
-  pub sent-counted : (o : Outcome) (m x k h n j : ℕ) (b₁ : List ℕ) → settled x k h n b₁ ≡ sentOn b c s t (record { outcome = o; scouts = m }) → settled x k h j b₁ ≡ sentOn b c s t (record { outcome = o; scouts = j })
+  pub sent-counted : (o : Outcome) (m j : ℕ) {x k h n : ℕ} {b₁ : List ℕ} → settled x k h n b₁ ≡ sentOn b c s t (record { outcome = o; scouts = m }) → settled x k h j b₁ ≡ sentOn b c s t (record { outcome = o; scouts = j })
   unfolding sentOn marked answered
-  sent-counted (acknowledged w i) m x k h n j b₁ q = cc
-  sent-counted route-rejected m x k h n j b₁ q = cc
-  sent-counted receive-rejected m x k h n j b₁ q = cc
+  sent-counted (acknowledged w i) m j q = cc
+  sent-counted route-rejected m j q = cc
+  sent-counted receive-rejected m j q = cc
 
 -- "every port below D that was not in the given vector": the ports of the vector with every bit below D changed
 module _ (D vector : ℕ) (h : D ≤ 8) where
@@ -155,32 +157,33 @@ module _ (D vector : ℕ) (h : D ≤ 8) where
   other-ports : keep (has (bitXor (2 ^ D - 1) vector)) (from 0 D) ≡ keep (λ p. not (has vector p)) (from 0 D)
   other-ports = keep-same _ _ (from 0 D) (λ p m. other-has p (from-below D p m))
 
--- A send of routing type 0.
-module _ (b : List ℕ) (s t c vector : ℕ) (may : MaySend b s t c vector) (x k h n : ℕ) (b₁ : List ℕ) (got : settled x k h n b₁ ≡ tries b t c s vector 7 0 0) where
+-- A send of routing type 0, from the ports that are left of its vector.
+module _ {b : List ℕ} {s t c vector left : ℕ} (may : MaySend b s t c vector) (narrow : Narrowed (view b) s vector left) {x k h n : ℕ} {b₁ : List ℕ}
+    (got : settled x k h n b₁ ≡ tries b t c s left 7 0 0) where
   passed : settled x k h n b₁ ≡ settle b c s 0 (receive (view b) t) (passOf b s t vector)
-  passed = got ∙ tries-pass b s t c vector may
+  passed = got ∙ narrow-tries b t c 7 0 0 narrow ∙ tries-pass may
 
   as-maze : sentOn b c s t (oneOf (receive (view b) t) (passOf b s t vector)) ≡ sendsMaze b s t c vector
   unfolding sendsMaze
   as-maze = ap (sentOn b c s t) (sym (maze-answers (shapeOf (view b)) (freeIn (view b)) (receive (view b) t) s vector t))
 
   pub maze-channel : x ≡ 0 → k < 8
-  maze-channel z = receive-small (view b) t k (pass-channel b c s t (receive (view b) t) (passOf b s t vector) x k h n b₁ passed z)
+  maze-channel z = receive-small (view b) t k (pass-channel b c s t (receive (view b) t) (passOf b s t vector) passed z)
 
-  pub maze-taken : x ≡ 0 → (b₂ : List ℕ) → b₂ ≡ putReceiver b₁ t k c → settled x k h n b₂ ≡ sendsMaze b s t c vector
-  maze-taken z b₂ e = pass-taken b c s t (receive (view b) t) (passOf b s t vector) x k h n b₁ b₂ passed z e ∙ as-maze
+  pub maze-taken : x ≡ 0 → {b₂ : List ℕ} → b₂ ≡ putReceiver b₁ t k c → settled x k h n b₂ ≡ sendsMaze b s t c vector
+  maze-taken z e = pass-taken b c s t (receive (view b) t) (passOf b s t vector) passed z e ∙ as-maze
 
   pub maze-rejected : x ≢ 0 → settled x k h n b₁ ≡ sendsMaze b s t c vector
-  maze-rejected f = pass-rejected b c s t (receive (view b) t) (passOf b s t vector) x k h n b₁ passed f ∙ as-maze
+  maze-rejected f = pass-rejected b c s t (receive (view b) t) (passOf b s t vector) passed f ∙ as-maze
 
 -- A rejected pass leaves each byte of the table as it was: so does the first pass of a type 4 send, before the second begins.
-pub first-pass-leaves : (b : List ℕ) (s t c vector x k h n : ℕ) (b₁ : List ℕ) → settled x k h n b₁ ≡ sendsMaze b s t c vector → x ≢ 0 → b₁ ≡ b
+pub first-pass-leaves : (b : List ℕ) (s t c vector : ℕ) {x k h n : ℕ} {b₁ : List ℕ} → settled x k h n b₁ ≡ sendsMaze b s t c vector → x ≢ 0 → b₁ ≡ b
 unfolding sendsMaze
-first-pass-leaves b s t c vector x k h n b₁ q f =
-    sent-goes-on b c s t (maze (shapeOf (view b)) (freeIn (view b)) (receive (view b) t) s vector t .outcome) (maze (shapeOf (view b)) (freeIn (view b)) (receive (view b) t) s vector t .scouts) x k h n b₁ q f .1
+first-pass-leaves b s t c vector q f =
+    let sent : Sent = maze (shapeOf (view b)) (freeIn (view b)) (receive (view b) t) s vector t in sent-goes-on b c s t (sent .outcome) (sent .scouts) q f .1
 
 -- A send of routing type 4: after a rejection, a second pass over the other ports on the same bytes.
-module _ (b : List ℕ) (s t c vector : ℕ) (may : MaySend b s t c vector) (x k h n : ℕ) (b₁ : List ℕ) (got : settled x k h n b₁ ≡ sendsMaze b s t c vector) where
+module _ {b : List ℕ} {s t c vector : ℕ} (may : MaySend b s t c vector) {x k h n : ℕ} {b₁ : List ℕ} (got : settled x k h n b₁ ≡ sendsMaze b s t c vector) where
   S : Shape
   S = shapeOf (view b)
 
@@ -202,16 +205,22 @@ module _ (b : List ℕ) (s t c vector : ℕ) (may : MaySend b s t c vector) (x k
 
   pub alternate-taken : x ≡ 0 → settled x k h n b₁ ≡ sendsAlternate b s t c vector
   unfolding sendsAlternate S free r first
-  alternate-taken z = first-is ∙ ap (sentOn b c s t) (sym (alternate-stops S free r s vector t (sent-stops b c s t (outcome r first) (scouts first) x k h n b₁ first-is z)))
+  alternate-taken z = first-is ∙ ap (sentOn b c s t) (sym (alternate-stops S free r s vector t (sent-stops b c s t (outcome r first) (scouts first) first-is z)))
 
-  -- the vector of the second pass
-  module _ (others : ℕ) (e : others ≡ bitXor (2 ^ dimensionAt b - 1) vector) (f : x ≢ 0) where
+  -- the vector of the second pass, from the nodes of the cube
+  module _ {d nodes : ℕ} (read : d ≡ dimensionAt b) (counted : NodeCount d nodes) (f : x ≢ 0) where
+    abbrev others : ℕ
+    others = bitXor (nodes - 1) vector
+
+    others-are : others ≡ bitXor (2 ^ dimensionAt b - 1) vector
+    others-are = rw (counted .value, read)
+
     pub same-bytes : b₁ ≡ b
-    same-bytes = first-pass-leaves b s t c vector x k h n b₁ got f
+    same-bytes = first-pass-leaves b s t c vector got f
 
     pub may-again : MaySend b₁ s t c others
     may-again =
-        rw (same-bytes, e)
+        rw (same-bytes, others-are)
         record {
           bytes = may .bytes;
           fits = may .fits;
@@ -224,9 +233,9 @@ module _ (b : List ℕ) (s t c vector : ℕ) (may : MaySend b s t c vector) (x k
 
     ports-other : sendPorts S others ≡ otherPorts S vector
     unfolding portsOf otherPorts S view
-    ports-other = rw e (other-ports (dimensionAt b) vector (may .fits))
+    ports-other = rw others-are (other-ports (dimensionAt b) vector (may .fits))
 
-    module _ (x₂ k₂ h₂ n₂ : ℕ) (b₂ : List ℕ) (again : settled x₂ k₂ h₂ n₂ b₂ ≡ sendsMaze b₁ s t c others) where
+    module _ {x₂ k₂ h₂ n₂ : ℕ} {b₂ : List ℕ} (again : settled x₂ k₂ h₂ n₂ b₂ ≡ sendsMaze b₁ s t c others) where
       second-is : settled x₂ k₂ h₂ n₂ b₂ ≡ sentOn b c s t (oneOf r second)
       unfolding sendsMaze S free r second
       second-is =
@@ -236,15 +245,15 @@ module _ (b : List ℕ) (s t c vector : ℕ) (may : MaySend b s t c vector) (x k
       pub few-scouts : n + n₂ ≤ 123300
       unfolding S first second view
       few-scouts =
-          omega (arith, sent-scouts b c s t (outcome r first) (scouts first) x k h n b₁ first-is, sent-scouts b c s t (outcome r second) (scouts second) x₂ k₂ h₂ n₂ b₂ second-is, scouts-bound S (may .fits) s t vector free free)
+          omega (arith, sent-scouts b c s t (outcome r first) (scouts first) first-is, sent-scouts b c s t (outcome r second) (scouts second) second-is, scouts-bound S (may .fits) s t vector free free)
 
       pub alternate-again : settled x₂ k₂ h₂ (n + n₂) b₂ ≡ sendsAlternate b s t c vector
       unfolding sendsAlternate S free r first second
       alternate-again =
-          sent-counted b c s t (outcome r second) (scouts second) x₂ k₂ h₂ n₂ (n + n₂) b₂ second-is
+          sent-counted b c s t (outcome r second) (scouts second) (n + n₂) second-is
           ∙ ap (λ m. sentOn b c s t (record { outcome = outcome r second; scouts = m }))
-          (ap₂ _+_ (sent-scouts b c s t (outcome r first) (scouts first) x k h n b₁ first-is) (sent-scouts b c s t (outcome r second) (scouts second) x₂ k₂ h₂ n₂ b₂ second-is))
-          ∙ ap (sentOn b c s t) (sym (alternate-goes-on S free r s vector t (sent-goes-on b c s t (outcome r first) (scouts first) x k h n b₁ first-is f .0)))
+          (ap₂ _+_ (sent-scouts b c s t (outcome r first) (scouts first) first-is) (sent-scouts b c s t (outcome r second) (scouts second) second-is))
+          ∙ ap (sentOn b c s t) (sym (alternate-goes-on S free r s vector t (sent-goes-on b c s t (outcome r first) (scouts first) first-is f .0)))
 
 -- Either type, from the number that names it.
 module _ (b : List ℕ) (s t c type vector : ℕ) where

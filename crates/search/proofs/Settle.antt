@@ -203,10 +203,9 @@ module _ (N : Network) (free : ℕ → ℕ → Bool) (t n a s : ℕ) where
           (trying-same (helical a (offered N t n)) (λ p m. refl)
           (λ p m d. let q : N .far t (N .next n p) ≡ k = omega (arith, near .nearer n p (helical-mem a _ m)) in ap (λ j. arriving j N free t (N .next n p) p d) q) s)
 
-module _ (v : View) (b : List ℕ) (c n h k s ch : ℕ) (a : Pass) (arrived : a ≡ found [] s) (low : ch ≡ lowestChannel v n) where
-  pub target-receives : ch ≢ 8 → settled 0 ch h s b ≡ settle b c n h (receive v n) a
-  target-receives g =
-      rw arrived (unfold receive lowestOf lowestChannel in rw (← low, ne-eqb ch 8 g) (unfold settle hold in ap (λ x. settled 0 ch x s b) (no-longer h)))
+module _ (v : View) (b : List ℕ) (c n h s : ℕ) {k : ℕ} (low : k ≡ lowestChannel v n) where
+  pub target-receives : k ≢ 8 → settled 0 k h s b ≡ settle b c n h (receive v n) (found [] s)
+  target-receives g = unfold receive lowestOf lowestChannel in rw (← low, ne-eqb k 8 g) (unfold settle hold in ap (λ x. settled 0 k x s b) (no-longer h))
 
-  pub target-full : ch ≡ 8 → settled 11 0 0 s b ≡ settle b c n h (receive v n) a
-  target-full g = rw arrived (unfold receive lowestOf lowestChannel in rw (← low, eq-eqb ch 8 g) (unfold settle in refl))
+  pub target-full : k ≡ 8 → settled 11 0 0 s b ≡ settle b c n h (receive v n) (found [] s)
+  target-full g = unfold receive lowestOf lowestChannel in rw (← low, eq-eqb k 8 g) (unfold settle in refl)

@@ -11,19 +11,19 @@ use native.Mathlib.Nat.{le-trans, le-refl, mul-le-mul, lt-of-lt-of-le}
 use lib.Dec.{leb, ltb}
 use lib.ListN.{length, set, length-set}
 use lib.Pow.{pow-mono}
-use lib.Bits.{bitXor, xor-lt}
+use lib.Bits.{xor-lt}
 use borrow.Author.Tests.{leb-true, leb-false, ltb-true, ltb-false}
 use Rattle.common.specs.Lists.{_∈_}
 use Rattle.common.proofs.Tests.{clash}
 use Rattle.cube.specs.Bits.{has}
-use Rattle.cube.specs.Cube.{next}
+use Rattle.cube.specs.Cube.{next, UphillVector, Without}
 use Rattle.cube.proofs.Bits.{high-has, flip-inside}
 use Rattle.cube.specs.Helical.{helical, portsOf, firstPort, FirstTried}
 use Rattle.cube.proofs.Order.{first-tried, mem-ports, ports-mem, length-helical, helical-mem, mem-helical, helical-zero}
 use Rattle.paths.specs.Network.{Network, offered}
 use Rattle.paths.specs.CubeNetwork.{network}
 use Rattle.paths.specs.Search.{trying, arriving}
-use Rattle.paths.specs.Pass.{Pass, scouts}
+use Rattle.paths.specs.Pass.{Pass, found, scouts}
 use Rattle.paths.proofs.CubeNetwork.{cube-nearing, cube-cubical, cube-leading, offered-vector}
 use Rattle.paths.specs.Bound.{waysFrom}
 use Rattle.paths.proofs.Bound.{arriving-sends, ways-more}
@@ -31,8 +31,8 @@ use Rattle.table.specs.Layout.{Within, dimensionAt, putOwner, putEntry, entryPl
 use Rattle.table.specs.View.{view, setOwner, receive, lowestChannel}
 use Rattle.soundness.specs.Sound.{net, shapeOf}
 use Rattle.table.proofs.Views.{view-put-owner}
-use Rattle.search.specs.Settle.{freeIn, settled, settle, behindPort}
-use Rattle.search.specs.Turns.{farthest, distance, reach, tries, arrived, Narrowed, Enabled, Here, MayTry, MayArrive, Turn}
+use Rattle.search.specs.Settle.{freeIn, Settled, settled, settle, behindPort}
+use Rattle.search.specs.Turns.{farthest, distance, reach, tries, arrived, Narrowed, Enabled, Here, MayTry, MayArrive}
 use Rattle.search.proofs.Settle.{at-target, arrives, target-receives, target-full, behind, receive-same, given-back, free-owner, port-busy, port-acknowledged, port-receive-rejected, port-route-rejected, three-answers, settled-scouts, ports-over}
 use Rattle.search.proofs.Narrow.{narrow-fewer, narrow-mem, narrow-tries}
 
@@ -77,10 +77,10 @@ module _ (b : List ℕ) (n p c : ℕ) (w : Within b n p) (small : c < 65536) whe
   held-net = ap (λ D. network record { dimension = D }) (unfold view in held-dimension)
 
 -- an arrival on the table with the hop held, read on the table before it
-pub handed-on : (b : List ℕ) (t c n p h s : ℕ) → Within b n p → c < 65536 → c ≢ 0 → (b₁ : List ℕ) (n₁ : ℕ) → b₁ ≡ putOwner b n p c → n₁ ≡ next n p
+pub handed-on : (b : List ℕ) (t c n p h s : ℕ) → Within b n p → c < 65536 → c ≢ 0 → {b₁ : List ℕ} {n₁ : ℕ} → b₁ ≡ putOwner b n p c → n₁ ≡ next n p
     → arrived b₁ t c n₁ p (h + 1) (s + 1) ≡ settle (putOwner b n p c) c (next n p) (h + 1) (receive (view b) t) (behindPort (net (view b)) (freeIn (view b)) t n p (suc s))
 unfolding arrived distance behindPort network
-handed-on b t c n p h s w small z b₁ n₁ e q =
+handed-on b t c n p h s w small z e q =
     let B = putOwner b n p c in
     let m = next n p in
     let near = cube-nearing (shapeOf (view b)) t in
@@ -89,10 +89,14 @@ handed-on b t c n p h s w small z b₁ n₁ e q =
     ∙ ap (settle B c m (h + 1) (receive (view b) t))
     (ap (arriving (net (view b) .far t m) (net (view b)) (freeIn (view B)) t m p) (add-one s) ∙ behind (net (view b)) t near b n p c w small z (net (view b) .far t m) (suc s)))
 
+-- a number of a cube of dimension 8 or less is a byte
+pub byte-vector : {D x : ℕ} → D ≤ 8 → x < 2 ^ D → x < 256
+byte-vector h l = lt-of-lt-of-le l (pow-mono h)
+
 -- the port tried first
 pub port-tried : (D v a p : ℕ) → D ≤ 8 → v < 2 ^ D → v ≢ 0 → p ≡ firstPort v a → FirstTried 8 v a p
 unfolding firstPort
-port-tried D v a p h l z e = rw e (first-tried 8 8 v a (lt-of-lt-of-le l (pow-mono h)) z)
+port-tried D v a p h l z e = rw e (first-tried 8 8 v a (byte-vector h l) z)
 
 pub low-port : (D v p : ℕ) → v < 2 ^ D → has v p ≡ true → p < D
 low-port D v p l e = go (ltb p D) refl
@@ -101,162 +105,177 @@ low-port D v p l e = go (ltb p D) refl
     go true f = ltb-true p D f
     go false f = absurd (clash e (high-has D v p l (ltb-false p D f)))
 
--- the bytes at a turn are those at the start
-pub turned : {b : List ℕ} {t c n v a h s : ℕ} {now : List ℕ} {left sent : ℕ} → Turn b t c n v a h s now left sent → Turn b t c n v a h s b left sent
-turned inv = record { same = refl; ports = inv .ports; sub = inv .sub; room = inv .room; rest = inv .rest }
+-- what holds at each turn of the trying of ports: the bytes are those at the start, the ports left are ports of the vector, there is room for
+-- the scouts still to be sent, and what is left to do gives the whole
+pub record Turn (b : List ℕ) (t c n vector a h s : ℕ) (now : List ℕ) (left sent : ℕ) : Type 0 where
+  pub same : now ≡ b
+  pub ports : left < 2 ^ dimensionAt b
+  pub sub : (p : ℕ) → p ∈ portsOf 8 left → p ∈ portsOf 8 vector
+  pub room : sent + length (portsOf 8 left) * (1 + waysFrom (reach b t n vector)) < 2 ^ 32
+  pub rest : tries b t c n left a h sent ≡ tries b t c n vector a h s
 
-pub first-turn : (b : List ℕ) (t c n v a h s : ℕ) → MayTry b t c n v a h s → Turn b t c n v a h s b v s
-first-turn b t c n v a h s may = record { same = refl; ports = may .ports; sub = λ p m. m; room = may .room; rest = refl }
+pub first-turn : {b : List ℕ} {t c n v a h s : ℕ} → MayTry b t c n v a h s → Turn b t c n v a h s b v s
+first-turn may = record { same = refl; ports = may .ports; sub = λ p m. m; room = may .room; rest = refl }
 
-pub byte-vector : (b : List ℕ) (x : ℕ) → dimensionAt b ≤ 8 → x < 2 ^ dimensionAt b → x < 256
-byte-vector b x h l = lt-of-lt-of-le l (pow-mono h)
+-- the answer of a node once it has tried the ports of a list
+abbrev tried : List ℕ → ℕ → ℕ → ℕ → ℕ → List ℕ → ℕ → Settled
+tried b t c n h ps s = settle b c n h (receive (view b) t) (trying (freeIn (view b) n) (behindPort (net (view b)) (freeIn (view b)) t n) ps s)
 
 -- what a node trying its ports may do with the first of those left
-module _ (b : List ℕ) (t c n a h v left p sent s : ℕ) (may : MayTry b t c n v a h s) (inv : Turn b t c n v a h s b left sent) (some : left ≢ 0) (first : p ≡ firstPort left a) where
+module _ {b now : List ℕ} {t c n a h v left p sent s : ℕ} (may : MayTry b t c n v a h s) (inv : Turn b t c n v a h s now left sent) (some : left ≢ 0) (first : p ≡ firstPort left a) where
   pub here-tried : FirstTried 8 left a p
   here-tried = port-tried (dimensionAt b) left a p (may .here .fits) (inv .ports) some first
 
-  pub here-port : p < dimensionAt b
+  here-port : p < dimensionAt b
   here-port = low-port (dimensionAt b) left p (inv .ports) (here-tried .offered)
 
-  pub here-within : Within b n p
-  here-within =
-      record { bytes = may .here .bytes; node = lt-of-lt-of-le (may .here .node) (pow-mono (may .here .fits)); port = let f = may .here .fits in omega (arith, here-port) }
+  here-within : Within b n p
+  here-within = record { bytes = may .here .bytes; node = byte-vector (may .here .fits) (may .here .node); port = here-tried .small }
+
+  pub now-within : Within now n p
+  now-within = rw (inv .same) here-within
 
   here-member : p ∈ portsOf 8 left
   here-member = mem-ports 8 left p (here-tried .small) (here-tried .offered)
 
-  pub here-enabled : Enabled (view b) n v → view b .enabled n p ≡ true
-  here-enabled on = let m = ports-mem 8 v (inv .sub p here-member) in on p (m .0) (m .1)
+  pub now-enabled : Enabled (view b) n v → view now .enabled n p ≡ true
+  now-enabled on = let m = ports-mem 8 v (inv .sub p here-member) in rw (inv .same) (on p (m .0) (m .1))
 
   here-reach : distance b t (next n p) ≤ reach b t n v
   unfolding distance reach network
   here-reach = farthest-mem (net (view b)) t n (portsOf 8 v) p (inv .sub p here-member)
 
   -- one port fewer
-  pub here-fewer : length (portsOf 8 left) ≡ suc (length (portsOf 8 (left - 2 ^ p)))
+  here-fewer : length (portsOf 8 left) ≡ suc (length (portsOf 8 (left - 2 ^ p)))
   here-fewer = sym (length-helical a (portsOf 8 left)) ∙ ap length (here-tried .rest) ∙ ap suc (length-helical a (portsOf 8 (left - 2 ^ p)))
 
   pub here-room : sent + (1 + waysFrom (reach b t n v)) + length (portsOf 8 (left - 2 ^ p)) * (1 + waysFrom (reach b t n v)) < 2 ^ 32
   here-room = let e = rw here-fewer at (inv .room) in omega (arith, e)
 
-  module _ (small : c < 65536) where
-    held-distance : distance (putOwner b n p c) t (next n p) ≡ distance b t (next n p)
-    unfolding distance
-    held-distance = ap (λ N. N .far t (next n p)) (held-net b n p c here-within small)
+  now-held : {b₁ : List ℕ} → b₁ ≡ putOwner now n p c → b₁ ≡ putOwner b n p c
+  now-held held = held ∙ ap (λ x. putOwner x n p c) (inv .same)
 
-    held-here : Here (putOwner b n p c) t c (next n p) p
+  -- the arrival behind that port, on the table with the hop held
+  module _ {b₁ : List ℕ} {n₁ : ℕ} (held : b₁ ≡ putOwner now n p c) (to : n₁ ≡ next n p) where
+    held-distance : distance b₁ t n₁ ≡ distance b t (next n p)
+    unfolding distance
+    held-distance = rw (now-held held, to) (ap (λ N. N .far t (next n p)) (held-net b n p c here-within (may .here .small)))
+
+    held-here : Here b₁ t c n₁ p
     held-here =
-        let D = held-dimension b n p c here-within small in
+        let D : dimensionAt b₁ ≡ dimensionAt b = rw (now-held held) (held-dimension b n p c here-within (may .here .small)) in
         record {
-          bytes = owner-length b n p c ∙ may .here .bytes;
+          bytes = rw (now-held held) (owner-length b n p c ∙ may .here .bytes);
           fits = rw D (may .here .fits);
-          node = rw D (flip-inside (dimensionAt b) n p (may .here .node) here-port);
+          node = rw (D, to) (flip-inside (dimensionAt b) n p (may .here .node) here-port);
           target = rw D (may .here .target);
-          port = here-within .port;
+          port = here-tried .small;
           circuit = may .here .circuit;
           small = may .here .small;
         }
 
-    pub here-arrives : (b₁ : List ℕ) (n₁ : ℕ) → b₁ ≡ putOwner b n p c → n₁ ≡ next n p → MayArrive b₁ t c n₁ p (h + 1) (sent + 1)
-    here-arrives b₁ n₁ e q =
+    pub here-arrives : MayArrive b₁ t c n₁ p (h + 1) (sent + 1)
+    here-arrives =
         let far = held-distance in
         let less = here-reach in
         let more = ways-more (distance b t (next n p)) (reach b t n v) here-reach in
-        rw (e, q) record { here = held-here; hops = rw far (omega (arith, may .hops)); room = rw far (omega (arith, here-room)) }
+        record { here = held-here; hops = rw far (omega (arith, may .hops)); room = rw far (omega (arith, here-room)) }
 
-    pub here-falls : (b₁ : List ℕ) (n₁ : ℕ) → b₁ ≡ putOwner b n p c → n₁ ≡ next n p → 2 * distance b₁ t n₁ < 2 * reach b t n v + 1
-    here-falls b₁ n₁ e q = let far = held-distance in let less = here-reach in rw (e, q, far) (omega arith)
-
-    -- the arrival's answer, on the table before the hop
-    pub here-answer : (x k g d : ℕ) (b₁ b₂ : List ℕ) (n₁ : ℕ) → b₁ ≡ putOwner b n p c → n₁ ≡ next n p → settled x k g d b₂ ≡ arrived b₁ t c n₁ p (h + 1) (sent + 1)
-        → settled x k g d b₂ ≡ settle (putOwner b n p c) c (next n p) (h + 1) (receive (view b) t) (behindPort (net (view b)) (freeIn (view b)) t n p (suc sent))
-    here-answer x k g d b₁ b₂ n₁ e q z = z ∙ handed-on b t c n p h sent here-within small (may .here .circuit) b₁ n₁ e q
+    pub here-falls : 2 * distance b₁ t n₁ < 2 * reach b t n v + 1
+    here-falls = omega (arith, held-distance, here-reach)
 
   -- the vector without that port
+  left-over : {r : ℕ} → Without left p r → r ≡ left - 2 ^ p
+  left-over less = omega (arith, less .value)
+
   tail-ports : (q : ℕ) → q ∈ portsOf 8 (left - 2 ^ p) → q ∈ portsOf 8 v
   tail-ports q m = inv .sub q (helical-mem a (portsOf 8 left) (rw (here-tried .rest) (List·Memᴰ·tail (mem-helical a (portsOf 8 (left - 2 ^ p)) m))))
 
-  open-tries : (d : ℕ) → tries b t c n left a h d
-      ≡ settle b c n h (receive (view b) t) (trying (freeIn (view b) n) (behindPort (net (view b)) (freeIn (view b)) t n) (p ∷ helical a (portsOf 8 (left - 2 ^ p))) d)
+  abbrev others : List ℕ
+  others = helical a (portsOf 8 (left - 2 ^ p))
+
+  all-tries : tried b t c n h (p ∷ others) sent ≡ tries b t c n v a h s
   unfolding tries
-  open-tries d = ap (λ ps. settle b c n h (receive (view b) t) (trying (freeIn (view b) n) (behindPort (net (view b)) (freeIn (view b)) t n) ps d)) (here-tried .rest)
+  all-tries = ap (λ ps. tried b t c n h ps sent) (sym (here-tried .rest)) ∙ inv .rest
+
+  abbrev on : ℕ → ℕ → Pass
+  on = behindPort (net (view b)) (freeIn (view b)) t n
 
   -- the link is not free: on with the other ports
-  pub turn-busy : freeIn (view b) n p ≡ false → (r : ℕ) → r ≡ left - 2 ^ p → Turn b t c n v a h s b r sent
+  pub turn-busy : freeIn (view now) n p ≡ false → {r : ℕ} → Without left p r → Turn b t c n v a h s now r sent
   unfolding tries
-  turn-busy e r q =
-      rw q
+  turn-busy e less =
+      rw (left-over less)
       record {
-        same = refl;
+        same = inv .same;
         ports = (let l = inv .ports in omega arith);
         sub = tail-ports;
         room = omega (arith, here-room);
-        rest = port-busy (freeIn (view b) n) (behindPort (net (view b)) (freeIn (view b)) t n) b c n h (receive (view b) t) p (helical a (portsOf 8 (left - 2 ^ p))) sent e ∙ sym (open-tries sent) ∙ inv .rest;
+        rest = port-busy (freeIn (view b) n) on b c n h (receive (view b) t) p others sent (rw (← inv .same) e) ∙ all-tries;
       }
 
-  module _ (free : freeIn (view b) n p ≡ true) (x k g d : ℕ) (b₂ : List ℕ)
-      (answer : settled x k g d b₂ ≡ settle (putOwner b n p c) c (next n p) (h + 1) (receive (view b) t) (behindPort (net (view b)) (freeIn (view b)) t n p (suc sent))) where
-    on : ℕ → ℕ → Pass
-    on = behindPort (net (view b)) (freeIn (view b)) t n
+  -- the link is free: the arrival behind it answers
+  module _ (free-now : freeIn (view now) n p ≡ true) {b₁ b₂ : List ℕ} {n₁ x k g d : ℕ} (held : b₁ ≡ putOwner now n p c) (to : n₁ ≡ next n p)
+      (arrival : settled x k g d b₂ ≡ arrived b₁ t c n₁ p (h + 1) (sent + 1)) where
+    free : freeIn (view b) n p ≡ true
+    free = rw (← inv .same) free-now
+
+    -- its answer, on the table before the hop
+    answer : settled x k g d b₂ ≡ settle (putOwner b n p c) c (next n p) (h + 1) (receive (view b) t) (on p (suc sent))
+    answer = arrival ∙ handed-on b t c n p h sent here-within (may .here .small) (may .here .circuit) (now-held held) to
 
     pub turn-acknowledged : x ≡ 0 → settled x k g d b₂ ≡ tries b t c n v a h s
-    unfolding on
     turn-acknowledged z =
         ap (λ y. settled y k g d b₂) z
-        ∙ port-acknowledged (freeIn (view b) n) on b c n h (receive (view b) t) p (helical a (portsOf 8 (left - 2 ^ p))) sent free k g d b₂ (ap (λ y. settled y k g d b₂) (sym z) ∙ answer)
-        ∙ sym (open-tries sent) ∙ inv .rest
+        ∙ port-acknowledged (freeIn (view b) n) on b c n h (receive (view b) t) p others sent free k g d b₂ (ap (λ y. settled y k g d b₂) (sym z) ∙ answer)
+        ∙ all-tries
 
-    restored : b₂ ≡ putOwner b n p c → (b₃ : List ℕ) → b₃ ≡ putOwner b₂ n p 0 → b₃ ≡ b
-    restored e b₃ q = q ∙ ap (λ y. putOwner y n p 0) e ∙ given-back b n p c here-within (unfold view in free-owner (view b) n p free)
+    restored : b₂ ≡ putOwner b n p c → {b₃ : List ℕ} → b₃ ≡ putOwner b₂ n p 0 → b₃ ≡ b
+    restored e q = q ∙ ap (λ y. putOwner y n p 0) e ∙ given-back b n p c here-within (unfold view in free-owner (view b) n p free)
 
-    pub turn-full : x ≡ 11 → (b₃ : List ℕ) → b₃ ≡ putOwner b₂ n p 0 → settled x k g d b₃ ≡ tries b t c n v a h s
-    unfolding on
-    turn-full z b₃ q =
-        let r = port-receive-rejected (freeIn (view b) n) on b c n h (receive (view b) t) p (helical a (portsOf 8 (left - 2 ^ p))) sent free k g d b₂ (ap (λ y. settled y k g d b₂) (sym z) ∙ answer) in
-        ap₂ (λ y u. settled y k g d u) z (restored (r .0) b₃ q) ∙ r .1 ∙ sym (open-tries sent) ∙ inv .rest
+    pub turn-full : x ≡ 11 → {b₃ : List ℕ} → b₃ ≡ putOwner b₂ n p 0 → settled x k g d b₃ ≡ tries b t c n v a h s
+    turn-full z q =
+        let r = port-receive-rejected (freeIn (view b) n) on b c n h (receive (view b) t) p others sent free k g d b₂ (ap (λ y. settled y k g d b₂) (sym z) ∙ answer) in
+        ap₂ (λ y u. settled y k g d u) z (restored (r .0) q) ∙ r .1 ∙ all-tries
 
     few-scouts : d ≤ suc sent + waysFrom (reach b t n v)
-    unfolding on behindPort distance network
+    unfolding behindPort distance network
     few-scouts =
         let m = ways-more (distance b t (next n p)) (reach b t n v) here-reach in
         let all = arriving-sends (cube-nearing (shapeOf (view b)) t) (cube-cubical (shapeOf (view b)) t) (freeIn (view b)) (next n p) p (suc sent) in
         let same : d ≡ scouts (on p (suc sent)) = settled-scouts (putOwner b n p c) c (next n p) (h + 1) (receive (view b) t) (on p (suc sent)) x k g d b₂ answer in
         omega (arith, all, m, same)
 
-    pub turn-next : x ≢ 0 → x ≢ 11 → (r : ℕ) → r ≡ left - 2 ^ p → (b₃ : List ℕ) → b₃ ≡ putOwner b₂ n p 0 → Turn b t c n v a h s b₃ r d
-    unfolding on tries
-    turn-next f e r q b₃ u =
+    pub turn-next : x ≢ 0 → x ≢ 11 → {r : ℕ} → Without left p r → {b₃ : List ℕ} → b₃ ≡ putOwner b₂ n p 0 → Turn b t c n v a h s b₃ r d
+    unfolding tries
+    turn-next f e less u =
         let z : x ≡ 10 = three-answers (putOwner b n p c) c (next n p) (h + 1) (receive (view b) t) (on p (suc sent)) x k g d b₂ answer f e in
-        let w = port-route-rejected (freeIn (view b) n) on b c n h (receive (view b) t) p (helical a (portsOf 8 (left - 2 ^ p))) sent free k g d b₂ (ap (λ y. settled y k g d b₂) (sym z) ∙ answer) in
-        rw q
+        let w = port-route-rejected (freeIn (view b) n) on b c n h (receive (view b) t) p others sent free k g d b₂ (ap (λ y. settled y k g d b₂) (sym z) ∙ answer) in
+        rw (left-over less)
         record {
-          same = restored (w .0) b₃ u;
+          same = restored (w .0) u;
           ports = (let l = inv .ports in omega arith);
           sub = tail-ports;
           room = (let m = few-scouts in omega (arith, here-room));
-          rest = w .1 ∙ sym (open-tries sent) ∙ inv .rest;
+          rest = w .1 ∙ all-tries;
         }
 
 -- no port left
-pub turn-over : (b : List ℕ) (t c n v a h s : ℕ) (now : List ℕ) (left sent : ℕ) → Turn b t c n v a h s now left sent → left ≡ 0 → settled 10 0 0 sent now ≡ tries b t c n v a h s
+pub turn-over : {b : List ℕ} {t c n v a h s : ℕ} {now : List ℕ} {left sent : ℕ} → Turn b t c n v a h s now left sent → left ≡ 0 → settled 10 0 0 sent now ≡ tries b t c n v a h s
 unfolding tries
-turn-over b t c n v a h s now left sent inv z =
+turn-over {b} {t} {c} {n} {v} {a} {h} {s} {now} {left} {sent} inv z =
     let none : helical a (portsOf 8 left) ≡ [] = ap (λ x. helical a (portsOf 8 x)) z ∙ helical-zero 8 a in
-    ap (settled 10 0 0 sent) (inv .same)
-    ∙ ports-over (freeIn (view b) n) (behindPort (net (view b)) (freeIn (view b)) t n) b c n h (receive (view b) t) sent
-    ∙ ap (λ ps. settle b c n h (receive (view b) t) (trying (freeIn (view b) n) (behindPort (net (view b)) (freeIn (view b)) t n) ps sent)) (sym none)
-    ∙ inv .rest
+    rw (inv .same) (ports-over (freeIn (view b) n) (behindPort (net (view b)) (freeIn (view b)) t n) b c n h (receive (view b) t) sent) ∙ ap (λ ps. tried b t c n h ps sent) (sym none) ∙ inv .rest
 
 -- ports that are not free are dropped from a vector: there is room for the rest
-narrow-reach : (b : List ℕ) (t n v left : ℕ) → Narrowed (view b) n v left → reach b t n left ≤ reach b t n v
+narrow-reach : (b : List ℕ) (t : ℕ) {n v left : ℕ} → Narrowed (view b) n v left → reach b t n left ≤ reach b t n v
 unfolding reach
-narrow-reach b t n v left narrow =
+narrow-reach b t {n} {v} {left} narrow =
     farthest-most (net (view b)) t n (farthest (net (view b)) t n (portsOf 8 v)) (portsOf 8 left) (λ p m. farthest-mem (net (view b)) t n (portsOf 8 v) p (narrow-mem narrow p m))
 
-pub narrow-may : (b : List ℕ) (t c n v left a h s : ℕ) → MayTry b t c n v a h s → Narrowed (view b) n v left → MayTry b t c n left a h s
-narrow-may b t c n v left a h s may narrow =
-    let near = narrow-reach b t n v left narrow in
+pub narrow-may : {b : List ℕ} {t c n v left a h s : ℕ} → MayTry b t c n v a h s → Narrowed (view b) n v left → MayTry b t c n left a h s
+narrow-may {b} {t} {c} {n} {v} {left} may narrow =
+    let near = narrow-reach b t narrow in
     let ways = ways-more (reach b t n left) (reach b t n v) near in
     let all : length (portsOf 8 left) * (1 + waysFrom (reach b t n left)) ≤ length (portsOf 8 v) * (1 + waysFrom (reach b t n v)) = mul-le-mul (narrow-fewer narrow) (let w = ways in omega arith) in
     record {
@@ -267,23 +286,21 @@ narrow-may b t c n v left a h s may narrow =
     }
 
 -- An arrival.
-module _ (b : List ℕ) (t c n a h s : ℕ) (may : MayArrive b t c n a h s) where
-  pub arrive-receives : (k : ℕ) → n ≡ t → k ≡ lowestChannel (view b) n → k ≢ 8 → settled 0 k h s b ≡ arrived b t c n a h s
+module _ {b : List ℕ} {t c n a h s : ℕ} (may : MayArrive b t c n a h s) where
+  at-goal : n ≡ t → settle b c n h (receive (view b) n) (found [] s) ≡ arrived b t c n a h s
   unfolding arrived
-  arrive-receives k e q g =
-      target-receives (view b) b c n h k s k (arriving (distance b t n) (net (view b)) (freeIn (view b)) t n a s) (at-target (net (view b)) (freeIn (view b)) t n a s (distance b t n) e) q g
-      ∙ ap (λ m. settle b c n h (receive (view b) m) (arriving (distance b t n) (net (view b)) (freeIn (view b)) t n a s)) e
+  at-goal e = ap₂ (λ m w. settle b c n h (receive (view b) m) w) e (sym (at-target (net (view b)) (freeIn (view b)) t n a s (distance b t n) e))
 
-  pub arrive-full : (k : ℕ) → n ≡ t → k ≡ lowestChannel (view b) n → k ≡ 8 → settled 11 0 0 s b ≡ arrived b t c n a h s
-  unfolding arrived
-  arrive-full k e q g =
-      target-full (view b) b c n h k s k (arriving (distance b t n) (net (view b)) (freeIn (view b)) t n a s) (at-target (net (view b)) (freeIn (view b)) t n a s (distance b t n) e) q g
-      ∙ ap (λ m. settle b c n h (receive (view b) m) (arriving (distance b t n) (net (view b)) (freeIn (view b)) t n a s)) e
+  pub arrive-receives : {k : ℕ} → n ≡ t → k ≡ lowestChannel (view b) n → k ≢ 8 → settled 0 k h s b ≡ arrived b t c n a h s
+  arrive-receives e q g = target-receives (view b) b c n h s q g ∙ at-goal e
 
-  module _ (away : n ≢ t) (v : ℕ) (uphill : v ≡ bitXor n t) where
+  pub arrive-full : {k : ℕ} → n ≡ t → k ≡ lowestChannel (view b) n → k ≡ 8 → settled 11 0 0 s b ≡ arrived b t c n a h s
+  arrive-full e q g = target-full (view b) b c n h s q g ∙ at-goal e
+
+  module _ (away : n ≢ t) {v : ℕ} (uphill : UphillVector n t v) where
     offers : offered (net (view b)) t n ≡ portsOf 8 v
     unfolding view
-    offers = offered-vector (shapeOf (view b)) 8 n t (may .here .fits) (may .here .node) (may .here .target) ∙ ap (portsOf 8) (sym uphill)
+    offers = offered-vector (shapeOf (view b)) 8 n t (may .here .fits) (may .here .node) (may .here .target) ∙ ap (portsOf 8) (sym (uphill .value))
 
     all-tried : tries b t c n v a h s ≡ arrived b t c n a h s
     unfolding tries arrived distance
@@ -312,24 +329,24 @@ module _ (b : List ℕ) (t c n a h s : ℕ) (may : MayArrive b t c n a h s) wher
         let ports = one-further (length (portsOf 8 v)) (reach b t n v) (distance b t n) arrive-reach (omega (arith, degree)) in
         record {
           here = may .here;
-          ports = rw uphill (xor-lt (dimensionAt b) n t (may .here .node) (may .here .target));
+          ports = rw (uphill .value) (xor-lt (dimensionAt b) n t (may .here .node) (may .here .target));
           hops = omega (arith, may .hops, arrive-reach);
           room = omega (arith, may .room, ports);
         }
 
     pub arrive-byte : v < 256
-    arrive-byte = byte-vector b v (may .here .fits) (all-may .ports)
+    arrive-byte = byte-vector (may .here .fits) (all-may .ports)
 
     -- those of them that are left
-    module _ (left : ℕ) (narrow : Narrowed (view b) n v left) where
+    module _ {left : ℕ} (narrow : Narrowed (view b) n v left) where
       pub arrive-may : MayTry b t c n left a h s
-      arrive-may = narrow-may b t c n v left a h s all-may narrow
+      arrive-may = narrow-may all-may narrow
 
       pub arrive-tries : tries b t c n left a h s ≡ arrived b t c n a h s
-      arrive-tries = narrow-tries b t c n v left a h s narrow ∙ all-tried
+      arrive-tries = narrow-tries b t c a h s narrow ∙ all-tried
 
       pub arrive-none : left ≡ 0 → settled 10 0 0 s b ≡ arrived b t c n a h s
-      arrive-none z = turn-over b t c n left a h s b left s (first-turn b t c n left a h s arrive-may) z ∙ arrive-tries
+      arrive-none z = turn-over (first-turn arrive-may) z ∙ arrive-tries
 
       pub arrive-falls : 2 * reach b t n left + 1 < 2 * distance b t n
-      arrive-falls = omega (arith, arrive-reach, narrow-reach b t n v left narrow)
+      arrive-falls = omega (arith, arrive-reach, narrow-reach b t narrow)

@@ -7,7 +7,6 @@ use mathlib.Core.List.{List, [], _∷_}
 use Prim.Native.Nat.{ℕ, _+_, _*_, _^_, _≤_, _<_}
 use lib.Dec.{leb}
 use lib.ListN.{length}
-use Rattle.common.specs.Lists.{_∈_}
 use Rattle.cube.specs.Bits.{has}
 use Rattle.cube.specs.Helical.{helical, portsOf}
 use Rattle.paths.specs.Network.{Network}
@@ -68,12 +67,3 @@ pub record MayArrive (b : List ℕ) (t c n a h s : ℕ) : Type 0 where
   pub here : Here b t c n a
   pub hops : h + distance b t n < 65536
   pub room : s + waysFrom (distance b t n) < 2 ^ 32
-
--- what holds at each turn of the trying of ports: the bytes are those at the start, the ports left are ports of the vector, there is room for
--- the scouts still to be sent, and what is left to do gives the whole
-pub record Turn (b : List ℕ) (t c n vector a h s : ℕ) (now : List ℕ) (left sent : ℕ) : Type 0 where
-  pub same : now ≡ b
-  pub ports : left < 2 ^ dimensionAt b
-  pub sub : (p : ℕ) → p ∈ portsOf 8 left → p ∈ portsOf 8 vector
-  pub room : sent + length (portsOf 8 left) * (1 + waysFrom (reach b t n vector)) < 2 ^ 32
-  pub rest : tries b t c n left a h sent ≡ tries b t c n vector a h s

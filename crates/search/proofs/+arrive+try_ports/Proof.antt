@@ -7,11 +7,8 @@ use Prim.Native.Nat.{ℕ, _+_, _*_, _<_}
 use lib.Dec.{lit<}
 use lib.ListN.{length}
 use lib.Pow.{pow-pos}
-use Rattle.table.specs.Layout.{putOwner}
-use Rattle.table.specs.View.{view}
-use Rattle.search.specs.Settle.{freeIn}
-use Rattle.search.specs.Turns.{distance, reach, Turn}
-use Rattle.search.proofs.Turns.{turned, first-turn, byte-vector, here-tried, here-within, here-enabled, here-room, here-arrives, here-falls, here-answer, turn-busy, turn-acknowledged, turn-full, turn-next, turn-over, arrive-receives, arrive-full, arrive-tries, arrive-none, arrive-byte, arrive-may, arrive-falls}
+use Rattle.search.specs.Turns.{distance, reach}
+use Rattle.search.proofs.Turns.{Turn, first-turn, byte-vector, here-tried, now-within, now-enabled, here-room, here-arrives, here-falls, turn-busy, turn-acknowledged, turn-full, turn-next, turn-over, arrive-receives, arrive-full, arrive-tries, arrive-none, arrive-byte, arrive-may, arrive-falls}
 use borrow.Fn.Kinds.{In, Out}
 use borrow.Fn.PlainCycle.{Measures, is, falls, and}
 use Rattle.search.proofs.arrive.Reads as arrive
@@ -95,7 +92,7 @@ try-ports-At P t = P (try-ports-in t) (try-ports-at t) try-ports.Post try-ports-
 arrive-free-channel-requires : (t : ℕ) → arrive-At arrive-lts.Need-free-channel-requires t
 arrive-free-channel-requires t c κs =
     let s = c .before .before .before .before .before in
-    record { bytes = s .pre .1 .1 .here .bytes; node = byte-vector (s .args .t .now) (s .args .at .0) (s .pre .1 .1 .here .fits) (s .pre .1 .1 .here .node); port = lit< tt }
+    record { bytes = s .pre .1 .1 .here .bytes; node = byte-vector (s .pre .1 .1 .here .fits) (s .pre .1 .1 .here .node); port = lit< tt }
 
 arrive-uphill-vector-requires : (t : ℕ) → arrive-At arrive-lts.Need-uphill-vector-requires t
 arrive-uphill-vector-requires t c κs = search needs
@@ -107,8 +104,8 @@ arrive-ways-on-requires t c κs =
     let h = s .pre .1 .1 .here in (
       s .pre .1 .0,
       (
-        record { bytes = h .bytes; node = byte-vector (s .args .t .now) (s .args .at .0) (h .fits) (h .node); port = h .port },
-        arrive-byte (s .args .t .now) (s .args .target .0) (s .args .c .0) (s .args .at .0) (s .args .arrival .0) (s .args .hops) (s .args .scouts) (s .pre .1 .1) (e .if1 .left) (c .uphill-vector .result) (c .uphill-vector .ensures .value),
+        record { bytes = h .bytes; node = byte-vector (h .fits) (h .node); port = h .port },
+        arrive-byte (s .pre .1 .1) (e .if1 .left) (c .uphill-vector .ensures),
       ),
     )
 
@@ -118,8 +115,8 @@ arrive-try-ports-requires t c κs =
     let u = g .before in
     let e = u .before .before in
     let s = e .before .before .before .before in (
-      (let less = arrive-falls (s .args .t .now) (s .args .target .0) (s .args .c .0) (s .args .at .0) (s .args .arrival .0) (s .args .hops) (s .args .scouts) (s .pre .1 .1) (e .if1 .left) (u .uphill-vector .result) (u .uphill-vector .ensures .value) (g .ways-on .result) (g .ways-on .ensures .0) in omega (arith, less, s .pre .0)),
-      (s .pre .1 .0, (arrive-may (s .args .t .now) (s .args .target .0) (s .args .c .0) (s .args .at .0) (s .args .arrival .0) (s .args .hops) (s .args .scouts) (s .pre .1 .1) (e .if1 .left) (u .uphill-vector .result) (u .uphill-vector .ensures .value) (g .ways-on .result) (g .ways-on .ensures .0), g .ways-on .ensures .1)),
+      omega (arith, arrive-falls (s .pre .1 .1) (e .if1 .left) (u .uphill-vector .ensures) (g .ways-on .ensures .0), s .pre .0),
+      (s .pre .1 .0, (arrive-may (s .pre .1 .1) (e .if1 .left) (u .uphill-vector .ensures) (g .ways-on .ensures .0), g .ways-on .ensures .1)),
     )
 
 arrive-same-length : (t : ℕ) → arrive-At arrive-lts.Need-same-length t
@@ -130,7 +127,7 @@ arrive-returns t c =
     let k = c .before in
     let e = k .before .before in
     let s = e .before .before .before .before in
-    arrive-full (s .args .t .now) (s .args .target .0) (s .args .c .0) (s .args .at .0) (s .args .arrival .0) (s .args .hops) (s .args .scouts) (s .pre .1 .1) (k .free-channel .result) (e .if1 .taken) (k .free-channel .ensures) (c .if2 .taken)
+    arrive-full (s .pre .1 .1) (e .if1 .taken) (k .free-channel .ensures) (c .if2 .taken)
 
 arrive-same-length-2 : (t : ℕ) → arrive-At arrive-lts.Need-same-length-2 t
 arrive-same-length-2 t c = search needs
@@ -140,7 +137,7 @@ arrive-returns-2 t c =
     let k = c .before in
     let e = k .before .before in
     let s = e .before .before .before .before in
-    arrive-receives (s .args .t .now) (s .args .target .0) (s .args .c .0) (s .args .at .0) (s .args .arrival .0) (s .args .hops) (s .args .scouts) (s .pre .1 .1) (k .free-channel .result) (e .if1 .taken) (k .free-channel .ensures) (c .if2 .left)
+    arrive-receives (s .pre .1 .1) (e .if1 .taken) (k .free-channel .ensures) (c .if2 .left)
 
 arrive-same-length-3 : (t : ℕ) → arrive-At arrive-lts.Need-same-length-3 t
 arrive-same-length-3 t c = search needs
@@ -151,7 +148,7 @@ arrive-returns-3 t c =
     let u = g .before in
     let e = u .before .before in
     let s = e .before .before .before .before in
-    arrive-none (s .args .t .now) (s .args .target .0) (s .args .c .0) (s .args .at .0) (s .args .arrival .0) (s .args .hops) (s .args .scouts) (s .pre .1 .1) (e .if1 .left) (u .uphill-vector .result) (u .uphill-vector .ensures .value) (g .ways-on .result) (g .ways-on .ensures .0) (c .if3 .taken)
+    arrive-none (s .pre .1 .1) (e .if1 .left) (u .uphill-vector .ensures) (g .ways-on .ensures .0) (c .if3 .taken)
 
 arrive-same-length-4 : (t : ℕ) → arrive-At arrive-lts.Need-same-length-4 t
 arrive-same-length-4 t c = search needs
@@ -163,43 +160,39 @@ arrive-returns-4 t c =
     let u = g .before in
     let e = u .before .before in
     let s = e .before .before .before .before in
-    y .try-ports .ensures ∙ arrive-tries (s .args .t .now) (s .args .target .0) (s .args .c .0) (s .args .at .0) (s .args .arrival .0) (s .args .hops) (s .args .scouts) (s .pre .1 .1) (e .if1 .left) (u .uphill-vector .result) (u .uphill-vector .ensures .value) (g .ways-on .result) (g .ways-on .ensures .0)
+    y .try-ports .ensures ∙ arrive-tries (s .pre .1 .1) (e .if1 .left) (u .uphill-vector .ensures) (g .ways-on .ensures .0)
 
 try-ports-loop-holds : (t : ℕ) → try-ports-At try-ports-lts.Need-loop-holds t
 try-ports-loop-holds t c =
     let s = c .before in
-    first-turn (s .args .t .now) (s .args .target .0) (s .args .c .0) (s .args .at .0) (s .args .vector) (s .args .arrival .0) (s .args .hops) (s .args .scouts) (s .pre .1 .1 .0)
+    first-turn (s .pre .1 .1 .0)
 
 try-ports-first-port-requires : (t : ℕ) → try-ports-At try-ports-lts.Need-first-port-requires t
 try-ports-first-port-requires t c κs =
     let l = c .before in
     let s = l .before .before in
-    (byte-vector (s .args .t .now) (l .loop .left) (s .pre .1 .1 .0 .here .fits) (l .loop .inv .ports), s .pre .1 .1 .0 .here .port, s .pre .1 .0)
+    (byte-vector (s .pre .1 .1 .0 .here .fits) (l .loop .inv .ports), s .pre .1 .1 .0 .here .port, s .pre .1 .0)
 
 try-ports-without-requires : (t : ℕ) → try-ports-At try-ports-lts.Need-without-requires t
 try-ports-without-requires t c κs =
-    let f = c in
-    let l = f .before .before in
+    let l = c .before .before in
     let s = l .before .before in
-    let r = here-tried (s .args .t .now) (s .args .target .0) (s .args .c .0) (s .args .at .0) (s .args .arrival .0) (s .args .hops) (s .args .vector) (l .loop .left) (f .first-port .result .0) (l .loop .sent) (s .args .scouts) (s .pre .1 .1 .0) (turned (l .loop .inv)) (f .before .loop-test .taken) (f .first-port .ensures) in
-    (let q = r .small in omega arith, r .offered)
+    let r = here-tried (s .pre .1 .1 .0) (l .loop .inv) (c .before .loop-test .taken) (c .first-port .ensures) in
+    (omega (arith, r .small), r .offered)
 
 try-ports-is-free-requires : (t : ℕ) → try-ports-At try-ports-lts.Need-is-free-requires t
 try-ports-is-free-requires t c κs =
     let f = c .before .before in
     let l = f .before .before in
     let s = l .before .before in
-    rw (l .loop .inv .same) (
-      here-within (s .args .t .now) (s .args .target .0) (s .args .c .0) (s .args .at .0) (s .args .arrival .0) (s .args .hops) (s .args .vector) (l .loop .left) (f .first-port .result .0) (l .loop .sent) (s .args .scouts) (s .pre .1 .1 .0) (turned (l .loop .inv)) (f .before .loop-test .taken) (f .first-port .ensures),
-      here-enabled (s .args .t .now) (s .args .target .0) (s .args .c .0) (s .args .at .0) (s .args .arrival .0) (s .args .hops) (s .args .vector) (l .loop .left) (f .first-port .result .0) (l .loop .sent) (s .args .scouts) (s .pre .1 .1 .0) (turned (l .loop .inv)) (f .before .loop-test .taken) (f .first-port .ensures) (s .pre .1 .1 .1),
-    )
+    (now-within (s .pre .1 .1 .0) (l .loop .inv) (f .before .loop-test .taken) (f .first-port .ensures), now-enabled (s .pre .1 .1 .0) (l .loop .inv) (f .before .loop-test .taken) (f .first-port .ensures) (s .pre .1 .1 .1))
 
 try-ports-set-owner-requires : (t : ℕ) → try-ports-At try-ports-lts.Need-set-owner-requires t
 try-ports-set-owner-requires t c κs =
     let f = c .before .before .before .before .before in
     let l = f .before .before in
     let s = l .before .before in
-    rw (l .loop .inv .same) (here-within (s .args .t .now) (s .args .target .0) (s .args .c .0) (s .args .at .0) (s .args .arrival .0) (s .args .hops) (s .args .vector) (l .loop .left) (f .first-port .result .0) (l .loop .sent) (s .args .scouts) (s .pre .1 .1 .0) (turned (l .loop .inv)) (f .before .loop-test .taken) (f .first-port .ensures))
+    now-within (s .pre .1 .1 .0) (l .loop .inv) (f .before .loop-test .taken) (f .first-port .ensures)
 
 try-ports-neighbour-requires : (t : ℕ) → try-ports-At try-ports-lts.Need-neighbour-requires t
 try-ports-neighbour-requires t c κs =
@@ -207,8 +200,7 @@ try-ports-neighbour-requires t c κs =
     let f = i .before .before .before in
     let l = f .before .before in
     let s = l .before .before in
-    let r = here-tried (s .args .t .now) (s .args .target .0) (s .args .c .0) (s .args .at .0) (s .args .arrival .0) (s .args .hops) (s .args .vector) (l .loop .left) (f .first-port .result .0) (l .loop .sent) (s .args .scouts) (s .pre .1 .1 .0) (turned (l .loop .inv)) (f .before .loop-test .taken) (f .first-port .ensures) in
-    (let q = r .small in omega arith)
+    omega (arith, here-tried (s .pre .1 .1 .0) (l .loop .inv) (f .before .loop-test .taken) (f .first-port .ensures) .small)
 
 try-ports-add-arrive : (t : ℕ) → try-ports-At try-ports-lts.Need-add-arrive t
 try-ports-add-arrive t c = search needs
@@ -219,8 +211,7 @@ try-ports-add-arrive-2 t c =
     let f = i .before .before .before in
     let l = f .before .before in
     let s = l .before .before in
-    let r = here-room (s .args .t .now) (s .args .target .0) (s .args .c .0) (s .args .at .0) (s .args .arrival .0) (s .args .hops) (s .args .vector) (l .loop .left) (f .first-port .result .0) (l .loop .sent) (s .args .scouts) (s .pre .1 .1 .0) (turned (l .loop .inv)) (f .before .loop-test .taken) (f .first-port .ensures) in
-    omega (arith, r)
+    omega (arith, here-room (s .pre .1 .1 .0) (l .loop .inv) (f .before .loop-test .taken) (f .first-port .ensures))
 
 try-ports-arrive-requires : (t : ℕ) → try-ports-At try-ports-lts.Need-arrive-requires t
 try-ports-arrive-requires t c κs =
@@ -229,8 +220,8 @@ try-ports-arrive-requires t c κs =
     let f = i .before .before .before in
     let l = f .before .before in
     let s = l .before .before in (
-      (let less = here-falls (s .args .t .now) (s .args .target .0) (s .args .c .0) (s .args .at .0) (s .args .arrival .0) (s .args .hops) (s .args .vector) (l .loop .left) (f .first-port .result .0) (l .loop .sent) (s .args .scouts) (s .pre .1 .1 .0) (turned (l .loop .inv)) (f .before .loop-test .taken) (f .first-port .ensures) (s .pre .1 .1 .0 .here .small) (o .set-owner .last .0) (c .neighbour .result .0) (o .set-owner .ensures ∙ ap (λ y. putOwner y (s .args .at .0) (f .first-port .result .0) (s .args .c .0)) (l .loop .inv .same)) (c .neighbour .ensures) in omega (arith, less, s .pre .0)),
-      (s .pre .1 .0, here-arrives (s .args .t .now) (s .args .target .0) (s .args .c .0) (s .args .at .0) (s .args .arrival .0) (s .args .hops) (s .args .vector) (l .loop .left) (f .first-port .result .0) (l .loop .sent) (s .args .scouts) (s .pre .1 .1 .0) (turned (l .loop .inv)) (f .before .loop-test .taken) (f .first-port .ensures) (s .pre .1 .1 .0 .here .small) (o .set-owner .last .0) (c .neighbour .result .0) (o .set-owner .ensures ∙ ap (λ y. putOwner y (s .args .at .0) (f .first-port .result .0) (s .args .c .0)) (l .loop .inv .same)) (c .neighbour .ensures)),
+      omega (arith, here-falls (s .pre .1 .1 .0) (l .loop .inv) (f .before .loop-test .taken) (f .first-port .ensures) (o .set-owner .ensures) (c .neighbour .ensures), s .pre .0),
+      (s .pre .1 .0, here-arrives (s .pre .1 .1 .0) (l .loop .inv) (f .before .loop-test .taken) (f .first-port .ensures) (o .set-owner .ensures) (c .neighbour .ensures)),
     )
 
 try-ports-same-length : (t : ℕ) → try-ports-At try-ports-lts.Need-same-length t
@@ -240,7 +231,6 @@ try-ports-same-length t c =
     let i = o .before .before .before in
     let f = i .before .before .before in
     let l = f .before .before in
-    let s = l .before .before in
     omega (arith, y .arrive .kept .0, o .set-owner .kept .0, ap length (l .loop .inv .same))
 
 try-ports-returns : (t : ℕ) → try-ports-At try-ports-lts.Need-returns t
@@ -251,7 +241,7 @@ try-ports-returns t c =
     let f = i .before .before .before in
     let l = f .before .before in
     let s = l .before .before in
-    turn-acknowledged (s .args .t .now) (s .args .target .0) (s .args .c .0) (s .args .at .0) (s .args .arrival .0) (s .args .hops) (s .args .vector) (l .loop .left) (f .first-port .result .0) (l .loop .sent) (s .args .scouts) (s .pre .1 .1 .0) (turned (l .loop .inv)) (f .before .loop-test .taken) (f .first-port .ensures) (ap (λ y. freeIn (view y) (s .args .at .0) (f .first-port .result .0)) (sym (l .loop .inv .same)) ∙ sym (i .is-free .ensures) ∙ o .before .before .if1 .taken) (y .arrive .result .refused) (y .arrive .result .channel) (y .arrive .result .hops) (y .arrive .result .scouts) (y .arrive .last .0) (here-answer (s .args .t .now) (s .args .target .0) (s .args .c .0) (s .args .at .0) (s .args .arrival .0) (s .args .hops) (s .args .vector) (l .loop .left) (f .first-port .result .0) (l .loop .sent) (s .args .scouts) (s .pre .1 .1 .0) (turned (l .loop .inv)) (f .before .loop-test .taken) (f .first-port .ensures) (s .pre .1 .1 .0 .here .small) (y .arrive .result .refused) (y .arrive .result .channel) (y .arrive .result .hops) (y .arrive .result .scouts) (o .set-owner .last .0) (y .arrive .last .0) (y .before .neighbour .result .0) (o .set-owner .ensures ∙ ap (λ y. putOwner y (s .args .at .0) (f .first-port .result .0) (s .args .c .0)) (l .loop .inv .same)) (y .before .neighbour .ensures) (y .arrive .ensures)) (c .if2 .taken)
+    turn-acknowledged (s .pre .1 .1 .0) (l .loop .inv) (f .before .loop-test .taken) (f .first-port .ensures) (sym (i .is-free .ensures) ∙ o .before .before .if1 .taken) (o .set-owner .ensures) (y .before .neighbour .ensures) (y .arrive .ensures) (c .if2 .taken)
 
 try-ports-set-owner-requires-2 : (t : ℕ) → try-ports-At try-ports-lts.Need-set-owner-requires-2 t
 try-ports-set-owner-requires-2 t c κs =
@@ -261,8 +251,8 @@ try-ports-set-owner-requires-2 t c κs =
     let f = i .before .before .before in
     let l = f .before .before in
     let s = l .before .before in
-    let w = here-within (s .args .t .now) (s .args .target .0) (s .args .c .0) (s .args .at .0) (s .args .arrival .0) (s .args .hops) (s .args .vector) (l .loop .left) (f .first-port .result .0) (l .loop .sent) (s .args .scouts) (s .pre .1 .1 .0) (turned (l .loop .inv)) (f .before .loop-test .taken) (f .first-port .ensures) in
-    record { bytes = omega (arith, y .arrive .kept .0, o .set-owner .kept .0, ap length (l .loop .inv .same), s .pre .1 .1 .0 .here .bytes); node = w .node; port = w .port }
+    let w = now-within (s .pre .1 .1 .0) (l .loop .inv) (f .before .loop-test .taken) (f .first-port .ensures) in
+    record { bytes = y .arrive .kept .0 ∙ o .set-owner .kept .0 ∙ w .bytes; node = w .node; port = w .port }
 
 try-ports-same-length-2 : (t : ℕ) → try-ports-At try-ports-lts.Need-same-length-2 t
 try-ports-same-length-2 t c =
@@ -271,7 +261,6 @@ try-ports-same-length-2 t c =
     let i = o .before .before .before in
     let f = i .before .before .before in
     let l = f .before .before in
-    let s = l .before .before in
     omega (arith, c .before .before .before .before .set-owner2 .kept .0, y .arrive .kept .0, o .set-owner .kept .0, ap length (l .loop .inv .same))
 
 try-ports-returns-2 : (t : ℕ) → try-ports-At try-ports-lts.Need-returns-2 t
@@ -282,7 +271,7 @@ try-ports-returns-2 t c =
     let f = i .before .before .before in
     let l = f .before .before in
     let s = l .before .before in
-    turn-full (s .args .t .now) (s .args .target .0) (s .args .c .0) (s .args .at .0) (s .args .arrival .0) (s .args .hops) (s .args .vector) (l .loop .left) (f .first-port .result .0) (l .loop .sent) (s .args .scouts) (s .pre .1 .1 .0) (turned (l .loop .inv)) (f .before .loop-test .taken) (f .first-port .ensures) (ap (λ y. freeIn (view y) (s .args .at .0) (f .first-port .result .0)) (sym (l .loop .inv .same)) ∙ sym (i .is-free .ensures) ∙ o .before .before .if1 .taken) (y .arrive .result .refused) (y .arrive .result .channel) (y .arrive .result .hops) (y .arrive .result .scouts) (y .arrive .last .0) (here-answer (s .args .t .now) (s .args .target .0) (s .args .c .0) (s .args .at .0) (s .args .arrival .0) (s .args .hops) (s .args .vector) (l .loop .left) (f .first-port .result .0) (l .loop .sent) (s .args .scouts) (s .pre .1 .1 .0) (turned (l .loop .inv)) (f .before .loop-test .taken) (f .first-port .ensures) (s .pre .1 .1 .0 .here .small) (y .arrive .result .refused) (y .arrive .result .channel) (y .arrive .result .hops) (y .arrive .result .scouts) (o .set-owner .last .0) (y .arrive .last .0) (y .before .neighbour .result .0) (o .set-owner .ensures ∙ ap (λ y. putOwner y (s .args .at .0) (f .first-port .result .0) (s .args .c .0)) (l .loop .inv .same)) (y .before .neighbour .ensures) (y .arrive .ensures)) (c .if3 .taken) (c .before .before .before .before .set-owner2 .last .0) (c .before .before .before .before .set-owner2 .ensures)
+    turn-full (s .pre .1 .1 .0) (l .loop .inv) (f .before .loop-test .taken) (f .first-port .ensures) (sym (i .is-free .ensures) ∙ o .before .before .if1 .taken) (o .set-owner .ensures) (y .before .neighbour .ensures) (y .arrive .ensures) (c .if3 .taken) (c .before .before .before .before .set-owner2 .ensures)
 
 try-ports-loop-less : (t : ℕ) → try-ports-At try-ports-lts.Need-loop-less t
 try-ports-loop-less t c =
@@ -290,9 +279,6 @@ try-ports-loop-less t c =
     let o = y .before .before .before .before .before in
     let i = o .before .before .before in
     let f = i .before .before .before in
-    let l = f .before .before in
-    let s = l .before .before in
-    let w = f .before in
     omega (arith, i .before .before .without .ensures .value, pow-pos (f .first-port .result .0))
 
 try-ports-loop-again : (t : ℕ) → try-ports-At try-ports-lts.Need-loop-again t
@@ -303,14 +289,12 @@ try-ports-loop-again t c =
     let f = i .before .before .before in
     let l = f .before .before in
     let s = l .before .before in
-    turn-next (s .args .t .now) (s .args .target .0) (s .args .c .0) (s .args .at .0) (s .args .arrival .0) (s .args .hops) (s .args .vector) (l .loop .left) (f .first-port .result .0) (l .loop .sent) (s .args .scouts) (s .pre .1 .1 .0) (turned (l .loop .inv)) (f .before .loop-test .taken) (f .first-port .ensures) (ap (λ y. freeIn (view y) (s .args .at .0) (f .first-port .result .0)) (sym (l .loop .inv .same)) ∙ sym (i .is-free .ensures) ∙ o .before .before .if1 .taken) (y .arrive .result .refused) (y .arrive .result .channel) (y .arrive .result .hops) (y .arrive .result .scouts) (y .arrive .last .0) (here-answer (s .args .t .now) (s .args .target .0) (s .args .c .0) (s .args .at .0) (s .args .arrival .0) (s .args .hops) (s .args .vector) (l .loop .left) (f .first-port .result .0) (l .loop .sent) (s .args .scouts) (s .pre .1 .1 .0) (turned (l .loop .inv)) (f .before .loop-test .taken) (f .first-port .ensures) (s .pre .1 .1 .0 .here .small) (y .arrive .result .refused) (y .arrive .result .channel) (y .arrive .result .hops) (y .arrive .result .scouts) (o .set-owner .last .0) (y .arrive .last .0) (y .before .neighbour .result .0) (o .set-owner .ensures ∙ ap (λ y. putOwner y (s .args .at .0) (f .first-port .result .0) (s .args .c .0)) (l .loop .inv .same)) (y .before .neighbour .ensures) (y .arrive .ensures)) (c .before .before .before .before .before .before .if2 .left) (c .if3 .left) (i .before .before .without .result) (let e = i .before .before .without .ensures .value in omega arith) (c .before .before .before .before .set-owner2 .last .0) (c .before .before .before .before .set-owner2 .ensures)
+    turn-next (s .pre .1 .1 .0) (l .loop .inv) (f .before .loop-test .taken) (f .first-port .ensures) (sym (i .is-free .ensures) ∙ o .before .before .if1 .taken) (o .set-owner .ensures) (y .before .neighbour .ensures) (y .arrive .ensures) (c .before .before .before .before .before .before .if2 .left) (c .if3 .left) (i .before .before .without .ensures) (c .before .before .before .before .set-owner2 .ensures)
 
 try-ports-loop-less-2 : (t : ℕ) → try-ports-At try-ports-lts.Need-loop-less-2 t
 try-ports-loop-less-2 t c =
     let i = c .before in
     let f = i .before .before .before in
-    let l = f .before .before in
-    let s = l .before .before in
     omega (arith, i .before .before .without .ensures .value, pow-pos (f .first-port .result .0))
 
 try-ports-loop-again-2 : (t : ℕ) → try-ports-At try-ports-lts.Need-loop-again-2 t
@@ -319,17 +303,13 @@ try-ports-loop-again-2 t c =
     let f = i .before .before .before in
     let l = f .before .before in
     let s = l .before .before in
-    rw (l .loop .inv .same)
-    (turn-busy (s .args .t .now) (s .args .target .0) (s .args .c .0) (s .args .at .0) (s .args .arrival .0) (s .args .hops) (s .args .vector) (l .loop .left) (f .first-port .result .0) (l .loop .sent) (s .args .scouts) (s .pre .1 .1 .0) (turned (l .loop .inv)) (f .before .loop-test .taken) (f .first-port .ensures) (ap (λ y. freeIn (view y) (s .args .at .0) (f .first-port .result .0)) (sym (l .loop .inv .same)) ∙ sym (i .is-free .ensures) ∙ c .if1 .left) (i .before .before .without .result) (let e = i .before .before .without .ensures .value in omega arith))
+    turn-busy (s .pre .1 .1 .0) (l .loop .inv) (f .before .loop-test .taken) (f .first-port .ensures) (sym (i .is-free .ensures) ∙ c .if1 .left) (i .before .before .without .ensures)
 
 try-ports-same-length-3 : (t : ℕ) → try-ports-At try-ports-lts.Need-same-length-3 t
 try-ports-same-length-3 t c = search needs
 
 try-ports-returns-3 : (t : ℕ) → try-ports-At try-ports-lts.Need-returns-3 t
-try-ports-returns-3 t c =
-    let l = c .before in
-    let s = l .before .before in
-    turn-over (s .args .t .now) (s .args .target .0) (s .args .c .0) (s .args .at .0) (s .args .vector) (s .args .arrival .0) (s .args .hops) (s .args .scouts) (l .loop .t) (l .loop .left) (l .loop .sent) (l .loop .inv) (c .loop-test .left)
+try-ports-returns-3 t c = turn-over (c .before .loop .inv) (c .loop-test .left)
 
 pub +arrive+try-ports-spec : {M : Type 1} → statement M
 +arrive+try-ports-spec = close μ-arrive μ-try-ports (λ t. arrive-lts.spec (arrive-in t)

@@ -1,10 +1,6 @@
 -- `search::alternate_maze` meets its contract: a second pass over the other ports where the first is not acknowledged, on the same bytes.
 -- Assumes nothing.
-use mathlib.Core.Path.{_≡_, _∙_, ap}
-use Prim.Native.Nat.{ℕ, _-_, _^_}
 use native.Mathlib.Omega.{arith}
-use lib.Bits.{bitXor}
-use Rattle.table.specs.Layout.{dimensionAt}
 use Rattle.search.proofs.Sends.{alternate-taken, may-again, few-scouts, alternate-again}
 use borrow.Author.Needs.{needs}
 use Rattle.search.proofs.alternate_maze.Statement.{statement}
@@ -25,15 +21,11 @@ maze-requires c κs = search needs
 same-length : tie.Need-same-length
 same-length c = search needs
 
--- the vector of the second pass, from the dimension that was read
-others-are : (b : mathlib.Core.List.List ℕ) (d k v : ℕ) → d ≡ dimensionAt b → k ≡ 2 ^ d → bitXor (k - 1) v ≡ bitXor (2 ^ dimensionAt b - 1) v
-others-are b d k v e q = ap (λ x. bitXor (x - 1) v) (q ∙ ap (λ x. 2 ^ x) e)
-
 returns : tie.Need-returns
 returns c =
     let g = c .before .before .before .before in
     let s = g .before .before .before .before .before .before in
-    alternate-taken (s .args .t .now) (s .args .source .0) (s .args .target .0) (s .args .c .0) (s .args .vector) (s .pre .1) (g .maze .result .refused) (g .maze .result .channel) (g .maze .result .hops) (g .maze .result .scouts) (g .maze .last .0) (g .maze .ensures) (c .if1 .taken)
+    alternate-taken (s .pre .1) (g .maze .ensures) (c .if1 .taken)
 
 maze-requires-2 : tie.Need-maze-requires-2
 maze-requires-2 c κs =
@@ -42,8 +34,7 @@ maze-requires-2 c κs =
     let k = g .before .before in
     let s = k .before .before .before .before in (
       s .pre .0,
-      may-again (s .args .t .now) (s .args .source .0) (s .args .target .0) (s .args .c .0) (s .args .vector) (s .pre .1) (g .maze .result .refused) (g .maze .result .channel) (g .maze .result .hops) (g .maze .result .scouts) (g .maze .last .0) (g .maze .ensures)
-          (bitXor (k .node-count .result - 1) (s .args .vector)) (others-are (s .args .t .now) (k .before .dimension .result) (k .node-count .result) (s .args .vector) (k .before .dimension .ensures) (k .node-count .ensures .value)) (e .if1 .left),
+      may-again (s .pre .1) (g .maze .ensures) (k .before .dimension .ensures) (k .node-count .ensures) (e .if1 .left),
     )
 
 add-scouts : tie.Need-add-scouts
@@ -53,9 +44,7 @@ add-scouts c =
     let g = e .before .before .before .before in
     let k = g .before .before in
     let s = k .before .before .before .before in
-    let few = few-scouts (s .args .t .now) (s .args .source .0) (s .args .target .0) (s .args .c .0) (s .args .vector) (s .pre .1) (g .maze .result .refused) (g .maze .result .channel) (g .maze .result .hops) (g .maze .result .scouts) (g .maze .last .0) (g .maze .ensures)
-    (bitXor (k .node-count .result - 1) (s .args .vector)) (others-are (s .args .t .now) (k .before .dimension .result) (k .node-count .result) (s .args .vector) (k .before .dimension .ensures) (k .node-count .ensures .value)) (e .if1 .left)
-    (m .maze2 .result .refused) (m .maze2 .result .channel) (m .maze2 .result .hops) (m .maze2 .result .scouts) (m .maze2 .last .0) (m .maze2 .ensures) in
+    let few = few-scouts (s .pre .1) (g .maze .ensures) (k .before .dimension .ensures) (k .node-count .ensures) (e .if1 .left) (m .maze2 .ensures) in
     record { fits = omega (arith, few) }
 
 same-length-2 : tie.Need-same-length-2
@@ -68,9 +57,7 @@ returns-2 c =
     let g = e .before .before .before .before in
     let k = g .before .before in
     let s = k .before .before .before .before in
-    alternate-again (s .args .t .now) (s .args .source .0) (s .args .target .0) (s .args .c .0) (s .args .vector) (s .pre .1) (g .maze .result .refused) (g .maze .result .channel) (g .maze .result .hops) (g .maze .result .scouts) (g .maze .last .0) (g .maze .ensures)
-    (bitXor (k .node-count .result - 1) (s .args .vector)) (others-are (s .args .t .now) (k .before .dimension .result) (k .node-count .result) (s .args .vector) (k .before .dimension .ensures) (k .node-count .ensures .value)) (e .if1 .left)
-    (m .maze2 .result .refused) (m .maze2 .result .channel) (m .maze2 .result .hops) (m .maze2 .result .scouts) (m .maze2 .last .0) (m .maze2 .ensures)
+    alternate-again (s .pre .1) (g .maze .ensures) (k .before .dimension .ensures) (k .node-count .ensures) (e .if1 .left) (m .maze2 .ensures)
 
 pub alternate-maze-spec : {M : Type 1} → statement M
 alternate-maze-spec =

@@ -2,7 +2,6 @@
 -- Assumes nothing.
 use mathlib.Core.Path.{_∙_}
 use lib.Dec.{lit<}
-use Rattle.search.proofs.Narrow.{narrow-tries}
 use Rattle.search.proofs.Turns.{byte-vector, narrow-may}
 use Rattle.search.proofs.Sends.{may-try, maze-channel, maze-taken, maze-rejected}
 use borrow.Author.Needs.{needs}
@@ -13,27 +12,24 @@ enabled-ports-requires : tie.Need-enabled-ports-requires
 enabled-ports-requires c κs =
     let s = c .before .before in
     let may = s .pre .1 in
-    record { bytes = may .bytes; node = byte-vector (s .args .t .now) (s .args .source .0) (may .fits) (may .source); port = lit< tt }
+    record { bytes = may .bytes; node = byte-vector (may .fits) (may .source); port = lit< tt }
 
 try-ports-requires : tie.Need-try-ports-requires
 try-ports-requires c κs =
     let e = c .before in
     let s = e .before .before .before in
-    let b = s .args .t .now in
-    let may = may-try b (s .args .source .0) (s .args .target .0) (s .args .c .0) (s .args .vector) (s .pre .1) in
-    (s .pre .0, (narrow-may b (s .args .target .0) (s .args .c .0) (s .args .source .0) (s .args .vector) (e .enabled-ports .result) 7 0 0 may (e .enabled-ports .ensures .0), e .enabled-ports .ensures .1))
+    (s .pre .0, (narrow-may (may-try (s .pre .1)) (e .enabled-ports .ensures .0), e .enabled-ports .ensures .1))
 
 set-receiver-requires : tie.Need-set-receiver-requires
 set-receiver-requires c κs =
     let g = c .before .before .before .before .before in
     let e = g .before .before in
     let s = e .before .before .before in
-    let all = g .try-ports .ensures ∙ narrow-tries (s .args .t .now) (s .args .target .0) (s .args .c .0) (s .args .source .0) (s .args .vector) (e .enabled-ports .result) 7 0 0 (e .enabled-ports .ensures .0) in
     let may = s .pre .1 in
     record {
       bytes = g .try-ports .kept .0 ∙ may .bytes;
-      node = byte-vector (s .args .t .now) (s .args .target .0) (may .fits) (may .target);
-      port = maze-channel (s .args .t .now) (s .args .source .0) (s .args .target .0) (s .args .c .0) (s .args .vector) may (g .try-ports .result .refused) (g .try-ports .result .channel) (g .try-ports .result .hops) (g .try-ports .result .scouts) (g .try-ports .last .0) all (c .before .if1 .taken);
+      node = byte-vector (may .fits) (may .target);
+      port = maze-channel may (e .enabled-ports .ensures .0) (g .try-ports .ensures) (c .before .if1 .taken);
     }
 
 same-length : tie.Need-same-length
@@ -45,8 +41,7 @@ returns c =
     let g = r .before .before .before .before .before .before in
     let e = g .before .before in
     let s = e .before .before .before in
-    let all = g .try-ports .ensures ∙ narrow-tries (s .args .t .now) (s .args .target .0) (s .args .c .0) (s .args .source .0) (s .args .vector) (e .enabled-ports .result) 7 0 0 (e .enabled-ports .ensures .0) in
-    maze-taken (s .args .t .now) (s .args .source .0) (s .args .target .0) (s .args .c .0) (s .args .vector) (s .pre .1) (g .try-ports .result .refused) (g .try-ports .result .channel) (g .try-ports .result .hops) (g .try-ports .result .scouts) (g .try-ports .last .0) all (r .before .before .if1 .taken) (r .set-receiver .last .0) (r .set-receiver .ensures)
+    maze-taken (s .pre .1) (e .enabled-ports .ensures .0) (g .try-ports .ensures) (r .before .before .if1 .taken) (r .set-receiver .ensures)
 
 same-length-2 : tie.Need-same-length-2
 same-length-2 c = search needs
@@ -56,8 +51,7 @@ returns-2 c =
     let g = c .before .before .before .before in
     let e = g .before .before in
     let s = e .before .before .before in
-    let all = g .try-ports .ensures ∙ narrow-tries (s .args .t .now) (s .args .target .0) (s .args .c .0) (s .args .source .0) (s .args .vector) (e .enabled-ports .result) 7 0 0 (e .enabled-ports .ensures .0) in
-    maze-rejected (s .args .t .now) (s .args .source .0) (s .args .target .0) (s .args .c .0) (s .args .vector) (s .pre .1) (g .try-ports .result .refused) (g .try-ports .result .channel) (g .try-ports .result .hops) (g .try-ports .result .scouts) (g .try-ports .last .0) all (c .if1 .left)
+    maze-rejected (s .pre .1) (e .enabled-ports .ensures .0) (g .try-ports .ensures) (c .if1 .left)
 
 pub maze-spec : {M : Type 1} → statement M
 maze-spec = tie.close (tie.spec enabled-ports-requires try-ports-requires set-receiver-requires same-length returns same-length-2 returns-2)
