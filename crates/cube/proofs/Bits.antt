@@ -19,6 +19,15 @@ pub bit-lt : (n p : ℕ) → bitAt n p < 2
 unfolding bitAt
 bit-lt n p = omega arith
 
+-- what holds of 0 and of 1 holds of a bit, and so for two bits
+pub one-bit : (P : ℕ → Type 0) → P 0 → P 1 → (x : ℕ) → x < 2 → P x
+one-bit P none one zero h = none
+one-bit P none one (suc zero) h = one
+one-bit P none one (suc (suc x)) h = absurd (omega arith)
+
+pub two-bits : (P : ℕ → ℕ → Type 0) → P 0 0 → P 0 1 → P 1 0 → P 1 1 → (x y : ℕ) → x < 2 → y < 2 → P x y
+two-bits P none second first both x y h l = one-bit (λ x. P x y) (one-bit (P 0) none second y l) (one-bit (P 1) first both y l) x h
+
 -- no bit stands at D or above in a number below 2 ^ D
 pub bit-high : (D n p : ℕ) → n < 2 ^ D → D ≤ p → bitAt n p ≡ 0
 unfolding bitAt
@@ -53,28 +62,16 @@ bit-and n m p = rw (and-shr n m p) (and-mod (n / 2 ^ p) (m / 2 ^ p) 1)
 
 pub has-and : (n m p : ℕ) → has (bitAnd n m) p ≡ (has n p && has m p)
 unfolding has
-has-and n m p = rw (bit-and n m p) (go (bitAt n p) (bitAt m p) (bit-lt n p) (bit-lt m p))
-  where
-    go : (x y : ℕ) → x < 2 → y < 2 → eqb (bitAnd x y) 1 ≡ (eqb x 1 && eqb y 1)
-    go zero y h l = refl
-    go (suc zero) zero h l = refl
-    go (suc zero) (suc zero) h l = refl
-    go (suc zero) (suc (suc y)) h l = absurd (omega arith)
-    go (suc (suc x)) y h l = absurd (omega arith)
+has-and n m p = rw (bit-and n m p) (two-bits (λ x y. eqb (bitAnd x y) 1 ≡ (eqb x 1 && eqb y 1)) refl refl refl refl (bitAt n p) (bitAt m p) (bit-lt n p) (bit-lt m p))
 
 -- the bits of `|`
+bit-or : (n m p : ℕ) → bitAt (bitOr n m) p ≡ bitOr (bitAt n p) (bitAt m p)
+unfolding bitAt
+bit-or n m p = rw (or-shr n m p) (or-mod (n / 2 ^ p) (m / 2 ^ p) 1)
+
 pub has-or : (n m p : ℕ) → has (bitOr n m) p ≡ (has n p || has m p)
-unfolding has bitAt
-has-or n m p = rw (or-shr n m p, or-mod (n / 2 ^ p) (m / 2 ^ p) 1) (go (n / 2 ^ p % 2) (m / 2 ^ p % 2) (omega arith) (omega arith))
-  where
-    go : (x y : ℕ) → x < 2 → y < 2 → eqb (bitOr x y) 1 ≡ (eqb x 1 || eqb y 1)
-    go zero zero h l = refl
-    go zero (suc zero) h l = refl
-    go (suc zero) zero h l = refl
-    go (suc zero) (suc zero) h l = refl
-    go zero (suc (suc y)) h l = absurd (omega arith)
-    go (suc zero) (suc (suc y)) h l = absurd (omega arith)
-    go (suc (suc x)) y h l = absurd (omega arith)
+unfolding has
+has-or n m p = rw (bit-or n m p) (two-bits (λ x y. eqb (bitOr x y) 1 ≡ (eqb x 1 || eqb y 1)) refl refl refl refl (bitAt n p) (bitAt m p) (bit-lt n p) (bit-lt m p))
 
 -- to change a bit is `^` with a power of two
 and-power : (n p : ℕ) → bitAnd n (2 ^ p) ≡ bitAt n p * 2 ^ p
@@ -95,12 +92,7 @@ flip-xor n p = go (eqb (bitAt n p) 1) refl
 
 -- the bits of a number with bit p changed: the one changed, and every other
 pub bit-flipped : (n p : ℕ) → bitAt (flip n p) p ≡ 1 - bitAt n p
-bit-flipped n p = rw (← flip-xor n p, bit-xor n (2 ^ p) p, bit-power p) (one (bitAt n p) (bit-lt n p))
-  where
-    one : (x : ℕ) → x < 2 → bitXor x 1 ≡ 1 - x
-    one zero h = refl
-    one (suc zero) h = refl
-    one (suc (suc x)) h = absurd (omega arith)
+bit-flipped n p = rw (← flip-xor n p, bit-xor n (2 ^ p) p, bit-power p) (one-bit (λ x. bitXor x 1 ≡ 1 - x) refl refl (bitAt n p) (bit-lt n p))
 
 pub bit-kept : (n p q : ℕ) → q ≢ p → bitAt (flip n p) q ≡ bitAt n q
 bit-kept n p q h = rw (← flip-xor n p, bit-xor n (2 ^ p) q, bit-power-other p q h) (xor-zero-r (bitAt n q))
