@@ -2,7 +2,7 @@
 -- Assumes nothing.
 use mathlib.Core.Path.{_≡_, refl}
 use mathlib.Core.Logic.{_⊎_, inl, inr, ⊎-elim}
-use mathlib.Core.Bool.{Bool, true, false, _&&_, and-eq-true-iff}
+use mathlib.Core.Bool.{Bool, true, false, _&&_}
 use mathlib.Core.List.{List, [], _∷_}
 use Prim.Native.Nat.{ℕ, zero, suc, _+_, _<_}
 use native.Mathlib.Nat.{not-suc-le-zero, eq-or-lt-of-le, le-of-suc-le-suc, add-zero, zero-add, add-suc, suc-add}
@@ -11,16 +11,17 @@ use lib.Dec.{eqb}
 use lib.ListN.{length, getD}
 use borrow.Author.Tests.{eqb-true}
 use Rattle.common.specs.Lists.{every}
+use Rattle.common.proofs.Tests.{both, and}
 
 pub at : (n : ℕ) (f : ℕ → Bool) → every n f ≡ true → (k : ℕ) → k < n → f k ≡ true
 at zero f t k h = absurd (not-suc-le-zero h)
 at (suc n) f t k h =
-    let both = and-eq-true-iff (f n) (every n f) .0 t in
-    ⊎-elim (λ e. rw e (both .0)) (λ l. at n f (both .1) k l) (eq-or-lt-of-le (le-of-suc-le-suc h))
+    let r = both (f n) (every n f) t in
+    ⊎-elim (λ e. rw e (r .0)) (λ l. at n f (r .1) k l) (eq-or-lt-of-le (le-of-suc-le-suc h))
 
 pub all : (n : ℕ) (f : ℕ → Bool) → ((k : ℕ) → k < n → f k ≡ true) → every n f ≡ true
 all zero f h = refl
-all (suc n) f h = and-eq-true-iff (f n) (every n f) .1 (h n (omega arith), all n f (λ k l. h k (omega arith)))
+all (suc n) f h = and (h n (omega arith)) (all n f (λ k l. h k (omega arith)))
 
 -- at every pair of a number below n and one below m
 pub at₂ : (n m : ℕ) (f : ℕ → ℕ → Bool) → every n (λ i. every m (f i)) ≡ true → (i j : ℕ) → i < n → j < m → f i j ≡ true
@@ -33,10 +34,10 @@ everyEntry f i (x ∷ xs) = f i x && everyEntry f (suc i) xs
 
 entry-from : (f : ℕ → ℕ → Bool) (xs : List ℕ) (i : ℕ) → everyEntry f i xs ≡ true → (k : ℕ) → k < length xs → f (i + k) (getD xs k 0) ≡ true
 entry-from f [] i t k h = absurd (not-suc-le-zero h)
-entry-from f (x ∷ xs) i t zero h = rw (add-zero i) (and-eq-true-iff (f i x) (everyEntry f (suc i) xs) .0 t .0)
+entry-from f (x ∷ xs) i t zero h = rw (add-zero i) (both (f i x) (everyEntry f (suc i) xs) t .0)
 entry-from f (x ∷ xs) i t (suc k) h =
     rw (add-suc i k, ← suc-add i k)
-    (entry-from f xs (suc i) (and-eq-true-iff (f i x) (everyEntry f (suc i) xs) .0 t .1) k (le-of-suc-le-suc h))
+    (entry-from f xs (suc i) (both (f i x) (everyEntry f (suc i) xs) t .1) k (le-of-suc-le-suc h))
 
 pub entry : (f : ℕ → ℕ → Bool) (xs : List ℕ) → everyEntry f 0 xs ≡ true → (k : ℕ) → k < length xs → f k (getD xs k 0) ≡ true
 entry f xs t k h = rw zero-add at (entry-from f xs 0 t k h)

@@ -3,7 +3,7 @@
 use mathlib.Core.Path.{_≡_, refl, ap, _∙_, sym, subst}
 use mathlib.Core.Logic.{⊎-elim}
 use mathlib.Core.Bool.{Bool, true, false, cond, _&&_, not, and-comm, true≢false}
-use mathlib.Core.List.{List, [], _∷_, _++_, map, Memᴰ·of-map, Memᴰ·append-left, Memᴰ·append-right, List·Memᴰ, List·Memᴰ·head, List·Memᴰ·tail, List·Memᴰ·not-nil, List·Memᴰ·append-cases, List·Memᴰ·cases-cons}
+use mathlib.Core.List.{List, [], _∷_, _++_, map, Memᴰ·of-map, Memᴰ·append-left, Memᴰ·append-right, List·Memᴰ·head, List·Memᴰ·tail, List·Memᴰ·not-nil, List·Memᴰ·append-cases, List·Memᴰ·cases-cons}
 use Prim.Native.Nat.{ℕ, zero, suc, _+_, _≤_, _<_}
 use native.Mathlib.Omega.{arith}
 use native.Mathlib.Nat.{eq-or-lt-of-le}

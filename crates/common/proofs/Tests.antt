@@ -59,7 +59,7 @@ neither false b e = (refl, e)
 
 -- two bounds tested together
 pub both-below : {n a p b : ℕ} → ltb n a && ltb p b ≡ true → (n < a) × (p < b)
-both-below {n} {a} {p} {b} e = let r = and-eq-true-iff (ltb n a) (ltb p b) .0 e in (ltb-true n a (r .0), ltb-true p b (r .1))
+both-below {n} {a} {p} {b} e = let r = both (ltb n a) (ltb p b) e in (ltb-true n a (r .0), ltb-true p b (r .1))
 
 -- an answer that is known decides
 pub decided-yes : {P : Type 0} → P → Decides P true
@@ -78,7 +78,7 @@ passed n ts e = rw e
 
 pub accepted : refusal [] ≡ 0
 unfolding refusal
-accepted = mathlib.Core.Path.refl
+accepted = refl
 
 -- An answer of 0 comes only where no test with another number applies: of one test and those behind it,
 pub first-passed : (b : Bool) (n : ℕ) (ts : List Test) → n ≢ 0 → refusal (test b n ∷ ts) ≡ 0 → (b ≡ false) × (refusal ts ≡ 0)

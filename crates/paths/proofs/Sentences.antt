@@ -67,12 +67,9 @@ from-up-to b w (inr (q ∷ v, e)) = inr (subst (ComesBefore b) e (begins-before 
 
 module _ {N : Network} {t : ℕ} {Node : ℕ → Type 0} (near : Nearing N t) (lead : Leading N t Node) (s : ℕ) (vector : List ℕ)
     (rising : Sorted _<_ vector) (starts : (p : ℕ) → p ∈ vector → Node (N .next s p)) (free : ℕ → ℕ → Bool) where
-  bridge : (b : Path) → (b ∈ beginnings N s vector t) ↔ Beginning N s vector t b
-  bridge = beginnings-exactly near lead s vector starts
-
   permitted-mem : (v : Path) → Permitted N s vector t v → v ∈ beginnings N s vector t
   unfolding Beginning
-  permitted-mem v o = bridge v .1 (permitted-hops N s vector t v o, ([], subst (Permitted N s vector t) (sym (append-nil v)) o))
+  permitted-mem v o = beginnings-exactly near lead s vector starts v .1 (permitted-hops N s vector t v o, ([], subst (Permitted N s vector t) (sym (append-nil v)) o))
 
   none-says : (c : ℕ) → pass N free s vector t ≡ none c → NoneSays N free s vector t c
   unfolding pass
@@ -82,7 +79,7 @@ module _ {N : Network} {t : ℕ} {Node : ℕ → Type 0} (near : Nearing N t) (l
         scouts =
             record {
               list = keep (freePath N free s) (beginnings N s vector t);
-              holds = λ b. ((λ m. let k = keep-mem _ _ m in (bridge b .0 (k .0), k .1)), (λ k. mem-keep _ _ (bridge b .1 (k .0)) (k .1)));
+              holds = λ b. ((λ m. let k = keep-mem _ _ m in (beginnings-exactly near lead s vector starts b .0 (k .0), k .1)), (λ k. mem-keep _ _ (beginnings-exactly near lead s vector starts b .1 (k .0)) (k .1)));
               once = in-order-once _ (keep-sorted _ ComesBefore _ (beginnings-in-order N s vector t rising));
               long = omega (arith, r .1);
             };
@@ -130,12 +127,12 @@ module _ {N : Network} {t : ℕ} {Node : ℕ → Type 0} (near : Nearing N t) (l
       sent : (b : Path) → b ∈ (keep (freePath N free s) (r .before) ++ (w ∷ [])) → Beginning N s vector t b × Free N free s b × UpTo b w
       sent b m =
           ⊎-elim
-          (λ k. let q = keep-mem _ _ k in (bridge b .0 (rw (r .place) (Memᴰ·append-left (w ∷ r .after) (q .0))), q .1, up-to b w (inr (order .1 b (q .0)))))
-          (λ k. let q = List·Memᴰ·eq-of-singleton k in (bridge b .0 (rw (r .place) (Memᴰ·append-right (r .before) (List·Memᴰ·head q))), ap (freePath N free s) q ∙ r .free, up-to b w (inl q)))
+          (λ k. let q = keep-mem _ _ k in (beginnings-exactly near lead s vector starts b .0 (rw (r .place) (Memᴰ·append-left (w ∷ r .after) (q .0))), q .1, up-to b w (inr (order .1 b (q .0)))))
+          (λ k. let q = List·Memᴰ·eq-of-singleton k in (beginnings-exactly near lead s vector starts b .0 (rw (r .place) (Memᴰ·append-right (r .before) (List·Memᴰ·head q))), ap (freePath N free s) q ∙ r .free, up-to b w (inl q)))
           (List·Memᴰ·append-cases (keep (freePath N free s) (r .before)) m)
 
       counted : (b : Path) → Beginning N s vector t b × Free N free s b × UpTo b w → b ∈ (keep (freePath N free s) (r .before) ++ (w ∷ []))
-      counted b q = put (where-is b (bridge b .1 (q .0)))
+      counted b q = put (where-is b (beginnings-exactly near lead s vector starts b .1 (q .0)))
         where
           put : (b ∈ r .before) ⊎ ((b ≡ w) ⊎ (b ∈ r .after)) → b ∈ (keep (freePath N free s) (r .before) ++ (w ∷ []))
           put (inl m) = Memᴰ·append-left (w ∷ []) (mem-keep _ _ m (q .1))

@@ -2,12 +2,13 @@
 -- Assumes nothing.
 use mathlib.Core.Path.{_≡_, refl, ap, sym}
 use mathlib.Core.Logic.{⊎-elim, _≢_, _↔_}
-use mathlib.Core.Bool.{Bool, true, false, cond, and-eq-true-iff, false≢true}
+use mathlib.Core.Bool.{Bool, true, false, cond, false≢true}
 use mathlib.Core.List.{List, [], _∷_, _++_, nil≢cons, cons≢nil, List·Memᴰ·head, List·Memᴰ·tail, List·Memᴰ·not-nil, List·Memᴰ·cases-cons, head-eq-of-cons-eq, tail-eq-of-cons-eq, Memᴰ·cast, Memᴰ·append-left, List·Memᴰ·append-cases, List·Memᴰ·eq-of-singleton}
 use Prim.Native.Nat.{ℕ}
 use lib.Dec.{eqb}
 use borrow.Author.Tests.{eq-eqb, ne-eqb, eqb-true}
 use Rattle.common.specs.Lists.{_∈_}
+use Rattle.common.proofs.Tests.{both, and}
 use Rattle.paths.specs.Network.{Network, Path, Link, link-free, link-held, link-blocked, linkState, isFree, offered, end, links, freePath}
 use Rattle.paths.specs.Permitted.{Onward, Permitted, InWords, SameLinks}
 use Rattle.paths.proofs.Sentences.{onward-end}
@@ -56,8 +57,8 @@ unfolding freePath links
 free-links N free n [] = ((λ e l m. absurd (List·Memᴰ·not-nil m)), (λ h. refl))
 free-links N free n (p ∷ w) =
     let ih = free-links N free (N .next n p) w in (
-      (λ e l m. let b = and-eq-true-iff (free n p) (freePath N free (N .next n p) w) .0 e in ⊎-elim (λ i. rw i (b .0)) (λ k. ih .0 (b .1) l k) (List·Memᴰ·cases-cons m)),
-      (λ h. and-eq-true-iff (free n p) (freePath N free (N .next n p) w) .1 (h (n, p) (List·Memᴰ·head refl), ih .1 (λ l m. h l (List·Memᴰ·tail m)))),
+      (λ e l m. let b = both (free n p) (freePath N free (N .next n p) w) e in ⊎-elim (λ i. rw i (b .0)) (λ k. ih .0 (b .1) l k) (List·Memᴰ·cases-cons m)),
+      (λ h. and (h (n, p) (List·Memᴰ·head refl)) (ih .1 (λ l m. h l (List·Memᴰ·tail m)))),
     )
 
 -- "A link is free if enabled and held by nobody."

@@ -1,7 +1,7 @@
 -- Ports that are not free may be dropped from a vector before it is tried.
 -- Assumes nothing.
 use mathlib.Core.Path.{_≡_, refl, ap, sym, _∙_, fun-ext}
-use mathlib.Core.Bool.{Bool, true, false, not, _&&_, and-false, and-eq-true-iff}
+use mathlib.Core.Bool.{Bool, true, false, not, _&&_, and-false}
 use mathlib.Core.List.{List, [], _∷_, List·Memᴰ·head, List·Memᴰ·tail}
 use Prim.Native.Nat.{ℕ, _≤_, _<_}
 use native.Mathlib.Omega.{arith}
@@ -12,7 +12,7 @@ use lib.Bits.{bitAnd, and-le-l}
 use borrow.Author.Tests.{eqb-true}
 use Rattle.common.specs.Lists.{_∈_, keep, from}
 use Rattle.common.proofs.Lists.{keep-yes, keep-no, keep-keep, keep-same, length-keep}
-use Rattle.common.proofs.Tests.{clash, is-false}
+use Rattle.common.proofs.Tests.{clash, is-false, both}
 use Rattle.cube.specs.Bits.{has}
 use Rattle.cube.specs.Cube.{Without}
 use Rattle.cube.specs.Helical.{helical, portsOf}
@@ -79,7 +79,7 @@ pub narrow-without : {v : View} {n left p less : ℕ} → Without left p less �
 narrow-without {v} {n} {left} {p} {less} w busy =
     record {
       most = (let e = w .value in omega arith);
-      among = λ q e. and-eq-true-iff (has left q) (not (eqb q p)) .0 (sym (w .bits q) ∙ e) .0;
+      among = λ q e. both (has left q) (not (eqb q p)) (sym (w .bits q) ∙ e) .0;
       dropped = λ q l e f. go q e f (eqb q p) refl;
     }
   where
@@ -93,13 +93,16 @@ module _ (b : List ℕ) (n vector x : ℕ) (within : Within b n 0) (byte : x ≡
   unfolding view enableBits
   read p l = enabled-has b n p (within .node) l ∙ ap (λ y. has y p) (sym byte)
 
+  in-both : (p : ℕ) → has (bitAnd vector x) p ≡ true → (has vector p ≡ true) × (has x p ≡ true)
+  in-both p e = both (has vector p) (has x p) (sym (has-and vector x p) ∙ e)
+
   pub enabled-narrow : Narrowed (view b) n vector (bitAnd vector x)
   enabled-narrow =
       record {
         most = and-le-l vector x;
-        among = λ p e. and-eq-true-iff (has vector p) (has x p) .0 (sym (has-and vector x p) ∙ e) .0;
+        among = λ p e. in-both p e .0;
         dropped = λ p l e f. sym (free-off (view b) n p (has x p) (sym (read p l)) (is-false (has x p) (λ y. clash (has-and vector x p ∙ (rw (e, y))) f)));
       }
 
   pub enabled-all : Enabled (view b) n (bitAnd vector x)
-  enabled-all p l e = read p l ∙ and-eq-true-iff (has vector p) (has x p) .0 (sym (has-and vector x p) ∙ e) .1
+  enabled-all p l e = read p l ∙ in-both p e .1

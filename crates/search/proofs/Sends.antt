@@ -4,7 +4,7 @@ use mathlib.Core.Path.{_≡_, refl, ap, ap₂, sym, _∙_}
 use mathlib.Core.Logic.{_≢_}
 use mathlib.Core.Bool.{Bool, true, false, not}
 use mathlib.Core.List.{List}
-use Prim.Native.Nat.{ℕ, zero, suc, _+_, _-_, _^_, _≤_, _<_}
+use Prim.Native.Nat.{ℕ, _+_, _-_, _^_, _≤_, _<_}
 use native.Mathlib.Omega.{arith}
 use native.Mathlib.Nat.{mul-le-mul-right}
 use lib.Dec.{eqb, lit<}
@@ -16,7 +16,7 @@ use Rattle.common.specs.Lists.{keep, from}
 use Rattle.common.proofs.Lists.{keep-same, from-below}
 use Rattle.cube.specs.Bits.{bitAt, has}
 use Rattle.cube.specs.Cube.{NodeCount}
-use Rattle.cube.proofs.Bits.{bit-lt, bit-xor, has-bit}
+use Rattle.cube.proofs.Bits.{one-bit, bit-lt, bit-xor, has-bit}
 use Rattle.cube.specs.Helical.{portsOf}
 use Rattle.cube.proofs.Order.{helical-last, ports-wider, ports-mem, length-ports}
 use Rattle.paths.specs.Pass.{Pass, none, found, pass, scouts}
@@ -147,12 +147,7 @@ module _ (b : List ℕ) (c s t : ℕ) where
 module _ (D vector : ℕ) (h : D ≤ 8) where
   other-has : (p : ℕ) → p < D → has (bitXor (2 ^ D - 1) vector) p ≡ not (has vector p)
   unfolding has
-  other-has p i = rw (bit-xor (2 ^ D - 1) vector p, has-bit (2 ^ D - 1) p (ones D p (omega arith) (omega arith) ∙ lt-ltb p D i)) (go (bitAt vector p) (bit-lt vector p))
-    where
-      go : (x : ℕ) → x < 2 → eqb (bitXor 1 x) 1 ≡ not (eqb x 1)
-      go zero l = refl
-      go (suc zero) l = refl
-      go (suc (suc x)) l = absurd (omega arith)
+  other-has p i = rw (bit-xor (2 ^ D - 1) vector p, has-bit (2 ^ D - 1) p (ones D p (omega arith) (omega arith) ∙ lt-ltb p D i)) (one-bit (λ x. eqb (bitXor 1 x) 1 ≡ not (eqb x 1)) refl refl (bitAt vector p) (bit-lt vector p))
 
   other-ports : keep (has (bitXor (2 ^ D - 1) vector)) (from 0 D) ≡ keep (λ p. not (has vector p)) (from 0 D)
   other-ports = keep-same _ _ (from 0 D) (λ p m. other-has p (from-below D p m))

@@ -1,9 +1,9 @@
 -- The turns of the search as the code makes them: what each asks of the next, and what it makes of the answer.
 -- Assumes nothing.
 use mathlib.Core.Path.{_≡_, refl, ap, ap₂, sym, _∙_}
-use mathlib.Core.Logic.{_≢_}
+use mathlib.Core.Logic.{⊎-elim, _≢_}
 use mathlib.Core.Bool.{Bool, true, false, cond}
-use mathlib.Core.List.{List, [], _∷_, List·Memᴰ·head, List·Memᴰ·tail, List·Memᴰ·cases-cons}
+use mathlib.Core.List.{List, [], _∷_, List·Memᴰ·head, List·Memᴰ·tail, List·Memᴰ·not-nil, List·Memᴰ·cases-cons}
 use Prim.Native.Nat.{ℕ, zero, suc, _+_, _-_, _*_, _/_, _%_, _^_, _≤_, _<_}
 use native.Mathlib.Omega.{arith}
 use native.Mathlib.Numerals.{add-one}
@@ -36,23 +36,26 @@ use Rattle.search.specs.Turns.{farthest, distance, reach, tries, arrived
 use Rattle.search.proofs.Settle.{at-target, arrives, target-receives, target-full, behind, receive-same, given-back, free-owner, port-busy, port-acknowledged, port-receive-rejected, port-route-rejected, three-answers, settled-scouts, ports-over}
 use Rattle.search.proofs.Narrow.{narrow-fewer, narrow-mem, narrow-tries}
 
+-- neither of two numbers is above the larger
+larger : (a b : ℕ) → (a ≤ cond (leb a b) b a) × (b ≤ cond (leb a b) b a)
+larger a b = go (leb a b) refl
+  where
+    go : (x : Bool) → leb a b ≡ x → (a ≤ cond x b a) × (b ≤ cond x b a)
+    go true e = (leb-true a b e, le-refl b)
+    go false e = (le-refl a, omega (arith, leb-false a b e))
+
 -- every node behind a port of the list is within the farthest
 pub farthest-mem : (N : Network) (t n : ℕ) (ps : List ℕ) (p : ℕ) → p ∈ ps → N .far t (N .next n p) ≤ farthest N t n ps
 unfolding farthest
-farthest-mem N t n [] p m = absurd (mathlib.Core.List.List·Memᴰ·not-nil m)
-farthest-mem N t n (q ∷ ps) p m = go (leb (farthest N t n ps) (N .far t (N .next n q))) refl (λ k. farthest-mem N t n ps p k) (List·Memᴰ·cases-cons m)
-  where
-    go : (x : Bool) → leb (farthest N t n ps) (N .far t (N .next n q)) ≡ x → (p ∈ ps → N .far t (N .next n p) ≤ farthest N t n ps) → mathlib.Core.Logic._⊎_ (p ≡ q) (p ∈ ps)
-        → N .far t (N .next n p) ≤ cond x (N .far t (N .next n q)) (farthest N t n ps)
-    go true e f (mathlib.Core.Logic.inl z) = rw z (le-refl _)
-    go true e f (mathlib.Core.Logic.inr z) = le-trans (f z) (leb-true _ _ e)
-    go false e f (mathlib.Core.Logic.inl z) = rw z (let g = leb-false (farthest N t n ps) (N .far t (N .next n q)) e in omega arith)
-    go false e f (mathlib.Core.Logic.inr z) = f z
+farthest-mem N t n [] p m = absurd (List·Memᴰ·not-nil m)
+farthest-mem N t n (q ∷ ps) p m =
+    let most = larger (farthest N t n ps) (N .far t (N .next n q)) in
+    ⊎-elim (λ e. rw e (most .1)) (λ k. le-trans (farthest-mem N t n ps p k) (most .0)) (List·Memᴰ·cases-cons m)
 
 pub farthest-most : (N : Network) (t n m : ℕ) (ps : List ℕ) → ((p : ℕ) → p ∈ ps → N .far t (N .next n p) ≤ m) → farthest N t n ps ≤ m
 unfolding farthest
 farthest-most N t n m [] h = omega arith
-farthest-most N t n m (q ∷ ps) h = go (leb (farthest N t n ps) (N .far t (N .next n q))) (farthest-most N t n m ps (λ p k. h p (mathlib.Core.List.List·Memᴰ·tail k)))
+farthest-most N t n m (q ∷ ps) h = go (leb (farthest N t n ps) (N .far t (N .next n q))) (farthest-most N t n m ps (λ p k. h p (List·Memᴰ·tail k)))
   where
     go : (x : Bool) → farthest N t n ps ≤ m → cond x (N .far t (N .next n q)) (farthest N t n ps) ≤ m
     go true k = h q (List·Memᴰ·head refl)
