@@ -11,8 +11,19 @@ use native.Mathlib.Numerals.{add-one}
 use lib.ListN.{length, length-append}
 use Rattle.common.specs.Lists.{_∈_, keep, from, Sorted}
 
+-- what holds of every member, where a list is put together of others or is another under a function
+module _ {A : Type 0} (P : A → Type 0) where
+  pub all-cons : {x : A} {xs : List A} → P x → ((y : A) → y ∈ xs → P y) → (y : A) → y ∈ (x ∷ xs) → P y
+  all-cons here there y m = ⊎-elim (λ e. rw e here) (there y) (List·Memᴰ·cases-cons m)
+
+  pub all-append : (xs : List A) {ys : List A} → ((x : A) → x ∈ xs → P x) → ((y : A) → y ∈ ys → P y) → (z : A) → z ∈ (xs ++ ys) → P z
+  all-append xs here there z m = ⊎-elim (here z) (there z) (List·Memᴰ·append-cases xs m)
+
+  pub all-map : {B : Type 0} (f : B → A) (xs : List B) → ((x : B) → x ∈ xs → P (f x)) → (y : A) → y ∈ map f xs → P y
+  all-map f xs each y m = let r = Memᴰ·of-map f xs m in subst P (r .2) (each (r .0) (r .1))
+
 module _ {A : Type 0} (f : A → Bool) where
-  -- the clauses of `keep`, by what the test says
+  -- `keep` of nothing, and of a list whose first member passes or does not
   pub keep-nil : keep f [] ≡ []
   unfolding keep
   keep-nil = refl
@@ -96,25 +107,30 @@ keep-swap f g xs = keep-keep f g xs ∙ keep-same _ _ xs (λ y m. and-comm (g y)
 -- a sorted list behind another, each member of the one in the relation to each of the other
 pub sorted-append : {A : Type 0} {R : A → A → Type 0} (xs ys : List A) → Sorted R xs → Sorted R ys → ((x y : A) → x ∈ xs → y ∈ ys → R x y) → Sorted R (xs ++ ys)
 unfolding Sorted
-sorted-append [] ys s t h = t
-sorted-append (x ∷ xs) ys s t h = (
-  (λ y m. ⊎-elim (s .0 y) (h x y (List·Memᴰ·head refl)) (List·Memᴰ·append-cases xs m)),
-  sorted-append xs ys (s .1) t (λ z y m. h z y (List·Memᴰ·tail m)),
-)
+sorted-append [] ys left right across = right
+sorted-append {R = R} (x ∷ xs) ys left right across =
+    (all-append (R x) xs (left .0) (λ y. across x y (List·Memᴰ·head refl)), sorted-append xs ys (left .1) right (λ u y m. across u y (List·Memᴰ·tail m)))
 
--- a relation that implies another among the members
-pub sorted-imp : {A : Type 0} (R S : A → A → Type 0) (xs : List A) → ((x y : A) → x ∈ xs → y ∈ xs → R x y → S x y) → Sorted R xs → Sorted S xs
+-- a relation that follows from another for whatever has P, where every member has it
+sorted-among : {A : Type 0} {R S : A → A → Type 0} (P : A → Type 0) → ((x y : A) → P x → P y → R x y → S x y) → (xs : List A) → ((x : A) → x ∈ xs → P x) → Sorted R xs → Sorted S xs
 unfolding Sorted
-sorted-imp R S [] h s = tt
-sorted-imp R S (x ∷ xs) h s =
-    ((λ y m. h x y (List·Memᴰ·head refl) (List·Memᴰ·tail m) (s .0 y m)), sorted-imp R S xs (λ z y m k. h z y (List·Memᴰ·tail m) (List·Memᴰ·tail k)) (s .1))
+sorted-among P follows [] each s = tt
+sorted-among P follows (x ∷ xs) each s =
+    let later : (y : _) → y ∈ xs → P y = λ y m. each y (List·Memᴰ·tail m) in
+    ((λ y m. follows x y (each x (List·Memᴰ·head refl)) (later y m) (s .0 y m)), sorted-among P follows xs later (s .1))
+
+-- so for the members, and for those of them that pass a test
+pub sorted-imp : {A : Type 0} (R S : A → A → Type 0) (xs : List A) → ((x y : A) → x ∈ xs → y ∈ xs → R x y → S x y) → Sorted R xs → Sorted S xs
+sorted-imp R S xs follows = sorted-among (_∈ xs) follows xs (λ x m. m)
+
+pub sorted-kept : {A : Type 0} (f : A → Bool) (R S : A → A → Type 0) (xs : List A) → ((x y : A) → f x ≡ true → f y ≡ true → R x y → S x y) → Sorted R xs → Sorted S (keep f xs)
+sorted-kept f R S xs follows s = sorted-among (λ x. f x ≡ true) follows (keep f xs) (λ x m. keep-mem f xs m .1) (keep-sorted f R xs s)
 
 -- a sorted list under a function that carries the one relation over into the other
 pub sorted-map : {A B : Type 0} (R : A → A → Type 0) (S : B → B → Type 0) (f : A → B) (xs : List A) → ((x y : A) → R x y → S (f x) (f y)) → Sorted R xs → Sorted S (map f xs)
 unfolding Sorted
-sorted-map R S f [] h s = tt
-sorted-map R S f (x ∷ xs) h s =
-    ((λ y m. let r = Memᴰ·of-map f xs m in subst (S (f x)) (r .2) (h x (r .0) (s .0 (r .0) (r .1)))), sorted-map R S f xs h (s .1))
+sorted-map R S f [] carries s = tt
+sorted-map R S f (x ∷ xs) carries s = (all-map (S (f x)) f xs (λ y m. carries x y (s .0 y m)), sorted-map R S f xs carries (s .1))
 
 -- a sorted list taken apart at a member: its beginning, what stands before the member, and what stands behind it
 pub sorted-at : {A : Type 0} (R : A → A → Type 0) (xs : List A) (w : A) (ys : List A) → Sorted R (xs ++ w ∷ ys)
@@ -122,11 +138,8 @@ pub sorted-at : {A : Type 0} (R : A → A → Type 0) (xs : List A) (w : A) (ys 
 unfolding Sorted
 sorted-at R [] w ys s = (tt, (λ x m. absurd (List·Memᴰ·not-nil m)), s .0)
 sorted-at R (x ∷ xs) w ys s =
-    let r = sorted-at R xs w ys (s .1) in (
-      ((λ y m. s .0 y (Memᴰ·append-left (w ∷ ys) m)), r .0),
-      (λ z m. ⊎-elim (λ e. rw e (s .0 w (Memᴰ·append-right xs (List·Memᴰ·head refl)))) (λ k. r .1 z k) (List·Memᴰ·cases-cons m)),
-      r .2,
-    )
+    let r = sorted-at R xs w ys (s .1) in
+    (((λ y m. s .0 y (Memᴰ·append-left (w ∷ ys) m)), r .0), all-cons (λ z. R z w) (s .0 w (Memᴰ·append-right xs (List·Memᴰ·head refl))) (r .1), r .2)
 
 -- lengths: of the two parts that a test makes, and of what is kept
 pub length-parts : {A : Type 0} (f : A → Bool) (xs : List A) → length (keep f xs) + length (keep (λ x. not (f x)) xs) ≡ length xs
@@ -188,11 +201,15 @@ keep-wider f s (suc k) (suc l) h z = go (f s) refl (keep-wider f (suc s) k l (om
     go true e ih = rw (keep-yes f s (from (suc s) l) e, keep-yes f s (from (suc s) k) e, ih)
     go false e ih = rw (keep-no f s (from (suc s) l) e, keep-no f s (from (suc s) k) e, ih)
 
--- one number more stands at the end
+-- the numbers on either side of one of them; so one number more stands at the end
+pub from-split : (s k j : ℕ) → from s (k + suc j) ≡ from s k ++ (s + k) ∷ from (suc (s + k)) j
+unfolding from
+from-split s zero j = let z : s + 0 ≡ s = omega arith in let e : 0 + suc j ≡ suc j = omega arith in rw (z, e)
+from-split s (suc k) j = let z : s + suc k ≡ suc s + k = omega arith in let e : suc k + suc j ≡ suc (k + suc j) = omega arith in rw (z, e) (ap (s ∷_) (from-split (suc s) k j))
+
 pub from-last : (s k : ℕ) → from s (suc k) ≡ from s k ++ ((s + k) ∷ [])
 unfolding from
-from-last s zero = ap (_∷ []) (omega arith)
-from-last s (suc k) = ap (s ∷_) (from-last (suc s) k ∙ ap (λ n. from (suc s) k ++ (n ∷ [])) (omega arith))
+from-last s k = let e : k + 1 ≡ suc k = omega arith in rw e at (from-split s k 0)
 
 -- counting the numbers below k that pass a test
 module _ (f : ℕ → Bool) where

@@ -1,8 +1,8 @@
 -- Tests: one that is known, two joined, and lists of them, of which the first that applies is the answer.
 -- Assumes nothing.
-use mathlib.Core.Path.{_≡_, refl, sym, _∙_}
+use mathlib.Core.Path.{_≡_, refl, ap, sym, _∙_}
 use mathlib.Core.Logic.{_⊎_, inl, inr, _≢_}
-use mathlib.Core.Bool.{Bool, true, false, cond, not, _&&_, _||_, and-eq-true-iff, true≢false}
+use mathlib.Core.Bool.{Bool, true, false, cond, not, _&&_, _||_, and-eq-true-iff, or-true, true≢false}
 use mathlib.Core.List.{List, [], _∷_, _++_}
 use Prim.Native.Nat.{ℕ, _≤_, _<_}
 use lib.Dec.{eqb, ltb}
@@ -42,15 +42,14 @@ pub and : {a b : Bool} → a ≡ true → b ≡ true → a && b ≡ true
 and {a} {b} e f = and-eq-true-iff a b .1 (e, f)
 
 pub either : (a b : Bool) → a || b ≡ true → (a ≡ true) ⊎ (b ≡ true)
-either true b e = inl refl
+either true b e = inl e
 either false b e = inr e
 
 pub or-left : {a : Bool} (b : Bool) → a ≡ true → a || b ≡ true
-or-left b e = rw e
+or-left b e = ap (_|| b) e
 
 pub or-right : (a : Bool) {b : Bool} → b ≡ true → a || b ≡ true
-or-right true e = refl
-or-right false e = e
+or-right a e = ap (a ||_) e ∙ or-true a
 
 -- neither of two tests applies
 pub neither : (a b : Bool) → a || b ≡ false → (a ≡ false) × (b ≡ false)

@@ -174,20 +174,21 @@ with-bit-inside D n p on h l = go (Bool·beq (has n p) on)
     go true = h
     go false = flip-inside D n p h l
 
--- two numbers below 2 ^ w with the same w bits are the same
+-- the lowest bit is the remainder by two, and the others are those of the half
 bit-zero : (n : ℕ) → bitAt n 0 ≡ n % 2
 unfolding bitAt
-bit-zero n = ap (_% 2) (div-one n)
+bit-zero n = rw (div-one n)
 
-bit-suc : (n p : ℕ) → bitAt n (suc p) ≡ bitAt (n / 2) p
+bit-half : (n p : ℕ) → bitAt n (suc p) ≡ bitAt (n / 2) p
 unfolding bitAt
-bit-suc n p = ap (_% 2) (ap (n /_) (pow-succ' 2 p) ∙ sym (div-div-eq-div-mul n 2 (2 ^ p)))
+bit-half n p = rw (pow-succ' 2 p, div-div-eq-div-mul n 2 (2 ^ p))
 
+-- so two numbers below 2 ^ w with the same w bits are the same
 pub same-bits : (w n m : ℕ) → n < 2 ^ w → m < 2 ^ w → ((p : ℕ) → p < w → bitAt n p ≡ bitAt m p) → n ≡ m
 same-bits zero n m h l e = omega arith
 same-bits (suc w) n m h l e =
-    let halves : n / 2 ≡ m / 2 = same-bits w (n / 2) (m / 2) (omega (arith, pow-succ' 2 w)) (omega (arith, pow-succ' 2 w)) (λ p k. sym (bit-suc n p) ∙ e (suc p) (omega arith) ∙ bit-suc m p) in
-    let low : n % 2 ≡ m % 2 = sym (bit-zero n) ∙ e 0 (omega arith) ∙ bit-zero m in
+    let halves : n / 2 ≡ m / 2 = same-bits w (n / 2) (m / 2) (omega (arith, pow-succ' 2 w)) (omega (arith, pow-succ' 2 w)) (λ p k. rw (bit-half n p, bit-half m p) at (e (suc p) (omega arith))) in
+    let low : n % 2 ≡ m % 2 = rw (bit-zero n, bit-zero m) at (e 0 (omega arith)) in
     omega arith
 
 -- a number below 2 ^ D has no bit at D or above, zero has none, and a number below 2 ^ w that has none of w bits is zero
@@ -211,7 +212,7 @@ pub no-bit-above : (D n : ℕ) → ((p : ℕ) → D ≤ p → has n p ≡ false)
 unfolding has
 no-bit-above zero n h = omega (arith, no-ports n n (below-power n) (λ p l. h p (omega arith)), pow-pos 0)
 no-bit-above (suc D) n h =
-    omega (arith, pow-succ' 2 D, no-bit-above D (n / 2) (λ p l. ap (λ x. eqb x 1) (sym (bit-suc n p)) ∙ h (suc p) (omega arith)))
+    omega (arith, pow-succ' 2 D, no-bit-above D (n / 2) (λ p l. ap (λ x. eqb x 1) (sym (bit-half n p)) ∙ h (suc p) (omega arith)))
 
 -- and one that is not below 2 ^ D has a bit there
 pub has-bit-above : (D n : ℕ) → 2 ^ D ≤ n → (p : ℕ) × (D ≤ p) × (has n p ≡ true)

@@ -3,14 +3,15 @@
 use mathlib.Core.Path.{_≡_, refl, ap, sym, _∙_}
 use mathlib.Core.Logic.{⊎-elim, _≢_}
 use mathlib.Core.Bool.{Bool, true, false, not, _&&_}
-use mathlib.Core.List.{List, [], _∷_, _++_, List·Memᴰ·head, List·Memᴰ·not-nil, List·Memᴰ·append-cases, Memᴰ·append-left, Memᴰ·append-right}
+use mathlib.Core.List.{List, [], _∷_, List·Memᴰ·head, List·Memᴰ·not-nil, Memᴰ·append-left, Memᴰ·append-right}
 use Prim.Native.Nat.{ℕ, _+_, _-_, _*_, _/_, _%_, _^_, _≤_, _<_}
 use native.Mathlib.Omega.{arith}
 use lib.Dec.{eqb, leb, ltb}
 use lib.ListN.{length, getD, length-append}
-use borrow.Author.Tests.{ltb-true, ltb-false, lt-leb, le-leb, le-ltb, leb-true, leb-false, lt-ltb, ne-eqb, eq-eqb}
+use borrow.Author.Tests.{ltb-true, ltb-false, lt-leb, le-leb, le-ltb, leb-true, lt-ltb, ne-eqb, eq-eqb}
 use Rattle.common.specs.Lists.{_∈_, keep, from, Sorted}
-use Rattle.common.proofs.Lists.{keep-no, keep-mem, mem-keep, keep-append, keep-all, keep-keep, keep-same, keep-swap, keep-sorted, sorted-append, sorted-imp, length-parts, length-keep, length-from, keep-none, keep-wider, from-sorted, kept-below, below-kept}
+use Rattle.common.proofs.Tests.{below-or}
+use Rattle.common.proofs.Lists.{all-append, keep-no, keep-mem, mem-keep, keep-append, keep-all, keep-keep, keep-same, keep-swap, keep-sorted, sorted-append, sorted-kept, length-parts, length-keep, length-from, keep-none, keep-wider, from-sorted, kept-below, below-kept}
 use Rattle.common.proofs.Every.{everyEntry, table-rule}
 use Rattle.cube.specs.Bits.{has}
 use Rattle.cube.specs.Cube.{Without}
@@ -18,18 +19,15 @@ use Rattle.cube.specs.Helical.{portsOf, helical, firstOr, firstPort, Fir
 use Rattle.cube.proofs.Bits.{no-ports, zero-has, high-has}
 use Rattle.cube.proofs.Ports.{without-power}
 
--- the helical order has the same members
+-- what stands in the helical order is one of the ports, and each port is past the arrival port or up to it
 pub helical-mem : (a : ℕ) (ps : List ℕ) {q : ℕ} → q ∈ helical a ps → q ∈ ps
 unfolding helical
-helical-mem a ps m = ⊎-elim (λ h. keep-mem _ ps h .0) (λ h. keep-mem _ ps h .0) (List·Memᴰ·append-cases (keep (λ p. ltb a p) ps) m)
+helical-mem a ps {q} = all-append (_∈ ps) (keep (λ p. ltb a p) ps) (λ p m. keep-mem _ ps m .0) (λ p m. keep-mem _ ps m .0) q
 
 pub mem-helical : (a : ℕ) (ps : List ℕ) {q : ℕ} → q ∈ ps → q ∈ helical a ps
 unfolding helical
-mem-helical a ps {q} m = go (leb q a) refl
-  where
-    go : (b : Bool) → leb q a ≡ b → q ∈ (keep (λ p. ltb a p) ps ++ keep (λ p. leb p a) ps)
-    go true e = Memᴰ·append-right (keep (λ p. ltb a p) ps) (mem-keep _ ps m e)
-    go false e = Memᴰ·append-left _ (mem-keep _ ps m (lt-ltb a q (leb-false q a e)))
+mem-helical a ps {q} m =
+    ⊎-elim (λ past. Memᴰ·append-left _ (mem-keep _ ps m (lt-ltb a q past))) (λ upTo. Memᴰ·append-right (keep (λ p. ltb a p) ps) (mem-keep _ ps m (le-leb q a upTo))) (below-or q a)
 
 -- a test may be made before or after
 pub helical-keep : (a : ℕ) (f : ℕ → Bool) (ps : List ℕ) → helical a (keep f ps) ≡ keep f (helical a ps)
@@ -48,10 +46,10 @@ pub helical-distinct : (a : ℕ) (ps : List ℕ) → Sorted _<_ ps → Sorted _�
 unfolding helical
 helical-distinct a ps s =
     sorted-append (keep (λ p. ltb a p) ps) (keep (λ p. leb p a) ps) (apart (λ p. ltb a p)) (apart (λ p. leb p a))
-    (λ x y m k e. let l = ltb-true a x (keep-mem _ ps m .1) in let g = leb-true y a (keep-mem _ ps k .1) in omega arith)
+    (λ p q m k e. omega (arith, ltb-true a p (keep-mem _ ps m .1), leb-true q a (keep-mem _ ps k .1)))
   where
     apart : (f : ℕ → Bool) → Sorted _≢_ (keep f ps)
-    apart f = sorted-imp _<_ _≢_ (keep f ps) (λ x y m k l e. omega arith) (keep-sorted f _<_ ps s)
+    apart f = sorted-kept f _<_ _≢_ ps (λ p q i j l e. omega arith) s
 
 -- the ports of a vector: those below w that it has, rising
 pub ports-mem : (w v : ℕ) {q : ℕ} → q ∈ portsOf w v → (q < w) × (has v q ≡ true)
