@@ -1,13 +1,14 @@
--- The bridge: the list of beginnings holds exactly the beginnings of permitted paths.
+-- The list of beginnings holds the beginnings of permitted paths, and only those.
 -- Assumes nothing.
-use mathlib.Core.Path.{_≡_, refl, ap, sym, subst}
+use mathlib.Core.Path.{_≡_, refl, ap, sym}
 use mathlib.Core.Logic.{_⊎_, inl, inr, ⊎-elim, _≢_, _↔_}
-use mathlib.Core.List.{List, [], _∷_, _++_, map, List·Memᴰ·head, List·Memᴰ·tail, List·Memᴰ·not-nil, List·Memᴰ·cases-cons, List·Memᴰ·append-cases, Memᴰ·append-left, Memᴰ·append-right, Memᴰ·map, Memᴰ·of-map, cons≢nil}
+use mathlib.Core.List.{List, [], _∷_, _++_, map, List·Memᴰ·head, List·Memᴰ·tail, List·Memᴰ·not-nil, Memᴰ·append-left, Memᴰ·append-right, Memᴰ·map, cons≢nil}
 use Prim.Native.Nat.{ℕ, zero, suc, _≤_}
 use native.Mathlib.Omega.{arith}
 use native.Mathlib.Nat.{le-refl}
 use borrow.Author.Tests.{eq-eqb, ne-eqb}
 use Rattle.common.specs.Lists.{_∈_}
+use Rattle.common.proofs.Lists.{all-cons, all-append, all-map}
 use Rattle.common.proofs.Tests.{same?}
 use Rattle.cube.specs.Helical.{helical}
 use Rattle.cube.proofs.Order.{helical-mem, mem-helical}
@@ -28,51 +29,38 @@ opens-more on q ps (p ∷ v) o = (List·Memᴰ·tail (o .0), o .1)
 pub over-mem : (on : ℕ → List Path) (ps : List ℕ) {w : Path} → w ∈ over on ps → Opens on ps w
 unfolding Opens
 over-mem on [] m = unfold over in elim m [ ]
-over-mem on (p ∷ ps) {w} m = go (λ k. over-mem on ps k) (List·Memᴰ·append-cases ((p ∷ []) ∷ map (λ (v : Path). p ∷ v) (on p)) (rw over-cons at m))
-  where
-    here : {v : Path} → (v ≡ []) ⊎ (v ∈ on p) → p ∷ v ≡ w → Opens on (p ∷ ps) w
-    here o e = subst (Opens on (p ∷ ps)) e (List·Memᴰ·head refl, o)
-
-    first : (w ≡ p ∷ []) ⊎ (w ∈ map (λ (v : Path). p ∷ v) (on p)) → Opens on (p ∷ ps) w
-    first (inl e) = here (inl refl) (sym e)
-    first (inr k) = let r = Memᴰ·of-map (λ (v : Path). p ∷ v) (on p) k in here (inr (r .1)) (r .2)
-
-    go : (w ∈ over on ps → Opens on ps w) → (w ∈ ((p ∷ []) ∷ map (λ (v : Path). p ∷ v) (on p))) ⊎ (w ∈ over on ps) → Opens on (p ∷ ps) w
-    go ih (inl k) = first (List·Memᴰ·cases-cons k)
-    go ih (inr k) = opens-more on p ps w (ih k)
+over-mem on (p ∷ ps) {w} m =
+    let here : (v : Path) → (v ≡ []) ⊎ (v ∈ on p) → Opens on (p ∷ ps) (p ∷ v) = λ v o. (List·Memᴰ·head refl, o) in
+    let behind = all-map (Opens on (p ∷ ps)) (λ (v : Path). p ∷ v) (on p) (λ v k. here v (inr k)) in
+    all-append (Opens on (p ∷ ps)) ((p ∷ []) ∷ map (λ (v : Path). p ∷ v) (on p)) (all-cons (Opens on (p ∷ ps)) (here [] (inl refl)) behind)
+    (λ v k. opens-more on p ps v (over-mem on ps k)) w (rw over-cons at m)
 
 pub mem-over : (on : ℕ → List Path) (ps : List ℕ) {p : ℕ} {v : Path} → p ∈ ps → (v ≡ []) ⊎ (v ∈ on p) → (p ∷ v) ∈ over on ps
-mem-over on (q ∷ ps) {p} {v} (List·Memᴰ·head e) o = rw (e, over-cons) (Memᴰ·append-left (over on ps) (go (rw e at o)))
-  where
-    go : (v ≡ []) ⊎ (v ∈ on q) → (q ∷ v) ∈ ((q ∷ []) ∷ map (λ (v : Path). q ∷ v) (on q))
-    go (inl z) = List·Memᴰ·head (ap (q ∷_) z)
-    go (inr m) = List·Memᴰ·tail (Memᴰ·map (λ (v : Path). q ∷ v) m)
 mem-over on (q ∷ ps) (List·Memᴰ·tail m) o = rw over-cons (Memᴰ·append-right ((q ∷ []) ∷ map (λ (v : Path). q ∷ v) (on q)) (mem-over on ps m o))
+mem-over on (q ∷ ps) (List·Memᴰ·head e) o =
+    rw (e, over-cons) (Memᴰ·append-left (over on ps) (⊎-elim (λ z. List·Memᴰ·head (ap (q ∷_) z)) (λ k. List·Memᴰ·tail (Memᴰ·map (λ (v : Path). q ∷ v) k)) (rw e at o)))
 
 -- offered hops one after another, none of which starts at the target
 unfoldable pub Climb : Network → ℕ → ℕ → Path → Type 0
 Climb N t n [] = Unit
 Climb N t n (p ∷ w) = (n ≢ t) × (p ∈ offered N t n) × Climb N t (N .next n p) w
 
--- `ways`, where the target is not reached
-ways-on : (k : ℕ) (N : Network) (t n a : ℕ) → n ≢ t → ways (suc k) N t n a ≡ over (λ p. ways k N t (N .next n p) p) (helical a (offered N t n))
+-- the ways on from a node: none at the target, and elsewhere those over the ports that it offers
+pub ways-all : (P : List Path → Type 0) (k : ℕ) (N : Network) (t n a : ℕ) → (n ≡ t → P []) → (n ≢ t → P (over (λ p. ways k N t (N .next n p) p) (helical a (offered N t n)))) → P (ways (suc k) N t n a)
 unfolding ways
-ways-on k N t n a h = rw (ne-eqb n t h)
+ways-all P k N t n a there on = ⊎-elim (λ e. rw (eq-eqb n t e) (there e)) (λ off. rw (ne-eqb n t off) (on off)) (same? n t)
 
-ways-mem : (k : ℕ) (N : Network) (t n a : ℕ) {w : Path} → w ∈ ways (suc k) N t n a
-    → (n ≢ t) × (w ∈ over (λ p. ways k N t (N .next n p) p) (helical a (offered N t n)))
-unfolding ways
-ways-mem k N t n a m = ⊎-elim (λ e. absurd (List·Memᴰ·not-nil (rw (eq-eqb n t e) at m))) (λ ne. (ne, rw (ne-eqb n t ne) at m)) (same? n t)
-
--- `ways` holds climbs of one hop or more, and no others
+-- each is a climb of one hop or more
 pub ways-climb : (k : ℕ) (N : Network) (t n a : ℕ) (w : Path) → w ∈ ways k N t n a → (w ≢ []) × Climb N t n w
 unfolding Climb Opens
 ways-climb zero N t n a w m = unfold ways in elim m [ ]
-ways-climb (suc k) N t n a [] m = absurd (over-mem _ _ (ways-mem k N t n a m .1))
-ways-climb (suc k) N t n a (p ∷ v) m =
-    let r = ways-mem k N t n a m in
-    let o = over-mem _ _ (r .1) in
-    (cons≢nil, (r .0, helical-mem a _ (o .0), ⊎-elim (λ z. rw z tt) (λ i. ways-climb k N t (N .next n p) p v i .1) (o .1)))
+ways-climb (suc k) N t n a w m =
+    ways-all (λ ws. w ∈ ws → (w ≢ []) × Climb N t n w) k N t n a (λ e i. absurd (List·Memᴰ·not-nil i)) (λ off i. climbs off (λ p v. ways-climb k N t (N .next n p) p v) w (over-mem _ _ i)) m
+  where
+    climbs : n ≢ t → ((p : ℕ) (v : Path) → v ∈ ways k N t (N .next n p) p → (v ≢ []) × Climb N t (N .next n p) v)
+        → (w : Path) → Opens (λ p. ways k N t (N .next n p) p) (helical a (offered N t n)) w → (w ≢ []) × Climb N t n w
+    climbs off behind [] o = absurd o
+    climbs off behind (p ∷ v) o = (cons≢nil, (off, helical-mem a _ (o .0), ⊎-elim (λ e. rw e tt) (λ i. behind p v i .1) (o .1)))
 
 -- the climb behind the first hop of a beginning
 pub beginning-climb : (N : Network) (s : ℕ) (vector : List ℕ) (t p : ℕ) (w : Path) → (p ∷ w) ∈ beginnings N s vector t → (p ∈ vector) × Climb N t (N .next s p) w
@@ -92,14 +80,14 @@ onward-climb N t n [] v o = tt
 onward-climb N t n (p ∷ w) v o = (o .0, o .1, onward-climb N t (N .next n p) w v (o .2))
 
 module _ {N : Network} {t : ℕ} (near : Nearing N t) where
-  -- every climb is there, with room for as many hops as the target is far
-  climb-ways : (k n a p : ℕ) (w : Path) → N .far t n ≤ k → Climb N t n (p ∷ w) → (p ∷ w) ∈ ways k N t n a
+  -- every climb with a hop is one of them, where they may have as many hops as the target is far
+  climb-ways : (k n a : ℕ) (w : Path) → N .far t n ≤ k → Climb N t n w → (w ≡ []) ⊎ (w ∈ ways k N t n a)
   unfolding Climb
-  climb-ways zero n a p w h r = let e = near .nearer n p (r .1) in absurd (omega arith)
-  climb-ways (suc k) n a p [] h r = rw (ways-on k N t n a (r .0)) (mem-over _ _ (mem-helical a _ (r .1)) (inl refl))
-  climb-ways (suc k) n a p (q ∷ w) h r =
-      let e = near .nearer n p (r .1) in
-      rw (ways-on k N t n a (r .0)) (mem-over _ _ (mem-helical a _ (r .1)) (inr (climb-ways k (N .next n p) p q w (omega arith) (r .2))))
+  climb-ways k n a [] h r = inl refl
+  climb-ways zero n a (p ∷ w) h r = absurd (omega (arith, near .nearer n p (r .1)))
+  climb-ways (suc k) n a (p ∷ w) h r =
+      let behind = climb-ways k (N .next n p) p w (omega (arith, near .nearer n p (r .1))) (r .2) in
+      inr (ways-all (λ ws. (p ∷ w) ∈ ws) k N t n a (λ e. absurd (r .0 e)) (λ off. mem-over _ _ (mem-helical a _ (r .1)) behind))
 
   module _ {Node : ℕ → Type 0} (lead : Leading N t Node) where
     -- a way leads from a node to the target where one does from every node one nearer, and so from every node
@@ -137,7 +125,4 @@ module _ {N : Network} {t : ℕ} (near : Nearing N t) where
 
         back : (b : Path) → Beginning N s vector t b → b ∈ over on vector
         back [] r = absurd (r .0 refl)
-        back (p ∷ []) r = mem-over on vector (r .1 .1 .0) (inl refl)
-        back (p ∷ q ∷ w) r =
-            let climb = onward-climb N t (N .next s p) (q ∷ w) (r .1 .0) (r .1 .1 .1) in
-            mem-over on vector (r .1 .1 .0) (inr (climb-ways _ (N .next s p) p q w (le-refl _) climb))
+        back (p ∷ w) r = mem-over on vector (r .1 .1 .0) (climb-ways _ (N .next s p) p w (le-refl _) (onward-climb N t (N .next s p) w (r .1 .0) (r .1 .1 .1)))

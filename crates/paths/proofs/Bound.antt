@@ -6,7 +6,7 @@ use mathlib.Core.List.{List, [], _∷_, map, List·Memᴰ·head, List·Memᴰ·t
 use Prim.Native.Nat.{ℕ, zero, suc, _+_, _*_, _-_, _≤_, _<_, pred}
 use native.Mathlib.Omega.{arith}
 use native.Mathlib.Nat.{le-trans, le-refl, mul-le-mul}
-use borrow.Author.Tests.{eqb-true, leb-true, le-leb, not-true}
+use borrow.Author.Tests.{leb-true, le-leb, not-true}
 use lib.Dec.{eqb, leb}
 use lib.ListN.{length, length-append, length-map}
 use Rattle.common.specs.Lists.{_∈_, keep, from}
@@ -19,6 +19,7 @@ use Rattle.paths.specs.Pass.{found, over, ways, beginnings, scan, whole,
 use Rattle.paths.specs.Search.{arriving}
 use Rattle.paths.specs.Bound.{waysFrom, sendsFrom}
 use Rattle.paths.proofs.Scan.{scan-sends}
+use Rattle.paths.proofs.Beginnings.{ways-all}
 use Rattle.paths.proofs.Depth.{over-cons, arriving-scan}
 
 -- what the bound alone asks of a network: the number of ports offered, and that every other port leads one farther
@@ -60,14 +61,11 @@ module _ {N : Network} {t : ℕ} (near : Nearing N t) (cubic : Cubical N t) wher
   pub ways-count : (k n a : ℕ) → N .far t n ≤ k → length (ways k N t n a) ≡ waysFrom (N .far t n)
   unfolding ways
   ways-count zero n a h = let e : N .far t n ≡ 0 = omega arith in rw e (unfold waysFrom in refl)
-  ways-count (suc k) n a h = go (eqb n t) refl (λ p. ways-count k (N .next n p) p)
-    where
-      go : (b : Bool) → eqb n t ≡ b → ((p : ℕ) → N .far t (N .next n p) ≤ k → length (ways k N t (N .next n p) p) ≡ waysFrom (N .far t (N .next n p)))
-          → length (cond b [] (over (λ p. ways k N t (N .next n p) p) (helical a (offered N t n)))) ≡ waysFrom (N .far t n)
-      go true e ih = let z : N .far t n ≡ 0 = ap (N .far t) (eqb-true n t e) ∙ cubic .there in rw z (unfold waysFrom in refl)
-      go false e ih =
-          length-over (λ p. ways k N t (N .next n p) p) (waysFrom (pred (N .far t n))) (helical a (offered N t n)) (λ p m. let r = near .nearer n p (helical-mem a _ m) in ih p (omega arith) ∙ ap waysFrom (omega arith))
-          ∙ ap (_* suc (waysFrom (pred (N .far t n)))) (length-helical a (offered N t n) ∙ cubic .degree n) ∙ sym (from-step (N .far t n))
+  ways-count (suc k) n a h =
+      ways-all (λ ws. length ws ≡ waysFrom (N .far t n)) k N t n a (λ e. let z : N .far t n ≡ 0 = ap (N .far t) e ∙ cubic .there in rw z (unfold waysFrom in refl))
+      (λ off. length-over (λ p. ways k N t (N .next n p) p) (waysFrom (pred (N .far t n))) (helical a (offered N t n))
+      (λ p m. let r = near .nearer n p (helical-mem a _ m) in ways-count k (N .next n p) p (omega arith) ∙ ap waysFrom (omega arith))
+      ∙ ap (_* suc (waysFrom (pred (N .far t n)))) (length-helical a (offered N t n) ∙ cubic .degree n) ∙ sym (from-step (N .far t n)))
 
   length-others : (n : ℕ) → N .far t n + length (others N t n) ≡ N .width
   unfolding offered

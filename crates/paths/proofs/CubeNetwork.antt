@@ -3,20 +3,20 @@
 use mathlib.Core.Path.{_≡_, refl, ap, sym, _∙_}
 use mathlib.Core.Logic.{_≢_, _↔_}
 use mathlib.Core.Bool.{Bool, true, false, not}
-use mathlib.Core.List.{List, [], _∷_, List·Memᴰ·head, List·Memᴰ·tail, List·Memᴰ·not-nil}
-use Prim.Native.Nat.{ℕ, suc, _+_, _^_, _≤_, _<_}
+use mathlib.Core.List.{List, [], _∷_, _++_, List·Memᴰ·head, List·Memᴰ·not-nil}
+use Prim.Native.Nat.{ℕ, suc, _+_, _-_, _^_, _≤_, _<_}
 use native.Mathlib.Omega.{arith}
 use lib.Dec.{eqb}
-use lib.ListN.{length}
+use lib.ListN.{length, length-append}
 use lib.Bits.{bitXor, xor-lt}
-use borrow.Author.Tests.{eqb-true, eqb-false, eq-eqb, ne-eqb, not-true, not-false}
+use borrow.Author.Tests.{eqb-true, eq-eqb, not-true, not-false}
 use Rattle.common.specs.Lists.{_∈_, keep, from, Sorted}
 use Rattle.common.proofs.Tests.{is-false}
-use Rattle.common.proofs.Lists.{keep-yes, keep-no, keep-mem, keep-same, keep-none, keep-sorted, from-sorted, below-from, kept-below, below-kept}
+use Rattle.common.proofs.Lists.{keep-yes, keep-no, keep-append, keep-same, keep-none, keep-sorted, from-mem, from-sorted, from-split, from-below, kept-below, below-kept}
 use Rattle.cube.specs.Bits.{bitAt, has, flip}
 use Rattle.cube.specs.Cube.{next, uphill}
 use Rattle.cube.specs.Helical.{portsOf}
-use Rattle.cube.proofs.Bits.{bit-lt, bit-flipped, bit-kept, flip-inside, same-bits}
+use Rattle.cube.proofs.Bits.{two-bits, bit-lt, bit-flipped, bit-kept, flip-inside, same-bits}
 use Rattle.cube.proofs.Ports.{uphill-of}
 use Rattle.cube.proofs.Order.{ports-mem, mem-ports, ports-sorted, ports-wider}
 use Rattle.paths.specs.Network.{Path, offered, Nearing, Leading}
@@ -28,18 +28,10 @@ use Rattle.paths.proofs.Links.{permitted-length}
 use Rattle.paths.proofs.Sentences.{pass-says}
 use Rattle.paths.proofs.Bound.{Cubical, far-width, two-passes-bound}
 
--- a port that is changed is uphill just if it was not, and no other port changes
+-- the bit that a hop changes is uphill behind it exactly where it was not before, and the others stay as they were
 pub uphill-flipped : (t n p : ℕ) → uphill t (flip n p) p ≡ not (uphill t n p)
 unfolding uphill
-uphill-flipped t n p = go (eqb (bitAt n p) (bitAt t p)) refl
-  where
-    go : (b : Bool) → eqb (bitAt n p) (bitAt t p) ≡ b → not (eqb (bitAt (flip n p) p) (bitAt t p)) ≡ not (not b)
-    go true e =
-        let h = eqb-true (bitAt n p) (bitAt t p) e in
-        ap not (ne-eqb (bitAt (flip n p) p) (bitAt t p) (λ i. omega (arith, bit-flipped n p, bit-lt n p)))
-    go false e =
-        let h = eqb-false (bitAt n p) (bitAt t p) e in
-        ap not (eq-eqb (bitAt (flip n p) p) (bitAt t p) (omega (arith, bit-flipped n p, bit-lt n p, bit-lt t p)))
+uphill-flipped t n p = rw (bit-flipped n p) (two-bits (λ x y. not (eqb (1 - x) y) ≡ not (not (eqb x y))) refl refl refl refl (bitAt n p) (bitAt t p) (bit-lt n p) (bit-lt t p))
 
 pub uphill-kept : (t n p q : ℕ) → q ≢ p → uphill t n q ≡ uphill t (flip n p) q
 unfolding uphill
@@ -53,19 +45,21 @@ same-bit : (t n p : ℕ) → uphill t n p ≡ false → bitAt n p ≡ bitAt t p
 unfolding uphill
 same-bit t n p e = eqb-true _ _ (not-false _ e)
 
--- of two tests that differ at one member of a rising list alone, one keeps one member more
-one-more : (f g : ℕ → Bool) (p : ℕ) → f p ≡ true → g p ≡ false → ((q : ℕ) → q ≢ p → f q ≡ g q) → (ps : List ℕ) → Sorted _<_ ps → p ∈ ps → length (keep f ps) ≡ suc (length (keep g ps))
-unfolding Sorted
-one-more f g p on off h (x ∷ ps) s (List·Memᴰ·head e) =
-    rw (keep-yes f x ps (rw e at on), keep-no g x ps (rw e at off), keep-same f g ps (λ q m. h q (λ i. let l = s .0 q m in omega arith)))
-one-more f g p on off h (x ∷ ps) s (List·Memᴰ·tail m) = go (f x) refl (one-more f g p on off h ps (s .1) m)
+-- of two tests that differ at one number below D alone, one keeps one number more
+one-more : (f g : ℕ → Bool) (p D : ℕ) → p < D → f p ≡ true → g p ≡ false → ((q : ℕ) → q ≢ p → f q ≡ g q) → length (keep f (from 0 D)) ≡ suc (length (keep g (from 0 D)))
+one-more f g p D l on off same =
+    let below = ap length (keep-same f g (from 0 p) (λ q m. same q (λ e. omega (arith, from-below p q m)))) in
+    let above = ap length (keep-same f g (from (suc p) (D - suc p)) (λ q m. same q (λ e. omega (arith, from-mem (suc p) (D - suc p) m .0)))) in
+    omega (arith, parts f, parts g, below, above, ap length (keep-yes f p (from (suc p) (D - suc p)) on), ap length (keep-no g p (from (suc p) (D - suc p)) off))
   where
-    same : f x ≡ g x
-    same = h x (λ e. let l = s .0 p m in omega arith)
+    split : from 0 D ≡ from 0 p ++ p ∷ from (suc p) (D - suc p)
+    split =
+        let whole : D ≡ p + suc (D - suc p) = omega arith in
+        let start : 0 + p ≡ p = omega arith in
+        ap (from 0) whole ∙ rw start at (from-split 0 p (D - suc p))
 
-    go : (b : Bool) → f x ≡ b → length (keep f ps) ≡ suc (length (keep g ps)) → length (keep f (x ∷ ps)) ≡ suc (length (keep g (x ∷ ps)))
-    go true e ih = rw (keep-yes f x ps e, keep-yes g x ps (sym same ∙ e)) (ap suc ih)
-    go false e ih = rw (keep-no f x ps e, keep-no g x ps (sym same ∙ e)) ih
+    parts : (h : ℕ → Bool) → length (keep h (from 0 D)) ≡ length (keep h (from 0 p)) + length (keep h (p ∷ from (suc p) (D - suc p)))
+    parts h = ap (λ xs. length (keep h xs)) split ∙ ap length (keep-append h (from 0 p) _) ∙ length-append (keep h (from 0 p)) _
 
 module _ (S : Shape) where
   -- the ports offered are those below D that are uphill
@@ -83,8 +77,7 @@ module _ (S : Shape) where
   cube-nearing t =
       record {
         nearer = λ n p m.
-            let k = keep-mem (uphill t n) (from 0 (S .dimension)) m in
-            one-more (uphill t n) (uphill t (flip n p)) p (k .1) (uphill-flipped t n p ∙ ap not (k .1)) (λ q h. uphill-kept t n p q h) (from 0 (S .dimension)) (from-sorted 0 (S .dimension)) (k .0);
+            let k = kept-below (uphill t n) (S .dimension) p m in one-more (uphill t n) (uphill t (flip n p)) p (S .dimension) (k .0) (k .1) (uphill-flipped t n p ∙ ap not (k .1)) (uphill-kept t n p);
       }
 
   -- and off the target something is offered.
@@ -110,7 +103,7 @@ module _ (S : Shape) where
         there = ap length (keep-none (uphill t t) (from 0 (S .dimension)) (λ p m. uphill-there t p));
         degree = λ n. refl;
         away = λ n p h e.
-            one-more (uphill t (flip n p)) (uphill t n) p (uphill-flipped t n p ∙ ap not e) e (λ q k. sym (uphill-kept t n p q k)) (from 0 (S .dimension)) (from-sorted 0 (S .dimension)) (below-from (S .dimension) p h);
+            one-more (uphill t (flip n p)) (uphill t n) p (S .dimension) h (uphill-flipped t n p ∙ ap not e) e (λ q k. sym (uphill-kept t n p q k));
       }
 
   -- "So it has 1 to D + 1 hops, 9 at most."

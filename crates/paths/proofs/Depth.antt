@@ -8,11 +8,11 @@ use lib.Dec.{eqb}
 use Rattle.cube.specs.Helical.{helical}
 use Rattle.paths.specs.Network.{Network, Path, offered, end, freePath}
 use Rattle.paths.specs.Pass.{Pass, none, found, over, ways, beginnings, scan, whole, pass}
-use Rattle.paths.specs.Search.{front, orElse, trying, arriving, sending}
+use Rattle.paths.specs.Search.{hopOr, trying, arriving, sending}
 
--- the clauses as equations: a proof that opens a definition no longer sees the calls that a clause leaves
+-- One step of each recursion, to rewrite by: what opens the definition itself takes the calls in its clauses apart too.
 pub trying-cons : (f : ℕ → Bool) (on : ℕ → ℕ → Pass) (p : ℕ) (ps : List ℕ) (c : ℕ)
-    → trying f on (p ∷ ps) c ≡ cond (f p) (orElse (front p (on p (suc c))) (trying f on ps)) (trying f on ps c)
+    → trying f on (p ∷ ps) c ≡ cond (f p) (hopOr p (on p (suc c)) (trying f on ps)) (trying f on ps c)
 unfolding trying
 trying-cons f on p ps c = refl
 
@@ -25,42 +25,31 @@ scan-cons : (f g : Path → Bool) (w : Path) (ws : List Path) (c : ℕ)
 unfolding scan
 scan-cons f g w ws c = refl
 
--- a function of a choice is a choice of its values
-orElse-cond : (b : Bool) (x y : Pass) (k : ℕ → Pass) → orElse (cond b x y) k ≡ cond b (orElse x k) (orElse y k)
-orElse-cond true x y k = refl
-orElse-cond false x y k = refl
+hop-cond : (b : Bool) (p : ℕ) (x y : Pass) (more : ℕ → Pass) → hopOr p (cond b x y) more ≡ cond b (hopOr p x more) (hopOr p y more)
+hop-cond true p x y more = refl
+hop-cond false p x y more = refl
 
-front-cond : (p : ℕ) (b : Bool) (x y : Pass) → front p (cond b x y) ≡ cond b (front p x) (front p y)
-front-cond p true x y = refl
-front-cond p false x y = refl
+-- to scan the ways behind a hop and then more is to scan them without it, and to go on where none is found
+scan-hop : (p : ℕ) (f g : Path → Bool) (ws more : List Path) (c : ℕ)
+    → scan f g c (map (λ (w : Path). p ∷ w) ws ++ more) ≡ hopOr p (scan (λ w. f (p ∷ w)) (λ w. g (p ∷ w)) c ws) (λ d. scan f g d more)
+unfolding scan hopOr
+scan-hop p f g [] more c = refl
+scan-hop p f g (w ∷ ws) more c = simp (hop-cond, scan-hop p f g ws more)
 
--- a scan of two lists goes to the second where the first has no path
-pub scan-append : (f g : Path → Bool) (xs ys : List Path) (c : ℕ) → scan f g c (xs ++ ys) ≡ orElse (scan f g c xs) (λ d. scan f g d ys)
-unfolding scan orElse
-scan-append f g [] ys c = refl
-scan-append f g (x ∷ xs) ys c = simp (orElse-cond, scan-append f g xs ys)
-
--- a hop in front of every member
-scan-front : (p : ℕ) (f g : Path → Bool) (ws : List Path) (c : ℕ)
-    → scan f g c (map (λ (w : Path). p ∷ w) ws) ≡ front p (scan (λ w. f (p ∷ w)) (λ w. g (p ∷ w)) c ws)
-unfolding scan front
-scan-front p f g [] c = refl
-scan-front p f g (w ∷ ws) c = simp (front-cond, scan-front p f g ws)
-
--- a first test that nothing passes finds nothing
+-- where nothing is free nothing is found
 scan-never : (g : Path → Bool) (ws : List Path) (c : ℕ) → scan (λ w. false) g c ws ≡ none c
 unfolding scan
 scan-never g [] c = refl
 scan-never g (w ∷ ws) c = scan-never g ws c
 
--- one port: b says whether its link is free, e whether it leads to the target, k is what comes after it
-hop : (b e : Bool) (p : ℕ) (f g : Path → Bool) (ws : List Path) (c : ℕ) (k : ℕ → Pass)
-    → cond b (orElse (front p (cond e (found [] (suc c)) (scan f g (suc c) ws))) k) (k c)
-    ≡ orElse (cond (b && true) (cond e (found (p ∷ []) (suc c)) (front p (scan (λ w. b && f w) g (suc c) ws))) (front p (scan (λ w. b && f w) g c ws))) k
-unfolding front orElse
-hop true true p f g ws c k = refl
-hop true false p f g ws c k = refl
-hop false e p f g ws c k = rw scan-never
+-- one port tried: whether its link is free, and whether the target is behind it
+one-port : (free there : Bool) (p : ℕ) (f g : Path → Bool) (ws : List Path) (more : ℕ → Pass) (c : ℕ)
+    → cond free (hopOr p (cond there (found [] (suc c)) (scan f g (suc c) ws)) more) (more c)
+    ≡ cond (free && true) (cond there (found (p ∷ []) (suc c)) (hopOr p (scan (λ w. free && f w) g (suc c) ws) more)) (hopOr p (scan (λ w. free && f w) g c ws) more)
+unfolding hopOr
+one-port false there p f g ws more c = rw scan-never
+one-port true false p f g ws more c = refl
+one-port true true p f g ws more c = refl
 
 -- what an arrival at m comes to where ws are the ways on from it
 abbrev pub arrival : Network → (ℕ → ℕ → Bool) → ℕ → ℕ → List Path → ℕ → Pass
@@ -74,8 +63,8 @@ unfolding freePath whole end
 trying-scan N free t n on go h [] c = unfold trying over scan in refl
 trying-scan N free t n on go h (p ∷ ps) c =
     rw (trying-cons, fun-ext (trying-scan N free t n on go h ps))
-    (simp (over-cons, scan-append, scan-cons, scan-front, h)
-    (hop (free n p) (whole N t (N .next n p) []) p (freePath N free (N .next n p)) (whole N t (N .next n p)) (on p) c _))
+    (simp (over-cons, scan-cons, scan-hop, h)
+    (one-port (free n p) (whole N t (N .next n p) []) p (freePath N free (N .next n p)) (whole N t (N .next n p)) (on p) _ c))
 
 -- at the target no way goes on, and an arrival there asks for none
 at-target : (b : Bool) (f g : Path → Bool) (ws : List Path) (c : ℕ) → cond b (found [] c) (scan f g c ws) ≡ cond b (found [] c) (scan f g c (cond b [] ws))

@@ -1,7 +1,6 @@
--- The sentences of document 01 about a pass hold of the computed one: it finds a path exactly where a free permitted path exists, that path
--- is the first, and its scouts are the free beginnings up to it.
+-- What document 01 says of a pass is so of the computed one: whether it finds a path, which one, and how many scouts it sends.
 -- Assumes nothing.
-use mathlib.Core.Path.{_≡_, refl, ap, sym, _∙_, subst}
+use mathlib.Core.Path.{_≡_, refl, sym, _∙_, subst}
 use mathlib.Core.Logic.{_⊎_, inl, inr, ⊎-elim, _≢_, _↔_}
 use mathlib.Core.Bool.{Bool, true}
 use mathlib.Core.List.{List, [], _∷_, _++_, append-nil, List·Memᴰ·head, List·Memᴰ·not-nil, List·Memᴰ·cases-cons, List·Memᴰ·append-cases, List·Memᴰ·eq-of-singleton, Memᴰ·append-left, Memᴰ·append-right, cons≢nil}
@@ -10,7 +9,7 @@ use native.Mathlib.Omega.{arith}
 use borrow.Author.Tests.{eqb-true, eq-eqb}
 use lib.ListN.{length, length-append}
 use Rattle.common.specs.Lists.{_∈_, keep, Sorted}
-use Rattle.common.proofs.Lists.{keep-mem, mem-keep, keep-sorted, sorted-append, sorted-at}
+use Rattle.common.proofs.Lists.{all-append, keep-mem, mem-keep, keep-sorted, sorted-append, sorted-at}
 use Rattle.paths.specs.Network.{Network, Path, end, freePath, Nearing, Leading}
 use Rattle.paths.specs.Permitted.{Onward, Permitted, Beginning, Sooner, Before, ComesBefore}
 use Rattle.paths.specs.Pass.{Pass, none, found, beginnings, whole, pass}
@@ -19,16 +18,18 @@ use Rattle.paths.proofs.Scan.{First, Neither, scan-found, scan-none}
 use Rattle.paths.proofs.Beginnings.{Climb, beginning-climb, beginning-hop, beginnings-exactly}
 use Rattle.paths.proofs.Order.{beginnings-in-order, comes-before-asym, in-order-once}
 
--- a way to the target ends there, and a climb that ends there is one
-pub onward-end : (N : Network) (t n : ℕ) (w : Path) → Onward N t n w → end N n w ≡ t
-unfolding Onward end
-onward-end N t n [] o = o
-onward-end N t n (p ∷ w) o = onward-end N t (N .next n p) w (o .2)
-
-climb-end : (N : Network) (t n : ℕ) (w : Path) → Climb N t n w → end N n w ≡ t → Onward N t n w
+-- ways to the target are the climbs that end there
+onward-is : (N : Network) (t n : ℕ) (w : Path) → Onward N t n w ↔ (Climb N t n w × (end N n w ≡ t))
 unfolding Onward end Climb
-climb-end N t n [] r e = e
-climb-end N t n (p ∷ w) r e = (r .0, r .1, climb-end N t (N .next n p) w (r .2) e)
+onward-is N t n [] = ((λ e. (tt, e)), (λ r. r .1))
+onward-is N t n (p ∷ w) =
+    let rest = onward-is N t (N .next n p) w in (
+      (λ o. let r = rest .0 (o .2) in ((o .0, o .1, r .0), r .1)),
+      (λ r. (r .0 .0, r .0 .1, rest .1 (r .0 .2, r .1))),
+    )
+
+pub onward-end : (N : Network) (t n : ℕ) (w : Path) → Onward N t n w → end N n w ≡ t
+onward-end N t n w o = onward-is N t n w .0 o .1
 
 pub permitted-end : (N : Network) (s : ℕ) (vector : List ℕ) (t : ℕ) (w : Path) → Permitted N s vector t w → end N s w ≡ t
 unfolding Permitted end
@@ -44,7 +45,7 @@ unfolding Permitted whole end
 whole-permitted N s vector t [] m e = absurd (beginning-hop N s vector t m)
 whole-permitted N s vector t (p ∷ w) m e =
     let o = beginning-climb N s vector t p w m in
-    (o .0, climb-end N t (N .next s p) w (o .1) (eqb-true (end N (N .next s p) w) t e))
+    (o .0, onward-is N t (N .next s p) w .1 (o .1, eqb-true (end N (N .next s p) w) t e))
 
 permitted-hops : (N : Network) (s : ℕ) (vector : List ℕ) (t : ℕ) (v : Path) → Permitted N s vector t v → v ≢ []
 unfolding Permitted
@@ -55,10 +56,6 @@ begins-before : (R : ℕ → ℕ → Type 0) (b : Path) (q : ℕ) (v : Path) →
 unfolding Before
 begins-before R [] q v = tt
 begins-before R (p ∷ b) q v = inr (refl, begins-before (Sooner p) b q v)
-
-up-to : (b w : Path) → (b ≡ w) ⊎ ComesBefore b w → UpTo b w
-up-to b w (inl e) = inr ([], append-nil b ∙ e)
-up-to b w (inr h) = inl h
 
 from-up-to : (b w : Path) → UpTo b w → (b ≡ w) ⊎ ComesBefore b w
 from-up-to b w (inl h) = inr h
@@ -94,7 +91,7 @@ module _ {N : Network} {t : ℕ} {Node : ℕ → Type 0} (near : Nearing N t) (l
       record {
         permitted = whole-permitted N s vector t w (rw (r .place) (Memᴰ·append-right (r .before) (List·Memᴰ·head refl))) (r .whole);
         is-free = r .free;
-        first = λ v o h. later v (where-is v (permitted-mem v o)) h (permitted-whole N s vector t v o);
+        first = λ v o h. ⊎-elim (λ m. absurd (r .first v m h (permitted-whole N s vector t v o))) (⊎-elim inl (λ m. inr (order .2 v m))) (where-is v (permitted-mem v o));
         scouts =
             record {
               list = keep (freePath N free s) (r .before) ++ (w ∷ []);
@@ -119,17 +116,12 @@ module _ {N : Network} {t : ℕ} {Node : ℕ → Type 0} (near : Nearing N t) (l
       where-is : (v : Path) → v ∈ beginnings N s vector t → (v ∈ r .before) ⊎ ((v ≡ w) ⊎ (v ∈ r .after))
       where-is v m = ⊎-elim inl (λ k. inr (List·Memᴰ·cases-cons k)) (List·Memᴰ·append-cases (r .before) (rw (r .place) at m))
 
-      later : (v : Path) → (v ∈ r .before) ⊎ ((v ≡ w) ⊎ (v ∈ r .after)) → Free N free s v → whole N t s v ≡ true → (v ≡ w) ⊎ ComesBefore w v
-      later v (inl m) h g = absurd (r .first v m h g)
-      later v (inr (inl q)) h g = inl q
-      later v (inr (inr m)) h g = inr (order .2 v m)
-
       sent : (b : Path) → b ∈ (keep (freePath N free s) (r .before) ++ (w ∷ [])) → Beginning N s vector t b × Free N free s b × UpTo b w
-      sent b m =
-          ⊎-elim
-          (λ k. let q = keep-mem _ _ k in (beginnings-exactly near lead s vector starts b .0 (rw (r .place) (Memᴰ·append-left (w ∷ r .after) (q .0))), q .1, up-to b w (inr (order .1 b (q .0)))))
-          (λ k. let q = List·Memᴰ·eq-of-singleton k in (beginnings-exactly near lead s vector starts b .0 (rw (r .place) (Memᴰ·append-right (r .before) (List·Memᴰ·head q))), ap (freePath N free s) q ∙ r .free, up-to b w (inl q)))
-          (List·Memᴰ·append-cases (keep (freePath N free s) (r .before)) m)
+      sent =
+          all-append (λ b. Beginning N s vector t b × Free N free s b × UpTo b w) (keep (freePath N free s) (r .before))
+          (λ b m. let k = keep-mem _ _ m in (beginnings-exactly near lead s vector starts b .0 (rw (r .place) (Memᴰ·append-left (w ∷ r .after) (k .0))), k .1, inl (order .1 b (k .0))))
+          (λ b m. let e = List·Memᴰ·eq-of-singleton m in
+          rw e (beginnings-exactly near lead s vector starts w .0 (rw (r .place) (Memᴰ·append-right (r .before) (List·Memᴰ·head refl))), r .free, inr ([], append-nil w)))
 
       counted : (b : Path) → Beginning N s vector t b × Free N free s b × UpTo b w → b ∈ (keep (freePath N free s) (r .before) ++ (w ∷ []))
       counted b q = put (where-is b (beginnings-exactly near lead s vector starts b .1 (q .0)))

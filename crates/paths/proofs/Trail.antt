@@ -4,7 +4,7 @@
 use mathlib.Core.Path.{_≡_, refl, ap, sym, _∙_, subst}
 use mathlib.Core.Logic.{_⊎_, inl, inr, ⊎-elim, _≢_}
 use mathlib.Core.Bool.{Bool, true, false, not}
-use mathlib.Core.List.{List, [], _∷_, _++_, List·Memᴰ·head, List·Memᴰ·tail, List·Memᴰ·not-nil, List·Memᴰ·cases-cons, List·Memᴰ·append-cases, Memᴰ·append-right}
+use mathlib.Core.List.{List, [], _∷_, _++_, append-nil, List·Memᴰ·head, List·Memᴰ·tail, List·Memᴰ·not-nil, Memᴰ·append-right}
 use Prim.Native.Nat.{ℕ, zero, suc, _≤_, _<_}
 use native.Mathlib.Omega.{arith}
 use lib.Dec.{eqb}
@@ -12,7 +12,7 @@ use lib.ListN.{length}
 use borrow.Author.Tests.{eqb-false, eq-eqb, ne-eqb, not-true}
 use Rattle.common.specs.Lists.{_∈_, keep, from}
 use Rattle.common.proofs.Tests.{same?, clash}
-use Rattle.common.proofs.Lists.{keep-nil, keep-mem, mem-keep, from-below, below-from, keep-shorter}
+use Rattle.common.proofs.Lists.{all-cons, all-append, keep-nil, keep-mem, mem-keep, from-below, below-from, keep-shorter}
 use Rattle.cube.specs.Bits.{bitAt, flip}
 use Rattle.cube.proofs.Bits.{bit-flipped, bit-kept, bit-lt}
 use Rattle.paths.specs.Network.{Network, Path, links, hasLink, Exactly}
@@ -24,21 +24,19 @@ use Rattle.paths.proofs.Bound.{far-width}
 use Rattle.paths.proofs.CubeNetwork.{cube-nearing, cube-cubical}
 use Rattle.paths.proofs.Apart.{Apart, LaterApart, apart-below, onward-apart}
 
--- a hop where the list has nothing, or nothing but a
+-- a hop where the list has nothing, or nothing but a in front or at all
 hop-none : (l : List ℕ) (on : ℕ → Path) → ((x : ℕ) → x ∈ l → ⊥) → hop l on ≡ []
 unfolding hop
 hop-none [] on h = refl
 hop-none (x ∷ l) on h = absurd (h x (List·Memᴰ·head refl))
 
-hop-only : (a : ℕ) (l : List ℕ) (on : ℕ → Path) → a ∈ l → ((x : ℕ) → x ∈ l → x ≡ a) → hop l on ≡ a ∷ on a
-unfolding hop
-hop-only a [] on m h = absurd (List·Memᴰ·not-nil m)
-hop-only a (x ∷ l) on m h = rw (h x (List·Memᴰ·head refl))
-
 hop-front : (a : ℕ) (l r : List ℕ) (on : ℕ → Path) → a ∈ l → ((x : ℕ) → x ∈ l → x ≡ a) → hop (l ++ r) on ≡ a ∷ on a
 unfolding hop
 hop-front a [] r on m h = absurd (List·Memᴰ·not-nil m)
 hop-front a (x ∷ l) r on m h = rw (h x (List·Memᴰ·head refl))
+
+hop-only : (a : ℕ) (l : List ℕ) (on : ℕ → Path) → a ∈ l → ((x : ℕ) → x ∈ l → x ≡ a) → hop l on ≡ a ∷ on a
+hop-only a l on m h = rw (append-nil l) at (hop-front a l [] on m h)
 
 hop-all : (P : Path → Type 0) (l : List ℕ) (on : ℕ → Path) → P [] → ((p : ℕ) → p ∈ l → P (p ∷ on p)) → P (hop l on)
 unfolding hop
@@ -57,7 +55,7 @@ mem-drop p left {q} m h = mem-keep _ left m (ap not (ne-eqb q p h))
 first-hop : (N : Network) (ports : List ℕ) (own : ℕ → ℕ → Bool) (s b : ℕ) → b ∈ firstHops N ports own s → (b ∈ ports) × (own s b ≡ true)
 unfolding firstHops
 first-hop N ports own s b m =
-    keep-mem (own s) ports (⊎-elim (λ k. keep-mem (λ a. own (N .next s a) a) (keep (own s) ports) k .0) (λ k. k) (List·Memᴰ·append-cases (keep (λ a. own (N .next s a) a) (keep (own s) ports)) m))
+    keep-mem (own s) ports (all-append (_∈ keep (own s) ports) (keep (λ a. own (N .next s a) a) (keep (own s) ports)) (λ a k. keep-mem _ _ k .0) (λ a k. k) b m)
 
 -- a neighbour is another node
 moved : (s a : ℕ) → s ≡ flip s a → ⊥
@@ -196,44 +194,50 @@ path-determined S s t u w v o h e = sym (found t w o ((λ l i. i), (λ l i. i)))
     found : (t : ℕ) (x : Path) → Permitted (network S) s (from 0 (S .dimension)) t x → SameLinks (network S) s x w → trail S (hasLink (links (network S) s w)) s ≡ x
     found t x o e = trail-finds S _ s t x o record { all = λ m q i. link-true _ m q (e .0 (m, q) i); only = λ m q i. e .1 (m, q) (true-link _ m q i) }
 
--- Whatever it gives, its links are owned,
-hop-owned : (N : Network) (own : ℕ → ℕ → Bool) (n : ℕ) (l : List ℕ) (on : ℕ → Path) → ((p : ℕ) → p ∈ l → own n p ≡ true) → (m q : ℕ)
-    → ((p : ℕ) → On N (N .next n p) (on p) m q → own m q ≡ true) → On N n (hop l on) m q → own m q ≡ true
-hop-owned N own n l on h m q r =
-    hop-all (λ v. On N n v m q → own m q ≡ true) l on (λ i. absurd (on-none N n m q i))
-    (λ p i j. ⊎-elim (λ e. rw (e .0, e .1) (h p i)) (λ k. r p k) (on-cases N n p (on p) m q j))
-
-course-owned : (N : Network) (own : ℕ → ℕ → Bool) (k : ℕ) (left : List ℕ) (n m q : ℕ) → On N n (course k N left own n) m q → own m q ≡ true
+-- What holds of the empty path, and carries over from a path to the path with a port in front that was left and whose link is owned, holds
+-- of every course.
+course-all : (N : Network) (own : ℕ → ℕ → Bool) (P : List ℕ → ℕ → Path → Type 0) → ((left : List ℕ) (n : ℕ) → P left n [])
+    → ((left : List ℕ) (n p : ℕ) (w : Path) → p ∈ left → own n p ≡ true → P (dropPort p left) (N .next n p) w → P left n (p ∷ w)) → (k : ℕ) (left : List ℕ) (n : ℕ) → P left n (course k N left own n)
 unfolding course
-course-owned N own zero left n m q i = absurd (on-none N n m q i)
-course-owned N own (suc k) left n m q i =
-    hop-owned N own n _ _ (λ p j. keep-mem (own n) left j .1) m q (λ p. course-owned N own k (dropPort p left) (N .next n p) m q) i
+course-all N own P none more zero left n = none left n
+course-all N own P none more (suc k) left n =
+    hop-all (P left n) (keep (own n) left) _ (none left n) (λ p m. let i = keep-mem (own n) left m in more left n p _ (i .0) (i .1) (course-all N own P none more k (dropPort p left) (N .next n p)))
+
+-- So, whatever the trail gives, its links are owned,
+abbrev Owned : Network → (ℕ → ℕ → Bool) → ℕ → Path → Type 0
+Owned N own n w = (m q : ℕ) → On N n w m q → own m q ≡ true
+
+owned-none : (N : Network) (own : ℕ → ℕ → Bool) (n : ℕ) → Owned N own n []
+owned-none N own n m q i = absurd (on-none N n m q i)
+
+owned-more : (N : Network) (own : ℕ → ℕ → Bool) (n p : ℕ) (w : Path) → own n p ≡ true → Owned N own (N .next n p) w → Owned N own n (p ∷ w)
+owned-more N own n p w e rest m q i = ⊎-elim (λ here. rw (here .0, here .1) e) (rest m q) (on-cases N n p w m q i)
 
 pub trail-owned : (S : Shape) (own : ℕ → ℕ → Bool) (s m q : ℕ) → On (network S) s (trail S own s) m q → own m q ≡ true
 unfolding trail
-trail-owned S own s m q i =
-    hop-owned (network S) own s _ _ (λ b j. first-hop (network S) _ own s b j .1) m q (λ p. course-owned (network S) own (S .dimension) (from 0 (S .dimension)) (network S .next s p) m q) i
+trail-owned S own s =
+    hop-all (Owned N own s) _ _ (owned-none N own s)
+    (λ b i. owned-more N own s b _ (first-hop N _ own s b i .1) (course-all N own (λ left. Owned N own) (λ left. owned-none N own) (λ left n p w j. owned-more N own n p w) (S .dimension) (from 0 (S .dimension)) (N .next s b)))
+  where
+    N : Network
+    N = network S
 
--- and it is empty or its ports behind the first are no two alike.
-course-left : (N : Network) (own : ℕ → ℕ → Bool) (k : ℕ) (left : List ℕ) (n q : ℕ) → q ∈ course k N left own n → q ∈ left
-unfolding course
-course-left N own zero left n q m = absurd (List·Memᴰ·not-nil m)
-course-left N own (suc k) left n q m =
-    hop-all (λ v. q ∈ v → q ∈ left) (keep (own n) left) _ (λ i. absurd (List·Memᴰ·not-nil i))
-    (λ p i j. ⊎-elim (λ e. subst (λ r. r ∈ left) (sym e) (keep-mem (own n) left i .0)) (λ r. drop-mem p left (course-left N own k (dropPort p left) (N .next n p) q r) .0) (List·Memᴰ·cases-cons j)) m
-
-course-apart : (N : Network) (D : ℕ) (own : ℕ → ℕ → Bool) (k : ℕ) (left : List ℕ) (n : ℕ) → ((q : ℕ) → q ∈ left → q < D) → Apart D (course k N left own n)
-unfolding course Apart
-course-apart N D own zero left n h = tt
-course-apart N D own (suc k) left n h =
-    hop-all (Apart D) (keep (own n) left) _ tt
-    (λ p i. (h p (keep-mem (own n) left i .0), (λ m. drop-mem p left (course-left N own k (dropPort p left) (N .next n p) p m) .1 refl), course-apart N D own k (dropPort p left) (N .next n p) (λ q m. h q (drop-mem p left m .0))))
+-- and it is empty or its ports behind the first, which were all left, are no two alike.
+course-apart : (N : Network) (D : ℕ) (own : ℕ → ℕ → Bool) (k : ℕ) (left : List ℕ) (n : ℕ)
+    → ((q : ℕ) → q ∈ course k N left own n → q ∈ left) × (((q : ℕ) → q ∈ left → q < D) → Apart D (course k N left own n))
+unfolding Apart
+course-apart N D own =
+    course-all N own (λ left n w. ((q : ℕ) → q ∈ w → q ∈ left) × (((q : ℕ) → q ∈ left → q < D) → Apart D w)) (λ left n. ((λ q m. absurd (List·Memᴰ·not-nil m)), (λ below. tt)))
+    (λ left n p w i e rest. (
+      all-cons (_∈ left) i (λ q m. drop-mem p left (rest .0 q m) .0),
+      (λ below. (below p i, (λ m. drop-mem p left (rest .0 p m) .1 refl), rest .1 (λ q m. below q (drop-mem p left m .0)))),
+    ))
 
 pub trail-apart : (S : Shape) (own : ℕ → ℕ → Bool) (s : ℕ) → trail S own s ≢ [] → LaterApart (S .dimension) (trail S own s)
 unfolding trail LaterApart
 trail-apart S own s =
     hop-all (λ v. v ≢ [] → LaterApart (S .dimension) v) _ _ (λ e. absurd (e refl))
-    (λ b i e. (from-below (S .dimension) b (first-hop (network S) _ own s b i .0), course-apart (network S) (S .dimension) own (S .dimension) (from 0 (S .dimension)) (network S .next s b) (λ q m. from-below (S .dimension) q m)))
+    (λ b i e. (from-below (S .dimension) b (first-hop (network S) _ own s b i .0), course-apart (network S) (S .dimension) own (S .dimension) (from 0 (S .dimension)) (network S .next s b) .1 (from-below (S .dimension))))
 
 -- fewer ports are left where one was taken
 pub drop-shorter : (p : ℕ) (left : List ℕ) → p ∈ left → length (dropPort p left) < length left

@@ -1,9 +1,9 @@
 -- The recursive definitions say what document 01's sentences say of places in a path and of its links.
 -- Assumes nothing.
-use mathlib.Core.Path.{_≡_, refl, ap, sym}
+use mathlib.Core.Path.{_≡_, refl, ap, _∙_, subst}
 use mathlib.Core.Logic.{⊎-elim, _≢_, _↔_}
 use mathlib.Core.Bool.{Bool, true, false, cond, false≢true}
-use mathlib.Core.List.{List, [], _∷_, _++_, nil≢cons, cons≢nil, List·Memᴰ·head, List·Memᴰ·tail, List·Memᴰ·not-nil, List·Memᴰ·cases-cons, head-eq-of-cons-eq, tail-eq-of-cons-eq, Memᴰ·cast, Memᴰ·append-left, List·Memᴰ·append-cases, List·Memᴰ·eq-of-singleton}
+use mathlib.Core.List.{List, [], _∷_, _++_, cons≢nil, List·Memᴰ·head, List·Memᴰ·tail, List·Memᴰ·not-nil, List·Memᴰ·cases-cons, Memᴰ·append-left, List·Memᴰ·append-cases, List·Memᴰ·eq-of-singleton}
 use Prim.Native.Nat.{ℕ}
 use lib.Dec.{eqb}
 use borrow.Author.Tests.{eq-eqb, ne-eqb, eqb-true}
@@ -13,43 +13,47 @@ use Rattle.paths.specs.Network.{Network, Path, Link, link-free, link-hel
 use Rattle.paths.specs.Permitted.{Onward, Permitted, InWords, SameLinks}
 use Rattle.paths.proofs.Sentences.{onward-end}
 
--- each hop of a way on starts off the target and is offered there, and a path of such hops to the target is a way on
-hops : (N : Network) (t n : ℕ) (w : Path) → Onward N t n w → (u : Path) (q : ℕ) (v : Path) → w ≡ u ++ q ∷ v → (end N n u ≢ t) × (q ∈ offered N t (end N n u))
+-- the hop over q of a way on, wherever it stands, starts off the target and is offered there
+hop-of : (N : Network) (t n : ℕ) (u : Path) (q : ℕ) (v : Path) → Onward N t n (u ++ q ∷ v) → (end N n u ≢ t) × (q ∈ offered N t (end N n u))
 unfolding Onward end
-hops N t n [] o [] q v e = absurd (nil≢cons e)
-hops N t n [] o (x ∷ u) q v e = absurd (nil≢cons e)
-hops N t n (p ∷ w) o [] q v e = (o .0, Memᴰ·cast (sym (head-eq-of-cons-eq e)) (o .1))
-hops N t n (p ∷ w) o (x ∷ u) q v e = rw (← head-eq-of-cons-eq e) (hops N t (N .next n p) w (o .2) u q v (tail-eq-of-cons-eq e))
+hop-of N t n [] q v o = (o .0, o .1)
+hop-of N t n (p ∷ u) q v o = hop-of N t (N .next n p) u q v (o .2)
 
+-- a path to the target of such hops alone is a way on
 of-hops : (N : Network) (t n : ℕ) (w : Path) → ((u : Path) (q : ℕ) (v : Path) → w ≡ u ++ q ∷ v → (end N n u ≢ t) × (q ∈ offered N t (end N n u))) → end N n w ≡ t → Onward N t n w
 unfolding Onward end
-of-hops N t n [] h e = e
-of-hops N t n (p ∷ w) h e = (h [] p w refl .0, h [] p w refl .1, of-hops N t (N .next n p) w (λ u q v i. h (p ∷ u) q v (ap (p ∷_) i)) e)
+of-hops N t n [] each e = e
+of-hops N t n (p ∷ w) each e =
+    let here = each [] p w refl in (here .0, here .1, of-hops N t (N .next n p) w (λ u q v i. each (p ∷ u) q v (ap (p ∷_) i)) e)
 
 -- A permitted path is one of which document 01's sentences hold.
 pub permitted-in-words : (N : Network) (s : ℕ) (vector : List ℕ) (t : ℕ) (w : Path) → Permitted N s vector t w ↔ InWords N s vector t w
 unfolding Permitted end
-permitted-in-words N s vector t w = (there w, back w)
+permitted-in-words N s vector t w = (there w, back)
   where
+    later-hop : (u : Path) (q : ℕ) (v : Path) → u ≢ [] → Permitted N s vector t (u ++ q ∷ v) → (end N s u ≢ t) × (q ∈ offered N t (end N s u))
+    later-hop [] q v some o = absurd (some refl)
+    later-hop (p ∷ u) q v some o = hop-of N t (N .next s p) u q v (o .1)
+
     there : (w : Path) → Permitted N s vector t w → InWords N s vector t w
     there (p ∷ w) o =
         record {
           first = (p, (w, refl, o .0));
-          later = λ u q v h e. hop u q v h e .1;
-          not-before = λ u q v h e. hop u q v h e .0;
+          later = λ u q v some e. later-hop u q v some (subst (Permitted N s vector t) e o) .1;
+          not-before = λ u q v some e. later-hop u q v some (subst (Permitted N s vector t) e o) .0;
           arrives = onward-end N t (N .next s p) w (o .1);
         }
-      where
-        hop : (u : Path) (q : ℕ) (v : Path) → u ≢ [] → p ∷ w ≡ u ++ q ∷ v → (end N s u ≢ t) × (q ∈ offered N t (end N s u))
-        hop [] q v h e = absurd (h refl)
-        hop (x ∷ u) q v h e = rw (← head-eq-of-cons-eq e) (hops N t (N .next s p) w (o .1) u q v (tail-eq-of-cons-eq e))
 
-    back : (w : Path) → InWords N s vector t w → Permitted N s vector t w
-    back [] r = nil≢cons (r .first .1 .1)
-    back (p ∷ w) r = (
-      Memᴰ·cast (head-eq-of-cons-eq (r .first .1 .1)) (r .first .1 .2),
-      of-hops N t (N .next s p) w (λ u q v e. (r .not-before (p ∷ u) q v cons≢nil (ap (p ∷_) e), r .later (p ∷ u) q v cons≢nil (ap (p ∷_) e))) (r .arrives),
-    )
+    back : InWords N s vector t w → Permitted N s vector t w
+    back r =
+        let p : ℕ = r .first .0 in
+        let whole = r .first .1 .1 in
+        rw whole (
+          r .first .1 .2,
+          of-hops N t (N .next s p) (r .first .1 .0)
+              (λ u q v e. let place = whole ∙ ap (p ∷_) e in (r .not-before (p ∷ u) q v cons≢nil place, r .later (p ∷ u) q v cons≢nil place))
+              (rw whole at (r .arrives)),
+        )
 
 -- "A path is free if all its links are."
 pub free-links : (N : Network) (free : ℕ → ℕ → Bool) (n : ℕ) (w : Path) → (freePath N free n w ≡ true) ↔ ((l : Link) → l ∈ links N n w → free (l .0) (l .1) ≡ true)

@@ -9,20 +9,15 @@ use Rattle.cube.specs.Helical.{helical}
 use Rattle.paths.specs.Network.{Network, offered}
 use Rattle.paths.specs.Pass.{Pass, none, found}
 
--- a path found further on, with the hop before it
-unfoldable pub front : ℕ → Pass → Pass
-front p (none c) = none c
-front p (found w c) = found (p ∷ w) c
-
--- what was found, or else what comes of going on with the scouts sent by then
-unfoldable pub orElse : Pass → (ℕ → Pass) → Pass
-orElse (none c) more = more c
-orElse (found w c) more = found w c
+-- a hop over p: with it goes the path that the search behind it finds; where that finds none, the search goes on with the scouts sent by then
+unfoldable pub hopOr : ℕ → Pass → (ℕ → Pass) → Pass
+hopOr p (found w c) more = found (p ∷ w) c
+hopOr p (none c) more = more c
 
 -- the ports of a list in turn: `free p` says whether the link is free, `on p c` is the arrival behind it
 unfoldable pub trying : (ℕ → Bool) → (ℕ → ℕ → Pass) → List ℕ → ℕ → Pass
 trying free on [] c = none c
-trying free on (p ∷ ps) c = cond (free p) (orElse (front p (on p (suc c))) (trying free on ps)) (trying free on ps c)
+trying free on (p ∷ ps) c = cond (free p) (hopOr p (on p (suc c)) (trying free on ps)) (trying free on ps c)
 
 -- an arrival at n on port a: at the target, or on by the ports offered there, in the helical order
 unfoldable pub arriving : ℕ → Network → (ℕ → ℕ → Bool) → ℕ → ℕ → ℕ → ℕ → Pass

@@ -17,7 +17,7 @@ use Rattle.cube.proofs.Order.{helical-mem}
 use Rattle.paths.specs.Network.{Network, Path, offered, Nearing, isFree, linkState}
 use Rattle.paths.specs.Pass.{Pass, none, found, scouts}
 use Rattle.paths.specs.Send.{Receive, channel, all-held}
-use Rattle.paths.specs.Search.{front, orElse, trying, arriving, holding}
+use Rattle.paths.specs.Search.{hopOr, trying, arriving, holding}
 use Rattle.paths.proofs.Depth.{trying-cons}
 use Rattle.paths.proofs.Cone.{trying-same, holding-behind}
 use Rattle.table.specs.Layout.{Within, entryPlace, linkPart, wordAt, putWord, putEntry, putOwner, ownerAt, entryAt}
@@ -120,7 +120,7 @@ module _ (free : ℕ → Bool) (on : ℕ → ℕ → Pass) (b : List ℕ) (c n h
   pub port-busy : free p ≡ false → settle b c n h r (trying free on ps s) ≡ settle b c n h r (trying free on (p ∷ ps) s)
   port-busy e = ap (settle b c n h r) (sym (trying-cons free on p ps s ∙ (rw e)))
 
-  tried : free p ≡ true → trying free on (p ∷ ps) s ≡ orElse (front p (on p (suc s))) (trying free on ps)
+  tried : free p ≡ true → trying free on (p ∷ ps) s ≡ hopOr p (on p (suc s)) (trying free on ps)
   tried e = trying-cons free on p ps s ∙ (rw e)
 
   -- acknowledged: the answer stands, with the hop before its path
@@ -130,11 +130,11 @@ module _ (free : ℕ → Bool) (on : ℕ → ℕ → Pass) (b : List ℕ) (c n h
   port-acknowledged e k hops d b′ q = q ∙ go r (on p (suc s)) (ap refusedOf (sym q)) ∙ ap (settle b c n h r) (sym (tried e))
     where
       go : (r : Receive) (a : Pass) → refusedOf (settle (putOwner b n p c) c (next n p) (h + 1) r a) ≡ 0
-          → settle (putOwner b n p c) c (next n p) (h + 1) r a ≡ settle b c n h r (orElse (front p a) (trying free on ps))
+          → settle (putOwner b n p c) c (next n p) (h + 1) r a ≡ settle b c n h r (hopOr p a (trying free on ps))
       go r (none d) z = absurd (ten≢zero (unfold settle refusedOf in z))
       go all-held (found w d) z = absurd (eleven≢zero (unfold settle refusedOf in z))
       go (channel k) (found w d) z =
-          unfold settle orElse front hold in ap (λ x. settled 0 k x d (hold (putOwner b n p c) c (next n p) w)) (one-longer h p w)
+          unfold settle hopOr hold in ap (λ x. settled 0 k x d (hold (putOwner b n p c) c (next n p) w)) (one-longer h p w)
 
   -- receive rejected: the hop is given back, and no other port is tried
   pub port-receive-rejected : free p ≡ true → (k hops d : ℕ) (b′ : List ℕ) → settled 11 k hops d b′ ≡ settle (putOwner b n p c) c (next n p) (h + 1) r (on p (suc s))
@@ -143,10 +143,10 @@ module _ (free : ℕ → Bool) (on : ℕ → ℕ → Pass) (b : List ℕ) (c n h
       let g = go r (on p (suc s)) q in (g .0, g .1 ∙ ap (settle b c n h r) (sym (tried e)))
     where
       go : (r : Receive) (a : Pass) → settled 11 k hops d b′ ≡ settle (putOwner b n p c) c (next n p) (h + 1) r a
-          → (b′ ≡ putOwner b n p c) × (settled 11 k hops d b ≡ settle b c n h r (orElse (front p a) (trying free on ps)))
+          → (b′ ≡ putOwner b n p c) × (settled 11 k hops d b ≡ settle b c n h r (hopOr p a (trying free on ps)))
       go r (none d) z = absurd (ten≢eleven (sym (unfold settle refusedOf in ap refusedOf z)))
       go (channel k) (found w d) z = absurd (eleven≢zero (unfold settle refusedOf in ap refusedOf z))
-      go all-held (found w d) z = (unfold settle bytesOf in ap bytesOf z, unfold settle orElse front withBytes in ap (withBytes b) z)
+      go all-held (found w d) z = (unfold settle bytesOf in ap bytesOf z, unfold settle hopOr withBytes in ap (withBytes b) z)
 
   -- route rejected: the hop is given back, and the next port is tried with the scouts sent by then
   pub port-route-rejected : free p ≡ true → (k hops d : ℕ) (b′ : List ℕ) → settled 10 k hops d b′ ≡ settle (putOwner b n p c) c (next n p) (h + 1) r (on p (suc s))
@@ -155,8 +155,8 @@ module _ (free : ℕ → Bool) (on : ℕ → ℕ → Pass) (b : List ℕ) (c n h
       let g = go r (on p (suc s)) q in (g .0, ap (settle b c n h r) (g .1 ∙ sym (tried e)))
     where
       go : (r : Receive) (a : Pass) → settled 10 k hops d b′ ≡ settle (putOwner b n p c) c (next n p) (h + 1) r a
-          → (b′ ≡ putOwner b n p c) × (trying free on ps d ≡ orElse (front p a) (trying free on ps))
-      go r (none d) z = (unfold settle bytesOf in ap bytesOf z, unfold settle orElse front scoutsOf in ap (λ x. trying free on ps (scoutsOf x)) z)
+          → (b′ ≡ putOwner b n p c) × (trying free on ps d ≡ hopOr p a (trying free on ps))
+      go r (none d) z = (unfold settle bytesOf in ap bytesOf z, unfold settle hopOr scoutsOf in ap (λ x. trying free on ps (scoutsOf x)) z)
       go (channel k) (found w d) z = absurd (ten≢zero (unfold settle refusedOf in ap refusedOf z))
       go all-held (found w d) z = absurd (ten≢eleven (unfold settle refusedOf in ap refusedOf z))
 
