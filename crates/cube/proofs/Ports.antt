@@ -2,9 +2,9 @@
 -- Assumes nothing.
 use mathlib.Core.Path.{_≡_, refl, ap, _∙_}
 use mathlib.Core.Bool.{Bool, true, false, not, _&&_, and-true}
-use Prim.Native.Nat.{ℕ, zero, suc, _+_, _-_, _*_, _%_, _^_, _<_}
+use Prim.Native.Nat.{ℕ, zero, suc, _+_, _-_, _*_, _%_, _^_, _≤_, _<_}
 use native.Mathlib.Omega.{arith}
-use native.Mathlib.Nat.{one-mul}
+use native.Mathlib.Nat.{one-mul, lt-of-lt-of-le}
 use lib.Count.{trailingZeros}
 use lib.Dec.{eqb, lit<}
 use lib.Bits.{bitXor}
@@ -20,8 +20,19 @@ use Rattle.cube.proofs.Bits.{bit-lt, bit-xor, bit-flipped, bit-kept, ha
 pub port-bit : (w p : ℕ) → p < w → 1 * 2 ^ p % 2 ^ w ≡ 2 ^ p
 port-bit w p h = shl-exact 1 p w (lit< tt) (omega arith) ∙ one-mul (2 ^ p)
 
+-- a cube has at most 256 nodes, so that each of them is below 256
+pub most-nodes : {D : ℕ} → D ≤ 8 → 2 ^ D ≤ 256
+most-nodes {D} h = pow-mono {i = D} {j = 8} h
+
+pub below-256 : {D n : ℕ} → D ≤ 8 → n < 2 ^ D → n < 256
+below-256 h l = lt-of-lt-of-le l (most-nodes h)
+
+-- their count, where the dimension has another name
+pub count-of : {d e k : ℕ} → d ≡ e → k ≡ 2 ^ d → k ≡ 2 ^ e
+count-of q c = c ∙ ap (2 ^_) q
+
 pub node-count : (D : ℕ) → D < 9 → NodeCount D (1 * 2 ^ D % 65536)
-node-count D h = rw (port-bit 16 D (omega arith)) (record { value = refl; some = pow-pos D; most = pow-mono {i = D} {j = 8} (omega arith) })
+node-count D h = rw (port-bit 16 D (omega arith)) (record { value = refl; some = pow-pos D; most = most-nodes (omega arith) })
 
 -- the ports in which two nodes differ are the uphill ones
 digits : (x y : ℕ) → x < 2 → y < 2 → eqb (bitXor x y) 1 ≡ not (eqb x y)

@@ -8,11 +8,11 @@ use native.Mathlib.Omega.{arith}
 use native.Mathlib.Numerals.{one-add}
 use lib.Dec.{ltb, lit≤}
 use lib.ListN.{getD, replicate, length-replicate, getD-replicate, List·getD-append}
-use lib.Pow.{pow-mono}
 use borrow.Author.Tests.{ltb-true, ltb-false, le-ltb}
 use Rattle.common.proofs.Every.{at₂}
 use Rattle.cube.specs.Bits.{has}
 use Rattle.cube.proofs.Bits.{zero-has}
+use Rattle.cube.proofs.Ports.{most-nodes, below-256}
 use Rattle.table.specs.Layout.{inTable, dimensionAt, entryPlace, linkPart, receivePart, wordAt, enabledAt, entryAt, ownerAt, receiverAt, made}
 use Rattle.table.specs.View.{view, fresh}
 use Rattle.table.proofs.Entries.{within}
@@ -44,9 +44,6 @@ unfolding has
 ones D p h l = same-test _ _ (at₂ 9 8 (λ D p. Bool·beq (has (2 ^ D - 1) p) (ltb p D)) refl D p h l)
 
 module _ (D : ℕ) (h : D < 9) where
-  nodes : 2 ^ D ≤ 256
-  nodes = pow-mono {i = D} {j = 8} (omega arith)
-
   byte-of : (j : ℕ) → getD (made D) (suc j) 0 ≡ cond (ltb j (2 ^ D)) (2 ^ D - 1) 0
   unfolding made
   byte-of j = go (ltb j (2 ^ D)) refl
@@ -57,7 +54,7 @@ module _ (D : ℕ) (h : D < 9) where
 
   byte-zero : (j : ℕ) → 257 ≤ j → getD (made D) j 0 ≡ 0
   byte-zero zero l = absurd (omega arith)
-  byte-zero (suc j) l = byte-of j ∙ rw (le-ltb j (2 ^ D) (omega (arith, nodes)))
+  byte-zero (suc j) l = byte-of j ∙ rw (le-ltb j (2 ^ D) (omega (arith, most-nodes {D = D} (omega arith))))
 
   made-enabled : (n p : ℕ) → enabledAt (made D) n p ≡ ltb n (2 ^ D) && ltb p D
   unfolding enabledAt
@@ -69,7 +66,7 @@ module _ (D : ℕ) (h : D < 9) where
       go false e true f = sym (outside (ltb p D) refl)
         where
           outside : (z : Bool) → ltb p D ≡ z → z ≡ false
-          outside true g = absurd (true≢false (sym (within n p (omega (arith, ltb-true n (2 ^ D) f, nodes)) (omega (arith, ltb-true p D g))) ∙ e))
+          outside true g = absurd (true≢false (sym (within n p (below-256 {D = D} (omega arith) (ltb-true n (2 ^ D) f)) (omega (arith, ltb-true p D g))) ∙ e))
           outside false g = refl
       go false e false f = refl
 
