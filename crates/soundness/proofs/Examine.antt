@@ -1,6 +1,6 @@
 -- Looking at a circuit, and the tests of one entry, as the code's branches meet them.
 -- Assumes nothing.
-use mathlib.Core.Path.{_≡_, refl, ap, ap₂, sym, _∙_, subst}
+use mathlib.Core.Path.{_≡_, refl, ap, ap₂, sym, _∙_}
 use mathlib.Core.Logic.{⊎-elim, _≢_}
 use mathlib.Core.Bool.{Bool, true, false, _&&_, _||_, not, and-false, and-true, and-comm, or-assoc}
 use mathlib.Core.List.{List, [], _∷_, List·Memᴰ·not-nil}
@@ -18,6 +18,7 @@ use Rattle.cube.specs.Bits.{has}
 use Rattle.cube.specs.Cube.{NodeCount, next, sourceOf}
 use Rattle.cube.specs.Helical.{portsOf}
 use Rattle.cube.proofs.Bits.{has-and, zero-has, no-ports}
+use Rattle.cube.proofs.Ports.{count-of}
 use Rattle.paths.specs.Network.{Path, end, links, hasLink}
 use Rattle.paths.specs.CubeNetwork.{network}
 use Rattle.paths.specs.Trail.{hop, course, firstHops, trail}
@@ -30,7 +31,7 @@ use Rattle.soundness.specs.Marks.{marked, marking, Adds}
 use Rattle.soundness.specs.Follow.{takes, followed, firstHop, Follows, HasSource}
 use Rattle.common.proofs.Tests.{below-or, clash, both}
 use Rattle.soundness.proofs.Soundness.{Framed, kept-one}
-use Rattle.soundness.proofs.Marks.{mark-one, marked-is, received-free, received-one, received-yes, received-no}
+use Rattle.soundness.proofs.Marks.{mark-one, here, marked-is, received-free, received-one, received-yes, received-no}
 use Rattle.table.proofs.Made.{ones}
 use Rattle.soundness.proofs.Follow.{first-none, first-is, hop-port, first-single, first-there, first-nowhere}
 
@@ -109,14 +110,11 @@ module _ (v : View) (h : v .dimension < 9) (c : ℕ) where
 
 -- the same, of the numbers that the code has: the dimension, the count of nodes and the source
 module _ (v : View) (c D nodes : ℕ) (d : D ≡ v .dimension) (h : D < 9) (m : nodes ≡ 2 ^ D) where
-  counted : nodes ≡ 2 ^ v .dimension
-  counted = m ∙ ap (2 ^_) d
-
   below : v .dimension < 9
   below = omega arith
 
   every-port : (s a : ℕ) → s ≡ sourceOf c → a ≡ firstHop v c s (nodes - 1) → a ≡ firstHop v c (sourceOf c) (allPorts v)
-  every-port s a q e = e ∙ ap₂ (firstHop v c) q (ap (_- 1) counted)
+  every-port s a q e = e ∙ ap₂ (firstHop v c) q (ap (_- 1) (count-of d m))
 
   -- whether it is open is told by its first hop
   pub opened : (s a : ℕ) → s ≡ sourceOf c → a ≡ firstHop v c s (nodes - 1) → ltb a 8 ≡ not (isEmpty (pathOf v c))
@@ -130,21 +128,21 @@ module _ (v : View) (c D nodes : ℕ) (d : D ≡ v .dimension) (h : D < 9) (m : 
   -- and its path is that hop and what is followed behind it
   pub path-behind : (s a start : ℕ) → s ≡ sourceOf c → a ≡ firstHop v c s (nodes - 1) → a < 8 → start ≡ next s a → pathOf v c ≡ a ∷ followed v c start (nodes - 1)
   path-behind s a start q e g to =
-      path-first v below c a (every-port s a q e) g ∙ ap (a ∷_) (ap₂ (followed v c) (sym (to ∙ ap (λ x. next x a) q)) (sym (ap (_- 1) counted)))
+      path-first v below c a (every-port s a q e) g ∙ ap (a ∷_) (ap₂ (followed v c) (sym (to ∙ ap (λ x. next x a) q)) (sym (ap (_- 1) (count-of d m))))
 
   pub looked-large : (n : ℕ) (before after : List ℕ) → 8 * nodes < c → Reached v c n before after false
-  looked-large n before after l = reached-large v below c n before after (omega (arith, counted))
+  looked-large n before after l = reached-large v below c n before after (omega (arith, count-of d m))
 
   pub looked-none : (n s a : ℕ) (before after : List ℕ) → s ≡ sourceOf c → c ≤ 8 * nodes → a ≡ firstHop v c s (nodes - 1) → 8 ≤ a → Reached v c n before after false
-  looked-none n s a before after q l e g = reached-none v below c n a before after (omega (arith, counted)) (every-port s a q e) g
+  looked-none n s a before after q l e g = reached-none v below c n a before after (omega (arith, count-of d m)) (every-port s a q e) g
 
   module _ (s a start at : ℕ) (m₀ m₁ m₂ : List ℕ) (q : s ≡ sourceOf c) (e : a ≡ firstHop v c s (nodes - 1)) (g : a < 8) (to : start ≡ next s a) (f : Follows v c start (nodes - 1) m₁ m₂ at) where
     on-all : Follows v c (next (sourceOf c) a) (allPorts v) m₁ m₂ at
-    on-all = mathlib.Core.Path.transport (ap₂ (λ x y. Follows v c x y m₁ m₂ at) (to ∙ ap (λ x. next x a) q) (ap (_- 1) counted)) f
+    on-all = mathlib.Core.Path.transport (ap₂ (λ x y. Follows v c x y m₁ m₂ at) (to ∙ ap (λ x. next x a) q) (ap (_- 1) (count-of d m))) f
 
     pub looked-here : (n count : ℕ) → c ≤ 8 * nodes → s < 256 → length m₀ ≡ 256 → m₁ ≡ marking m₀ s a → n ≡ at → count ≡ channelsHeld v c at → Reached v c n m₀ m₂ (eqb count 1)
     looked-here n count l small size mark here k =
-        reached-here v below c a at m₀ m₁ m₂ (every-port s a q e) g on-all n count (omega (arith, counted)) here k
+        reached-here v below c a at m₀ m₁ m₂ (every-port s a q e) g on-all n count (omega (arith, count-of d m)) here k
         record { adds = λ x y h i. ap (λ m. marked m x y) mark ∙ mark-one m₀ s a x y size small ∙ ap (λ z. marked m₀ x y || (eqb x z && eqb y a)) q }
 
     pub looked-elsewhere : (n : ℕ) → n ≢ at → Reached v c n m₀ m₂ false
@@ -207,7 +205,7 @@ opened-vector b c D nodes s held d h m q f = hop-there b c s (nodes - 1) held f 
 -- a circuit's source is a node within the bytes
 pub source-within : (b : List ℕ) (c D nodes s : ℕ) → HasSource b c → D ≡ dimensionAt b → NodeCount D nodes → s ≡ sourceOf c → Within b s 0
 source-within b c D nodes s known d m q =
-    record { bytes = known .bytes; node = omega (arith, known .source, m .value, m .most, ap (2 ^_) d); port = lit< tt }
+    record { bytes = known .bytes; node = omega (arith, known .source, m .most, count-of d (m .value)); port = lit< tt }
 
 -- the test of one link, branch by branch: d is the dimension, c the circuit that holds the link, b whether the cube has the link
 module _ (v : View) (n p D c : ℕ) (b : Bool) (d : D ≡ v .dimension) (held : c ≡ v .owner n p) (q : b ≡ (ltb n (2 ^ D) && ltb p D)) where
@@ -254,11 +252,8 @@ module _ (v : View) (n k D c nodes : ℕ) (d : D ≡ v .dimension) (held : c ≡
   pub channel-free : (m : List ℕ) → c ≡ 0 → Receives v n (n + 1) k (k + 1) m m true
   channel-free m z =
       received-yes v n (n + 1) k (k + 1) m m (received-free v m n (n + 1) k (k + 1)
-      (λ a b i. here a b i (λ x y. receiveTest v x y ≡ true) free) (λ a b i. here a b i (λ x y. v .receiver x y ≡ 0) (sym held ∙ z)))
+      (λ a b i. here i (λ x y. receiveTest v x y ≡ true) free) (λ a b i. here i (λ x y. v .receiver x y ≡ 0) (sym held ∙ z)))
     where
-      here : (a b : ℕ) → (n ≤ a) × (a < n + 1) × (k ≤ b) × (b < k + 1) → (P : ℕ → ℕ → Type 0) → P n k → P a b
-      here a b i P x = let e : n ≡ a = omega arith in let f : k ≡ b = omega arith in subst (λ (y : ℕ). P y b) e (subst (λ (y : ℕ). P n y) f x)
-
       free : receiveTest v n k ≡ true
       free = ⊎-elim (λ l. sym (receive-free l z)) (λ l. sym (receive-absent l) ∙ eq-eqb c 0 z) (below-or nodes n)
 

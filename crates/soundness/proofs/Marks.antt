@@ -2,13 +2,13 @@
 -- Assumes nothing.
 use mathlib.Core.Path.{_≡_, refl, ap, sym, _∙_, subst}
 use mathlib.Core.Logic.{_⊎_, inl, inr, ⊎-elim, _≢_}
-use mathlib.Core.Bool.{Bool, true, false, _&&_, _||_, not, and-false, or-false, false≢true}
+use mathlib.Core.Bool.{Bool, true, false, _&&_, _||_, and-false, or-false, false≢true}
 use mathlib.Core.List.{List}
 use Prim.Native.Nat.{ℕ, _+_, _*_, _%_, _^_, _≤_, _<_}
 use native.Mathlib.Omega.{arith}
 use native.Mathlib.Nat.{mod-eq-of-lt}
 use lib.Bits.{bitOr}
-use lib.Dec.{eqb, leb}
+use lib.Dec.{eqb}
 use lib.ListN.{length, getD, set, replicate, getD-replicate, length-set}
 use lib.Seq.{getD-set-same, getD-set-other}
 use borrow.Author.Tests.{eqb-true, eq-eqb, ne-eqb}
@@ -20,11 +20,11 @@ use Rattle.cube.proofs.Ports.{port-bit}
 use Rattle.paths.specs.Network.{links}
 use Rattle.paths.proofs.Links.{On, true-link}
 use Rattle.paths.proofs.Trail.{trail-owned}
-use Rattle.table.specs.View.{View, channelsHeld}
+use Rattle.table.specs.View.{View}
 use Rattle.soundness.specs.Sound.{shapeOf, net, heldBy, endFor}
 use Rattle.soundness.specs.Marks.{marked, marking, Adds}
-use Rattle.soundness.specs.SoundTest.{pathOf, isEmpty, reaches, receiveTest, passes, ReceivesPass, Fair, Covers, Received, Receives, PathsMarked}
-use Rattle.soundness.proofs.Soundness.{Framed, kept-one}
+use Rattle.soundness.specs.SoundTest.{pathOf, reaches, receiveTest, passes, ReceivesPass, Fair, Covers, Received, Receives, PathsMarked}
+use Rattle.soundness.proofs.Soundness.{Framed, reach-facts}
 
 -- one link marked
 pub mark-one : (m : List ℕ) (n q a b : ℕ) → length m ≡ 256 → n < 256 → marked (marking m n q) a b ≡ (marked m a b || (eqb a n && eqb b q))
@@ -59,6 +59,10 @@ no-marks v n p h l e = absurd (clash e (ap (λ x. has x p) (getD-replicate 256 n
 abbrev In : ℕ → ℕ → ℕ → ℕ → ℕ → ℕ → Type 0
 In n₀ n₁ k₀ k₁ n k = (n₀ ≤ n) × (n < n₁) × (k₀ ≤ k) × (k < k₁)
 
+-- in a block of one entry: it is that one
+pub here : {n k a b : ℕ} → In n (n + 1) k (k + 1) a b → (P : ℕ → ℕ → Type 0) → P n k → P a b
+here {n} {k} {a} {b} i P x = let e : n ≡ a = omega arith in let f : k ≡ b = omega arith in subst (λ (y : ℕ). P y b) e (subst (λ (y : ℕ). P n y) f x)
+
 module _ (v : View) (m : List ℕ) where
   -- receive channels that nobody holds leave the marks as they are
   pub received-free : (n₀ n₁ k₀ k₁ : ℕ) → ((n k : ℕ) → In n₀ n₁ k₀ k₁ n k → receiveTest v n k ≡ true) → ((n k : ℕ) → In n₀ n₁ k₀ k₁ n k → v .receiver n k ≡ 0) → Received v n₀ n₁ k₀ k₁ m m
@@ -74,15 +78,12 @@ module _ (v : View) (m : List ℕ) where
   pub received-one : (c n k : ℕ) (after : List ℕ) → c ≡ v .receiver n k → receiveTest v n k ≡ true → reaches v c ≡ true → Adds (passes v c) m after → Received v n (n + 1) k (k + 1) m after
   received-one c n k after held t s adds =
       record {
-        pass = unfold ReceivesPass in λ a b g h i j. here a b g h i j (λ x y. receiveTest v x y ≡ true) t;
-        covers = λ a b g h i j. here a b g h i j (λ x y. Covers v x y after) covered;
+        pass = unfold ReceivesPass in λ a b g h i j. here (g, h, i, j) (λ x y. receiveTest v x y ≡ true) t;
+        covers = λ a b g h i j. here (g, h, i, j) (λ x y. Covers v x y after) covered;
         kept = λ a b h l e. adds .adds a b h l ∙ or-left (passes v c a b) e;
         fair = unfold Fair in λ f a b h l e. ⊎-elim (λ x. f a b h l x) (λ x. (c, s, x)) (either (marked m a b) (passes v c a b) (sym (adds .adds a b h l) ∙ e));
       }
     where
-      here : (a b : ℕ) → n ≤ a → a < n + 1 → k ≤ b → b < k + 1 → (P : ℕ → ℕ → Type 0) → P n k → P a b
-      here a b g h i j P x = let e : n ≡ a = omega arith in let f : k ≡ b = omega arith in subst (λ (y : ℕ). P y b) e (subst (λ (y : ℕ). P n y) f x)
-
       covered : Covers v n k after
       covered = unfold Covers in λ z a b h l e. adds .adds a b h l ∙ or-right (marked m a b) (ap (λ x. passes v x a b) held ∙ e)
 
@@ -130,16 +131,13 @@ paths-marked v m size r = record { size = size; fair = r .fair (no-marks v); cov
 -- a held link is marked where its circuit passes it
 module _ (v : View) (m : List ℕ) (framed : Framed v) (marks : PathsMarked v m) (n p : ℕ) (h : n < 256) (l : p < 8) (held : v .owner n p ≢ 0) where
   found : reaches v (v .owner n p) ≡ true → passes v (v .owner n p) n p ≡ true → marked m n p ≡ true
-  unfolding reaches channelsHeld Covers
+  unfolding Covers
   found s t =
       let c = v .owner n p in
-      let w = pathOf v c in
-      let a = both (leb c (8 * 2 ^ v .dimension)) _ s in
-      let b = both (not (isEmpty w)) _ (a .1) in
-      let j = kept-one (λ k. eqb (v .receiver (endFor v c w) k) c) (eqb-true _ 1 (b .1)) in
-      let e : v .receiver (endFor v c w) (j .0) ≡ c = eqb-true _ c (j .2) in
-      let small : endFor v c w < 256 = ⊎-elim (λ x. x) (λ x. absurd (held (sym e ∙ framed .no-receive (endFor v c w) (j .0) (λ z. absurd (omega (arith, z .0, x)))))) (below-or 256 (endFor v c w)) in
-      marks .covers (endFor v c w) (j .0) small (j .1) (λ z. held (sym e ∙ z)) n p h l (ap (λ x. passes v x n p) e ∙ t)
+      let at = endFor v c (pathOf v c) in
+      let r = reach-facts v c s in
+      let inside : at < 256 = ⊎-elim (λ x. x) (λ x. absurd (held (sym (r .receives) ∙ framed .no-receive at (r .channel) (λ z. absurd (omega (arith, z .0, x)))))) (below-or 256 at) in
+      marks .covers at (r .channel) inside (r .small) (λ z. held (sym (r .receives) ∙ z)) n p h l (ap (λ x. passes v x n p) (r .receives) ∙ t)
 
   owned : (c : ℕ) → passes v c n p ≡ true → c ≡ v .owner n p
   unfolding passes pathOf On

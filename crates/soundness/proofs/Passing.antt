@@ -1,9 +1,9 @@
 -- The test of a whole table from the tests of its nodes, and what its answer says.
 -- Assumes nothing.
-use mathlib.Core.Path.{_≡_, refl, sym, _∙_}
-use mathlib.Core.Bool.{Bool, true, false, cond, _&&_, not, and-false, and-eq-true-iff}
+use mathlib.Core.Path.{_≡_, refl, sym, _∙_, subst}
+use mathlib.Core.Bool.{Bool, true, false, cond, _&&_, not, and-false}
 use mathlib.Core.List.{List, [], _∷_}
-use mathlib.Core.Logic.{_≢_, ⊎-elim}
+use mathlib.Core.Logic.{_⊎_, inl, inr, _≢_, ⊎-elim}
 use Prim.Native.Nat.{ℕ, _^_, _≤_, _<_}
 use native.Mathlib.Omega.{arith}
 use lib.Dec.{ltb, leb}
@@ -11,7 +11,7 @@ use lib.ListN.{length}
 use borrow.Author.Tests.{ltb-true, ltb-false, eq-eqb, ne-eqb, le-leb, lt-leb}
 use Rattle.common.specs.Decides.{Decides}
 use Rattle.common.specs.Tests.{refusal, test}
-use Rattle.common.proofs.Tests.{below-or, clash, is-false, both-below, refused, passed, accepted}
+use Rattle.common.proofs.Tests.{same?, below-or, clash, is-false, both, and, both-below, refused, passed, accepted}
 use Rattle.common.specs.Lists.{every}
 use Rattle.common.proofs.Every.{at, all}
 use Rattle.cube.specs.Bits.{has}
@@ -71,15 +71,14 @@ module _ (v : View) where
   pub all-pass : LinksPass v 0 256 0 8 → ReceivesPass v 0 256 0 8 → true ≡ soundTest v
   unfolding soundTest LinksPass ReceivesPass
   all-pass f g = sym (all 256 (λ n. every 8 (linkTest v n) && every 8 (receiveTest v n)) (λ n l.
-      and-eq-true-iff (every 8 (linkTest v n)) (every 8 (receiveTest v n)) .1
-      (all 8 (linkTest v n) (λ p h. f n p (omega arith) l (omega arith) h), all 8 (receiveTest v n) (λ k h. g n k (omega arith) l (omega arith) h))))
+      and (all 8 (linkTest v n) (λ p h. f n p (omega arith) l (omega arith) h)) (all 8 (receiveTest v n) (λ k h. g n k (omega arith) l (omega arith) h))))
 
   pass-all : soundTest v ≡ true → LinksPass v 0 256 0 8 × ReceivesPass v 0 256 0 8
   unfolding soundTest LinksPass ReceivesPass
   pass-all t = (λ n p g l h i. at 8 (linkTest v n) (node n l .0) p i, λ n k g l h i. at 8 (receiveTest v n) (node n l .1) k i)
     where
       node : (n : ℕ) → n < 256 → (every 8 (linkTest v n) ≡ true) × (every 8 (receiveTest v n) ≡ true)
-      node n l = and-eq-true-iff (every 8 (linkTest v n)) (every 8 (receiveTest v n)) .0 (at 256 (λ n. every 8 (linkTest v n) && every 8 (receiveTest v n)) t n l)
+      node n l = both (every 8 (linkTest v n)) (every 8 (receiveTest v n)) (at 256 (λ n. every 8 (linkTest v n) && every 8 (receiveTest v n)) t n l)
 
   pub some-fails : (LinksPass v 0 256 0 8 × ReceivesPass v 0 256 0 8 → ⊥) → false ≡ soundTest v
   some-fails h = sym (is-false (soundTest v) (λ t. h (pass-all t)))
@@ -146,3 +145,18 @@ module _ (b : List ℕ) where
 
     pub usable : soundTest (view b) ≡ true → TableAnswer b 0
     usable e = record { tests = sym (third ∙ passed 3 _ (rw e) ∙ accepted); sound = λ z. decided b h .holds e; not-sound = λ z. absurd (omega arith) }
+
+  -- and what the first test that applies says, whichever it is
+  pub answers : TableAnswer b (refusal (tableTests b))
+  answers = go (same? (length b) tableLength) (below-or 1 (dimensionAt b)) (below-or 9 (dimensionAt b)) (soundTest (view b)) refl
+    where
+      settled : {n : ℕ} → TableAnswer b n → TableAnswer b (refusal (tableTests b))
+      settled a = subst (TableAnswer b) (a .tests) a
+
+      go : (length b ≡ tableLength) ⊎ (length b ≢ tableLength) → (dimensionAt b < 1) ⊎ (1 ≤ dimensionAt b) → (dimensionAt b < 9) ⊎ (9 ≤ dimensionAt b)
+          → (x : Bool) → soundTest (view b) ≡ x → TableAnswer b (refusal (tableTests b))
+      go (inr f) d m x e = settled (wrong-length f)
+      go (inl l) (inl d) m x e = settled (no-dimension l d)
+      go (inl l) (inr d) (inr m) x e = settled (large-dimension l d (omega arith))
+      go (inl l) (inr d) (inl m) false e = settled (not-sound l d (omega arith) e)
+      go (inl l) (inr d) (inl m) true e = settled (usable l d (omega arith) e)

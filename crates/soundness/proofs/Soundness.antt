@@ -8,13 +8,13 @@ use Prim.Native.Nat.{ℕ, _*_, _^_, _≤_, _<_}
 use native.Mathlib.Omega.{arith}
 use lib.Dec.{eqb, ltb, leb}
 use lib.ListN.{length}
-use lib.Pow.{pow-mono}
 use borrow.Author.Tests.{eqb-true, eq-eqb, not-true, ltb-true, lt-ltb, leb-true, le-leb}
 use Rattle.common.specs.Lists.{_∈_, keep, from, Sorted}
 use Rattle.common.proofs.Tests.{same?, clash, is-false, both-below, both, and, either, or-left, or-right}
 use Rattle.common.proofs.Every.{decide₂}
 use Rattle.common.proofs.Lists.{keep-mem, mem-keep, keep-sorted, from-mem, mem-from, from-sorted, from-below, below-from}
 use Rattle.cube.specs.Cube.{sourceOf}
+use Rattle.cube.proofs.Ports.{most-nodes}
 use Rattle.paths.specs.Network.{Network, Path, links}
 use Rattle.paths.specs.Permitted.{Permitted}
 use Rattle.paths.proofs.Links.{On, link-true, true-link}
@@ -132,6 +132,23 @@ module _ (v : View) where
   pub sound-entries : Sound v → EntriesPass v
   sound-entries sound = record { links-pass = λ n p h l. sound-link sound n p; receives-pass = λ n k h l. sound-receive sound n k }
 
+  -- what it says that a number reaches its end: it is in range, its path is not empty, and it holds one receive channel there
+  pub record ReachFacts (c : ℕ) : Type 0 where
+    pub in-range : c ≤ 8 * 2 ^ v .dimension
+    pub some : not (isEmpty (pathOf v c)) ≡ true
+    pub channel : ℕ
+    pub small : channel < 8
+    pub receives : v .receiver (endFor v c (pathOf v c)) channel ≡ c
+    pub once : (k : ℕ) → k < 8 → v .receiver (endFor v c (pathOf v c)) k ≡ c → k ≡ channel
+
+  pub reach-facts : (c : ℕ) → reaches v c ≡ true → ReachFacts c
+  unfolding reaches channelsHeld
+  reach-facts c e =
+      let a = both (leb c (8 * 2 ^ v .dimension)) _ e in
+      let b = both (not (isEmpty (pathOf v c))) _ (a .1) in
+      let j = kept-one (λ k. eqb (v .receiver (endFor v c (pathOf v c)) k) c) (eqb-true _ 1 (b .1)) in
+      record { in-range = leb-true c _ (a .0); some = b .0; channel = j .0; small = j .1; receives = eqb-true _ c (j .2); once = λ k l x. j .3 k l (eq-eqb _ c x) }
+
   -- what the test of a held entry says
   record LinkFacts (n p : ℕ) : Type 0 where
     there : (n < 2 ^ v .dimension) × (p < v .dimension)
@@ -179,15 +196,11 @@ module _ (v : View) where
   module _ (links-pass : (n p : ℕ) → linkTest v n p ≡ true) (receives-pass : (n k : ℕ) → receiveTest v n k ≡ true) (framed : Framed v) where
     -- a number that passes the test stands
     passes-stands : (c : ℕ) → c ≢ 0 → reaches v c ≡ true → Stands v c
-    unfolding reaches channelsHeld
     passes-stands c h e =
-        let w = pathOf v c in
-        let a = both (leb c (8 * 2 ^ v .dimension)) _ e in
-        let b = both (not (isEmpty w)) _ (a .1) in
-        let j = kept-one (λ k. eqb (v .receiver (endFor v c w) k) c) (eqb-true _ 1 (b .1)) in
+        let r = reach-facts c e in
         record {
-          path = w;
-          permitted = apart-permitted (shapeOf v) (sourceOf c) w (unfold pathOf in trail-apart (shapeOf v) (heldBy v c) (sourceOf c) (not-empty w (b .0)));
+          path = pathOf v c;
+          permitted = apart-permitted (shapeOf v) (sourceOf c) (pathOf v c) (unfold pathOf in trail-apart (shapeOf v) (heldBy v c) (sourceOf c) (not-empty (pathOf v c) (r .some)));
           exactly =
               record {
                 all = λ m q o. unfold pathOf On in trail-owned (shapeOf v) (heldBy v c) (sourceOf c) m q o;
@@ -195,21 +208,14 @@ module _ (v : View) where
                     let x : v .owner m q ≡ c = eqb-true _ c o in
                     subst (λ (d : ℕ). (m, q) ∈ links (net v) (sourceOf d) (pathOf v d)) x (link-facts m q (links-pass m q) (λ z. h (sym x ∙ z)) .passed);
               };
-          channel = j .0;
-          small = j .1;
-          receives = eqb-true _ c (j .2);
-          once = λ n k x. at-end w (j .0) (j .3) n k x;
+          channel = r .channel;
+          small = r .small;
+          receives = r .receives;
+          once = λ n k x.
+              let f = receive-facts n k (receives-pass n k) (λ z. h (sym x ∙ z)) in
+              let at : n ≡ endFor v c (pathOf v c) = subst (λ (d : ℕ). n ≡ endFor v d (pathOf v d)) x (f .ends) in
+              (at, r .once k (⊎-elim (λ i. i .1) (λ i. absurd (h (sym x ∙ framed .no-receive n k i))) (placed n k)) (subst (λ (m : ℕ). v .receiver m k ≡ c) at x));
         }
-      where
-        at-end : (w : Path) (r : ℕ) → ((i : ℕ) → i < 8 → eqb (v .receiver (endFor v c (pathOf v c)) i) c ≡ true → i ≡ r) → (n k : ℕ) → v .receiver n k ≡ c → (n ≡ endFor v c (pathOf v c)) × (k ≡ r)
-        at-end w r one n k x =
-            let f = receive-facts n k (receives-pass n k) (λ z. h (sym x ∙ z)) in
-            let at : n ≡ endFor v c (pathOf v c) = subst (λ (d : ℕ). n ≡ endFor v d (pathOf v d)) x (f .ends) in
-            (at, one k (⊎-elim (λ i. i .1) (λ i. absurd (h (sym x ∙ framed .no-receive n k i))) (placed n k)) (eq-eqb _ c (subst (λ (m : ℕ). v .receiver m k ≡ c) at x)))
-
-    number-small : (c : ℕ) → reaches v c ≡ true → c ≤ 8 * 2 ^ v .dimension
-    unfolding reaches
-    number-small c e = leb-true c _ (both (leb c (8 * 2 ^ v .dimension)) _ e .0)
 
     numbers-stand : (c : ℕ) → c ≢ 0 → Nowhere v c ⊎ Stands v c
     numbers-stand c h = go (decide₂ 256 8 (λ n p. eqb (v .owner n p) c)) (decide₂ 256 8 (λ n k. eqb (v .receiver n k) c))
@@ -236,8 +242,8 @@ module _ (v : View) where
           absent-link = λ n p h. link-absent n p (links-pass n p) h;
           absent-receive = λ n k h. receive-absent n k (receives-pass n k) h;
           held-enabled = λ n p h. link-facts n p (links-pass n p) h .on;
-          link-number = λ n p. ⊎-elim (λ z. omega arith) (λ h. number-small _ (link-facts n p (links-pass n p) h .stands)) (same? (v .owner n p) 0);
-          receive-number = λ n k. ⊎-elim (λ z. omega arith) (λ h. number-small _ (receive-facts n k (receives-pass n k) h .stands)) (same? (v .receiver n k) 0);
+          link-number = λ n p. ⊎-elim (λ z. omega arith) (λ h. reach-facts _ (link-facts n p (links-pass n p) h .stands) .in-range) (same? (v .owner n p) 0);
+          receive-number = λ n k. ⊎-elim (λ z. omega arith) (λ h. reach-facts _ (receive-facts n k (receives-pass n k) h .stands) .in-range) (same? (v .receiver n k) 0);
           numbers = numbers-stand;
         }
 
@@ -245,11 +251,8 @@ module _ (v : View) where
   pub entries-sound : v .dimension ≤ 8 → Framed v → EntriesPass v → Sound v
   entries-sound fits framed pass = passes-sound links receives framed
     where
-      nodes : 2 ^ v .dimension ≤ 256
-      nodes = pow-mono {i = v .dimension} {j = 8} fits
-
       links : (n p : ℕ) → linkTest v n p ≡ true
-      links n p = ⊎-elim (λ i. pass .links-pass n p (i .0) (i .1)) (λ o. absent-passes n p (λ i. o (omega (arith, nodes))) (framed .no-link n p o)) (placed n p)
+      links n p = ⊎-elim (λ i. pass .links-pass n p (i .0) (i .1)) (λ o. absent-passes n p (λ i. o (omega (arith, most-nodes fits))) (framed .no-link n p o)) (placed n p)
 
       receives : (n k : ℕ) → receiveTest v n k ≡ true
       receives n k = ⊎-elim (λ i. pass .receives-pass n k (i .0) (i .1)) (λ o. outside (framed .no-receive n k o) (ltb n (2 ^ v .dimension)) refl) (placed n k)
