@@ -38,8 +38,8 @@ is-below n m h = ap not (lt-ltb n m h)
 channel-is : (c : ℕ) → c < 8 → ltb 7 c ≡ false
 channel-is c h = le-ltb 7 c (omega (arith, h))
 
-channel-below : (c : ℕ) → ltb 7 c ≡ false → c < 8
-channel-below c e = let h = ltb-false 7 c e in omega arith
+pub channel-small : (c : ℕ) → ltb 7 c ≡ false → c < 8
+channel-small c e = let h = ltb-false 7 c e in omega arith
 
 pub allowed : (a : Asked) (x : Call) → refusal (callTests a x) ≡ 0 → Allowed a x
 unfolding callTests Allowed
@@ -63,18 +63,18 @@ allowed a (opening s c t y v) e =
     let x₅ = first-passed _ 9 _ (λ z. omega arith) (x₄ .1) in
     let ends = neither (not (ltb s (2 ^ a .dimension))) _ (x₁ .0) in
     let vector = neither (eqb v 0) _ (x₄ .0) in
-    (below s _ (ends .0), below t _ (ends .1), channel-below c (x₂ .0), eqb-false v 0 (vector .0), λ p l. high-has _ v p (below v _ (vector .1)) l, x₅ .0, a-type y (x₃ .0))
+    (below s _ (ends .0), below t _ (ends .1), channel-small c (x₂ .0), eqb-false v 0 (vector .0), λ p l. high-has _ v p (below v _ (vector .1)) l, x₅ .0, a-type y (x₃ .0))
 allowed a (closing s c) e =
     let x = first-passed _ 4 _ (λ z. omega arith) e in
     let y = first-passed _ 5 _ (λ z. omega arith) (x .1) in
     let z = first-passed _ 12 _ (λ z. omega arith) (y .1) in
-    (below s _ (x .0), channel-below c (y .0), not-false _ (z .0))
+    (below s _ (x .0), channel-small c (y .0), not-false _ (z .0))
 allowed a (tracing s c buffer) e =
     let x = first-passed _ 4 _ (λ z. omega arith) e in
     let y = first-passed _ 5 _ (λ z. omega arith) (x .1) in
     let z = first-passed _ 12 _ (λ z. omega arith) (y .1) in
     let u = first-passed _ 14 _ (λ z. omega arith) (z .1) in
-    (below s _ (x .0), channel-below c (y .0), not-false _ (z .0), ltb-false (length buffer) 9 (u .0))
+    (below s _ (x .0), channel-small c (y .0), not-false _ (z .0), ltb-false (length buffer) 9 (u .0))
 
 -- and where they are allowed, no test of the call stops it
 pub allowed-passes : (a : Asked) (x : Call) → Allowed a x → refusal (callTests a x) ≡ 0

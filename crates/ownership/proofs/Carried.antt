@@ -7,11 +7,11 @@ use mathlib.Core.List.{List}
 use Prim.Native.Nat.{ℕ, _^_, _≤_, _<_}
 use native.Mathlib.Omega.{arith}
 use lib.ListN.{length}
-use lib.Pow.{pow-mono}
 use borrow.Author.Tests.{eq-eqb, ne-eqb}
 use Rattle.common.specs.Tests.{refusal}
 use Rattle.common.proofs.Tests.{same?}
 use Rattle.cube.specs.Cube.{circuitOf}
+use Rattle.cube.proofs.Ports.{most-nodes, below-256}
 use Rattle.table.specs.Layout.{tableLength, dimensionAt, enabledAt, putEnabled, Within}
 use Rattle.table.specs.View.{view, fresh}
 use Rattle.table.proofs.Entries.{kept-is}
@@ -28,14 +28,11 @@ use Rattle.ownership.proofs.Allowed.{allowed}
 use Rattle.ownership.proofs.Stops.{none-stops, none-stops-lent, pass-tests}
 
 module _ (b : List ℕ) (long : length b ≡ tableLength) (most : dimensionAt b ≤ 8) where
-  nodes : 2 ^ dimensionAt b ≤ 256
-  nodes = pow-mono {i = dimensionAt b} {j = 8} most
-
   pub circuit-small : (s c : ℕ) → s < 2 ^ dimensionAt b → c < 8 → circuitOf s c < 65536
-  circuit-small s c h l = omega (arith, nodes)
+  circuit-small s c h l = omega (arith, most-nodes most)
 
   place : (n p : ℕ) → n < 2 ^ dimensionAt b → p < dimensionAt b → Within b n p
-  place n p h l = record { bytes = long; node = omega (arith, nodes); port = omega arith }
+  place n p h l = record { bytes = long; node = below-256 most h; port = omega arith }
 
   shows : (a : Call) → Allowed (askedOf (view b)) a → view (carriedOut b a .state) ≡ updated (view b) a
   unfolding carriedOut updated Allowed askedOf view

@@ -2,15 +2,15 @@
 -- Assumes nothing.
 use mathlib.Core.Path.{_≡_, refl, ap, sym, _∙_, subst}
 use mathlib.Core.Logic.{⊎-elim, _≢_, _↔_}
-use mathlib.Core.Bool.{Bool, true, false, not, _&&_, false≢true, and-eq-true-iff}
+use mathlib.Core.Bool.{true, false, not, false≢true}
 use mathlib.Core.List.{List, [], _∷_}
-use Prim.Native.Nat.{ℕ, _^_, _≤_, _<_}
+use Prim.Native.Nat.{ℕ, _^_, _<_}
 use native.Mathlib.Omega.{arith}
-use lib.Dec.{eqb, ltb, leb}
+use lib.Dec.{eqb, ltb}
 use lib.ListN.{length}
-use borrow.Author.Tests.{eqb-true, eq-eqb, lt-ltb, leb-true}
+use borrow.Author.Tests.{eqb-true, eq-eqb, lt-ltb}
 use Rattle.common.specs.Tests.{test, refusal}
-use Rattle.common.proofs.Tests.{clash, same?, refused, passed, accepted, refusal-before, refusal-behind, Avoids, avoids, avoiding, never-answered}
+use Rattle.common.proofs.Tests.{clash, same?, passed, accepted, refusal-before, refusal-behind, Avoids, avoids, avoiding, never-answered}
 use Rattle.cube.specs.Cube.{circuitOf, sourceOf}
 use Rattle.cube.proofs.Bits.{no-bit-above}
 use Rattle.paths.specs.Network.{Path}
@@ -19,9 +19,9 @@ use Rattle.paths.proofs.Trail.{trail-owned}
 use Rattle.table.specs.Layout.{tableLength, dimensionAt, enabledAt, ownerAt}
 use Rattle.table.specs.View.{View, view}
 use Rattle.soundness.specs.Sound.{shapeOf, net, heldBy, Stands, Sound}
-use Rattle.soundness.specs.SoundTest.{pathOf, isEmpty, soundTest, tableTests}
+use Rattle.soundness.specs.SoundTest.{pathOf, isEmpty, tableTests}
 use Rattle.soundness.proofs.Soundness.{path-is, some-hop}
-use Rattle.soundness.proofs.Passing.{decided}
+use Rattle.soundness.proofs.Passing.{answers}
 use Rattle.search.specs.Sent.{sentOn, sends, MaySend}
 use Rattle.search.specs.SendSays.{SendSays}
 use Rattle.search.proofs.SendSays.{demand-2}
@@ -93,25 +93,6 @@ no-three b a = never-answered 3 (callTests (askedOf (view b)) a) (others a) (λ 
     others (closing s c) = avoiding 3 _ refl
     others (tracing s c buffer) = avoiding 3 _ refl
 
--- a sound table passes the third test, so what is left of the tests of the lent table is 1 and 2
-lent-three : (b : List ℕ) → Sound (view b) → refusal (tableTests b) ≢ 3
-unfolding tableTests
-lent-three b sound = go (not (eqb (length b) tableLength)) (leb 1 (dimensionAt b) && leb (dimensionAt b) 8) refl
-  where
-    go : (w u : Bool) → (leb 1 (dimensionAt b) && leb (dimensionAt b) 8) ≡ u → refusal (test w 1 ∷ test (not u) 2 ∷ test (not (soundTest (view b))) 3 ∷ []) ≢ 3
-    go true u q e = omega (arith, refused {b = true} 1 (test (not u) 2 ∷ test (not (soundTest (view b))) 3 ∷ []) refl, e)
-    go false false q e = omega (arith, passed {b = false} 1 (test true 2 ∷ test (not (soundTest (view b))) 3 ∷ []) refl, refused {b = true} 2 (test (not (soundTest (view b))) 3 ∷ []) refl, e)
-    go false true q e = rest (soundTest (view b)) refl
-      where
-        most : dimensionAt b ≤ 8
-        most = leb-true (dimensionAt b) 8 (and-eq-true-iff (leb 1 (dimensionAt b)) (leb (dimensionAt b) 8) .0 q .1)
-
-        rest : (x : Bool) → soundTest (view b) ≡ x → ⊥
-        rest false z = decided b most .fails z sound
-        rest true z =
-            let a : refusal (test false 1 ∷ test false 2 ∷ test (not (soundTest (view b))) 3 ∷ []) ≡ refusal (test (not (soundTest (view b))) 3 ∷ []) = passed {b = false} 1 _ refl ∙ passed {b = false} 2 _ refl in
-            omega (arith, a, passed 3 [] (ap not z), accepted, e)
-
 pub stopped-three : (b : List ℕ) (a : Call) → stoppedAt b a ≡ 3 → Sound (view b) → ⊥
 unfolding stoppedAt
 stopped-three b a e sound =
@@ -119,7 +100,7 @@ stopped-three b a e sound =
     (λ f. lent (sym (refusal-before (lentTests b a) (callTests (askedOf (view b)) a) f) ∙ e)) (same? (refusal (lentTests b a)) 0)
   where
     lent : refusal (lentTests b a) ≢ 3
-    lent q = ⊎-elim (λ r. made (r .0) (rw (r .1) at q)) (λ r. lent-three b sound (rw r at q)) (lent-is b a)
+    lent q = ⊎-elim (λ r. made (r .0) (rw (r .1) at q)) (λ r. answers b .not-sound (rw r at q) sound) (lent-is b a)
       where
         made : (D : ℕ) → refusal (lentTests b (making D)) ≢ 3
         made D = unfold lentTests avoids in never-answered 3 (test (not (eqb (length b) tableLength)) 1 ∷ []) (avoiding 3 _ refl) (λ z. omega arith)

@@ -8,13 +8,13 @@ use Prim.Native.Nat.{ℕ, zero, suc, _+_, _-_, _/_, _%_, _^_, _≤_, _<_}
 use native.Mathlib.Omega.{arith}
 use lib.Dec.{eqb, ltb, lit<}
 use lib.ListN.{length, getD, set, replicate, length-set, length-append, length-replicate}
-use lib.Pow.{pow-mono}
 use lib.Seq.{getD-set-same, getD-set-other, set-out}
 use borrow.Author.Tests.{ltb-true, ltb-false}
 use Rattle.common.proofs.Tests.{same?}
 use Rattle.cube.specs.Bits.{has, flip, withBit}
 use Rattle.cube.specs.Cube.{next}
 use Rattle.cube.proofs.Bits.{flip-inside}
+use Rattle.cube.proofs.Ports.{most-nodes}
 use Rattle.paths.specs.Network.{Path}
 use Rattle.paths.specs.Send.{Outcome, acknowledged, route-rejected, receive-rejected}
 use Rattle.table.specs.Layout.{tableLength, enablePlace, entryPlace, linkPart, receivePart, wordAt, putWord, putEntry, putOwner, putReceiver, putEnabled, made, freeWord, freeFrom, freed}
@@ -99,10 +99,10 @@ pub made-bytes : (D : ℕ) → D ≤ 8 → Bytes (made D)
 unfolding made
 made-bytes D h =
     record {
-      long = ap suc (length-append full empty ∙ ap₂ _+_ (length-replicate (2 ^ D) (2 ^ D - 1)) (length-replicate (8448 - 2 ^ D) 0) ∙ omega (arith, nodes));
+      long = ap suc (length-append full empty ∙ ap₂ _+_ (length-replicate (2 ^ D) (2 ^ D - 1)) (length-replicate (8448 - 2 ^ D) 0) ∙ omega (arith, most-nodes h));
       small =
           append-small (D ∷ []) (full ++ empty) (replicate-small 1 D (omega arith))
-          (append-small full empty (replicate-small (2 ^ D) (2 ^ D - 1) (omega (arith, nodes))) (replicate-small (8448 - 2 ^ D) 0 (lit< tt)));
+          (append-small full empty (replicate-small (2 ^ D) (2 ^ D - 1) (omega (arith, most-nodes h))) (replicate-small (8448 - 2 ^ D) 0 (lit< tt)));
     }
   where
     full : List ℕ
@@ -110,9 +110,6 @@ made-bytes D h =
 
     empty : List ℕ
     empty = replicate (8448 - 2 ^ D) 0
-
-    nodes : 2 ^ D ≤ 256
-    nodes = pow-mono {i = D} {j = 8} h
 
 -- the links of a path given to a circuit, and a send's marks
 pub hold-bytes : (b : List ℕ) (c n : ℕ) (w : Path) → Bytes b → c < 65536 → Bytes (hold b c n w)

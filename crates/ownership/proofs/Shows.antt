@@ -6,10 +6,10 @@ use mathlib.Core.List.{List, [], _∷_, List·Memᴰ·head, List·Memᴰ·tail}
 use Prim.Native.Nat.{ℕ, _^_, _≤_, _<_}
 use native.Mathlib.Omega.{arith}
 use lib.ListN.{length}
-use lib.Pow.{pow-mono}
 use Rattle.common.specs.Lists.{_∈_}
 use Rattle.cube.specs.Cube.{next}
 use Rattle.cube.proofs.Bits.{flip-inside}
+use Rattle.cube.proofs.Ports.{below-256}
 use Rattle.paths.specs.Network.{Path}
 use Rattle.paths.specs.Send.{Outcome, acknowledged, route-rejected, receive-rejected}
 use Rattle.paths.proofs.Apart.{permitted-below}
@@ -41,9 +41,6 @@ hold-length b c n [] = refl
 hold-length b c n (p ∷ w) = hold-length (putOwner b n p c) c (next n p) w ∙ owner-length b n p c
 
 module _ (c : ℕ) (small : c < 65536) (D : ℕ) (fits : D ≤ 8) where
-  nodes : 2 ^ D ≤ 256
-  nodes = pow-mono {i = D} {j = 8} fits
-
   -- What the table shows after the links of a path are held.
   pub view-hold : (b : List ℕ) → length b ≡ tableLength → (s : ℕ) (w : Path) → s < 2 ^ D → PortsBelow D w → view (hold b c s w) ≡ holdLinks (view b) c s w
   unfolding hold holdLinks PortsBelow
@@ -51,13 +48,13 @@ module _ (c : ℕ) (small : c < 65536) (D : ℕ) (fits : D ≤ 8) where
   view-hold b l s (p ∷ w) i h =
       let here : p < D = h p (List·Memᴰ·head refl) in
       view-hold (putOwner b s p c) (owner-length b s p c ∙ l) (next s p) w (flip-inside D s p i here) (λ q m. h q (List·Memᴰ·tail m))
-      ∙ ap (λ v. holdLinks v c (next s p) w) (view-put-owner b s p c record { bytes = l; node = omega (arith, nodes); port = omega arith } small)
+      ∙ ap (λ v. holdLinks v c (next s p) w) (view-put-owner b s p c record { bytes = l; node = below-256 fits i; port = omega arith } small)
 
   -- What it shows after a send.
   pub view-marked : (b : List ℕ) → length b ≡ tableLength → (s t : ℕ) → s < 2 ^ D → t < 2 ^ D → (o : Outcome) → Fits D o → view (marked b c s t o) ≡ marking (view b) c s t o
   unfolding marked marking Fits
   view-marked b l s t i j (acknowledged w k) h =
-      view-put-receiver (hold b c s w) t k c record { bytes = hold-length b c s w ∙ l; node = omega (arith, nodes); port = h .1 } small
+      view-put-receiver (hold b c s w) t k c record { bytes = hold-length b c s w ∙ l; node = below-256 fits j; port = h .1 } small
       ∙ ap (λ v. setReceiver v t k c) (view-hold b l s w i (h .0))
   view-marked b l s t i j route-rejected h = refl
   view-marked b l s t i j receive-rejected h = refl

@@ -7,7 +7,7 @@ use Prim.Native.Nat.{ℕ, _<_}
 use native.Mathlib.Omega.{arith}
 use lib.Dec.{ltb}
 use lib.ListN.{length}
-use borrow.Author.Tests.{eqb-true, ltb-false}
+use borrow.Author.Tests.{eqb-true}
 use Rattle.common.specs.Lists.{_∈_, any, from}
 use Rattle.common.specs.Tests.{Test, test, refusal}
 use Rattle.common.proofs.Tests.{clash, refused, passed}
@@ -22,6 +22,7 @@ use Rattle.ownership.specs.Calls.{Call, making, blocking, unblocking, op
 use Rattle.ownership.specs.OnTable.{openIn, askedOf}
 use Rattle.ownership.specs.History.{Circuit, History, netOn, belongs, openOn, listed, askedOn, stoppedOn}
 use Rattle.ownership.specs.Lists.{viewOf, Valid}
+use Rattle.ownership.proofs.Allowed.{channel-small}
 use Rattle.ownership.proofs.Circuits.{any-some, some-any, numberFor, circuit-parts, belongs-parts, parts-belong}
 use Rattle.ownership.proofs.Sameness.{held-same}
 use Rattle.ownership.proofs.Standing.{link-held, valid-stands, stands-path}
@@ -83,7 +84,7 @@ past-channel c ts us h = go (ltb 7 c) refl
   where
     go : (b : Bool) → ltb 7 c ≡ b → refusal (test b 5 ∷ ts) ≡ refusal (test b 5 ∷ us)
     go true e = refused 5 ts refl ∙ sym (refused 5 us refl)
-    go false e = passed 5 ts refl ∙ h (let l = ltb-false 7 c e in omega arith) ∙ sym (passed 5 us refl)
+    go false e = passed 5 ts refl ∙ h (channel-small c e) ∙ sym (passed 5 us refl)
 
 -- The tests of a call answer the same on both.
 pub stopped-same : (h : History) → Valid h → (a : Call) → refusal (callTests (askedOf (viewOf h)) a) ≡ stoppedOn h a

@@ -2,20 +2,20 @@
 -- Assumes nothing.
 use mathlib.Core.Path.{_≡_, refl, ap, sym, _∙_}
 use mathlib.Core.Logic.{_⊎_, inl, inr, ⊎-elim, _≢_}
-use mathlib.Core.Bool.{Bool, true, false, not, _&&_}
-use mathlib.Core.List.{List, [], _∷_}
+use mathlib.Core.Bool.{Bool, true, false, not}
+use mathlib.Core.List.{List, []}
 use Prim.Native.Nat.{ℕ, _≤_}
 use native.Mathlib.Omega.{arith}
-use lib.Dec.{eqb, leb}
+use lib.Dec.{leb}
 use lib.ListN.{length}
 use borrow.Author.Tests.{eq-eqb, eqb-true, leb-true, not-false}
-use Rattle.common.specs.Tests.{test, refusal}
+use Rattle.common.specs.Tests.{refusal}
 use Rattle.common.proofs.Tests.{passed, accepted, first-passed, Avoids, avoids, avoiding, refusal-behind, refusal-both, both}
 use Rattle.table.specs.Layout.{tableLength, dimensionAt}
 use Rattle.table.specs.View.{view}
 use Rattle.soundness.specs.Sound.{Sound}
 use Rattle.soundness.specs.SoundTest.{soundTest, tableTests}
-use Rattle.soundness.proofs.Passing.{usable, decided}
+use Rattle.soundness.proofs.Passing.{answers, usable, decided}
 use Rattle.ownership.specs.Calls.{Call, making, blocking, unblocking, opening, closing, tracing, callTests}
 use Rattle.ownership.specs.OnTable.{askedOf, lentTests, stoppedAt}
 
@@ -53,18 +53,12 @@ none-stops-lent b a h e =
 
 -- A table that passes the tests of a lent table is 8,449 bytes long, has a dimension from 1 to 8, and is sound.
 pub pass-tests : (b : List ℕ) → refusal (tableTests b) ≡ 0 → (length b ≡ tableLength) × (1 ≤ dimensionAt b) × (dimensionAt b ≤ 8) × Sound (view b)
-pass-tests b e = go (unfold tableTests in first-passed _ 1 _ (λ z. omega arith) e)
-  where
-    go : (not (eqb (length b) tableLength) ≡ false) × (refusal (test (not (leb 1 (dimensionAt b) && leb (dimensionAt b) 8)) 2 ∷ test (not (soundTest (view b))) 3 ∷ []) ≡ 0)
-        → (length b ≡ tableLength) × (1 ≤ dimensionAt b) × (dimensionAt b ≤ 8) × Sound (view b)
-    go x =
-        let y = first-passed (not (leb 1 (dimensionAt b) && leb (dimensionAt b) 8)) 2 (test (not (soundTest (view b))) 3 ∷ []) (λ z. omega arith) (x .1) in
-        let z = first-passed (not (soundTest (view b))) 3 [] (λ z. omega arith) (y .1) in
-        let d = both (leb 1 (dimensionAt b)) (leb (dimensionAt b) 8) (not-false _ (y .0)) in
-        let long = eqb-true (length b) tableLength (not-false _ (x .0)) in
-        let least = leb-true 1 (dimensionAt b) (d .0) in
-        let most = leb-true (dimensionAt b) 8 (d .1) in
-        (long, least, most, usable b long least most (not-false _ (z .0)) .sound refl)
+unfolding tableTests
+pass-tests b e =
+    let x = first-passed _ 1 _ (λ z. omega arith) e in
+    let y = first-passed _ 2 _ (λ z. omega arith) (x .1) in
+    let d = both (leb 1 (dimensionAt b)) (leb (dimensionAt b) 8) (not-false _ (y .0)) in
+    (eqb-true (length b) tableLength (not-false _ (x .0)), leb-true 1 (dimensionAt b) (d .0), leb-true (dimensionAt b) 8 (d .1), answers b .sound e)
 
 module _ (b : List ℕ) (long : length b ≡ tableLength) where
   making-passes : (D : ℕ) → refusal (lentTests b (making D)) ≡ 0
