@@ -11,13 +11,13 @@ use native.Mathlib.Numerals.{add-one}
 use lib.Dec.{eqb, lit<}
 use lib.ListN.{length, getD, take, drop, length-append, List·getD-append}
 use lib.Seq.{slice, slice-cons, slice-empty, take-append-seam}
-use lib.Pow.{pow-mono}
 use borrow.Author.Tests.{eqb-true, eqb-false, eq-eqb}
 use Rattle.common.specs.Lists.{_∈_, lowest}
 use Rattle.common.proofs.Tests.{below-or, clash, is-false, both, and}
 use Rattle.common.proofs.Lowest.{lowest-passes, lowest-before}
 use Rattle.cube.specs.Cube.{next, sourceOf}
 use Rattle.cube.proofs.Bits.{flip-inside}
+use Rattle.cube.proofs.Ports.{below-256}
 use Rattle.paths.specs.Network.{Network, Path, end, links, hasLink}
 use Rattle.paths.specs.Send.{acknowledged}
 use Rattle.paths.specs.CubeNetwork.{Shape, network}
@@ -102,9 +102,6 @@ module _ (b : List ℕ) (c : ℕ) (known : HasSource b c) (some : not (isEmpty (
   target-is : endFor (view b) c (stands .path) ≡ target
   target-is = ap (endFor (view b) c) same
 
-  nodes : 2 ^ dimensionAt b ≤ 256
-  nodes = pow-mono {i = dimensionAt b} {j = 8} (known .fits)
-
   ports-below : PortsBelow (dimensionAt b) path
   unfolding view
   ports-below =
@@ -169,7 +166,7 @@ module _ (b : List ℕ) (c : ℕ) (known : HasSource b c) (some : not (isEmpty (
     may-free =
         record {
           bytes = known .bytes;
-          node = omega (arith, known .source, nodes);
+          node = rw q (below-256 (known .fits) (known .source));
           room = omega (arith, count, ap length e, length-append path (drop (length path) buffer));
           below = λ i h.
               let l : i < length path = omega arith in
@@ -186,7 +183,7 @@ module _ (b : List ℕ) (c : ℕ) (known : HasSource b c) (some : not (isEmpty (
       held = holds ∙ rw (taken, q)
 
       pub target-within : Within b₁ t 0
-      target-within = record { bytes = ap length held ∙ hold-length b 0 (sourceOf c) path ∙ known .bytes; node = omega (arith, at-target, target-inside, nodes); port = lit< tt }
+      target-within = record { bytes = ap length held ∙ hold-length b 0 (sourceOf c) path ∙ known .bytes; node = rw at-target (below-256 (known .fits) target-inside); port = lit< tt }
 
       -- freeing links leaves the receive channels, of which the circuit holds one there
       received : (j : ℕ) → eqb (receiverAt b₁ t j) c ≡ eqb (view b .receiver target j) c

@@ -13,6 +13,7 @@ use Rattle.common.specs.Tests.{refusal}
 use Rattle.table.specs.Layout.{dimensionAt, ownerAt}
 use Rattle.table.specs.View.{view}
 use Rattle.cube.specs.Cube.{circuitOf}
+use Rattle.cube.proofs.Ports.{count-of}
 use Rattle.soundness.specs.SoundTest.{tableTests, pathOf, isEmpty}
 use Rattle.ownership.specs.OnTable.{heldIn, openIn, askedOf}
 use Rattle.ownership.proofs.Allowed.{is-below}
@@ -31,20 +32,17 @@ module _ (b : List ℕ) (s t : ℕ) {n : ℕ} (e : n ≡ refusal (tableTests b))
   nodes-before f = stopped-before (tableTests b) _ 4 e f
 
   module _ (z : n ≡ 0) (d k : ℕ) (q : d ≡ dimensionAt b) (c : k ≡ 2 ^ d) where
-    count : k ≡ 2 ^ dimensionAt b
-    count = c ∙ ap (2 ^_) q
-
     pub nodes-inside : s < k → t < k → 0 ≡ refusal (nodeTests b s t)
     unfolding nodeTests askedAt askedOf view
-    nodes-inside i l = not-stopped (tableTests b) _ 4 (table-numbered b) e z (ap₂ _||_ (is-below s (2 ^ dimensionAt b) (rw count at i)) (is-below t (2 ^ dimensionAt b) (rw count at l)))
+    nodes-inside i l = not-stopped (tableTests b) _ 4 (table-numbered b) e z (ap₂ _||_ (is-below s (2 ^ dimensionAt b) (rw (count-of q c) at i)) (is-below t (2 ^ dimensionAt b) (rw (count-of q c) at l)))
 
     pub no-target : s < k → k ≤ t → 4 ≡ refusal (nodeTests b s t)
     unfolding nodeTests askedAt askedOf view
-    no-target i l = stopped-here (tableTests b) _ 4 (table-numbered b) e z (ap₂ _||_ (is-below s (2 ^ dimensionAt b) (rw count at i)) (not-below t (2 ^ dimensionAt b) (omega (arith, count, l))))
+    no-target i l = stopped-here (tableTests b) _ 4 (table-numbered b) e z (ap₂ _||_ (is-below s (2 ^ dimensionAt b) (rw (count-of q c) at i)) (not-below t (2 ^ dimensionAt b) (omega (arith, count-of q c, l))))
 
     pub no-source : k ≤ s → 4 ≡ refusal (nodeTests b s t)
     unfolding nodeTests askedAt askedOf view
-    no-source i = stopped-here (tableTests b) _ 4 (table-numbered b) e z (ap (_|| not (ltb t (2 ^ dimensionAt b))) (not-below s (2 ^ dimensionAt b) (omega (arith, count, i))))
+    no-source i = stopped-here (tableTests b) _ 4 (table-numbered b) e z (ap (_|| not (ltb t (2 ^ dimensionAt b))) (not-below s (2 ^ dimensionAt b) (omega (arith, count-of q c, i))))
 
 -- "channel above 7"
 module _ (b : List ℕ) (s t c : ℕ) {n : ℕ} (e : n ≡ refusal (nodeTests b s t)) where
@@ -121,35 +119,33 @@ module _ (b : List ℕ) (s c t y v : ℕ) {n : ℕ} (e : n ≡ refusal (typeTest
     vector-zero h = stopped-here (typeTests b s c t y) _ 8 (type-numbered b s c t y) e z (ap (_|| not (ltb v (2 ^ dimensionAt b))) (eq-eqb v 0 h))
 
     module _ (f : v ≢ 0) (d k : ℕ) (q : d ≡ dimensionAt b) (r : k ≡ 2 ^ d) where
-      ports : k ≡ 2 ^ dimensionAt b
-      ports = r ∙ ap (2 ^_) q
-
       pub vector-inside : v < k → 0 ≡ refusal (vectorTests b s c t y v)
       unfolding vectorTests askedAt askedOf view
-      vector-inside h = not-stopped (typeTests b s c t y) _ 8 (type-numbered b s c t y) e z (ap₂ _||_ (ne-eqb v 0 f) (is-below v (2 ^ dimensionAt b) (rw ports at h)))
+      vector-inside h = not-stopped (typeTests b s c t y) _ 8 (type-numbered b s c t y) e z (ap₂ _||_ (ne-eqb v 0 f) (is-below v (2 ^ dimensionAt b) (rw (count-of q r) at h)))
 
       pub vector-outside : k ≤ v → 8 ≡ refusal (vectorTests b s c t y v)
       unfolding vectorTests askedAt askedOf view
-      vector-outside h = stopped-here (typeTests b s c t y) _ 8 (type-numbered b s c t y) e z (ap₂ _||_ (ne-eqb v 0 f) (not-below v (2 ^ dimensionAt b) (rw ports at h)))
+      vector-outside h = stopped-here (typeTests b s c t y) _ 8 (type-numbered b s c t y) e z (ap₂ _||_ (ne-eqb v 0 f) (not-below v (2 ^ dimensionAt b) (rw (count-of q r) at h)))
 
--- "this channel has no open circuit"; k is the circuit's number, o whether it has a path
+-- whether a channel has an open circuit: k is the circuit's number, o whether it has a path
+is-open-in : (b : List ℕ) (s c k : ℕ) (o : Bool) → k ≡ circuitOf s c → o ≡ not (isEmpty (pathOf (view b) k)) → openIn (view b) s c ≡ o
+unfolding openIn
+is-open-in b s c k o q r = sym (r ∙ ap (λ i. not (isEmpty (pathOf (view b) i))) q)
+
+-- "this channel has no open circuit"
 module _ (b : List ℕ) (s c : ℕ) {n : ℕ} (e : n ≡ refusal (channelTests b s s c)) where
   pub close-before : n ≢ 0 → n ≡ refusal (closeTests b s c)
   unfolding closeTests
   close-before f = stopped-before (channelTests b s s c) _ 12 e f
 
   module _ (z : n ≡ 0) (k : ℕ) (o : Bool) (q : k ≡ circuitOf s c) (r : o ≡ not (isEmpty (pathOf (view b) k))) where
-    opened : openIn (view b) s c ≡ o
-    unfolding openIn
-    opened = sym (r ∙ ap (λ i. not (isEmpty (pathOf (view b) i))) q)
-
     pub close-open : o ≡ true → 0 ≡ refusal (closeTests b s c)
     unfolding closeTests askedAt askedOf
-    close-open h = not-stopped (channelTests b s s c) _ 12 (channel-numbered b s s c) e z (ap not (opened ∙ h))
+    close-open h = not-stopped (channelTests b s s c) _ 12 (channel-numbered b s s c) e z (ap not (is-open-in b s c k o q r ∙ h))
 
     pub close-shut : o ≡ false → 12 ≡ refusal (closeTests b s c)
     unfolding closeTests askedAt askedOf
-    close-shut h = stopped-here (channelTests b s s c) _ 12 (channel-numbered b s s c) e z (ap not (opened ∙ h))
+    close-shut h = stopped-here (channelTests b s s c) _ 12 (channel-numbered b s s c) e z (ap not (is-open-in b s c k o q r ∙ h))
 
 -- "this send channel has an open circuit"
 module _ (b : List ℕ) (s c t y v : ℕ) {n : ℕ} (e : n ≡ refusal (vectorTests b s c t y v)) where
@@ -158,17 +154,13 @@ module _ (b : List ℕ) (s c t y v : ℕ) {n : ℕ} (e : n ≡ refusal (vectorTe
   open-before f = stopped-before (vectorTests b s c t y v) _ 9 e f
 
   module _ (z : n ≡ 0) (k : ℕ) (o : Bool) (q : k ≡ circuitOf s c) (r : o ≡ not (isEmpty (pathOf (view b) k))) where
-    in-use : openIn (view b) s c ≡ o
-    unfolding openIn
-    in-use = sym (r ∙ ap (λ i. not (isEmpty (pathOf (view b) i))) q)
-
     pub open-used : o ≡ true → 9 ≡ refusal (openTests b s c t y v)
     unfolding openTests askedAt askedOf
-    open-used h = stopped-here (vectorTests b s c t y v) _ 9 (vector-numbered b s c t y v) e z (in-use ∙ h)
+    open-used h = stopped-here (vectorTests b s c t y v) _ 9 (vector-numbered b s c t y v) e z (is-open-in b s c k o q r ∙ h)
 
     pub open-unused : o ≡ false → 0 ≡ refusal (openTests b s c t y v)
     unfolding openTests askedAt askedOf
-    open-unused h = not-stopped (vectorTests b s c t y v) _ 9 (vector-numbered b s c t y v) e z (in-use ∙ h)
+    open-unused h = not-stopped (vectorTests b s c t y v) _ 9 (vector-numbered b s c t y v) e z (is-open-in b s c k o q r ∙ h)
 
 -- "buffer shorter than 9 bytes"
 module _ (b : List ℕ) (s c : ℕ) (buffer : List ℕ) {n : ℕ} (e : n ≡ refusal (closeTests b s c)) where

@@ -9,7 +9,6 @@ use native.Mathlib.Omega.{arith}
 use lib.Dec.{eqb, ltb}
 use lib.ListN.{length}
 use lib.Pow.{pow-mono}
-use native.Mathlib.Nat.{lt-of-lt-of-le}
 use borrow.Author.Tests.{not-false, ltb-false}
 use Rattle.common.specs.Tests.{Test, test, refusal}
 use Rattle.common.proofs.Tests.{neither, refused, passed, accepted, first-passed, Avoids, numbered-behind, refusal-behind, refusal-both, refusal-before}
@@ -17,12 +16,13 @@ use Rattle.table.specs.Layout.{tableLength, dimensionAt, Within}
 use Rattle.table.specs.View.{view}
 use Rattle.cube.specs.Cube.{circuitOf}
 use Rattle.cube.proofs.Circuits.{source-of-circuit}
+use Rattle.cube.proofs.Ports.{most-nodes, below-256}
 use Rattle.soundness.specs.Sound.{Sound}
 use Rattle.soundness.specs.SoundTest.{tableTests}
 use Rattle.soundness.specs.Follow.{HasSource}
 use Rattle.ownership.specs.Calls.{nodes, channel, port, sendVector, noCircuit, shortBuffer}
 use Rattle.ownership.specs.OnTable.{openIn, askedOf}
-use Rattle.ownership.proofs.Allowed.{below}
+use Rattle.ownership.proofs.Allowed.{below, channel-small}
 use Rattle.ownership.proofs.Stops.{pass-tests, table-numbered}
 use Rattle.router.specs.Portions.{askedAt, nodeTests, channelTests, linkTests, blockTests, closeTests, traceTests, typeTests, vectorTests, openTests}
 
@@ -89,7 +89,7 @@ module _ (b : List ℕ) (s t : ℕ) where
   unfolding channelTests
   channel-passed c e z =
       let r = refusal-both (nodeTests b s t) (channel c ∷ []) (node-numbered b s t) (sym e ∙ z) in
-      (node-passed refl (r .0), (let l = ltb-false 7 c (first-passed (ltb 7 c) 5 [] (λ z. omega arith) (r .1) .0) in omega arith))
+      (node-passed refl (r .0), channel-small c (first-passed (ltb 7 c) 5 [] (λ z. omega arith) (r .1) .0))
 
 pub link-passed : (b : List ℕ) (m p : ℕ) {n : ℕ} → n ≡ refusal (linkTests b m p) → n ≡ 0 → Inside b m m × (p < dimensionAt b)
 unfolding linkTests askedAt askedOf view
@@ -99,11 +99,11 @@ link-passed b m p e z =
 
 -- A cube has 2 to 256 nodes.
 pub node-room : (b : List ℕ) (s t : ℕ) → Inside b s t → (2 ≤ 2 ^ dimensionAt b) × (2 ^ dimensionAt b ≤ 256)
-node-room b s t h = (pow-mono {i = 1} {j = dimensionAt b} (h .least), pow-mono {i = dimensionAt b} {j = 8} (h .most))
+node-room b s t h = (pow-mono {i = 1} {j = dimensionAt b} (h .least), most-nodes (h .most))
 
 -- A link of the cube lies in the table.
 pub link-within : (b : List ℕ) (m p : ℕ) → Inside b m m × (p < dimensionAt b) → Within b m p
-link-within b m p h = record { bytes = h .0 .long; node = lt-of-lt-of-le (h .0 .source) (pow-mono (h .0 .most)); port = omega (arith, h .0 .most, h .1) }
+link-within b m p h = record { bytes = h .0 .long; node = below-256 (h .0 .most) (h .0 .source); port = omega (arith, h .0 .most, h .1) }
 
 pub block-passed : (b : List ℕ) (m p : ℕ) {n : ℕ} → n ≡ refusal (blockTests b m p) → n ≡ 0 → Inside b m m × (p < dimensionAt b)
 unfolding blockTests
@@ -143,7 +143,7 @@ module _ (b : List ℕ) (s c : ℕ) where
 
 module _ (b : List ℕ) (s t c : ℕ) (h : Inside b s t) (l : c < 8) where
   pub small-source : (s < 256) × (c < 8)
-  small-source = (lt-of-lt-of-le (h .source) (pow-mono (h .most)), l)
+  small-source = (below-256 (h .most) (h .source), l)
 
   pub has-source : (k : ℕ) → k ≡ circuitOf s c → HasSource b k
   has-source k e = rw e record { bytes = h .long; fits = h .most; circuit = omega arith; source = rw (source-of-circuit s c l) (h .source) }
