@@ -2,12 +2,12 @@
 -- Assumes nothing.
 use mathlib.Core.Path.{_≡_, refl, ap, ap₂, sym, _∙_}
 use mathlib.Core.Logic.{_≢_, _⊎_, inl, inr, _↔_}
-use mathlib.Core.Bool.{Bool, true, false, cond, not, _&&_, and-eq-true-iff}
+use mathlib.Core.Bool.{Bool, true, false, cond, not, _&&_}
 use mathlib.Core.List.{List, [], _∷_, _++_, append-nil, append-assoc}
 use mathlib.Core.Option.{some, none, Option·some-injective, Option·none-ne-some}
 use Prim.Native.Nat.{ℕ, zero, suc, _+_, _-_, _*_, _/_, _%_, _≤_, _<_}
 use native.Mathlib.Omega.{arith}
-use lib.Dec.{eqb, leb}
+use lib.Dec.{leb}
 use lib.ListN.{length, getD}
 use borrow.Author.Tests.{ne-eqb, le-leb, leb-true, eqb-false, not-true}
 use Rattle.common.proofs.Tests.{below-or, both}
@@ -23,7 +23,7 @@ digits-behind : (xs : List ℕ) (x : ℕ) → allDigits xs ≡ true → 48 ≤ x
 unfolding allDigits
 digits-behind [] x e h l = rw (le-leb 48 x h, le-leb x 57 l)
 digits-behind (y ∷ xs) x e h l =
-    let r = and-eq-true-iff (isDigit y) (allDigits xs) .0 e in rw (r .0) (digits-behind xs x (r .1) h l)
+    let r = both (isDigit y) (allDigits xs) e in rw (r .0) (digits-behind xs x (r .1) h l)
 
 -- what holds of the digits of n: they are digits, they say n, and their first is a zero only where n is
 record Says (n : ℕ) (xs : List ℕ) : Type 0 where
