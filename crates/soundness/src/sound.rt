@@ -163,8 +163,8 @@ fn links_sound(t: &[u8], dimension: u16, n: Node, marks: &[u8]) -> bool
     table::held_by(t, Circuit(0), n) | passed == 255
 }
 
-fn links_from(t: &[u8], dimension: u16, fits: bool, from: Node, marks: &[u8]) -> bool
-    requires { ⌜ (from .0 + 16 ≤ 256) × Marked (now t) dimension fits (now marks) ⌝ }
+fn links_from(t: &[u8], dimension: u16, from: Node, marks: &[u8]) -> bool
+    requires { ⌜ (from .0 + 16 ≤ 256) × Usable (now t) dimension × PathsMarked (view (now t)) (now marks) ⌝ }
     ensures { λ r. ⌜ Decides (LinksPass (view (now (t .entry))) (from .0) (from .0 + 16) 0 8) r ⌝ }
 {
     let first = from.0;
@@ -190,7 +190,7 @@ fn link_group(t: &[u8], dimension: u16, fits: bool, from: Node, marks: &[u8]) ->
             return true;
         }
     }
-    links_from(t, dimension, fits, from, marks)
+    links_from(t, dimension, from, marks)
 }
 
 // The tests of all links.

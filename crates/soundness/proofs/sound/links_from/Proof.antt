@@ -12,10 +12,10 @@ use Rattle.soundness.proofs.sound.links_from.Statement.{statement}
 use Rattle.soundness.proofs.sound.links_from.Tie as tie
 
 abbrev Inv-loop : tie.InvT-loop
-Inv-loop t dimension fits marks first i₀ i = (i ≤ 16) × LinksPass (view t) first (first + i) 0 8
+Inv-loop t dimension marks first i₀ i = (i ≤ 16) × LinksPass (view t) first (first + i) 0 8
 
 abbrev μ-loop : tie.MeasureT-loop
-μ-loop t dimension fits marks first i₀ i = 16 - i
+μ-loop t dimension marks first i₀ i = 16 - i
 
 loop-holds : tie.Need-loop-holds Inv-loop μ-loop
 loop-holds c = let s = c .before .before in (omega arith, no-links (view (s .args .t .now)) (s .args .from .0) (s .args .from .0 + 0) 0 8 (omega arith))
@@ -24,7 +24,7 @@ add-n : tie.Need-add-n Inv-loop μ-loop
 add-n c = omega arith
 
 links-sound-requires : tie.Need-links-sound-requires Inv-loop μ-loop
-links-sound-requires c κs = let s = c .before .before .before .before in (record { bytes = s .pre .1 .usable .bytes; node = omega (arith, c .loop-test .taken, s .pre .0); port = lit< tt }, s .pre .1 .usable, s .pre .1 .paths)
+links-sound-requires c κs = let s = c .before .before .before .before in (record { bytes = s .pre .1 .bytes; node = omega (arith, c .loop-test .taken, s .pre .0); port = lit< tt }, s .pre .1, s .pre .2)
 
 add-i : tie.Need-add-i Inv-loop μ-loop
 add-i c = omega arith
