@@ -57,118 +57,118 @@ module _ (v : View) (h : v .dimension < 9) (c : ℕ) where
       ap (λ ps. hop (firstHops (net v) ps (heldBy v c) (sourceOf c)) (λ a. course (v .dimension) (net v) ps (heldBy v c) (net v .next (sourceOf c) a))) (sym (ports-of-cube (v .dimension) h))
 
   -- the path that the code follows: its first hop, and what is followed behind it
-  pub path-first : (a : ℕ) → a ≡ firstHop v c (sourceOf c) (allPorts v) → a < 8 → pathOf v c ≡ a ∷ followed v c (next (sourceOf c) a) (allPorts v)
+  pub path-first : {a : ℕ} → a ≡ firstHop v c (sourceOf c) (allPorts v) → a < 8 → pathOf v c ≡ a ∷ followed v c (next (sourceOf c) a) (allPorts v)
   unfolding firstHop followed hop hops network
-  path-first a e l =
+  path-first {a} e l =
       let r = first-is hops a (sym e) l in
       let short : length (portsOf 8 (allPorts v)) ≡ v .dimension = ap length (ports-of-cube (v .dimension) h) ∙ length-from 0 (v .dimension) in
       path-over ∙ ap (λ ps. hop ps (λ a. course (v .dimension) (net v) (portsOf 8 (allPorts v)) (heldBy v c) (net v .next (sourceOf c) a))) (r .1)
       ∙ ap (a ∷_) (course-fuel (net v) (heldBy v c) (v .dimension) 8 (portsOf 8 (allPorts v)) (next (sourceOf c) a) (omega arith) (omega arith))
 
-  pub path-none : (a : ℕ) → a ≡ firstHop v c (sourceOf c) (allPorts v) → 8 ≤ a → pathOf v c ≡ []
+  pub path-none : {a : ℕ} → a ≡ firstHop v c (sourceOf c) (allPorts v) → 8 ≤ a → pathOf v c ≡ []
   unfolding firstHop hop hops
-  path-none a e l =
+  path-none e l =
       path-over ∙ ap (λ ps. hop ps (λ a. course (v .dimension) (net v) (portsOf 8 (allPorts v)) (heldBy v c) (net v .next (sourceOf c) a))) (first-none hops (λ p m. hop-port v c (sourceOf c) (allPorts v) p m) (omega arith))
 
   -- the ends of looking at it
-  pub reached-large : (n : ℕ) (m after : List ℕ) → 8 * 2 ^ v .dimension < c → Reached v c n m after false
-  reached-large n m after l = record { ends-here = unfold reaches in rw (lt-leb c (8 * 2 ^ v .dimension) l); marks = λ e. absurd (mathlib.Core.Bool.false≢true e) }
+  pub reached-large : {n : ℕ} {m after : List ℕ} → 8 * 2 ^ v .dimension < c → Reached v c n m after false
+  reached-large l = record { ends-here = unfold reaches in rw (lt-leb c (8 * 2 ^ v .dimension) l); marks = λ e. absurd (mathlib.Core.Bool.false≢true e) }
 
-  pub reached-none : (n a : ℕ) (m after : List ℕ) → c ≤ 8 * 2 ^ v .dimension → a ≡ firstHop v c (sourceOf c) (allPorts v) → 8 ≤ a → Reached v c n m after false
-  reached-none n a m after l e g = record { ends-here = unfold reaches isEmpty in rw (le-leb c (8 * 2 ^ v .dimension) l, path-none a e g); marks = λ e. absurd (mathlib.Core.Bool.false≢true e) }
+  pub reached-none : {n a : ℕ} {m after : List ℕ} → c ≤ 8 * 2 ^ v .dimension → a ≡ firstHop v c (sourceOf c) (allPorts v) → 8 ≤ a → Reached v c n m after false
+  reached-none l e g = record { ends-here = unfold reaches isEmpty in rw (le-leb c (8 * 2 ^ v .dimension) l, path-none e g); marks = λ e. absurd (mathlib.Core.Bool.false≢true e) }
 
-  module _ (a at : ℕ) (m₀ m₁ m₂ : List ℕ) (e : a ≡ firstHop v c (sourceOf c) (allPorts v)) (g : a < 8) (f : Follows v c (next (sourceOf c) a) (allPorts v) m₁ m₂ at) where
+  module _ {a at : ℕ} {m₁ m₂ : List ℕ} (e : a ≡ firstHop v c (sourceOf c) (allPorts v)) (g : a < 8) (f : Follows v c (next (sourceOf c) a) (allPorts v) m₁ m₂ at) where
     ends-at : at ≡ endFor v c (pathOf v c)
-    ends-at = unfold end network in rw (path-first a e g) (f .ends)
+    ends-at = unfold end network in rw (path-first e g) (f .ends)
 
-    reaches-is : (count : ℕ) → c ≤ 8 * 2 ^ v .dimension → count ≡ channelsHeld v c at → eqb count 1 ≡ reaches v c
+    reaches-is : {count : ℕ} → c ≤ 8 * 2 ^ v .dimension → count ≡ channelsHeld v c at → eqb count 1 ≡ reaches v c
     unfolding reaches
-    reaches-is count l k = rw (le-leb c (8 * 2 ^ v .dimension) l, not-empty) (ap (λ x. eqb x 1) (k ∙ ap (channelsHeld v c) ends-at))
+    reaches-is l k = rw (le-leb c (8 * 2 ^ v .dimension) l, not-empty) (ap (λ x. eqb x 1) (k ∙ ap (channelsHeld v c) ends-at))
       where
         not-empty : isEmpty (pathOf v c) ≡ false
-        not-empty = rw (path-first a e g) (unfold isEmpty in refl)
+        not-empty = rw (path-first e g) (unfold isEmpty in refl)
 
     path-passes : (x y : ℕ) → passes v c x y ≡ ((eqb x (sourceOf c) && eqb y a) || hasLink (links (net v) (next (sourceOf c) a) (followed v c (next (sourceOf c) a) (allPorts v))) x y)
     unfolding passes links hasLink network
-    path-passes x y = rw (path-first a e g)
+    path-passes x y = rw (path-first e g)
 
-    path-marks : Adds (λ x y. eqb x (sourceOf c) && eqb y a) m₀ m₁ → Adds (passes v c) m₀ m₂
-    path-marks first =
+    path-marks : {m₀ : List ℕ} → Adds (λ x y. eqb x (sourceOf c) && eqb y a) m₀ m₁ → Adds (passes v c) m₀ m₂
+    path-marks {m₀} first =
         record {
           adds = λ x y h l.
               f .marks .adds x y h l ∙ ap (_|| hasLink (links (net v) (next (sourceOf c) a) (followed v c (next (sourceOf c) a) (allPorts v))) x y) (first .adds x y h l)
               ∙ or-assoc (marked m₀ x y) (eqb x (sourceOf c) && eqb y a) _ ∙ ap (marked m₀ x y ||_) (sym (path-passes x y));
         }
 
-    pub reached-here : (n count : ℕ) → c ≤ 8 * 2 ^ v .dimension → n ≡ at → count ≡ channelsHeld v c at → Adds (λ x y. eqb x (sourceOf c) && eqb y a) m₀ m₁ → Reached v c n m₀ m₂ (eqb count 1)
-    reached-here n count l q k first =
-        record { ends-here = reaches-is count l k ∙ sym (and-true (reaches v c)) ∙ ap (reaches v c &&_) (sym (eq-eqb n _ (q ∙ ends-at))); marks = λ z. path-marks first }
+    pub reached-here : {n count : ℕ} {m₀ : List ℕ} → c ≤ 8 * 2 ^ v .dimension → n ≡ at → count ≡ channelsHeld v c at → Adds (λ x y. eqb x (sourceOf c) && eqb y a) m₀ m₁ → Reached v c n m₀ m₂ (eqb count 1)
+    reached-here {n} l q k first =
+        record { ends-here = reaches-is l k ∙ sym (and-true (reaches v c)) ∙ ap (reaches v c &&_) (sym (eq-eqb n _ (q ∙ ends-at))); marks = λ z. path-marks first }
 
-    pub reached-elsewhere : (n : ℕ) → n ≢ at → Reached v c n m₀ m₂ false
-    reached-elsewhere n q =
+    pub reached-elsewhere : {n : ℕ} {m₀ : List ℕ} → n ≢ at → Reached v c n m₀ m₂ false
+    reached-elsewhere {n} q =
         record { ends-here = sym (ap (reaches v c &&_) (ne-eqb n _ (λ z. q (z ∙ sym ends-at))) ∙ and-false (reaches v c)); marks = λ z. absurd (mathlib.Core.Bool.false≢true z) }
 
 -- the same, of the numbers that the code has: the dimension, the count of nodes and the source
-module _ (v : View) (c D nodes : ℕ) (d : D ≡ v .dimension) (h : D < 9) (m : nodes ≡ 2 ^ D) where
+module _ (v : View) (c : ℕ) {D nodes : ℕ} (d : D ≡ v .dimension) (h : D < 9) (m : nodes ≡ 2 ^ D) where
   below : v .dimension < 9
   below = omega arith
 
-  every-port : (s a : ℕ) → s ≡ sourceOf c → a ≡ firstHop v c s (nodes - 1) → a ≡ firstHop v c (sourceOf c) (allPorts v)
-  every-port s a q e = e ∙ ap₂ (firstHop v c) q (ap (_- 1) (count-of d m))
+  every-port : {s a : ℕ} → s ≡ sourceOf c → a ≡ firstHop v c s (nodes - 1) → a ≡ firstHop v c (sourceOf c) (allPorts v)
+  every-port q e = e ∙ ap₂ (firstHop v c) q (ap (_- 1) (count-of d m))
 
   -- whether it is open is told by its first hop
-  pub opened : (s a : ℕ) → s ≡ sourceOf c → a ≡ firstHop v c s (nodes - 1) → ltb a 8 ≡ not (isEmpty (pathOf v c))
+  pub opened : {s a : ℕ} → s ≡ sourceOf c → a ≡ firstHop v c s (nodes - 1) → ltb a 8 ≡ not (isEmpty (pathOf v c))
   unfolding isEmpty
-  opened s a q e = go (ltb a 8) refl
+  opened {s} {a} q e = go (ltb a 8) refl
     where
       go : (b : Bool) → ltb a 8 ≡ b → b ≡ not (isEmpty (pathOf v c))
-      go true l = rw (path-first v below c a (every-port s a q e) (ltb-true a 8 l))
-      go false l = rw (path-none v below c a (every-port s a q e) (ltb-false a 8 l))
+      go true l = rw (path-first v below c (every-port q e) (ltb-true a 8 l))
+      go false l = rw (path-none v below c (every-port q e) (ltb-false a 8 l))
 
   -- and its path is that hop and what is followed behind it
-  pub path-behind : (s a start : ℕ) → s ≡ sourceOf c → a ≡ firstHop v c s (nodes - 1) → a < 8 → start ≡ next s a → pathOf v c ≡ a ∷ followed v c start (nodes - 1)
-  path-behind s a start q e g to =
-      path-first v below c a (every-port s a q e) g ∙ ap (a ∷_) (ap₂ (followed v c) (sym (to ∙ ap (λ x. next x a) q)) (sym (ap (_- 1) (count-of d m))))
+  pub path-behind : {s a start : ℕ} → s ≡ sourceOf c → a ≡ firstHop v c s (nodes - 1) → a < 8 → start ≡ next s a → pathOf v c ≡ a ∷ followed v c start (nodes - 1)
+  path-behind {s} {a} q e g to =
+      path-first v below c (every-port q e) g ∙ ap (a ∷_) (ap₂ (followed v c) (sym (to ∙ ap (λ x. next x a) q)) (sym (ap (_- 1) (count-of d m))))
 
-  pub looked-large : (n : ℕ) (before after : List ℕ) → 8 * nodes < c → Reached v c n before after false
-  looked-large n before after l = reached-large v below c n before after (omega (arith, count-of d m))
+  pub looked-large : {n : ℕ} {before after : List ℕ} → 8 * nodes < c → Reached v c n before after false
+  looked-large l = reached-large v below c (omega (arith, count-of d m))
 
-  pub looked-none : (n s a : ℕ) (before after : List ℕ) → s ≡ sourceOf c → c ≤ 8 * nodes → a ≡ firstHop v c s (nodes - 1) → 8 ≤ a → Reached v c n before after false
-  looked-none n s a before after q l e g = reached-none v below c n a before after (omega (arith, count-of d m)) (every-port s a q e) g
+  pub looked-none : {n s a : ℕ} {before after : List ℕ} → s ≡ sourceOf c → c ≤ 8 * nodes → a ≡ firstHop v c s (nodes - 1) → 8 ≤ a → Reached v c n before after false
+  looked-none q l e g = reached-none v below c (omega (arith, count-of d m)) (every-port q e) g
 
-  module _ (s a start at : ℕ) (m₀ m₁ m₂ : List ℕ) (q : s ≡ sourceOf c) (e : a ≡ firstHop v c s (nodes - 1)) (g : a < 8) (to : start ≡ next s a) (f : Follows v c start (nodes - 1) m₁ m₂ at) where
+  module _ {s a start at : ℕ} {m₁ m₂ : List ℕ} (q : s ≡ sourceOf c) (e : a ≡ firstHop v c s (nodes - 1)) (g : a < 8) (to : start ≡ next s a) (f : Follows v c start (nodes - 1) m₁ m₂ at) where
     on-all : Follows v c (next (sourceOf c) a) (allPorts v) m₁ m₂ at
     on-all = mathlib.Core.Path.transport (ap₂ (λ x y. Follows v c x y m₁ m₂ at) (to ∙ ap (λ x. next x a) q) (ap (_- 1) (count-of d m))) f
 
-    pub looked-here : (n count : ℕ) → c ≤ 8 * nodes → s < 256 → length m₀ ≡ 256 → m₁ ≡ marking m₀ s a → n ≡ at → count ≡ channelsHeld v c at → Reached v c n m₀ m₂ (eqb count 1)
-    looked-here n count l small size mark here k =
-        reached-here v below c a at m₀ m₁ m₂ (every-port s a q e) g on-all n count (omega (arith, count-of d m)) here k
+    pub looked-here : {n count : ℕ} {m₀ : List ℕ} → c ≤ 8 * nodes → s < 256 → length m₀ ≡ 256 → m₁ ≡ marking m₀ s a → n ≡ at → count ≡ channelsHeld v c at → Reached v c n m₀ m₂ (eqb count 1)
+    looked-here {m₀ = m₀} l small size mark here k =
+        reached-here v below c (every-port q e) g on-all (omega (arith, count-of d m)) here k
         record { adds = λ x y h i. ap (λ m. marked m x y) mark ∙ mark-one m₀ s a x y size small ∙ ap (λ z. marked m₀ x y || (eqb x z && eqb y a)) q }
 
-    pub looked-elsewhere : (n : ℕ) → n ≢ at → Reached v c n m₀ m₂ false
-    looked-elsewhere n h = reached-elsewhere v below c a at m₀ m₁ m₂ (every-port s a q e) g on-all n h
+    pub looked-elsewhere : {n : ℕ} {m₀ : List ℕ} → n ≢ at → Reached v c n m₀ m₂ false
+    looked-elsewhere h = reached-elsewhere v below c (every-port q e) g on-all h
 
 -- where circuit c holds one link at node s, its path leaves by that
-pub only-hop : (v : View) (c s vector count : ℕ) → count ≡ linksHeld v c s → count ≡ 1 → lowest (takes v c s vector) 8 0 ≡ firstHop v c s vector
+pub only-hop : (v : View) (c s vector : ℕ) → linksHeld v c s ≡ 1 → lowest (takes v c s vector) 8 0 ≡ firstHop v c s vector
 unfolding linksHeld
-only-hop v c s vector count e z = let one = kept-one (heldBy v c s) (sym e ∙ z) in first-single v c s vector (λ p q h l x y. one .3 p h x ∙ sym (one .3 q l y))
+only-hop v c s vector z = let one = kept-one (heldBy v c s) z in first-single v c s vector (λ p q h l x y. one .3 p h x ∙ sym (one .3 q l y))
 
 -- so does a port that is found to be taken; and where it holds none, no port is
-module _ (v : View) (c s vector count : ℕ) (e : count ≡ linksHeld v c s) where
+module _ (v : View) (c s vector : ℕ) where
   held : (p : ℕ) → takes v c s vector p ≡ true → heldBy v c s p ≡ true
   unfolding takes
   held p t = both (has vector p) (heldBy v c s p) t .1
 
-  pub only-port : count ≡ 1 → (p : ℕ) → p < 8 → takes v c s vector p ≡ true → p ≡ lowest (takes v c s vector) 8 0
+  pub only-port : linksHeld v c s ≡ 1 → {p : ℕ} → p < 8 → takes v c s vector p ≡ true → p ≡ lowest (takes v c s vector) 8 0
   unfolding linksHeld
-  only-port z p l t =
-      let one = kept-one (heldBy v c s) (sym e ∙ z) in
+  only-port z {p} l t =
+      let one = kept-one (heldBy v c s) z in
       let first = lowest (takes v c s vector) 8 0 in
       let low : first ≤ p = lowest-found (takes v c s vector) 8 0 p (omega arith) t in
       let found : takes v c s vector first ≡ true = lowest-passes (takes v c s vector) 8 0 (omega arith) in
       one .3 p l (held p t) ∙ sym (one .3 first (omega arith) (held first found))
 
-  pub no-port : count ≡ 0 → 8 ≡ lowest (takes v c s vector) 8 0
+  pub no-port : linksHeld v c s ≡ 0 → 8 ≡ lowest (takes v c s vector) 8 0
   unfolding linksHeld
   no-port z = ⊎-elim (λ l. absurd (nobody _ refl l)) (λ g. omega (arith, lowest-most (takes v c s vector) 8 0)) (below-or 8 (lowest (takes v c s vector) 8 0))
     where
@@ -176,14 +176,14 @@ module _ (v : View) (c s vector count : ℕ) (e : count ≡ linksHeld v c s) whe
       nobody p q l =
           let t : takes v c s vector p ≡ true = rw q (lowest-passes (takes v c s vector) 8 0 (omega arith)) in
           let m = mem-keep (heldBy v c s) (from 0 8) (mem-from 0 8 p (omega arith) (omega arith)) (held p t) in
-          empty (keep (heldBy v c s) (from 0 8)) (sym e ∙ z) m
+          empty (keep (heldBy v c s) (from 0 8)) z m
         where
           empty : (xs : List ℕ) → length xs ≡ 0 → p ∈ xs → ⊥
           empty [] k i = List·Memᴰ·not-nil i
           empty (x ∷ xs) k i = absurd (omega arith)
 
 -- the links that circuit c holds at node s, as the vector that the code has of them
-module _ (b : List ℕ) (c s vector held : ℕ) (f : HeldBy b c s held) where
+module _ {b : List ℕ} {c s held : ℕ} (vector : ℕ) (f : HeldBy b c s held) where
   takes-vector : (p : ℕ) → p < 8 → has (bitAnd held vector) p ≡ takes (view b) c s vector p
   unfolding takes view
   takes-vector p l = has-and held vector p ∙ and-comm (has held p) (has vector p) ∙ ap (has vector p &&_) (f .held p l)
@@ -199,16 +199,17 @@ module _ (b : List ℕ) (c s vector held : ℕ) (f : HeldBy b c s held) where
           (λ r. absurd (eqb-false _ 0 e (no-ports 8 _ (omega (arith, and-le-l held vector, f .small)) r))) (decide 8 (has (bitAnd held vector)))
 
 -- so whether a circuit is open is told by the links that it holds at its source
-pub opened-vector : (b : List ℕ) (c D nodes s held : ℕ) → D ≡ dimensionAt b → D < 9 → nodes ≡ 2 ^ D → s ≡ sourceOf c → HeldBy b c s held → not (eqb (bitAnd held (nodes - 1)) 0) ≡ not (isEmpty (pathOf (view b) c))
-opened-vector b c D nodes s held d h m q f = hop-there b c s (nodes - 1) held f ∙ opened (view b) c D nodes (unfold view in d) h m s _ q refl
+pub opened-vector : {b : List ℕ} {c D nodes s held : ℕ} → D ≡ dimensionAt b → D < 9 → nodes ≡ 2 ^ D → s ≡ sourceOf c → HeldBy b c s held → not (eqb (bitAnd held (nodes - 1)) 0) ≡ not (isEmpty (pathOf (view b) c))
+unfolding view
+opened-vector {b} {c} {D} {nodes} d h m q f = hop-there (nodes - 1) f ∙ opened (view b) c d h m q refl
 
 -- a circuit's source is a node within the bytes
-pub source-within : (b : List ℕ) (c D nodes s : ℕ) → HasSource b c → D ≡ dimensionAt b → NodeCount D nodes → s ≡ sourceOf c → Within b s 0
-source-within b c D nodes s known d m q =
+pub source-within : {b : List ℕ} {c D nodes s : ℕ} → HasSource b c → D ≡ dimensionAt b → NodeCount D nodes → s ≡ sourceOf c → Within b s 0
+source-within known d m q =
     record { bytes = known .bytes; node = omega (arith, known .source, m .most, count-of d (m .value)); port = lit< tt }
 
 -- the test of one link, branch by branch: d is the dimension, c the circuit that holds the link, b whether the cube has the link
-module _ (v : View) (n p D c : ℕ) (b : Bool) (d : D ≡ v .dimension) (held : c ≡ v .owner n p) (q : b ≡ (ltb n (2 ^ D) && ltb p D)) where
+module _ (v : View) (n p : ℕ) {D c : ℕ} {b : Bool} (d : D ≡ v .dimension) (held : c ≡ v .owner n p) (q : b ≡ (ltb n (2 ^ D) && ltb p D)) where
   outside : b ≡ false → (not (v .enabled n p) && eqb c 0) ≡ linkTest v n p
   unfolding linkTest
   outside e = rw (sym (ap (λ x. ltb n (2 ^ x) && ltb p x) d) ∙ sym q ∙ e, held)
@@ -229,11 +230,11 @@ module _ (v : View) (n p D c : ℕ) (b : Bool) (d : D ≡ v .dimension) (held : 
   pub link-disabled : b ≡ true → c ≢ 0 → v .enabled n p ≡ false → false ≡ linkTest v n p
   link-disabled e z a = rw (← within e, ne-eqb c 0 z, a)
 
-  pub link-marked : (m : List ℕ) → Framed v → PathsMarked v m → n < 256 → p < 8 → b ≡ true → c ≢ 0 → v .enabled n p ≡ true → marked m n p ≡ linkTest v n p
-  link-marked m framed marks h l e z a = marked-is v m framed marks n p h l (λ y. z (held ∙ y)) ∙ ap (λ x. reaches v x && passes v x n p) (sym held) ∙ rw (← within e, ne-eqb c 0 z, a)
+  pub link-marked : {m : List ℕ} → Framed v → PathsMarked v m → n < 256 → p < 8 → b ≡ true → c ≢ 0 → v .enabled n p ≡ true → marked m n p ≡ linkTest v n p
+  link-marked {m} framed marks h l e z a = marked-is v m framed marks n p h l (λ y. z (held ∙ y)) ∙ ap (λ x. reaches v x && passes v x n p) (sym held) ∙ rw (← within e, ne-eqb c 0 z, a)
 
 -- the test of one receive channel, branch by branch
-module _ (v : View) (n k D c nodes : ℕ) (d : D ≡ v .dimension) (held : c ≡ v .receiver n k) (m : nodes ≡ 2 ^ D) where
+module _ (v : View) (n k : ℕ) {D c nodes : ℕ} (d : D ≡ v .dimension) (held : c ≡ v .receiver n k) (m : nodes ≡ 2 ^ D) where
   pub receive-absent : nodes ≤ n → eqb c 0 ≡ receiveTest v n k
   unfolding receiveTest
   receive-absent l = rw (sym (ap (λ x. ltb n (2 ^ x)) d) ∙ ap (ltb n) (sym m) ∙ le-ltb n nodes l, held)
@@ -249,19 +250,19 @@ module _ (v : View) (n k D c nodes : ℕ) (d : D ≡ v .dimension) (held : c ≡
   receive-ends l z x = x .ends-here ∙ rw (← present l, ne-eqb c 0 z)
 
   -- what the code finds of the channel, and what it answers for it
-  pub channel-free : (m : List ℕ) → c ≡ 0 → Receives v n (n + 1) k (k + 1) m m true
-  channel-free m z =
+  pub channel-free : {m : List ℕ} → c ≡ 0 → Receives v n (n + 1) k (k + 1) m m true
+  channel-free {m} z =
       received-yes v n (n + 1) k (k + 1) m m (received-free v m n (n + 1) k (k + 1)
       (λ a b i. here i (λ x y. receiveTest v x y ≡ true) free) (λ a b i. here i (λ x y. v .receiver x y ≡ 0) (sym held ∙ z)))
     where
       free : receiveTest v n k ≡ true
       free = ⊎-elim (λ l. sym (receive-free l z)) (λ l. sym (receive-absent l) ∙ eq-eqb c 0 z) (below-or nodes n)
 
-  pub channel-absent : (m : List ℕ) → nodes ≤ n → c ≢ 0 → Receives v n (n + 1) k (k + 1) m m false
-  channel-absent m l z = received-no v n (n + 1) k (k + 1) m m (unfold ReceivesPass in λ h. clash (h n k (omega arith) (omega arith) (omega arith) (omega arith)) (sym (receive-absent l) ∙ ne-eqb c 0 z))
+  pub channel-absent : {m : List ℕ} → nodes ≤ n → c ≢ 0 → Receives v n (n + 1) k (k + 1) m m false
+  channel-absent {m} l z = received-no v n (n + 1) k (k + 1) m m (unfold ReceivesPass in λ h. clash (h n k (omega arith) (omega arith) (omega arith) (omega arith)) (sym (receive-absent l) ∙ ne-eqb c 0 z))
 
-  pub channel-held : (before after : List ℕ) (answer : Bool) → n < nodes → c ≢ 0 → Reached v c n before after answer → Receives v n (n + 1) k (k + 1) before after answer
-  channel-held before after answer l z x =
+  pub channel-held : {before after : List ℕ} {answer : Bool} → n < nodes → c ≢ 0 → Reached v c n before after answer → Receives v n (n + 1) k (k + 1) before after answer
+  channel-held {before} {after} l z x =
       record {
         holds = λ e. received-one v before c n k after held (sym (receive-ends l z x) ∙ e) (both (reaches v c) _ (sym (x .ends-here) ∙ e) .0) (x .marks e);
         fails = λ e. unfold ReceivesPass in λ h. clash (h n k (omega arith) (omega arith) (omega arith) (omega arith)) (sym (receive-ends l z x) ∙ e);

@@ -43,21 +43,21 @@ low-bits D x h l none =
         go p k true e = refl
         go p k false e = ap not (none p k (ltb-false p D e))
 
-module _ (b m : List ℕ) (D n : ℕ) (d : D ≡ dimensionAt b) (most : D < 9) (i : n < 256) (small : enableBits b n < 256) (marks : PathsMarked (view b) m) where
+module _ (b : List ℕ) {m : List ℕ} {D n : ℕ} (d : D ≡ dimensionAt b) (most : D < 9) (i : n < 256) (small : enableBits b n < 256) (marks : PathsMarked (view b) m) where
   -- what the test of a link says where it passes: an absent link is off, and a held one is on and marked
   module _ (p : ℕ) (l : p < 8) (t : linkTest (view b) n p ≡ true) where
     absent-off : (ltb n (2 ^ D) && ltb p D) ≡ false → enabledAt b n p ≡ false
     unfolding view
-    absent-off e = is-false _ (λ on. clash t (sym (link-enabled-outside (view b) n p D (ownerAt b n p) false d refl (sym e) refl on)))
+    absent-off e = is-false _ (λ on. clash t (sym (link-enabled-outside (view b) n p d refl (sym e) refl on)))
 
     held-passes : ownerAt b n p ≢ 0 → (enabledAt b n p ≡ true) × (marked m n p ≡ true)
     unfolding view
     held-passes z = go (ltb n (2 ^ D) && ltb p D) refl (enabledAt b n p) refl
       where
         go : (x : Bool) → (ltb n (2 ^ D) && ltb p D) ≡ x → (y : Bool) → enabledAt b n p ≡ y → (y ≡ true) × (marked m n p ≡ true)
-        go false e y on = absurd (z (eqb-true _ 0 (link-held-outside (view b) n p D (ownerAt b n p) false d refl (sym e) refl (absent-off e) ∙ t)))
-        go true e false on = absurd (clash t (sym (link-disabled (view b) n p D (ownerAt b n p) true d refl (sym e) refl z on)))
-        go true e true on = (refl, link-marked (view b) n p D (ownerAt b n p) true d refl (sym e) m (view-framed b) marks i l refl z on ∙ t)
+        go false e y on = absurd (z (eqb-true _ 0 (link-held-outside (view b) n p d refl (sym e) refl (absent-off e) ∙ t)))
+        go true e false on = absurd (clash t (sym (link-disabled (view b) n p d refl (sym e) refl z on)))
+        go true e true on = (refl, link-marked (view b) n p d refl (sym e) (view-framed b) marks i l refl z on ∙ t)
 
   bit-enabled : (p : ℕ) → p < 8 → enabledAt b n p ≡ has (enableBits b n) p
   unfolding enableBits
@@ -75,7 +75,7 @@ module _ (b m : List ℕ) (D n : ℕ) (d : D ≡ dimensionAt b) (most : D < 9) (
       go true e k = absurd (omega (arith, low-bits D (enableBits b n) most small (λ p l g. off p l (rw (e, le-ltb p D g)))))
       go false e k = absurd (omega (arith, low-bits 0 (enableBits b n) (lit< tt) small (λ p l g. off p l (rw e))))
 
-  module _ (free passed : ℕ) (f : HeldBy b 0 n free) (q : passed ≡ bitAnd (enableBits b n) (getD m n 0)) where
+  module _ {free passed : ℕ} (f : HeldBy b 0 n free) (q : passed ≡ bitAnd (enableBits b n) (getD m n 0)) where
     on-path : (p : ℕ) → p < 8 → has passed p ≡ (enabledAt b n p && marked m n p)
     unfolding marked
     on-path p l = ap (λ x. has x p) q ∙ has-and (enableBits b n) (getD m n 0) p ∙ ap (_&& has (getD m n 0) p) (sym (bit-enabled p l))
@@ -106,9 +106,9 @@ module _ (b m : List ℕ) (D n : ℕ) (d : D ≡ dimensionAt b) (most : D < 9) (
             ⊎-elim (λ e. absurd (clash e (f .held p l ∙ ne-eqb _ 0 z))) (λ e. both (enabledAt b n p) (marked m n p) (sym (on-path p l) ∙ e)) (either (has free p) (has passed p) all)
 
         go : (x : Bool) → (ltb n (2 ^ D) && ltb p D) ≡ x → (ownerAt b n p ≡ 0) ⊎ (ownerAt b n p ≢ 0) → linkTest (view b) n p ≡ true
-        go true e (inl z) = sym (link-free (view b) n p D (ownerAt b n p) true d refl (sym e) refl z)
-        go true e (inr z) = let r = through z in sym (link-marked (view b) n p D (ownerAt b n p) true d refl (sym e) m (view-framed b) marks i l refl z (r .0)) ∙ r .1
-        go false e (inl z) = sym (link-held-outside (view b) n p D (ownerAt b n p) false d refl (sym e) refl (off b D n p i h e)) ∙ eq-eqb _ 0 z
+        go true e (inl z) = sym (link-free (view b) n p d refl (sym e) refl z)
+        go true e (inr z) = let r = through z in sym (link-marked (view b) n p d refl (sym e) (view-framed b) marks i l refl z (r .0)) ∙ r .1
+        go false e (inl z) = sym (link-held-outside (view b) n p d refl (sym e) refl (off b D n p i h e)) ∙ eq-eqb _ 0 z
         go false e (inr z) = absurd (clash (through z .0) (off b D n p i h e))
 
     pub links-decided : enableBits b n < enableLimit D n → Decides (LinksPass (view b) n (n + 1) 0 8) (eqb (bitOr free passed) 255)

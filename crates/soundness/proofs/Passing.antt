@@ -41,16 +41,16 @@ module _ (b : List ℕ) (D : ℕ) (d : D ≡ dimensionAt b) where
   idle-links n₀ n₁ most fit free n p g h z l = go (ltb n (2 ^ D) && ltb p D) refl
     where
       go : (x : Bool) → (ltb n (2 ^ D) && ltb p D) ≡ x → linkTest (view b) n p ≡ true
-      go true e = sym (link-free (view b) n p D 0 true d (sym (free n p g h l)) (sym e) refl refl)
-      go false e = sym (link-held-outside (view b) n p D 0 false d (sym (free n p g h l)) (sym e) refl (off b D n p (omega arith) (fit n (omega arith)) e))
+      go true e = sym (link-free (view b) n p d (sym (free n p g h l)) (sym e) refl refl)
+      go false e = sym (link-held-outside (view b) n p d (sym (free n p g h l)) (sym e) refl (off b D n p (omega arith) (fit n (omega arith)) e))
 
   pub idle-receives : (m : List ℕ) (n₀ n₁ : ℕ) → ((n k : ℕ) → n₀ ≤ n → n < n₁ → k < 8 → receiverAt b n k ≡ 0) → Received (view b) n₀ n₁ 0 8 m m
   unfolding view
   idle-receives m n₀ n₁ free = received-free (view b) m n₀ n₁ 0 8 (λ n k i. go n k i (ltb n (2 ^ D)) refl) (λ n k i. free n k (i .0) (i .1) (i .3))
     where
       go : (n k : ℕ) → (n₀ ≤ n) × (n < n₁) × (0 ≤ k) × (k < 8) → (x : Bool) → ltb n (2 ^ D) ≡ x → receiveTest (view b) n k ≡ true
-      go n k i true e = sym (receive-free (view b) n k D 0 (2 ^ D) d (sym (free n k (i .0) (i .1) (i .3))) refl (ltb-true n _ e) refl)
-      go n k i false e = sym (receive-absent (view b) n k D 0 (2 ^ D) d (sym (free n k (i .0) (i .1) (i .3))) refl (ltb-false n _ e))
+      go n k i true e = sym (receive-free (view b) n k d (sym (free n k (i .0) (i .1) (i .3))) refl (ltb-true n _ e) refl)
+      go n k i false e = sym (receive-absent (view b) n k d (sym (free n k (i .0) (i .1) (i .3))) refl (ltb-false n _ e))
 
 -- links of some nodes more, and of fewer
 module _ (v : View) where

@@ -23,7 +23,7 @@ returns : tie.Need-returns
 returns c =
     let m = c .before .before in
     let s = m .before .before .before in
-    unfold view in looked-large (view (s .args .t .now)) (s .args .c .0) (s .args .dimension) (m .node-count .result) (s .pre .1 .stored) (s .pre .1 .most) (m .node-count .ensures .value) (s .args .n .0) _ _ (omega (arith, c .if1 .taken))
+    unfold view in looked-large _ _ (s .pre .1 .stored) (s .pre .1 .most) (m .node-count .ensures .value) (omega (arith, c .if1 .taken))
 
 source-of-requires : tie.Need-source-of-requires
 source-of-requires c κs = search needs
@@ -40,8 +40,8 @@ returns-2 c =
     let g = h .before in
     let m = g .before .before .before in
     let s = m .before .before .before in
-    unfold view in looked-none (view (s .args .t .now)) (s .args .c .0) (s .args .dimension) (m .node-count .result) (s .pre .1 .stored) (s .pre .1 .most) (m .node-count .ensures .value) (s .args .n .0)
-    (g .source-of .result .0) (h .leaves-by .result .0) _ _ (g .source-of .ensures) (g .before .if1 .left) (h .leaves-by .ensures) (omega (arith, c .if2 .taken))
+    unfold view in looked-none _ _ (s .pre .1 .stored) (s .pre .1 .most) (m .node-count .ensures .value)
+    (g .source-of .ensures) (g .before .if1 .left) (h .leaves-by .ensures) (omega (arith, c .if2 .taken))
 
 mark-requires : tie.Need-mark-requires
 mark-requires c κs = search needs
@@ -88,9 +88,8 @@ returns-3 c =
     let m = g .before .before .before in
     let s = m .before .before .before in
     let small : g .source-of .result .0 < 256 = omega (arith, m .node-count .ensures .most, g .source-of .ensures, s .pre .0, g .before .if1 .left) in
-    unfold view in looked-here (view (s .args .t .now)) (s .args .c .0) (s .args .dimension) (m .node-count .result) (s .pre .1 .stored) (s .pre .1 .most) (m .node-count .ensures .value)
-    (g .source-of .result .0) (h .leaves-by .result .0) (n .neighbour .result .0) (w .follow .result .0) (s .args .marks .now) _ _
-    (g .source-of .ensures) (h .leaves-by .ensures) (e .if2 .left) (n .neighbour .ensures) (w .follow .ensures) (s .args .n .0) (c .channels-held .result) (g .before .if1 .left) small (s .pre .2) (f .mark .ensures) (t .if3 .taken) (c .channels-held .ensures)
+    unfold view in looked-here _ _ (s .pre .1 .stored) (s .pre .1 .most) (m .node-count .ensures .value)
+    (g .source-of .ensures) (h .leaves-by .ensures) (e .if2 .left) (n .neighbour .ensures) (w .follow .ensures) (g .before .if1 .left) small (s .pre .2) (f .mark .ensures) (t .if3 .taken) (c .channels-held .ensures)
 
 same-length-2 : tie.Need-same-length-2
 same-length-2 c = search needs
@@ -99,15 +98,13 @@ returns-4 : tie.Need-returns-4
 returns-4 c =
     let w = c .before .before .before .before .before in
     let n = w .before .before in
-    let f = n .before .before .before in
-    let e = f .before .before in
+    let e = n .before .before .before .before .before in
     let h = e .before .before in
     let g = h .before in
     let m = g .before .before .before in
     let s = m .before .before .before in
-    unfold view in looked-elsewhere (view (s .args .t .now)) (s .args .c .0) (s .args .dimension) (m .node-count .result) (s .pre .1 .stored) (s .pre .1 .most) (m .node-count .ensures .value)
-    (g .source-of .result .0) (h .leaves-by .result .0) (n .neighbour .result .0) (w .follow .result .0) (s .args .marks .now) _ _
-    (g .source-of .ensures) (h .leaves-by .ensures) (e .if2 .left) (n .neighbour .ensures) (w .follow .ensures) (s .args .n .0) (c .if3 .left)
+    unfold view in looked-elsewhere _ _ (s .pre .1 .stored) (s .pre .1 .most) (m .node-count .ensures .value)
+    (g .source-of .ensures) (h .leaves-by .ensures) (e .if2 .left) (n .neighbour .ensures) (w .follow .ensures) (c .if3 .left)
 
 pub ends-at-spec : {M : Type 1} → statement M
 ends-at-spec =

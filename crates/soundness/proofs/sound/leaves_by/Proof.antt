@@ -1,7 +1,6 @@
 -- `soundness::sound::leaves_by` meets its contract: of one link that is held at the source, its port; of several, as they are looked at.
 -- Assumes nothing.
 use mathlib.Core.Path.{sym, _∙_}
-use Rattle.table.specs.View.{view}
 use Rattle.soundness.proofs.Examine.{only-hop}
 use borrow.Author.Needs.{needs}
 use Rattle.soundness.proofs.sound.leaves_by.Statement.{statement}
@@ -19,9 +18,7 @@ only-port-requires c κs =
 returns : tie.Need-returns
 returns c =
     let i = c .before in
-    let k = i .before in
-    let s = k .before .before in
-    c .only-port .ensures ∙ only-hop (view (s .args .t .now)) (s .args .c .0) (s .args .s .0) (s .args .vector) (k .links-held .result) (k .links-held .ensures) (i .if1 .taken)
+    c .only-port .ensures ∙ only-hop _ _ _ _ (sym (i .before .links-held .ensures) ∙ i .if1 .taken)
 
 first-hop-requires : tie.Need-first-hop-requires
 first-hop-requires c κs = search needs

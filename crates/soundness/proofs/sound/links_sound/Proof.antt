@@ -20,7 +20,7 @@ returns c =
     let m = c .before in
     let e = m .before in
     let s = e .before .before .before in
-    decided-no (limit-fails (s .args .t .now) (s .args .marks .now) (s .args .dimension) (s .args .n .0) (s .pre .1 .stored) (s .pre .1 .most) (s .pre .0 .node)
+    decided-no (limit-fails (s .args .t .now) (s .pre .1 .stored) (s .pre .1 .most) (s .pre .0 .node)
     (omega (arith, e .enable-bits .ensures .0, e .enable-bits .ensures .1)) (s .pre .2) (omega (arith, e .enable-bits .ensures .0, m .enable-limit .ensures, c .if1 .taken)))
 
 cast-at : tie.Need-cast-at
@@ -42,8 +42,8 @@ returns-2 c =
     let m = i .before in
     let e = m .before in
     let s = e .before .before .before in
-    links-decided (s .args .t .now) (s .args .marks .now) (s .args .dimension) (s .args .n .0) (s .pre .1 .stored) (s .pre .1 .most) (s .pre .0 .node) (omega (arith, e .enable-bits .ensures .0, e .enable-bits .ensures .1)) (s .pre .2)
-    (c .held-by .result) _ (c .held-by .ensures) (ap₂ bitAnd (e .enable-bits .ensures .0) (w .wide .ensures .0)) (omega (arith, e .enable-bits .ensures .0, m .enable-limit .ensures, i .if1 .left))
+    links-decided (s .args .t .now) (s .pre .1 .stored) (s .pre .1 .most) (s .pre .0 .node) (omega (arith, e .enable-bits .ensures .0, e .enable-bits .ensures .1)) (s .pre .2)
+    (c .held-by .ensures) (ap₂ bitAnd (e .enable-bits .ensures .0) (w .wide .ensures .0)) (omega (arith, e .enable-bits .ensures .0, m .enable-limit .ensures, i .if1 .left))
 
 pub links-sound-spec : {M : Type 1} → statement M
 links-sound-spec =

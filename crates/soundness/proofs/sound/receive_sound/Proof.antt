@@ -13,8 +13,7 @@ receiver-requires c κs = search needs
 returns : tie.Need-returns
 returns c =
     let o = c .before .before in
-    let s = o .before .before .before in
-    unfold view in channel-free (view (s .args .t .now)) (s .args .n .0) (s .args .channel) (s .args .dimension) (o .receiver .result .0) _ (s .pre .1 .stored) (o .receiver .ensures) mathlib.Core.Path.refl (s .args .marks .now) (c .if1 .taken)
+    unfold view in channel-free _ _ _ (o .before .before .before .pre .1 .stored) (o .receiver .ensures) mathlib.Core.Path.refl (c .if1 .taken)
 
 node-count-requires : tie.Need-node-count-requires
 node-count-requires c κs = search needs
@@ -32,16 +31,14 @@ returns-2 c =
     let m = i .before .before in
     let l = m .before in
     let o = l .before .before in
-    let s = o .before .before .before in
-    unfold view in channel-held (view (s .args .t .now)) (s .args .n .0) (s .args .channel) (s .args .dimension) (o .receiver .result .0) (m .node-count .result) (s .pre .1 .stored) (o .receiver .ensures) (m .node-count .ensures .value) (s .args .marks .now) _ _ (i .if2 .taken) (l .if1 .left) (e .ends-at .ensures)
+    unfold view in channel-held _ _ _ (o .before .before .before .pre .1 .stored) (o .receiver .ensures) (m .node-count .ensures .value) (i .if2 .taken) (l .if1 .left) (e .ends-at .ensures)
 
 returns-3 : tie.Need-returns-3
 returns-3 c =
     let m = c .before .before in
     let l = m .before in
     let o = l .before .before in
-    let s = o .before .before .before in
-    unfold view in channel-absent (view (s .args .t .now)) (s .args .n .0) (s .args .channel) (s .args .dimension) (o .receiver .result .0) (m .node-count .result) (s .pre .1 .stored) (o .receiver .ensures) (m .node-count .ensures .value) (s .args .marks .now) (omega (arith, c .if2 .left)) (l .if1 .left)
+    unfold view in channel-absent _ _ _ (o .before .before .before .pre .1 .stored) (o .receiver .ensures) (m .node-count .ensures .value) (omega (arith, c .if2 .left)) (l .if1 .left)
 
 pub receive-sound-spec : {M : Type 1} → statement M
 receive-sound-spec =

@@ -19,8 +19,7 @@ held-by-requires : tie.Need-held-by-requires
 held-by-requires c κs =
     let m = c .before in
     let d = m .before in
-    let s = d .before .before in
-    source-within (s .args .t .now) (s .args .c .0) (d .dimension .result) (m .node-count .result) (c .source-of .result .0) (s .pre) (d .dimension .ensures) (m .node-count .ensures) (c .source-of .ensures)
+    source-within (d .before .before .pre) (d .dimension .ensures) (m .node-count .ensures) (c .source-of .ensures)
 
 sub-result : tie.Need-sub-result
 sub-result c = search needs
@@ -30,9 +29,8 @@ returns c =
     let g = c .before in
     let m = g .before in
     let d = m .before in
-    let s = d .before .before in
-    opened-vector (s .args .t .now) (s .args .c .0) (d .dimension .result) (m .node-count .result) (g .source-of .result .0) (c .held-by .result) (d .dimension .ensures)
-    (omega (arith, d .dimension .ensures, s .pre .fits)) (m .node-count .ensures .value) (g .source-of .ensures) (c .held-by .ensures)
+    opened-vector (d .dimension .ensures)
+    (omega (arith, d .dimension .ensures, d .before .before .pre .fits)) (m .node-count .ensures .value) (g .source-of .ensures) (c .held-by .ensures)
 
 pub is-open-spec : {M : Type 1} → statement M
 is-open-spec =

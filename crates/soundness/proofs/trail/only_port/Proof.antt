@@ -1,9 +1,8 @@
 -- `soundness::trail::only_port` meets its contract: of one link, a port that is taken is the one.
 -- Assumes nothing.
-use mathlib.Core.Path.{refl, sym, _∙_}
+use mathlib.Core.Path.{sym, _∙_}
 use native.Mathlib.Omega.{arith}
 use lib.Bits.{and-le-r}
-use Rattle.table.specs.View.{view}
 use Rattle.soundness.proofs.Examine.{only-port}
 use borrow.Author.Needs.{needs}
 use Rattle.soundness.proofs.trail.only_port.Statement.{statement}
@@ -22,9 +21,7 @@ returns : tie.Need-returns
 returns c =
     let k = c .before in
     let i = k .before in
-    let b = i .before in
-    let s = b .before .before .before in
-    only-port (view (s .args .t .now)) (s .args .c .0) (s .args .n .0) (s .args .vector) 1 (sym (s .pre .2)) refl (b .lowest-bit .result) (i .if1 .taken) (sym (k .takes .ensures) ∙ c .if2 .taken)
+    only-port _ _ _ _ (i .before .before .before .before .pre .2) (i .if1 .taken) (sym (k .takes .ensures) ∙ c .if2 .taken)
 
 held-port-requires : tie.Need-held-port-requires
 held-port-requires c κs = search needs

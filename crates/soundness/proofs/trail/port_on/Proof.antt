@@ -1,6 +1,6 @@
 -- `soundness::trail::port_on` meets its contract: where no link is held, no port is taken.
 -- Assumes nothing.
-use Rattle.table.specs.View.{view}
+use mathlib.Core.Path.{sym, _∙_}
 use Rattle.soundness.proofs.Examine.{no-port}
 use borrow.Author.Needs.{needs}
 use Rattle.soundness.proofs.trail.port_on.Statement.{statement}
@@ -10,10 +10,7 @@ links-held-requires : tie.Need-links-held-requires
 links-held-requires c κs = search needs
 
 returns : tie.Need-returns
-returns c =
-    let k = c .before in
-    let s = k .before .before .before .before .before in
-    no-port (view (s .args .t .now)) (s .args .c .0) (s .args .n .0) (s .args .vector) (k .links-held .result) (k .links-held .ensures) (c .if2 .taken)
+returns c = no-port _ _ _ _ (sym (c .before .links-held .ensures) ∙ c .if2 .taken)
 
 held-port-requires : tie.Need-held-port-requires
 held-port-requires c κs = search needs
