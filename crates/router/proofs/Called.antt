@@ -32,14 +32,14 @@ shown : Settled → After (List ℕ)
 shown (settled x r h n b) = done b (record { number = x; hops = h; receive = r; scouts = n }) []
 
 -- "D outside 1 to 8"
-pub dimension-zero : (D : ℕ) → D ≡ 0 → (leb 1 D && leb D 8) ≡ false
-dimension-zero D e = ap (_&& leb D 8) (lt-leb 1 D (omega (arith, e)))
+pub dimension-zero : {D : ℕ} → D ≡ 0 → (leb 1 D && leb D 8) ≡ false
+dimension-zero {D} e = ap (_&& leb D 8) (lt-leb 1 D (omega (arith, e)))
 
-pub dimension-large : (D : ℕ) → 8 < D → (leb 1 D && leb D 8) ≡ false
-dimension-large D h = ap (leb 1 D &&_) (lt-leb D 8 h) ∙ and-false (leb 1 D)
+pub dimension-large : {D : ℕ} → 8 < D → (leb 1 D && leb D 8) ≡ false
+dimension-large {D} h = ap (leb 1 D &&_) (lt-leb D 8 h) ∙ and-false (leb 1 D)
 
-pub dimension-is : (D : ℕ) → D ≢ 0 → D ≤ 8 → (leb 1 D && leb D 8) ≡ true
-dimension-is D f h = ap₂ _&&_ (le-leb 1 D (omega (arith, f))) (le-leb D 8 h)
+pub dimension-is : {D : ℕ} → D ≢ 0 → D ≤ 8 → (leb 1 D && leb D 8) ≡ true
+dimension-is {D} f h = ap₂ _&&_ (le-leb 1 D (omega (arith, f))) (le-leb D 8 h)
 
 -- The portions are the tests of the calls.
 module _ (b : List ℕ) where
@@ -91,18 +91,18 @@ module _ (b : List ℕ) where
     unfolding lent
     make-dimension e f = call-stopped (making D) {n = 2} (sym (outside f) ∙ sym (making-stopped b e D)) (λ z. omega arith)
 
-    pub make-made : length b ≡ tableLength → (leb 1 D && leb D 8) ≡ true → (b₁ : List ℕ) → b₁ ≡ made D → done b₁ (only 0) [] ≡ called b (making D)
+    pub make-made : length b ≡ tableLength → (leb 1 D && leb D 8) ≡ true → {b₁ : List ℕ} → b₁ ≡ made D → done b₁ (only 0) [] ≡ called b (making D)
     unfolding carriedOut
-    make-made e f b₁ q = ap (λ x. done x (only 0) []) q ∙ call-carried (making D) {n = 0} (sym (within f) ∙ sym (making-stopped b e D)) refl
+    make-made e f q = ap (λ x. done x (only 0) []) q ∙ call-carried (making D) {n = 0} (sym (within f) ∙ sym (making-stopped b e D)) refl
 
   -- blocking and unblocking
-  pub call-blocks : (n p : ℕ) {m : ℕ} → m ≡ refusal (blockTests b n p) → m ≡ 0 → (b₁ : List ℕ) → b₁ ≡ putEnabled b n p false → done b₁ (only 0) [] ≡ called b (blocking n p)
+  pub call-blocks : (n p : ℕ) {m : ℕ} → m ≡ refusal (blockTests b n p) → m ≡ 0 → {b₁ : List ℕ} → b₁ ≡ putEnabled b n p false → done b₁ (only 0) [] ≡ called b (blocking n p)
   unfolding carriedOut
-  call-blocks n p e z b₁ q = ap (λ x. done x (only 0) []) q ∙ call-carried (blocking n p) (e ∙ block-tests n p) z
+  call-blocks n p e z q = ap (λ x. done x (only 0) []) q ∙ call-carried (blocking n p) (e ∙ block-tests n p) z
 
-  pub call-unblocks : (n p : ℕ) {m : ℕ} → m ≡ refusal (linkTests b n p) → m ≡ 0 → (b₁ : List ℕ) → b₁ ≡ putEnabled b n p true → done b₁ (only 0) [] ≡ called b (unblocking n p)
+  pub call-unblocks : (n p : ℕ) {m : ℕ} → m ≡ refusal (linkTests b n p) → m ≡ 0 → {b₁ : List ℕ} → b₁ ≡ putEnabled b n p true → done b₁ (only 0) [] ≡ called b (unblocking n p)
   unfolding carriedOut
-  call-unblocks n p e z b₁ q = ap (λ x. done x (only 0) []) q ∙ call-carried (unblocking n p) (e ∙ unblock-tests n p) z
+  call-unblocks n p e z q = ap (λ x. done x (only 0) []) q ∙ call-carried (unblocking n p) (e ∙ unblock-tests n p) z
 
   pub block-refused : (n p : ℕ) {m : ℕ} → m ≡ refusal (blockTests b n p) → m ≢ 0 → done b (only m) [] ≡ called b (blocking n p)
   unfolding lent
@@ -117,33 +117,33 @@ module _ (b : List ℕ) where
   unfolding lent
   close-refused s c e f = call-stopped (closing s c) (e ∙ close-tests s c) f
 
-  pub call-closes : (s c : ℕ) {m : ℕ} → m ≡ refusal (closeTests b s c) → m ≡ 0 → (k : ℕ) → k ≡ circuitOf s c → (b₁ : List ℕ) → b₁ ≡ freed b k → done b₁ (only 0) [] ≡ called b (closing s c)
+  pub call-closes : (s c : ℕ) {m : ℕ} → m ≡ refusal (closeTests b s c) → m ≡ 0 → {k : ℕ} → k ≡ circuitOf s c → {b₁ : List ℕ} → b₁ ≡ freed b k → done b₁ (only 0) [] ≡ called b (closing s c)
   unfolding carriedOut
-  call-closes s c e z k q b₁ r = ap (λ x. done x (only 0) []) (r ∙ ap (freed b) q) ∙ call-carried (closing s c) (e ∙ close-tests s c) z
+  call-closes s c e z q r = ap (λ x. done x (only 0) []) (r ∙ ap (freed b) q) ∙ call-carried (closing s c) (e ∙ close-tests s c) z
 
   -- opening: what the search comes to is the answer
   pub open-refused : (s c t y v : ℕ) {m : ℕ} → m ≡ refusal (openTests b s c t y v) → m ≢ 0 → done b (only m) [] ≡ called b (opening s c t y v)
   unfolding lent
   open-refused s c t y v e f = call-stopped (opening s c t y v) (e ∙ open-tests s c t y v) f
 
-  pub call-opens : (s c t y v : ℕ) {m : ℕ} → m ≡ refusal (openTests b s c t y v) → m ≡ 0 → (k : ℕ) → k ≡ circuitOf s c → (x r h n : ℕ) (b₁ : List ℕ) → settled x r h n b₁ ≡ sends b s t k y v
+  pub call-opens : (s c t y v : ℕ) {m : ℕ} → m ≡ refusal (openTests b s c t y v) → m ≡ 0 → {k : ℕ} → k ≡ circuitOf s c → {x r h n : ℕ} {b₁ : List ℕ} → settled x r h n b₁ ≡ sends b s t k y v
       → done b₁ (record { number = x; hops = h; receive = r; scouts = n }) [] ≡ called b (opening s c t y v)
   unfolding carriedOut sends sentOn sendIn shown
-  call-opens s c t y v e z k q x r h n b₁ g = ap shown (g ∙ ap (λ i. sends b s t i y v) q) ∙ call-carried (opening s c t y v) (e ∙ open-tests s c t y v) z
+  call-opens s c t y v e z q g = ap shown (g ∙ ap (λ i. sends b s t i y v) q) ∙ call-carried (opening s c t y v) (e ∙ open-tests s c t y v) z
 
   -- tracing
   pub trace-refused : (s c : ℕ) (buffer : List ℕ) {m : ℕ} → m ≡ refusal (traceTests b s c buffer) → m ≢ 0 → done b (only m) buffer ≡ called b (tracing s c buffer)
   unfolding lent
   trace-refused s c buffer e f = call-stopped (tracing s c buffer) (e ∙ trace-tests s c buffer) f
 
-  pub call-traces : (s c : ℕ) (buffer : List ℕ) {m : ℕ} → m ≡ refusal (traceTests b s c buffer) → m ≡ 0 → (k : ℕ) → k ≡ circuitOf s c → (h : ℕ) (after : List ℕ)
+  pub call-traces : (s c : ℕ) (buffer : List ℕ) {m : ℕ} → m ≡ refusal (traceTests b s c buffer) → m ≡ 0 → {k : ℕ} → k ≡ circuitOf s c → {h : ℕ} {after : List ℕ}
       → h ≡ length (pathOf (view b) k) → after ≡ written (pathOf (view b) k) buffer → done b (record { number = 0; hops = h; receive = 0; scouts = 0 }) after ≡ called b (tracing s c buffer)
   unfolding carriedOut
-  call-traces s c buffer e z k q h after l w =
+  call-traces s c buffer e z q l w =
       ap₂ (λ i x. done b (record { number = 0; hops = i; receive = 0; scouts = 0 }) x) (l ∙ ap (λ i. length (pathOf (view b) i)) q) (w ∙ ap (λ i. written (pathOf (view b) i) buffer) q)
       ∙ call-carried (tracing s c buffer) (e ∙ trace-tests s c buffer) z
 
   -- the circuit of a channel that is open has a path
-  pub open-path : (s c : ℕ) → openIn (view b) s c ≡ true → (k : ℕ) → k ≡ circuitOf s c → not (isEmpty (pathOf (view b) k)) ≡ true
+  pub open-path : (s c : ℕ) → openIn (view b) s c ≡ true → {k : ℕ} → k ≡ circuitOf s c → not (isEmpty (pathOf (view b) k)) ≡ true
   unfolding openIn
-  open-path s c e k q = ap (λ i. not (isEmpty (pathOf (view b) i))) q ∙ e
+  open-path s c e q = ap (λ i. not (isEmpty (pathOf (view b) i))) q ∙ e

@@ -51,13 +51,13 @@ pub record Freeing (N : Network) (b ports : List ℕ) (s hops : ℕ) (now : List
   pub ends : end N at (slice i hops ports) ≡ end N s (take hops ports)
   pub holds : hold now 0 at (slice i hops ports) ≡ hold b 0 s (take hops ports)
 
-module _ (S : Shape) (b ports : List ℕ) (s hops : ℕ) where
+module _ (S : Shape) {b ports : List ℕ} {s hops : ℕ} where
   pub freeing-start : s < 256 → Freeing (network S) b ports s hops b s 0
   freeing-start h = record { most = omega arith; node = h; long = refl; ends = refl; holds = refl }
 
-  pub freeing-on : (now after : List ℕ) (at to i p : ℕ) → Freeing (network S) b ports s hops now at i → i < hops → hops ≤ length ports → p ≡ getD ports i 0 → p < 8
+  pub freeing-on : {now after : List ℕ} {at to i p : ℕ} → Freeing (network S) b ports s hops now at i → i < hops → hops ≤ length ports → p ≡ getD ports i 0 → p < 8
       → after ≡ putOwner now at p 0 → to ≡ next at p → Freeing (network S) b ports s hops after to (i + 1)
-  freeing-on now after at to i p f h room e l q t =
+  freeing-on {now} {after} {at} {to} {i} {p} f h room e l q t =
       record {
         most = omega arith;
         node = rw t (flip-inside 8 at p (f .node) l);
@@ -69,7 +69,7 @@ module _ (S : Shape) (b ports : List ℕ) (s hops : ℕ) where
       split : slice i hops ports ≡ p ∷ slice (suc i) hops ports
       split = slice-cons i hops ports 0 h room ∙ ap (_∷ slice (suc i) hops ports) (sym e)
 
-  module _ (now : List ℕ) (at i : ℕ) (f : Freeing (network S) b ports s hops now at i) (h : hops ≤ i) where
+  module _ {now : List ℕ} {at i : ℕ} (f : Freeing (network S) b ports s hops now at i) (h : hops ≤ i) where
     none : slice i hops ports ≡ []
     none = let e : i ≡ hops = omega (arith, f .most) in rw e (slice-empty hops ports)
 
@@ -86,7 +86,7 @@ at-member (x ∷ w) zero h = List·Memᴰ·head refl
 at-member (x ∷ w) (suc i) h = List·Memᴰ·tail (at-member w i (omega arith))
 
 -- An open circuit of a sound table.
-module _ (b : List ℕ) (c : ℕ) (known : HasSource b c) (some : not (isEmpty (pathOf (view b) c)) ≡ true) (sound : Sound (view b)) where
+module _ {b : List ℕ} {c : ℕ} (known : HasSource b c) (some : not (isEmpty (pathOf (view b) c)) ≡ true) (sound : Sound (view b)) where
   stands : Stands (view b) c
   stands = path-stands (view b) sound c (λ z. omega (arith, z, known .circuit)) some
 
@@ -156,7 +156,7 @@ module _ (b : List ℕ) (c : ℕ) (known : HasSource b c) (some : not (isEmpty (
       ∙ encode-view _ (free .long) (free .small)
 
   -- Of what the code has: the ports of the path in a buffer of nine, how many they are, and the source.
-  module _ (buffer ports : List ℕ) (hops s : ℕ) (room : 9 ≤ length buffer) (count : hops ≡ length path) (e : ports ≡ written path buffer) (q : s ≡ sourceOf c) where
+  module _ (buffer : List ℕ) {ports : List ℕ} {hops s : ℕ} (room : 9 ≤ length buffer) (count : hops ≡ length path) (e : ports ≡ written path buffer) (q : s ≡ sourceOf c) where
     taken : take hops ports ≡ path
     unfolding written
     taken = rw (count, e) (take-append-seam path (drop (length path) buffer))
@@ -175,7 +175,7 @@ module _ (b : List ℕ) (c : ℕ) (known : HasSource b c) (some : not (isEmpty (
               omega (arith, p, known .fits);
         }
 
-    module _ (t : ℕ) (b₁ : List ℕ) (ends : t ≡ end (net (view b)) s (take hops ports)) (holds : b₁ ≡ hold b 0 s (take hops ports)) where
+    module _ {t : ℕ} {b₁ : List ℕ} (ends : t ≡ end (net (view b)) s (take hops ports)) (holds : b₁ ≡ hold b 0 s (take hops ports)) where
       at-target : t ≡ target
       at-target = ends ∙ rw (taken, q)
 
@@ -193,7 +193,7 @@ module _ (b : List ℕ) (c : ℕ) (known : HasSource b c) (some : not (isEmpty (
           shown : view (hold b 0 (sourceOf c) path) ≡ holdLinks (view b) 0 (sourceOf c) path
           shown = view-hold 0 (lit< tt) (dimensionAt b) (known .fits) b (known .bytes) (sourceOf c) path (known .source) ports-below
 
-      module _ (k : ℕ) (found : k ≡ lowest (λ j. eqb (receiverAt b₁ t j) c) 8 0) where
+      module _ {k : ℕ} (found : k ≡ lowest (λ j. eqb (receiverAt b₁ t j) c) 8 0) where
         the-channel : k ≡ stands .channel
         the-channel =
             let f : ℕ → Bool = λ j. eqb (receiverAt b₁ t j) c in

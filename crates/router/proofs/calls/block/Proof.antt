@@ -13,16 +13,10 @@ same-length : tie.Need-same-length
 same-length c = search needs
 
 returns : tie.Need-returns
-returns c =
-    let k = c .before in
-    let s = k .before .before .before in
-    block-refused (s .args .t .now) (s .args .node .0) (s .args .port .0) (k .block .ensures) (c .if1 .taken)
+returns c = block-refused _ _ _ (c .before .block .ensures) (c .if1 .taken)
 
 disable-requires : tie.Need-disable-requires
-disable-requires c κs =
-    let k = c .before .before in
-    let s = k .before .before .before in
-    link-within (s .args .t .now) (s .args .node .0) (s .args .port .0) (block-passed (s .args .t .now) (s .args .node .0) (s .args .port .0) (k .block .ensures) (c .before .if1 .left))
+disable-requires c κs = link-within (block-passed (c .before .before .block .ensures) (c .before .if1 .left))
 
 same-length-2 : tie.Need-same-length-2
 same-length-2 c = search needs
@@ -30,9 +24,7 @@ same-length-2 c = search needs
 returns-2 : tie.Need-returns-2
 returns-2 c =
     let d = c .before .before in
-    let k = d .before .before .before in
-    let s = k .before .before .before in
-    call-blocks (s .args .t .now) (s .args .node .0) (s .args .port .0) (k .block .ensures) (d .before .before .if1 .left) (d .disable .last .0) (d .disable .ensures)
+    call-blocks _ _ _ (d .before .before .before .block .ensures) (d .before .before .if1 .left) (d .disable .ensures)
 
 pub block-spec : {M : Type 1} → statement M
 block-spec = tie.close (tie.spec block-requires same-length returns disable-requires same-length-2 returns-2)

@@ -6,19 +6,13 @@ use Rattle.router.proofs.calls.make.Statement.{statement}
 use Rattle.router.proofs.calls.make.Tie as tie
 
 returns : tie.Need-returns
-returns c =
-    let s = c .before .before in
-    make-length (s .args .t .now) (s .args .dimension) (c .if1 .taken)
+returns c = make-length _ _ (c .if1 .taken)
 
 returns-2 : tie.Need-returns-2
-returns-2 c =
-    let s = c .before .before .before in
-    make-dimension (s .args .t .now) (s .args .dimension) (c .before .if1 .left) (dimension-zero (s .args .dimension) (c .if2 .taken))
+returns-2 c = make-dimension _ _ (c .before .if1 .left) (dimension-zero (c .if2 .taken))
 
 returns-3 : tie.Need-returns-3
-returns-3 c =
-    let s = c .before .before .before .before in
-    make-dimension (s .args .t .now) (s .args .dimension) (c .before .before .if1 .left) (dimension-large (s .args .dimension) (c .if3 .taken))
+returns-3 c = make-dimension _ _ (c .before .before .if1 .left) (dimension-large (c .if3 .taken))
 
 cast-make : tie.Need-cast-make
 cast-make c = search needs
@@ -33,8 +27,7 @@ returns-4 : tie.Need-returns-4
 returns-4 c =
     let m = c .before .before in
     let e = m .before .before in
-    let s = e .before .before .before .before in
-    make-made (s .args .t .now) (s .args .dimension) (e .before .before .if1 .left) (dimension-is (s .args .dimension) (e .before .if2 .left) (e .if3 .left)) (m .make .last .0) (m .make .ensures)
+    make-made _ _ (e .before .before .if1 .left) (dimension-is (e .before .if2 .left) (e .if3 .left)) (m .make .ensures)
 
 pub make-spec : {M : Type 1} → statement M
 make-spec = tie.close (tie.spec returns returns-2 returns-3 cast-make make-requires same-length returns-4)

@@ -14,25 +14,18 @@ same-length : tie.Need-same-length
 same-length c = search needs
 
 returns : tie.Need-returns
-returns c =
-    let k = c .before in
-    let s = k .before .before .before in
-    open-refused (s .args .t .now) (s .args .source .0) (s .args .channel) (s .args .target .0) (s .args .routing) (s .args .vector) (k .«open» .ensures) (c .if1 .taken)
+returns c = open-refused _ _ _ _ _ _ (c .before .«open» .ensures) (c .if1 .taken)
 
 circuit-of-requires : tie.Need-circuit-of-requires
 circuit-of-requires c κs =
-    let k = c .before in
-    let s = k .before .before .before in
-    let r = open-passed (s .args .t .now) (s .args .source .0) (s .args .channel) (s .args .target .0) (s .args .routing) (s .args .vector) (k .«open» .ensures) (c .if1 .left) in
-    small-source (s .args .t .now) (s .args .source .0) (s .args .target .0) (s .args .channel) (r .0) (r .1)
+    let r = open-passed _ (c .before .«open» .ensures) (c .if1 .left) in
+    small-source (r .0) (r .1)
 
 send-requires : tie.Need-send-requires
 send-requires c κs =
     let m = c .before in
-    let k = m .before .before in
-    let s = k .before .before .before in
-    let r = open-passed (s .args .t .now) (s .args .source .0) (s .args .channel) (s .args .target .0) (s .args .routing) (s .args .vector) (k .«open» .ensures) (m .before .if1 .left) in
-    let nodes = node-room (s .args .t .now) (s .args .source .0) (s .args .target .0) (r .0) in
+    let r = open-passed _ (m .before .before .«open» .ensures) (m .before .if1 .left) in
+    let nodes = node-room (r .0) in
     record {
       bytes = r .0 .long;
       fits = r .0 .most;
@@ -50,9 +43,7 @@ returns-2 : tie.Need-returns-2
 returns-2 c =
     let g = c .before .before in
     let m = g .before .before in
-    let k = m .before .before in
-    let s = k .before .before .before in
-    call-opens (s .args .t .now) (s .args .source .0) (s .args .channel) (s .args .target .0) (s .args .routing) (s .args .vector) (k .«open» .ensures) (m .before .if1 .left) (m .circuit-of .result .0) (m .circuit-of .ensures) (g .send .result .refused) (g .send .result .channel) (g .send .result .hops) (g .send .result .scouts) (g .send .last .0) (g .send .ensures)
+    call-opens _ _ _ _ _ _ (m .before .before .«open» .ensures) (m .before .if1 .left) (m .circuit-of .ensures) (g .send .ensures)
 
 pub open-spec : {M : Type 1} → statement M
 open-spec = tie.close (tie.spec open-requires same-length returns circuit-of-requires send-requires same-length-2 returns-2)

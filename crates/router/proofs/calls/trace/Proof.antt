@@ -13,26 +13,19 @@ same-length : tie.Need-same-length
 same-length c = search needs
 
 returns : tie.Need-returns
-returns c =
-    let k = c .before in
-    let s = k .before .before .before .before in
-    trace-refused (s .args .t .now) (s .args .source .0) (s .args .channel) (s .args .buffer .now) (k .trace .ensures) (c .if1 .taken)
+returns c = trace-refused _ _ _ _ (c .before .trace .ensures) (c .if1 .taken)
 
 circuit-of-requires : tie.Need-circuit-of-requires
 circuit-of-requires c κs =
-    let k = c .before in
-    let s = k .before .before .before .before in
-    let r = trace-passed (s .args .t .now) (s .args .source .0) (s .args .channel) (s .args .buffer .now) (k .trace .ensures) (c .if1 .left) in
-    small-source (s .args .t .now) (s .args .source .0) (s .args .source .0) (s .args .channel) (r .0 .0) (r .0 .1)
+    let r = trace-passed _ (c .before .trace .ensures) (c .if1 .left) in
+    small-source (r .0 .0) (r .0 .1)
 
 write-path-requires : tie.Need-write-path-requires
 write-path-requires c κs =
     let m = c .before in
-    let k = m .before .before in
-    let s = k .before .before .before .before in
-    let r = trace-passed (s .args .t .now) (s .args .source .0) (s .args .channel) (s .args .buffer .now) (k .trace .ensures) (m .before .if1 .left) in (
-      has-source (s .args .t .now) (s .args .source .0) (s .args .source .0) (s .args .channel) (r .0 .0) (r .0 .1) (m .circuit-of .result .0) (m .circuit-of .ensures),
-      (open-path (s .args .t .now) (s .args .source .0) (s .args .channel) (r .0 .2) (m .circuit-of .result .0) (m .circuit-of .ensures), r .1),
+    let r = trace-passed _ (m .before .before .trace .ensures) (m .before .if1 .left) in (
+      has-source (r .0 .0) (r .0 .1) (m .circuit-of .ensures),
+      (open-path _ _ _ (r .0 .2) (m .circuit-of .ensures), r .1),
     )
 
 same-length-2 : tie.Need-same-length-2
@@ -42,9 +35,7 @@ returns-2 : tie.Need-returns-2
 returns-2 c =
     let g = c .before .before in
     let m = g .before .before in
-    let k = m .before .before in
-    let s = k .before .before .before .before in
-    call-traces (s .args .t .now) (s .args .source .0) (s .args .channel) (s .args .buffer .now) (k .trace .ensures) (m .before .if1 .left) (m .circuit-of .result .0) (m .circuit-of .ensures) (g .write-path .result) (g .write-path .last .1 .1 .0) (g .write-path .ensures .0) (g .write-path .ensures .1)
+    call-traces _ _ _ _ (m .before .before .trace .ensures) (m .before .if1 .left) (m .circuit-of .ensures) (g .write-path .ensures .0) (g .write-path .ensures .1)
 
 pub trace-spec : {M : Type 1} → statement M
 trace-spec = tie.close (tie.spec trace-requires same-length returns circuit-of-requires write-path-requires same-length-2 returns-2)

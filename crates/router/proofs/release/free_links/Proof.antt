@@ -16,7 +16,7 @@ abbrev μ-loop : tie.MeasureT-loop
 μ-loop t₀ ports hops at₀ i₀ t at i = hops - i
 
 loop-holds : tie.Need-loop-holds Inv-loop μ-loop
-loop-holds c = let s = c .before .before in freeing-start (shapeOf (view (s .args .t .now))) _ _ _ _ (s .pre .node)
+loop-holds c = let s = c .before .before in freeing-start (shapeOf (view (s .args .t .now))) (s .pre .node)
 
 cast-hop : tie.Need-cast-hop Inv-loop μ-loop
 cast-hop c = omega arith
@@ -59,7 +59,7 @@ loop-again c =
     let i = o .before .before .before in
     let l = i .before in
     let s = l .before .before .before in
-    freeing-on (shapeOf (view (s .args .t .now))) _ _ _ _ (l .loop .t) _ (l .loop .at .0) (c .neighbour .result .0) (l .loop .i) _ (l .loop .inv) (i .loop-test .taken) (s .pre .room) refl
+    freeing-on (shapeOf (view (s .args .t .now))) (l .loop .inv) (i .loop-test .taken) (s .pre .room) refl
     (s .pre .below (l .loop .i) (i .loop-test .taken)) (o .set-owner .ensures) (c .neighbour .ensures)
 
 same-length : tie.Need-same-length Inv-loop μ-loop
@@ -70,7 +70,7 @@ returns c =
     let l = c .before in
     let s = l .before .before .before in
     let S = shapeOf (view (s .args .t .now)) in
-    (freed-end S _ _ _ _ (l .loop .t) (l .loop .at .0) (l .loop .i) (l .loop .inv) (c .loop-test .left), freed-bytes-are S _ _ _ _ (l .loop .t) (l .loop .at .0) (l .loop .i) (l .loop .inv) (c .loop-test .left))
+    (freed-end S (l .loop .inv) (c .loop-test .left), freed-bytes-are S (l .loop .inv) (c .loop-test .left))
 
 pub free-links-spec : {M : Type 1} → statement M
 free-links-spec =

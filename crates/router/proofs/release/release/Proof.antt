@@ -25,7 +25,7 @@ free-links-requires c κs =
     let m = c .before in
     let w = m .before .before .before in
     let s = w .before .before .before .before in
-    may-free (s .args .t .now) (s .args .c .0) (s .pre .0) (s .pre .1 .0) (s .pre .1 .1) _ _ (w .write-path .result) (m .source-of .result .0) (lit≤ tt) (w .write-path .ensures .0) (w .write-path .ensures .1) (m .source-of .ensures)
+    may-free (s .pre .0) (s .pre .1 .0) (s .pre .1 .1) _ (lit≤ tt) (w .write-path .ensures .0) (w .write-path .ensures .1) (m .source-of .ensures)
 
 held-channel-requires : tie.Need-held-channel-requires
 held-channel-requires c κs =
@@ -33,8 +33,8 @@ held-channel-requires c κs =
     let m = f .before .before in
     let w = m .before .before .before in
     let s = w .before .before .before .before in
-    target-within (s .args .t .now) (s .args .c .0) (s .pre .0) (s .pre .1 .0) (s .pre .1 .1) _ _ (w .write-path .result) (m .source-of .result .0) (lit≤ tt) (w .write-path .ensures .0) (w .write-path .ensures .1) (m .source-of .ensures)
-    (f .free-links .result .0) _ (f .free-links .ensures .0) (f .free-links .ensures .1)
+    target-within (s .pre .0) (s .pre .1 .0) (s .pre .1 .1) _ (lit≤ tt) (w .write-path .ensures .0) (w .write-path .ensures .1) (m .source-of .ensures)
+    (f .free-links .ensures .0) (f .free-links .ensures .1)
 
 set-receiver-requires : tie.Need-set-receiver-requires
 set-receiver-requires c κs =
@@ -43,8 +43,8 @@ set-receiver-requires c κs =
     let m = f .before .before in
     let w = m .before .before .before in
     let s = w .before .before .before .before in
-    channel-within (s .args .t .now) (s .args .c .0) (s .pre .0) (s .pre .1 .0) (s .pre .1 .1) _ _ (w .write-path .result) (m .source-of .result .0) (lit≤ tt) (w .write-path .ensures .0) (w .write-path .ensures .1) (m .source-of .ensures)
-    (f .free-links .result .0) _ (f .free-links .ensures .0) (f .free-links .ensures .1) (h .held-channel .result) (h .held-channel .ensures)
+    channel-within (s .pre .0) (s .pre .1 .0) (s .pre .1 .1) _ (lit≤ tt) (w .write-path .ensures .0) (w .write-path .ensures .1) (m .source-of .ensures)
+    (f .free-links .ensures .0) (f .free-links .ensures .1) (h .held-channel .ensures)
 
 same-length : tie.Need-same-length
 same-length c = search needs
@@ -59,8 +59,8 @@ returns c =
     let a = w .before .before .before in
     let s = a .before in
     r .set-receiver .ensures
-    ∙ all-freed (s .args .t .now) (s .args .c .0) (s .pre .0) (s .pre .1 .0) (s .pre .1 .1) _ _ (w .write-path .result) (m .source-of .result .0) (lit≤ tt) (w .write-path .ensures .0) (w .write-path .ensures .1) (m .source-of .ensures)
-    (f .free-links .result .0) _ (f .free-links .ensures .0) (f .free-links .ensures .1) (h .held-channel .result) (h .held-channel .ensures)
+    ∙ all-freed (s .pre .0) (s .pre .1 .0) (s .pre .1 .1) _ (lit≤ tt) (w .write-path .ensures .0) (w .write-path .ensures .1) (m .source-of .ensures)
+    (f .free-links .ensures .0) (f .free-links .ensures .1) (h .held-channel .ensures)
     record { long = s .pre .0 .bytes; small = λ i. omega (arith, a .slice-known .given i) }
 
 pub release-spec : {M : Type 1} → statement M

@@ -1,7 +1,8 @@
 -- `router::stopped::close` meets its contract: the tests of node and channel, then whether a circuit is open.
 -- Assumes nothing.
-use Rattle.router.proofs.Stopping.{channel-passed, small-source, has-source}
-use Rattle.router.proofs.Returns.{close-before, close-open, close-shut}
+use Rattle.router.specs.Portions.{closeTests}
+use Rattle.router.proofs.Stopping.{stopped-before, channel-passed, small-source, has-source}
+use Rattle.router.proofs.Returns.{close-open, close-shut}
 use borrow.Author.Needs.{needs}
 use Rattle.router.proofs.stopped.close.Statement.{statement}
 use Rattle.router.proofs.stopped.close.Tie as tie
@@ -10,41 +11,30 @@ channel-requires : tie.Need-channel-requires
 channel-requires c κs = search needs
 
 returns : tie.Need-returns
-returns c =
-    let k = c .before in
-    let s = k .before .before in
-    close-before (s .args .t .now) (s .args .source .0) (s .args .channel) (k .channel .ensures) (c .if1 .taken)
+returns c = unfold closeTests in stopped-before _ _ (c .before .channel .ensures) (c .if1 .taken)
 
 circuit-of-requires : tie.Need-circuit-of-requires
 circuit-of-requires c κs =
-    let k = c .before in
-    let s = k .before .before in
-    let r = channel-passed (s .args .t .now) (s .args .source .0) (s .args .source .0) (s .args .channel) (k .channel .ensures) (c .if1 .left) in
-    small-source (s .args .t .now) (s .args .source .0) (s .args .source .0) (s .args .channel) (r .0) (r .1)
+    let r = channel-passed (c .before .channel .ensures) (c .if1 .left) in
+    small-source (r .0) (r .1)
 
 is-open-requires : tie.Need-is-open-requires
 is-open-requires c κs =
     let e = c .before in
-    let k = e .before in
-    let s = k .before .before in
-    let r = channel-passed (s .args .t .now) (s .args .source .0) (s .args .source .0) (s .args .channel) (k .channel .ensures) (e .if1 .left) in
-    has-source (s .args .t .now) (s .args .source .0) (s .args .source .0) (s .args .channel) (r .0) (r .1) (c .circuit-of .result .0) (c .circuit-of .ensures)
+    let r = channel-passed (e .before .channel .ensures) (e .if1 .left) in
+    has-source (r .0) (r .1) (c .circuit-of .ensures)
 
 returns-2 : tie.Need-returns-2
 returns-2 c =
     let o = c .before in
     let g = o .before in
-    let k = g .before .before in
-    let s = k .before .before in
-    close-open (s .args .t .now) (s .args .source .0) (s .args .channel) (k .channel .ensures) (g .before .if1 .left) (g .circuit-of .result .0) (o .is-open .result) (g .circuit-of .ensures) (o .is-open .ensures) (c .if2 .taken)
+    close-open _ _ _ (g .circuit-of .ensures) (o .is-open .ensures) (g .before .if1 .left) (g .before .before .channel .ensures) (c .if2 .taken)
 
 returns-3 : tie.Need-returns-3
 returns-3 c =
     let o = c .before in
     let g = o .before in
-    let k = g .before .before in
-    let s = k .before .before in
-    close-shut (s .args .t .now) (s .args .source .0) (s .args .channel) (k .channel .ensures) (g .before .if1 .left) (g .circuit-of .result .0) (o .is-open .result) (g .circuit-of .ensures) (o .is-open .ensures) (c .if2 .left)
+    close-shut _ _ _ (g .circuit-of .ensures) (o .is-open .ensures) (g .before .if1 .left) (g .before .before .channel .ensures) (c .if2 .left)
 
 pub close-spec : {M : Type 1} → statement M
 close-spec = tie.close (tie.spec channel-requires returns circuit-of-requires is-open-requires returns-2 returns-3)

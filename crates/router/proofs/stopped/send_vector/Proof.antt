@@ -1,8 +1,9 @@
 -- `router::stopped::send_vector` meets its contract: the tests up to the routing type, then the send vector.
 -- Assumes nothing.
 use native.Mathlib.Omega.{arith}
-use Rattle.router.proofs.Stopping.{type-passed}
-use Rattle.router.proofs.Returns.{vector-before, vector-zero, vector-inside, vector-outside}
+use Rattle.router.specs.Portions.{vectorTests}
+use Rattle.router.proofs.Stopping.{stopped-before, type-passed}
+use Rattle.router.proofs.Returns.{vector-zero, vector-inside, vector-outside}
 use borrow.Author.Needs.{needs}
 use Rattle.router.proofs.stopped.send_vector.Statement.{statement}
 use Rattle.router.proofs.stopped.send_vector.Tie as tie
@@ -11,31 +12,22 @@ routing-type-requires : tie.Need-routing-type-requires
 routing-type-requires c κs = search needs
 
 returns : tie.Need-returns
-returns c =
-    let k = c .before in
-    let s = k .before .before in
-    vector-before (s .args .t .now) (s .args .source .0) (s .args .channel) (s .args .target .0) (s .args .routing) (s .args .vector) (k .routing-type .ensures) (c .if1 .taken)
+returns c = unfold vectorTests in stopped-before _ _ (c .before .routing-type .ensures) (c .if1 .taken)
 
 returns-2 : tie.Need-returns-2
 returns-2 c =
     let e = c .before in
-    let k = e .before in
-    let s = k .before .before in
-    vector-zero (s .args .t .now) (s .args .source .0) (s .args .channel) (s .args .target .0) (s .args .routing) (s .args .vector) (k .routing-type .ensures) (e .if1 .left) (c .if2 .taken)
+    vector-zero _ _ _ _ _ _ (e .before .routing-type .ensures) (e .if1 .left) (c .if2 .taken)
 
 dimension-requires : tie.Need-dimension-requires
 dimension-requires c κs =
     let e = c .before in
-    let k = e .before in
-    let s = k .before .before in
-    type-passed (s .args .t .now) (s .args .source .0) (s .args .channel) (s .args .target .0) (s .args .routing) (s .args .vector) (k .routing-type .ensures) (e .if1 .left) .0 .long
+    type-passed _ (e .before .routing-type .ensures) (e .if1 .left) .0 .long
 
 node-count-requires : tie.Need-node-count-requires
 node-count-requires c κs =
     let e = c .before .before in
-    let k = e .before in
-    let s = k .before .before in
-    let r = type-passed (s .args .t .now) (s .args .source .0) (s .args .channel) (s .args .target .0) (s .args .routing) (s .args .vector) (k .routing-type .ensures) (e .if1 .left) in
+    let r = type-passed _ (e .before .routing-type .ensures) (e .if1 .left) in
     omega (arith, c .dimension .ensures, r .0 .most)
 
 returns-3 : tie.Need-returns-3
@@ -44,9 +36,7 @@ returns-3 c =
     let d = g .before in
     let z = d .before in
     let e = z .before in
-    let k = e .before in
-    let s = k .before .before in
-    vector-inside (s .args .t .now) (s .args .source .0) (s .args .channel) (s .args .target .0) (s .args .routing) (s .args .vector) (k .routing-type .ensures) (e .if1 .left) (z .if2 .left) (d .dimension .result) (g .node-count .result) (d .dimension .ensures) (g .node-count .ensures .value) (c .if3 .taken)
+    vector-inside _ _ _ _ _ _ (e .before .routing-type .ensures) (e .if1 .left) (z .if2 .left) (d .dimension .ensures) (g .node-count .ensures .value) (c .if3 .taken)
 
 returns-4 : tie.Need-returns-4
 returns-4 c =
@@ -54,9 +44,7 @@ returns-4 c =
     let d = g .before in
     let z = d .before in
     let e = z .before in
-    let k = e .before in
-    let s = k .before .before in
-    vector-outside (s .args .t .now) (s .args .source .0) (s .args .channel) (s .args .target .0) (s .args .routing) (s .args .vector) (k .routing-type .ensures) (e .if1 .left) (z .if2 .left) (d .dimension .result) (g .node-count .result) (d .dimension .ensures) (g .node-count .ensures .value) (c .if3 .left)
+    vector-outside _ _ _ _ _ _ (e .before .routing-type .ensures) (e .if1 .left) (z .if2 .left) (d .dimension .ensures) (g .node-count .ensures .value) (c .if3 .left)
 
 pub send-vector-spec : {M : Type 1} → statement M
 send-vector-spec = tie.close (tie.spec routing-type-requires returns returns-2 dimension-requires node-count-requires returns-3 returns-4)

@@ -55,8 +55,8 @@ returns : (t : ℕ) → trace-on-At trace-on-lts.Need-returns t
 returns t c =
     let h = c .before .before in
     let s = h .before .before .before in (
-      end-count (s .args .t .now) (s .args .c .0) (s .args .at .0) (s .args .left) (s .args .hops) (s .args .buffer .now) (h .held-port .result .0) (h .held-port .ensures) (c .if1 .taken),
-      end-bytes (s .args .t .now) (s .args .c .0) (s .args .at .0) (s .args .left) (s .args .hops) (s .args .buffer .now) (h .held-port .result .0) (h .held-port .ensures) (c .if1 .taken),
+      end-count _ _ _ _ (h .held-port .ensures) (c .if1 .taken),
+      end-bytes _ _ _ _ (h .held-port .ensures) _ (c .if1 .taken),
     )
 
 cast-buffer : (t : ℕ) → trace-on-At trace-on-lts.Need-cast-buffer t
@@ -65,8 +65,7 @@ cast-buffer t c = omega (arith, c .before .if1 .left)
 slice-write-buffer : (t : ℕ) → trace-on-At trace-on-lts.Need-slice-write-buffer t
 slice-write-buffer t c =
     let h = c .before .before .before in
-    let s = h .before .before .before in
-    on-place (s .args .t .now) (s .args .c .0) (s .args .at .0) (s .args .left) (s .args .hops) (s .args .buffer .now) (h .held-port .result .0) (h .held-port .ensures) (c .before .if1 .left) (s .pre .1)
+    on-place _ _ _ _ (h .held-port .ensures) (c .before .if1 .left) (h .before .before .before .pre .1)
 
 neighbour-requires : (t : ℕ) → trace-on-At trace-on-lts.Need-neighbour-requires t
 neighbour-requires t c κs = omega (arith, c .before .if1 .left)
@@ -89,8 +88,7 @@ trace-on-requires t c κs =
     let h = e .before .before in
     let s = h .before .before .before in (
       omega (arith, w .without .ensures .value, pow-pos (h .held-port .result .0), s .pre .0),
-      on-may (s .args .t .now) (s .args .c .0) (s .args .at .0) (s .args .left) (s .args .hops) (s .args .buffer .now) (h .held-port .result .0) (h .held-port .ensures)
-          (w .without .result) (m .neighbour .result .0) (e .if1 .left) (w .without .ensures) (m .neighbour .ensures) (s .pre .1),
+      on-may _ _ _ _ (h .held-port .ensures) (e .if1 .left) (w .without .ensures) (m .neighbour .ensures) (s .pre .1),
     )
 
 same-length : (t : ℕ) → trace-on-At trace-on-lts.Need-same-length t
@@ -108,10 +106,8 @@ returns-2 t c =
     let e = m .before .before in
     let h = e .before .before in
     let s = h .before .before .before in (
-      on-count (s .args .t .now) (s .args .c .0) (s .args .at .0) (s .args .left) (s .args .hops) (s .args .buffer .now) (h .held-port .result .0) (h .held-port .ensures)
-          (w .without .result) (m .neighbour .result .0) (e .if1 .left) (w .without .ensures) (m .neighbour .ensures) (y .trace-on .result) (y .trace-on .ensures .0),
-      on-bytes (s .args .t .now) (s .args .c .0) (s .args .at .0) (s .args .left) (s .args .hops) (s .args .buffer .now) (h .held-port .result .0) (h .held-port .ensures)
-          (w .without .result) (m .neighbour .result .0) (e .if1 .left) (w .without .ensures) (m .neighbour .ensures) (y .trace-on .last .1 .1 .1 .1 .1 .0) (y .trace-on .ensures .1),
+      on-count _ _ _ _ (h .held-port .ensures) (e .if1 .left) (w .without .ensures) (m .neighbour .ensures) _ (y .trace-on .ensures .0),
+      on-bytes _ _ _ _ (h .held-port .ensures) (e .if1 .left) (w .without .ensures) (m .neighbour .ensures) _ _ (y .trace-on .ensures .1),
     )
 
 pub +trace-on-spec : {M : Type 1} → statement M

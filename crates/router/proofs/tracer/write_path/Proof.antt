@@ -26,8 +26,7 @@ first-hop-requires c κs =
     let g = c in
     let m = g .before in
     let d = m .before in
-    let s = d .before .before .before in
-    source-within (s .args .t .now) (s .args .c .0) (d .dimension .result) (m .node-count .result) (g .source-of .result .0) (s .pre .0) (d .dimension .ensures) (m .node-count .ensures) (g .source-of .ensures)
+    source-within (d .before .before .before .pre .0) (d .dimension .ensures) (m .node-count .ensures) (g .source-of .ensures)
 
 cast-buffer : tie.Need-cast-buffer
 cast-buffer c =
@@ -36,7 +35,7 @@ cast-buffer c =
     let m = g .before in
     let d = m .before in
     let s = d .before .before .before in
-    let small = first-below (s .args .t .now) (s .args .c .0) (d .dimension .result) (m .node-count .result) (g .source-of .result .0) (s .pre .0) (d .dimension .ensures) (m .node-count .ensures) (g .source-of .ensures) (h .first-hop .result .0) (h .first-hop .ensures) (s .pre .1 .0) in
+    let small = first-below (s .pre .0) (d .dimension .ensures) (m .node-count .ensures) (g .source-of .ensures) (h .first-hop .ensures) (s .pre .1 .0) in
     omega (arith, small)
 
 slice-write-buffer : tie.Need-slice-write-buffer
@@ -49,7 +48,7 @@ neighbour-requires c κs =
     let m = g .before in
     let d = m .before in
     let s = d .before .before .before in
-    let small = first-below (s .args .t .now) (s .args .c .0) (d .dimension .result) (m .node-count .result) (g .source-of .result .0) (s .pre .0) (d .dimension .ensures) (m .node-count .ensures) (g .source-of .ensures) (h .first-hop .result .0) (h .first-hop .ensures) (s .pre .1 .0) in
+    let small = first-below (s .pre .0) (d .dimension .ensures) (m .node-count .ensures) (g .source-of .ensures) (h .first-hop .ensures) (s .pre .1 .0) in
     omega (arith, small)
 
 trace-on-requires : tie.Need-trace-on-requires
@@ -60,18 +59,13 @@ trace-on-requires c κs =
     let m = g .before in
     let d = m .before in
     let s = d .before .before .before in
-    behind-may (s .args .t .now) (s .args .c .0) (d .dimension .result) (m .node-count .result) (g .source-of .result .0) (s .pre .0) (d .dimension .ensures) (m .node-count .ensures) (g .source-of .ensures)
-    (h .first-hop .result .0) (h .first-hop .ensures) (s .pre .1 .0) (n .neighbour .result .0) (s .args .buffer .now) (n .neighbour .ensures) (s .pre .1 .1)
+    behind-may (s .pre .0) (d .dimension .ensures) (m .node-count .ensures) (g .source-of .ensures) (h .first-hop .ensures) (s .pre .1 .0) (n .neighbour .ensures) (s .args .buffer .now) (s .pre .1 .1)
 
 same-length : tie.Need-same-length
 same-length c =
     let y = c .before .before in
-    let n = y .before .before in
-    let h = n .before .before in
-    let g = h .before in
-    let m = g .before in
-    let d = m .before in
-    let s = d .before .before .before in
+    let h = y .before .before .before .before in
+    let s = h .before .before .before .before .before .before in
     y .trace-on .kept .1 .1 .1 .1 .1 .0 ∙ length-set (s .args .buffer .now) 0 (h .first-hop .result .0)
 
 returns : tie.Need-returns
@@ -83,10 +77,8 @@ returns c =
     let m = g .before in
     let d = m .before in
     let s = d .before .before .before in (
-      whole-count (s .args .t .now) (s .args .c .0) (d .dimension .result) (m .node-count .result) (g .source-of .result .0) (s .pre .0) (d .dimension .ensures) (m .node-count .ensures) (g .source-of .ensures)
-          (h .first-hop .result .0) (h .first-hop .ensures) (s .pre .1 .0) (n .neighbour .result .0) (s .args .buffer .now) (n .neighbour .ensures) (s .pre .1 .1) (y .trace-on .result) (y .trace-on .ensures .0),
-      whole-bytes (s .args .t .now) (s .args .c .0) (d .dimension .result) (m .node-count .result) (g .source-of .result .0) (s .pre .0) (d .dimension .ensures) (m .node-count .ensures) (g .source-of .ensures)
-          (h .first-hop .result .0) (h .first-hop .ensures) (s .pre .1 .0) (n .neighbour .result .0) (s .args .buffer .now) (n .neighbour .ensures) (s .pre .1 .1) (y .trace-on .last .1 .1 .1 .1 .1 .0) (y .trace-on .ensures .1),
+      whole-count (s .pre .0) (d .dimension .ensures) (m .node-count .ensures) (g .source-of .ensures) (h .first-hop .ensures) (s .pre .1 .0) (n .neighbour .ensures) (y .trace-on .ensures .0),
+      whole-bytes (s .pre .0) (d .dimension .ensures) (m .node-count .ensures) (g .source-of .ensures) (h .first-hop .ensures) (s .pre .1 .0) (n .neighbour .ensures) _ (s .pre .1 .1) (y .trace-on .ensures .1),
     )
 
 pub write-path-spec : {M : Type 1} → statement M
