@@ -22,13 +22,13 @@ use Rattle.paths.proofs.Links.{link-true, true-link}
 use Rattle.table.specs.View.{View, view}
 use Rattle.soundness.specs.Sound.{endFor, Stands, Sound}
 use Rattle.soundness.specs.SoundTest.{pathOf, isEmpty, tableTests}
-use Rattle.soundness.proofs.Soundness.{path-is}
+use Rattle.soundness.proofs.Soundness.{path-is, link-stands, receive-stands}
 use Rattle.ownership.specs.Calls.{Call}
 use Rattle.ownership.specs.OnTable.{called}
 use Rattle.ownership.specs.History.{Circuit, History, netOn, linksOf, holdsLink, holdsReceive, enabledOn}
 use Rattle.ownership.specs.Lists.{numberOf, viewOf, Standing, Separate, Valid, Covered, Agrees}
 use Rattle.ownership.specs.FromTable.{linksOut, circuitAt, openNumbers, historyOf}
-use Rattle.ownership.proofs.Circuits.{numberFor, number-none, number-at}
+use Rattle.ownership.proofs.Circuits.{numberFor, number-none, Once, number-at}
 use Rattle.ownership.proofs.Standing.{holds-link, link-holds, holds-receive, receive-holds, links-once, receives-once}
 use Rattle.ownership.proofs.Stops.{pass-tests}
 use Rattle.ownership.proofs.OnSound.{path-stands, stands-path}
@@ -154,36 +154,28 @@ module _ (v : View) (sound : Sound v) where
           let i = both-below e in
           sym (ap not (link-true (keep off every) n p (mem-keep off every (mem-out (from 0 (2 ^ D)) (from 0 D) n p (below-from _ n (i .0)) (below-from _ p (i .1))) (ap not q))))
 
-  -- its links' circuits
+  -- its entries: the number that stands in one is that of the circuit that holds it
+  entry-same : (holds : Circuit → Bool) {e : ℕ} → Once holds (h .circuits) → e ≤ 8 * 2 ^ D → (e ≢ 0 → Stands v e)
+      → ((c : ℕ) → Open c → holds (circuitAt v c) ≡ true → e ≡ c) → (Open e → holds (circuitAt v e) ≡ true) → e ≡ numberOf holds (h .circuits)
+  entry-same holds {e} once most stands its holder = ⊎-elim free held (same? e 0)
+    where
+      free : e ≡ 0 → e ≡ numberOf holds (h .circuits)
+      free z = z ∙ sym (number-none holds (h .circuits) (λ x m t. let r = listed-open x m in omega (arith, z, r .1 .positive, its (r .0) (r .1) (rw (r .2) t))))
+
+      held : e ≢ 0 → e ≡ numberOf holds (h .circuits)
+      held ne =
+          let o : Open e = record { positive = omega (arith, ne); most = most; stands = stands ne } in
+          sym (number-at holds (h .circuits) once (circuitAt v e) (open-listed e o) (holder o) ∙ number-is e o)
+
   owner-same : (n p : ℕ) → v .owner n p ≡ numberOf (holdsLink (netOn h) n p) (h .circuits)
-  owner-same n p = ⊎-elim free held (same? (v .owner n p) 0)
-    where
-      free : v .owner n p ≡ 0 → v .owner n p ≡ numberOf (holdsLink (netOn h) n p) (h .circuits)
-      free z =
-          z ∙ sym (number-none (holdsLink (netOn h) n p) (h .circuits)
-          (λ x m e. let r = listed-open x m in omega (arith, z, r .1 .positive, link-number (r .0) (r .1) n p (rw (r .2) (holds-link (netOn h) n p x e)))))
+  owner-same n p =
+      entry-same (holdsLink (netOn h) n p) (links-once (netOn h) n p (h .circuits) apart) (sound .link-number n p) (link-stands v sound n p)
+      (λ c o t. link-number c o n p (holds-link (netOn h) n p _ t)) (λ o. link-holds (netOn h) n p _ (number-link _ o n p refl))
 
-      held : v .owner n p ≢ 0 → v .owner n p ≡ numberOf (holdsLink (netOn h) n p) (h .circuits)
-      held ne =
-          let c = v .owner n p in
-          let o : Open c = record { positive = omega (arith, ne); most = sound .link-number n p; stands = ⊎-elim (λ z. absurd (z .0 n p refl)) (λ s. s) (sound .numbers c ne) } in
-          sym (number-at (holdsLink (netOn h) n p) (h .circuits) (links-once (netOn h) n p (h .circuits) apart) (circuitAt v c) (open-listed c o) (link-holds (netOn h) n p _ (number-link c o n p refl)) ∙ number-is c o)
-
-  -- and its receive channels' circuits
   receiver-same : (n k : ℕ) → v .receiver n k ≡ numberOf (holdsReceive n k) (h .circuits)
-  receiver-same n k = ⊎-elim free held (same? (v .receiver n k) 0)
-    where
-      free : v .receiver n k ≡ 0 → v .receiver n k ≡ numberOf (holdsReceive n k) (h .circuits)
-      free z =
-          z ∙ sym (number-none (holdsReceive n k) (h .circuits)
-          (λ x m e. let r = listed-open x m in let a = holds-receive n k (circuitAt v (r .0)) (rw (r .2) e) in omega (arith, z, r .1 .positive, receive-number (r .0) (r .1) n k (a .0) (a .1))))
-
-      held : v .receiver n k ≢ 0 → v .receiver n k ≡ numberOf (holdsReceive n k) (h .circuits)
-      held ne =
-          let c = v .receiver n k in
-          let o : Open c = record { positive = omega (arith, ne); most = sound .receive-number n k; stands = ⊎-elim (λ z. absurd (z .1 n k refl)) (λ s. s) (sound .numbers c ne) } in
-          let a = number-receive c o n k refl in
-          sym (number-at (holdsReceive n k) (h .circuits) (receives-once (netOn h) n k (h .circuits) apart) (circuitAt v c) (open-listed c o) (receive-holds n k _ (a .0) (a .1)) ∙ number-is c o)
+  receiver-same n k =
+      entry-same (holdsReceive n k) (receives-once (netOn h) n k (h .circuits) apart) (sound .receive-number n k) (receive-stands v sound n k)
+      (λ c o t. let a = holds-receive n k _ t in receive-number c o n k (a .0) (a .1)) (λ o. let a = number-receive _ o n k refl in receive-holds n k _ (a .0) (a .1))
 
   shows-same : v ≡ viewOf h
   unfolding viewOf historyOf

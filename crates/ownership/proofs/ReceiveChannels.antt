@@ -30,7 +30,7 @@ use Rattle.table.specs.View.{View, view, available, receive}
 use Rattle.table.proofs.Receives.{none-chosen}
 use Rattle.soundness.specs.Sound.{shapeOf, net, heldBy, Stands, Sound}
 use Rattle.soundness.specs.SoundTest.{pathOf, tableTests}
-use Rattle.soundness.proofs.Soundness.{path-is}
+use Rattle.soundness.proofs.Soundness.{path-is, receive-stands}
 use Rattle.search.specs.Settle.{freeIn, Settled, settled}
 use Rattle.search.specs.Sent.{sentOn}
 use Rattle.search.specs.SendSays.{PassesSay, one-acknowledged, only-one, two}
@@ -110,7 +110,7 @@ module _ (v : View) (sound : Sound v) (most : v .dimension ≤ 8) (t : ℕ) wher
     circuit j = v .receiver t j
 
     stands : (j : ℕ) → j < 8 → Stands v (circuit j)
-    stands j h = ⊎-elim (λ z. absurd (z .1 t j refl)) (λ s. s) (sound .numbers (circuit j) (full j h))
+    stands j h = receive-stands v sound t j (full j h)
 
     inside : (j : ℕ) → j < 8 → sourceOf (circuit j) < 2 ^ v .dimension
     inside j h = omega (arith, sound .receive-number t j, full j h)

@@ -126,28 +126,26 @@ module _ (s c : ℕ) where
   still-first a n ps o l =
       record { before = []; target = o .0; type = o .1; vector = o .2; after = ps; split = (λ i. (o .3 i, o .4 i) ∷ ps); lasts = l }
 
+  -- the open that it was
+  abbrev theOpen : {ps : List (Call × ℕ)} → StillOpen s c ps → Call × ℕ
+  theOpen o = (opening s c (o .target) (o .type) (o .vector), 0)
+
   still-cases : (a : Call) (n : ℕ) (ps : List (Call × ℕ)) → StillOpen s c ((a, n) ∷ ps) → (Opens a n × Lasts s c ps) ⊎ StillOpen s c ps
   still-cases a n ps o = go (o .before) (o .split)
     where
-      first : Call × ℕ
-      first = (opening s c (o .target) (o .type) (o .vector), 0)
-
-      go : (before : List (Call × ℕ)) → (a, n) ∷ ps ≡ before ++ first ∷ o .after → (Opens a n × Lasts s c ps) ⊎ StillOpen s c ps
+      go : (before : List (Call × ℕ)) → (a, n) ∷ ps ≡ before ++ theOpen o ∷ o .after → (Opens a n × Lasts s c ps) ⊎ StillOpen s c ps
       go [] e =
-          let h : (a, n) ≡ first = cc in
+          let h : (a, n) ≡ theOpen o = cc in
           let t : ps ≡ o .after = cc in
           inl ((o .target, o .type, o .vector, ap (λ (x : Call × ℕ). x .0) h, ap (λ (x : Call × ℕ). x .1) h), subst (Lasts s c) (sym t) (o .lasts))
       go (b ∷ bs) e =
-          let t : ps ≡ bs ++ first ∷ o .after = cc in
+          let t : ps ≡ bs ++ theOpen o ∷ o .after = cc in
           inr (record { before = bs; target = o .target; type = o .type; vector = o .vector; after = o .after; split = t; lasts = o .lasts })
 
   still-none : StillOpen s c [] → ⊥
   still-none o = go (o .before) (o .split)
     where
-      first : Call × ℕ
-      first = (opening s c (o .target) (o .type) (o .vector), 0)
-
-      go : (before : List (Call × ℕ)) → [] ≡ before ++ first ∷ o .after → ⊥
+      go : (before : List (Call × ℕ)) → [] ≡ before ++ theOpen o ∷ o .after → ⊥
       go [] e = let u : _≡_ {A = ℕ} 0 1 = cc in absurd (omega arith)
       go (b ∷ bs) e = let u : _≡_ {A = ℕ} 0 1 = cc in absurd (omega arith)
 

@@ -90,10 +90,10 @@ module _ (v : View) where
       (eq-eqb _ 1 (one-kept (λ k. eqb (v .receiver (endFor v c (s .path)) k) c) (s .channel) (s .small) (eq-eqb _ c (s .receives)) (λ j l e. s .once (endFor v c (s .path)) j (eqb-true _ c e) .1)))))
 
   -- a number that occurs stands
-  link-stands : Sound v → (n p : ℕ) → v .owner n p ≢ 0 → Stands v (v .owner n p)
+  pub link-stands : Sound v → (n p : ℕ) → v .owner n p ≢ 0 → Stands v (v .owner n p)
   link-stands sound n p h = ⊎-elim (λ z. absurd (z .0 n p refl)) (λ s. s) (sound .numbers (v .owner n p) h)
 
-  receive-stands : Sound v → (n k : ℕ) → v .receiver n k ≢ 0 → Stands v (v .receiver n k)
+  pub receive-stands : Sound v → (n k : ℕ) → v .receiver n k ≢ 0 → Stands v (v .receiver n k)
   receive-stands sound n k h = ⊎-elim (λ z. absurd (z .1 n k refl)) (λ s. s) (sound .numbers (v .receiver n k) h)
 
   absent-passes : (n p : ℕ) → ((n < 2 ^ v .dimension) × (p < v .dimension) → ⊥) → (v .enabled n p ≡ false) × (v .owner n p ≡ 0) → linkTest v n p ≡ true
