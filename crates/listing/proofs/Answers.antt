@@ -1,15 +1,17 @@
 -- From what a call answers to the line that is printed for it.
 -- Assumes nothing.
 use mathlib.Core.Path.{_≡_, refl, ap, sym, _∙_}
-use mathlib.Core.Logic.{_≢_, _⊎_, inl, inr, ⊎-elim}
+use mathlib.Core.Logic.{_≢_, ⊎-elim}
+use mathlib.Core.Bool.{true, false, _||_}
 use mathlib.Core.List.{List}
 use mathlib.Core.Option.{Option, none, some}
 use Prim.Native.Nat.{ℕ, _-_, _≤_, min}
 use native.Mathlib.Omega.{arith}
+use lib.Dec.{eqb}
 use lib.ListN.{length, take}
 use lib.Seq.{take-all}
-use borrow.Author.Tests.{ne-eqb}
-use Rattle.common.proofs.Tests.{below-or}
+use borrow.Author.Tests.{eqb-true, ne-eqb}
+use Rattle.common.proofs.Tests.{below-or, either}
 use Rattle.paths.specs.Send.{Answer}
 use Rattle.ownership.specs.Calls.{Call, opening, tracing, After}
 use Rattle.ownership.specs.OnTable.{done, called}
@@ -46,14 +48,13 @@ module _ (n : ℕ) (way : ℕ → ℕ → List ℕ) (s c t y v : ℕ) (x : Answe
   unfolding callRow
   acknowledged-row e = rw e
 
-  pub rejected-row : (x .number ≡ 10) ⊎ (x .number ≡ 11) → callRow n (opening s c t y v) x way ≡ row n letterS (x .number) (shows s) (shows c) nothing (shows (x .scouts)) nothing
+  pub rejected-row : (eqb (x .number) 10 || eqb (x .number) 11) ≡ true → callRow n (opening s c t y v) x way ≡ row n letterS (x .number) (shows s) (shows c) nothing (shows (x .scouts)) nothing
   unfolding callRow
-  rejected-row (inl e) = rw e
-  rejected-row (inr e) = rw e
+  rejected-row e = ⊎-elim (λ q. rw (eqb-true (x .number) 10 q)) (λ q. rw (eqb-true (x .number) 11 q)) (either (eqb (x .number) 10) _ e)
 
-  pub refused-row : x .number ≢ 0 → x .number ≢ 10 → x .number ≢ 11 → callRow n (opening s c t y v) x way ≡ row n letterS (x .number) (shows s) (shows c) nothing nothing nothing
+  pub refused-row : x .number ≢ 0 → (eqb (x .number) 10 || eqb (x .number) 11) ≡ false → callRow n (opening s c t y v) x way ≡ row n letterS (x .number) (shows s) (shows c) nothing nothing nothing
   unfolding callRow
-  refused-row p q u = rw (ne-eqb (x .number) 0 p, ne-eqb (x .number) 10 q, ne-eqb (x .number) 11 u)
+  refused-row p q = rw (ne-eqb (x .number) 0 p, q)
 
 -- the ports that a trace wrote into a buffer of nine bytes; a count above nine takes no more of it
 take-nine : (h : ℕ) (xs : List ℕ) → length xs ≡ 9 → take (min h 9) xs ≡ take h xs

@@ -1,7 +1,9 @@
 // What an input line asks, carried out on the table, and its printed line. Each function answers the place behind the line.
 ghost use mathlib.Core.Option.{some};
 ghost use mathlib.Core.Path.{_≡_};
+ghost use mathlib.Core.Bool.{_||_};
 ghost use Prim.Native.Nat.{_+_, _*_, _≤_, min};
+ghost use lib.Dec.{eqb};
 ghost use lib.ListN.{length};
 ghost use Rattle.ownership.specs.Calls.{making, blocking, unblocking, opening, closing};
 ghost use Rattle.listing.specs.Text.{letterS};
@@ -21,7 +23,7 @@ fn make(t: &mut [u8], out: &mut [u8], at: usize, line: u16, dimension: u16) -> u
     ensures { λ r. ⌜ Answered 72 (now (t .entry)) line (some (making dimension)) (now (out .entry)) at (now (t .exit)) (now (out .exit)) r ⌝ }
 {
     let answer = router::make(t, dimension);
-    row::made(out, at, line, b'F', answer)
+    row::made(out, at, line, answer)
 }
 
 fn block(t: &mut [u8], out: &mut [u8], at: usize, line: u16, node: Node, port: Port) -> usize
@@ -82,6 +84,16 @@ fn acknowledged(
     )
 }
 
+// Whether an open was sent and rejected.
+fn was_rejected(number: u16) -> bool
+    ensures { λ r. ⌜ r ≡ (eqb number 10 || eqb number 11) ⌝ }
+{
+    if number == refusal::RECEIVE_REJECTED {
+        return true;
+    }
+    number == refusal::ROUTE_REJECTED
+}
+
 fn open(
     t: &mut [u8],
     out: &mut [u8],
@@ -101,10 +113,7 @@ fn open(
     if number == refusal::ACCEPTED {
         return acknowledged(t, out, at, line, source, channel, got.receive, got.scouts);
     }
-    if number == refusal::ROUTE_REJECTED {
-        return row::rejected(out, at, line, number, source, channel, got.scouts);
-    }
-    if number == refusal::RECEIVE_REJECTED {
+    if was_rejected(number) {
         return row::rejected(out, at, line, number, source, channel, got.scouts);
     }
     row::channel(out, at, line, b'S', number, source, channel)

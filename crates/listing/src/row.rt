@@ -1,7 +1,7 @@
 // The printed lines of the calls. Each function answers the place behind the line.
 ghost use Prim.Native.Nat.{_+_, _≤_};
 ghost use lib.ListN.{length};
-ghost use Rattle.listing.specs.Text.{letterS};
+ghost use Rattle.listing.specs.Text.{letterF, letterS};
 ghost use Rattle.listing.specs.Row.{nothing, shows, path as showsPath, rowText, row};
 ghost use Rattle.listing.specs.Listing.{unreadable};
 ghost use Rattle.listing.specs.Printed.{Wrote, front};
@@ -21,11 +21,11 @@ fn front(out: &mut [u8], at: usize, line: u16, letter: u8, answer: u16) -> usize
 }
 
 // The line of a making.
-pub fn made(out: &mut [u8], at: usize, line: u16, letter: u8, answer: u16) -> usize
+pub fn made(out: &mut [u8], at: usize, line: u16, answer: u16) -> usize
     requires { ⌜ at + 24 ≤ length (now out) ⌝ }
-    ensures { λ r. ⌜ Wrote 24 (now (out .entry)) at (rowText (row line letter answer nothing nothing nothing nothing nothing)) (now (out .exit)) r ⌝ }
+    ensures { λ r. ⌜ Wrote 24 (now (out .entry)) at (rowText (row line letterF answer nothing nothing nothing nothing nothing)) (now (out .exit)) r ⌝ }
 {
-    let end = front(out, at, line, letter, answer);
+    let end = front(out, at, line, b'F', answer);
     put::text(out, end, b" - - - - -\n")
 }
 

@@ -1,6 +1,6 @@
 -- `listing::call::open` meets its contract: the line of each answer.
 -- Assumes nothing.
-use mathlib.Core.Logic.{inl, inr}
+use mathlib.Core.Path.{sym, _∙_}
 use lib.Dec.{lit≤}
 use Rattle.listing.proofs.Answers.{answered, acknowledged-row, rejected-row, refused-row}
 use borrow.Author.Needs.{needs}
@@ -25,6 +25,9 @@ returns c =
     let o = w .before .before .before .before .before .before in
     answered (o .«open» .ensures) (acknowledged-row _ _ _ _ _ _ _ _ (w .before .before .before .if1 .taken)) (lit≤ tt) (w .acknowledged .ensures)
 
+was-rejected-requires : tie.Need-was-rejected-requires
+was-rejected-requires c κs = search needs
+
 rejected-requires : tie.Need-rejected-requires
 rejected-requires c κs = search needs
 
@@ -37,11 +40,12 @@ same-length-4 c = search needs
 returns-2 : tie.Need-returns-2
 returns-2 c =
     let w = c .before .before in
-    let o = w .before .before .before .before .before .before in
-    answered (o .«open» .ensures) (rejected-row _ _ _ _ _ _ _ _ (inl (w .before .before .if2 .taken))) (lit≤ tt) (w .rejected .ensures)
+    let i = w .before .before in
+    let o = i .before .before .before .before .before in
+    answered (o .«open» .ensures) (rejected-row _ _ _ _ _ _ _ _ (sym (i .before .was-rejected .ensures) ∙ i .if2 .taken)) (lit≤ tt) (w .rejected .ensures)
 
-rejected-requires-2 : tie.Need-rejected-requires-2
-rejected-requires-2 c κs = search needs
+channel-requires : tie.Need-channel-requires
+channel-requires c κs = search needs
 
 same-length-5 : tie.Need-same-length-5
 same-length-5 c = search needs
@@ -52,23 +56,9 @@ same-length-6 c = search needs
 returns-3 : tie.Need-returns-3
 returns-3 c =
     let w = c .before .before in
-    let o = w .before .before .before .before .before .before .before in
-    answered (o .«open» .ensures) (rejected-row _ _ _ _ _ _ _ _ (inr (w .before .before .if3 .taken))) (lit≤ tt) (w .rejected2 .ensures)
-
-channel-requires : tie.Need-channel-requires
-channel-requires c κs = search needs
-
-same-length-7 : tie.Need-same-length-7
-same-length-7 c = search needs
-
-same-length-8 : tie.Need-same-length-8
-same-length-8 c = search needs
-
-returns-4 : tie.Need-returns-4
-returns-4 c =
-    let w = c .before .before in
-    let o = w .before .before .before .before .before .before .before in
-    answered (o .«open» .ensures) (refused-row _ _ _ _ _ _ _ _ (w .before .before .before .before .if1 .left) (w .before .before .before .if2 .left) (w .before .before .if3 .left)) (lit≤ tt) (w .channel .ensures)
+    let i = w .before .before in
+    let o = i .before .before .before .before .before in
+    answered (o .«open» .ensures) (refused-row _ _ _ _ _ _ _ _ (i .before .before .if1 .left) (sym (i .before .was-rejected .ensures) ∙ i .if2 .left)) (lit≤ tt) (w .channel .ensures)
 
 pub open-spec : {M : Type 1} → statement M
 open-spec =
@@ -79,15 +69,12 @@ open-spec =
     same-length
     same-length-2
     returns
+    was-rejected-requires
     rejected-requires
     same-length-3
     same-length-4
     returns-2
-    rejected-requires-2
+    channel-requires
     same-length-5
     same-length-6
-    returns-3
-    channel-requires
-    same-length-7
-    same-length-8
-    returns-4)
+    returns-3)
