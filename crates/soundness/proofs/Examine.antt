@@ -233,6 +233,11 @@ module _ (v : View) (n p : ℕ) {D c : ℕ} {b : Bool} (d : D ≡ v .dimension) 
   pub link-marked : {m : List ℕ} → Framed v → PathsMarked v m → n < 256 → p < 8 → b ≡ true → c ≢ 0 → v .enabled n p ≡ true → marked m n p ≡ linkTest v n p
   link-marked {m} framed marks h l e z a = marked-is v m framed marks n p h l (λ y. z (held ∙ y)) ∙ ap (λ x. reaches v x && passes v x n p) (sym held) ∙ rw (← within e, ne-eqb c 0 z, a)
 
+-- a receive channel that fails the test
+one-fails : (v : View) (n k : ℕ) → receiveTest v n k ≡ false → ReceivesPass v n (n + 1) k (k + 1) → ⊥
+unfolding ReceivesPass
+one-fails v n k e pass = clash (pass n k (omega arith) (omega arith) (omega arith) (omega arith)) e
+
 -- the test of one receive channel, branch by branch
 module _ (v : View) (n k : ℕ) {D c nodes : ℕ} (d : D ≡ v .dimension) (held : c ≡ v .receiver n k) (m : nodes ≡ 2 ^ D) where
   pub receive-absent : nodes ≤ n → eqb c 0 ≡ receiveTest v n k
@@ -252,18 +257,18 @@ module _ (v : View) (n k : ℕ) {D c nodes : ℕ} (d : D ≡ v .dimension) (held
   -- what the code finds of the channel, and what it answers for it
   pub channel-free : {m : List ℕ} → c ≡ 0 → Receives v n (n + 1) k (k + 1) m m true
   channel-free {m} z =
-      received-yes v n (n + 1) k (k + 1) m m (received-free v m n (n + 1) k (k + 1)
+      received-yes (received-free v m n (n + 1) k (k + 1)
       (λ a b i. here i (λ x y. receiveTest v x y ≡ true) free) (λ a b i. here i (λ x y. v .receiver x y ≡ 0) (sym held ∙ z)))
     where
       free : receiveTest v n k ≡ true
       free = ⊎-elim (λ l. sym (receive-free l z)) (λ l. sym (receive-absent l) ∙ eq-eqb c 0 z) (below-or nodes n)
 
   pub channel-absent : {m : List ℕ} → nodes ≤ n → c ≢ 0 → Receives v n (n + 1) k (k + 1) m m false
-  channel-absent {m} l z = received-no v n (n + 1) k (k + 1) m m (unfold ReceivesPass in λ h. clash (h n k (omega arith) (omega arith) (omega arith) (omega arith)) (sym (receive-absent l) ∙ ne-eqb c 0 z))
+  channel-absent l z = received-no (one-fails v n k (sym (receive-absent l) ∙ ne-eqb c 0 z)) (omega arith) (omega arith) (omega arith) (omega arith)
 
   pub channel-held : {before after : List ℕ} {answer : Bool} → n < nodes → c ≢ 0 → Reached v c n before after answer → Receives v n (n + 1) k (k + 1) before after answer
   channel-held {before} {after} l z x =
       record {
         holds = λ e. received-one v before c n k after held (sym (receive-ends l z x) ∙ e) (both (reaches v c) _ (sym (x .ends-here) ∙ e) .0) (x .marks e);
-        fails = λ e. unfold ReceivesPass in λ h. clash (h n k (omega arith) (omega arith) (omega arith) (omega arith)) (sym (receive-ends l z x) ∙ e);
+        fails = λ e. one-fails v n k (sym (receive-ends l z x) ∙ e);
       }

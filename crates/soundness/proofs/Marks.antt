@@ -101,28 +101,27 @@ received-join v m₀ m₁ m₂ a b c d e f g h i j k l r s split =
     on : (x y : ℕ) → Covers v x y m₁ → Covers v x y m₂
     on x y z = unfold Covers in λ w p q t u o. s .kept p q t u (z w p q t u o)
 
-pub more-channels : (v : View) (m₀ m₁ m₂ : List ℕ) (n k : ℕ) → Received v n (n + 1) 0 k m₀ m₁ → Received v n (n + 1) k (k + 1) m₁ m₂ → Received v n (n + 1) 0 (k + 1) m₀ m₂
-more-channels v m₀ m₁ m₂ n k r s =
+pub more-channels : {v : View} {m₀ m₁ m₂ : List ℕ} {n k : ℕ} → Received v n (n + 1) 0 k m₀ m₁ → Received v n (n + 1) k (k + 1) m₁ m₂ → Received v n (n + 1) 0 (k + 1) m₀ m₂
+more-channels {v} {m₀} {m₁} {m₂} {n} {k} r s =
     received-join v m₀ m₁ m₂ n (n + 1) 0 k n (n + 1) k (k + 1) n (n + 1) 0 (k + 1) r s (λ x y z. ⊎-elim (λ l. inl (z .0, z .1, z .2, l)) (λ l. inr (z .0, z .1, l, z .3)) (below-or k y))
 
-pub more-nodes : (v : View) (m₀ m₁ m₂ : List ℕ) (from n to : ℕ) → from ≤ n → n ≤ to → Received v from n 0 8 m₀ m₁ → Received v n to 0 8 m₁ m₂ → Received v from to 0 8 m₀ m₂
-more-nodes v m₀ m₁ m₂ from n to g h r s =
-    received-join v m₀ m₁ m₂ from n 0 8 n to 0 8 from to 0 8 r s (λ x y z. ⊎-elim (λ l. inl (z .0, l, z .2, z .3)) (λ l. inr (l, z .1, z .2, z .3)) (below-or n x))
+pub more-nodes : {v : View} {m₀ m₁ m₂ : List ℕ} {from n to last : ℕ} → Received v from n 0 8 m₀ m₁ → Received v n to 0 8 m₁ m₂ → to ≡ last → Received v from last 0 8 m₀ m₂
+more-nodes {v} {m₀} {m₁} {m₂} {from} {n} {to} {last} r s e =
+    received-join v m₀ m₁ m₂ from n 0 8 n to 0 8 from last 0 8 r s (λ x y z. ⊎-elim (λ l. inl (z .0, l, z .2, z .3)) (λ l. inr (l, omega (arith, e, z .1), z .2, z .3)) (below-or n x))
 
-pub received-none : (v : View) (m : List ℕ) (n₀ n₁ k₀ k₁ : ℕ) → ((n k : ℕ) → In n₀ n₁ k₀ k₁ n k → ⊥) → Received v n₀ n₁ k₀ k₁ m m
-received-none v m n₀ n₁ k₀ k₁ h = received-free v m n₀ n₁ k₀ k₁ (λ n k i. absurd (h n k i)) (λ n k i. absurd (h n k i))
+pub received-none : {v : View} {m : List ℕ} {n₀ n₁ k₀ k₁ : ℕ} → ((n k : ℕ) → In n₀ n₁ k₀ k₁ n k → ⊥) → Received v n₀ n₁ k₀ k₁ m m
+received-none {v} {m} {n₀} {n₁} {k₀} {k₁} h = received-free v m n₀ n₁ k₀ k₁ (λ n k i. absurd (h n k i)) (λ n k i. absurd (h n k i))
 
--- fewer of them pass too
-pub fewer-receives : (v : View) (a b c d e f g h : ℕ) → a ≤ e → f ≤ b → c ≤ g → h ≤ d → ReceivesPass v a b c d → ReceivesPass v e f g h
+-- an answer that is known: all of them pass, where a loop went to their end, or some do not
+pub received-yes : {v : View} {n₀ n₁ k₀ k₁ : ℕ} {m after : List ℕ} → Received v n₀ n₁ k₀ k₁ m after → Receives v n₀ n₁ k₀ k₁ m after true
+received-yes r = record { holds = λ e. r; fails = λ e. absurd (false≢true (sym e)) }
+
+pub received-all : {v : View} {n₀ n₁ k₀ k₁ n k : ℕ} {m after : List ℕ} → Received v n₀ n k₀ k m after → n ≡ n₁ → k ≡ k₁ → Receives v n₀ n₁ k₀ k₁ m after true
+received-all r e f = rw (← e, ← f) (received-yes r)
+
+pub received-no : {v : View} {n₀ n₁ k₀ k₁ a b c d : ℕ} {m after : List ℕ} → (ReceivesPass v a b c d → ⊥) → n₀ ≤ a → b ≤ n₁ → k₀ ≤ c → d ≤ k₁ → Receives v n₀ n₁ k₀ k₁ m after false
 unfolding ReceivesPass
-fewer-receives v a b c d e f g h i j k l all x y p q s t = all x y (omega arith) (omega arith) (omega arith) (omega arith)
-
--- an answer that is known
-pub received-yes : (v : View) (n₀ n₁ k₀ k₁ : ℕ) (m after : List ℕ) → Received v n₀ n₁ k₀ k₁ m after → Receives v n₀ n₁ k₀ k₁ m after true
-received-yes v n₀ n₁ k₀ k₁ m after r = record { holds = λ e. r; fails = λ e. absurd (false≢true (sym e)) }
-
-pub received-no : (v : View) (n₀ n₁ k₀ k₁ : ℕ) (m after : List ℕ) → (ReceivesPass v n₀ n₁ k₀ k₁ → ⊥) → Receives v n₀ n₁ k₀ k₁ m after false
-received-no v n₀ n₁ k₀ k₁ m after h = record { holds = λ e. absurd (false≢true e); fails = λ e. h }
+received-no h i j k l = record { holds = λ e. absurd (false≢true e); fails = λ e all. h (λ x y p q s t. all x y (omega arith) (omega arith) (omega arith) (omega arith)) }
 
 -- once every receive channel has passed
 pub paths-marked : (v : View) (m : List ℕ) → length m ≡ 256 → Received v 0 256 0 8 (replicate 256 0) m → PathsMarked v m

@@ -11,7 +11,7 @@ use lib.ListN.{length}
 use borrow.Author.Tests.{ltb-true, ltb-false, eq-eqb, ne-eqb, le-leb, lt-leb}
 use Rattle.common.specs.Decides.{Decides}
 use Rattle.common.specs.Tests.{refusal, test}
-use Rattle.common.proofs.Tests.{same?, below-or, clash, is-false, both, and, both-below, refused, passed, accepted}
+use Rattle.common.proofs.Tests.{same?, below-or, clash, is-false, both, and, both-below, decided-yes, decided-no, refused, passed, accepted}
 use Rattle.common.specs.Lists.{every}
 use Rattle.common.proofs.Every.{at, all}
 use Rattle.cube.specs.Bits.{has}
@@ -21,8 +21,7 @@ use Rattle.table.specs.View.{View, view}
 use Rattle.soundness.specs.Sound.{Sound}
 use Rattle.soundness.specs.SoundTest.{linkTest, receiveTest, soundTest, LinksPass, ReceivesPass, Received, tableTests, TableAnswer}
 use Rattle.soundness.proofs.Marks.{received-free}
-use Rattle.soundness.proofs.Soundness.{Framed}
-use Rattle.soundness.proofs.Soundness.{sound-entries, entries-sound}
+use Rattle.soundness.proofs.Soundness.{Framed, sound-entries, entries-sound}
 use Rattle.soundness.proofs.Examine.{link-free, link-held-outside, receive-free, receive-absent}
 
 -- a link that the cube lacks is off where the enable bits of its node are below their limit
@@ -35,36 +34,39 @@ off b D n p h fit e = rw (bits (ltb n (2 ^ D)) e fit) (and-false (inTable n p))
     bits false z k = high-has 0 (enableBits b n) p k (omega arith)
 
 -- nodes of which nothing is held pass; for the links their enable bits must fit
-module _ (b : List ℕ) (D : ℕ) (d : D ≡ dimensionAt b) where
-  pub idle-links : (n₀ n₁ : ℕ) → n₁ ≤ 256 → EnablesFit b D → ((n p : ℕ) → n₀ ≤ n → n < n₁ → p < 8 → ownerAt b n p ≡ 0) → LinksPass (view b) n₀ n₁ 0 8
+module _ (b : List ℕ) {D : ℕ} (d : D ≡ dimensionAt b) where
+  pub idle-links : (n₀ : ℕ) {n₁ : ℕ} → n₁ ≤ 256 → EnablesFit b D → ((n p : ℕ) → n₀ ≤ n → n < n₁ → p < 8 → ownerAt b n p ≡ 0) → LinksPass (view b) n₀ n₁ 0 8
   unfolding LinksPass view EnablesFit
-  idle-links n₀ n₁ most fit free n p g h z l = go (ltb n (2 ^ D) && ltb p D) refl
+  idle-links n₀ most fit free n p g h z l = go (ltb n (2 ^ D) && ltb p D) refl
     where
       go : (x : Bool) → (ltb n (2 ^ D) && ltb p D) ≡ x → linkTest (view b) n p ≡ true
       go true e = sym (link-free (view b) n p d (sym (free n p g h l)) (sym e) refl refl)
       go false e = sym (link-held-outside (view b) n p d (sym (free n p g h l)) (sym e) refl (off b D n p (omega arith) (fit n (omega arith)) e))
 
-  pub idle-receives : (m : List ℕ) (n₀ n₁ : ℕ) → ((n k : ℕ) → n₀ ≤ n → n < n₁ → k < 8 → receiverAt b n k ≡ 0) → Received (view b) n₀ n₁ 0 8 m m
+  pub idle-receives : {m : List ℕ} {n₀ n₁ : ℕ} → ((n k : ℕ) → n₀ ≤ n → n < n₁ → k < 8 → receiverAt b n k ≡ 0) → Received (view b) n₀ n₁ 0 8 m m
   unfolding view
-  idle-receives m n₀ n₁ free = received-free (view b) m n₀ n₁ 0 8 (λ n k i. go n k i (ltb n (2 ^ D)) refl) (λ n k i. free n k (i .0) (i .1) (i .3))
+  idle-receives {m} {n₀} {n₁} free = received-free (view b) m n₀ n₁ 0 8 (λ n k i. go n k i (ltb n (2 ^ D)) refl) (λ n k i. free n k (i .0) (i .1) (i .3))
     where
       go : (n k : ℕ) → (n₀ ≤ n) × (n < n₁) × (0 ≤ k) × (k < 8) → (x : Bool) → ltb n (2 ^ D) ≡ x → receiveTest (view b) n k ≡ true
       go n k i true e = sym (receive-free (view b) n k d (sym (free n k (i .0) (i .1) (i .3))) refl (ltb-true n _ e) refl)
       go n k i false e = sym (receive-absent (view b) n k d (sym (free n k (i .0) (i .1) (i .3))) refl (ltb-false n _ e))
 
--- links of some nodes more, and of fewer
+-- the links of no node, of some more, and what a loop over groups of them answers
 module _ (v : View) where
-  pub more-links : (from n to : ℕ) → LinksPass v from n 0 8 → LinksPass v n to 0 8 → LinksPass v from to 0 8
-  unfolding LinksPass
-  more-links from n to r s a b g h i j = ⊎-elim (λ l. r a b g l i j) (λ l. s a b l h i j) (below-or n a)
-
   pub no-links : (a b c d : ℕ) → b ≤ a → LinksPass v a b c d
   unfolding LinksPass
   no-links a b c d l n p g h i j = absurd (omega arith)
 
-  pub fewer-links : (a b c d e f g h : ℕ) → a ≤ e → f ≤ b → c ≤ g → h ≤ d → LinksPass v a b c d → LinksPass v e f g h
+  pub more-links : (from n : ℕ) {to last : ℕ} → LinksPass v from n 0 8 → LinksPass v n to 0 8 → to ≡ last → LinksPass v from last 0 8
   unfolding LinksPass
-  fewer-links a b c d e f g h i j k l all x y p q s t = all x y (omega arith) (omega arith) (omega arith) (omega arith)
+  more-links from n r s e a b g h i j = ⊎-elim (λ l. r a b g l i j) (λ l. s a b l (omega arith) i j) (below-or n a)
+
+  pub links-all : (from : ℕ) {n to : ℕ} → LinksPass v from n 0 8 → n ≡ to → Decides (LinksPass v from to 0 8) true
+  links-all from r e = rw (← e) (decided-yes r)
+
+  pub links-fail : {from to n m : ℕ} → (LinksPass v n m 0 8 → ⊥) → from ≤ n → m ≤ to → Decides (LinksPass v from to 0 8) false
+  unfolding LinksPass
+  links-fail h g l = decided-no (λ all. h (λ a b i j k z. all a b (omega arith) (omega arith) k z))
 
 -- the whole test, from the links and the receive channels
 module _ (v : View) where

@@ -1,12 +1,10 @@
 -- `soundness::sound::all_links` meets its contract: every group is tried, up to one that fails.
 -- Assumes nothing.
-use mathlib.Core.Path.{_≡_, subst}
-use Prim.Native.Nat.{ℕ, _+_, _-_, _*_, _≤_}
+use Prim.Native.Nat.{_-_, _*_, _≤_}
 use native.Mathlib.Omega.{arith}
-use Rattle.common.proofs.Tests.{decided-yes, decided-no}
 use Rattle.table.specs.View.{view}
 use Rattle.soundness.specs.SoundTest.{LinksPass}
-use Rattle.soundness.proofs.Passing.{no-links, more-links, fewer-links}
+use Rattle.soundness.proofs.Passing.{no-links, more-links, links-all, links-fail}
 use Rattle.soundness.proofs.sound.all_links.Statement.{statement}
 use Rattle.soundness.proofs.sound.all_links.Tie as tie
 
@@ -32,28 +30,13 @@ loop-less : tie.Need-loop-less Inv-loop μ-loop
 loop-less c = omega arith
 
 loop-again : tie.Need-loop-again Inv-loop μ-loop
-loop-again c =
-    let l = c .before .before .before in
-    let s = l .before .before .before in
-    let v = view (s .args .t .now) in
-    let n = 16 * l .loop .i in
-    let e : n + 16 ≡ 16 * (l .loop .i + 1) = omega arith in
-    (omega arith, subst (λ (x : ℕ). LinksPass v 0 x 0 8) e (more-links v 0 n (n + 16) (l .loop .inv .1) (c .before .link-group .ensures .holds (c .if1 .taken))))
+loop-again c = (omega arith, more-links _ _ _ (c .before .before .before .loop .inv .1) (c .before .link-group .ensures .holds (c .if1 .taken)) (omega arith))
 
 returns : tie.Need-returns Inv-loop μ-loop
-returns c =
-    let l = c .before .before .before in
-    let s = l .before .before .before in
-    let v = view (s .args .t .now) in
-    let n = 16 * l .loop .i in
-    decided-no {P = LinksPass v 0 256 0 8} (λ h. c .before .link-group .ensures .fails (c .if1 .left) (fewer-links v 0 256 0 8 n (n + 16) 0 8 (omega arith) (omega (arith, c .before .before .loop-test .taken)) (omega arith) (omega arith) h))
+returns c = links-fail _ (c .before .link-group .ensures .fails (c .if1 .left)) (omega arith) (omega (arith, c .before .before .loop-test .taken))
 
 returns-2 : tie.Need-returns-2 Inv-loop μ-loop
-returns-2 c =
-    let l = c .before in
-    let s = l .before .before .before in
-    let e : 16 * l .loop .i ≡ 256 = omega arith in
-    decided-yes (subst (λ (n : ℕ). LinksPass (view (s .args .t .now)) 0 n 0 8) e (l .loop .inv .1))
+returns-2 c = links-all _ _ (c .before .loop .inv .1) (omega arith)
 
 pub all-links-spec : {M : Type 1} → statement M
 all-links-spec =

@@ -1,6 +1,5 @@
 -- `soundness::sound::link_group` meets its contract: a group of which nothing is held passes; any other where all its nodes do.
 -- Assumes nothing.
-use Prim.Native.Nat.{_+_}
 use native.Mathlib.Omega.{arith}
 use Rattle.common.proofs.Tests.{decided-yes}
 use Rattle.soundness.proofs.Passing.{idle-links}
@@ -16,8 +15,7 @@ returns c =
     let k = c .before in
     let f = k .before in
     let s = f .before .before .before in
-    let n = s .args .from .0 in
-    decided-yes (idle-links (s .args .t .now) (s .args .dimension) (s .pre .1 .usable .stored) n (n + 16) (omega (arith, s .pre .0)) (s .pre .1 .fit (f .if1 .taken)) (k .links-clear .ensures (c .if2 .taken)))
+    decided-yes (idle-links _ (s .pre .1 .usable .stored) _ (omega (arith, s .pre .0)) (s .pre .1 .fit (f .if1 .taken)) (k .links-clear .ensures (c .if2 .taken)))
 
 links-from-requires : tie.Need-links-from-requires
 links-from-requires c κs = search needs

@@ -1,7 +1,5 @@
 -- `soundness::sound::receive_group` meets its contract: a group of which nothing is held passes; any other where all its nodes do.
 -- Assumes nothing.
-use Prim.Native.Nat.{_+_}
-use Rattle.table.specs.View.{view}
 use Rattle.soundness.proofs.Marks.{received-yes}
 use Rattle.soundness.proofs.Passing.{idle-receives}
 use borrow.Author.Needs.{needs}
@@ -12,12 +10,7 @@ receives-clear-requires : tie.Need-receives-clear-requires
 receives-clear-requires c κs = search needs
 
 returns : tie.Need-returns
-returns c =
-    let i = c .before in
-    let s = i .before .before .before in
-    let n = s .args .from .0 in
-    let b = s .args .t .now in
-    received-yes (view b) n (n + 16) 0 8 (s .args .marks .now) (s .args .marks .now) (idle-receives b (s .args .dimension) (s .pre .1 .stored) (s .args .marks .now) n (n + 16) (i .receives-clear .ensures (c .if1 .taken)))
+returns c = let i = c .before in received-yes (idle-receives _ (i .before .before .before .pre .1 .stored) (i .receives-clear .ensures (c .if1 .taken)))
 
 receives-from-requires : tie.Need-receives-from-requires
 receives-from-requires c κs = search needs

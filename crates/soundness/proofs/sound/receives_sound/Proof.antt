@@ -1,13 +1,13 @@
 -- `soundness::sound::receives_sound` meets its contract: every receive channel is tried, up to one that fails.
 -- Assumes nothing.
-use mathlib.Core.Path.{_≡_, sym, _∙_, subst}
-use Prim.Native.Nat.{ℕ, _+_, _-_, _≤_}
+use mathlib.Core.Path.{_≡_, refl, sym, _∙_}
+use Prim.Native.Nat.{_+_, _-_, _≤_}
 use native.Mathlib.Omega.{arith}
 use native.Mathlib.Nat.{not-suc-le-zero}
 use lib.ListN.{length}
 use Rattle.table.specs.View.{view}
 use Rattle.soundness.specs.SoundTest.{Received}
-use Rattle.soundness.proofs.Marks.{received-none, received-yes, received-no, more-channels, fewer-receives}
+use Rattle.soundness.proofs.Marks.{more-channels, received-none, received-all, received-no}
 use Rattle.soundness.proofs.sound.receives_sound.Statement.{statement}
 use Rattle.soundness.proofs.sound.receives_sound.Tie as tie
 
@@ -18,7 +18,7 @@ abbrev μ-loop : tie.MeasureT-loop
 μ-loop t dimension n marks₀ k₀ marks k = 8 - k
 
 loop-holds : tie.Need-loop-holds Inv-loop μ-loop
-loop-holds c = let s = c .before .before in (omega arith, s .pre .2, received-none (view (s .args .t .now)) (s .args .marks .now) (s .args .n .0) (s .args .n .0 + 1) 0 0 (λ n k i. not-suc-le-zero (i .3)))
+loop-holds c = let s = c .before .before in (omega arith, s .pre .2, received-none (λ n k i. not-suc-le-zero (i .3)))
 
 receive-sound-requires : tie.Need-receive-sound-requires Inv-loop μ-loop
 receive-sound-requires c κs =
@@ -36,11 +36,7 @@ loop-again : tie.Need-loop-again Inv-loop μ-loop
 loop-again c =
     let r = c .before .before .before in
     let l = r .before .before .before in
-    let s = l .before .before .before in (
-      omega arith,
-      r .receive-sound .kept .1 .1 .1 .1 .0 ∙ l .loop .inv .1,
-      more-channels (view (s .args .t .now)) _ (l .loop .marks) _ (s .args .n .0) (l .loop .k) (l .loop .inv .2) (r .receive-sound .ensures .holds (c .if1 .taken)),
-    )
+    (omega arith, r .receive-sound .kept .1 .1 .1 .1 .0 ∙ l .loop .inv .1, more-channels (l .loop .inv .2) (r .receive-sound .ensures .holds (c .if1 .taken)))
 
 same-length : tie.Need-same-length Inv-loop μ-loop
 same-length c =
@@ -51,24 +47,13 @@ same-length c =
 returns : tie.Need-returns Inv-loop μ-loop
 returns c =
     let r = c .before .before .before in
-    let i = r .before .before in
-    let l = i .before in
-    let s = l .before .before .before in
-    let v = view (s .args .t .now) in
-    let n = s .args .n .0 in
-    received-no v n (n + 1) 0 8 _ _ (λ h. r .receive-sound .ensures .fails (c .if1 .left) (fewer-receives v n (n + 1) 0 8 n (n + 1) (l .loop .k) (l .loop .k + 1) (omega arith) (omega arith) (omega arith) (omega (arith, i .loop-test .taken)) h))
+    received-no (r .receive-sound .ensures .fails (c .if1 .left)) (omega arith) (omega arith) (omega arith) (omega (arith, r .before .before .loop-test .taken))
 
 same-length-2 : tie.Need-same-length-2 Inv-loop μ-loop
 same-length-2 c = let l = c .before in l .loop .inv .1 ∙ sym (l .before .before .before .pre .2)
 
 returns-2 : tie.Need-returns-2 Inv-loop μ-loop
-returns-2 c =
-    let l = c .before in
-    let s = l .before .before .before in
-    let v = view (s .args .t .now) in
-    let n = s .args .n .0 in
-    let e : l .loop .k ≡ 8 = omega arith in
-    received-yes v n (n + 1) 0 8 _ _ (subst (λ (k : ℕ). Received v n (n + 1) 0 k (s .args .marks .now) (l .loop .marks)) e (l .loop .inv .2))
+returns-2 c = received-all (c .before .loop .inv .2) refl (omega arith)
 
 pub receives-sound-spec : {M : Type 1} → statement M
 receives-sound-spec =
