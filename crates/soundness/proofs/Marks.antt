@@ -11,7 +11,7 @@ use lib.Bits.{bitOr}
 use lib.Dec.{eqb}
 use lib.ListN.{length, getD, set, replicate, getD-replicate, length-set}
 use lib.Seq.{getD-set-same, getD-set-other}
-use borrow.Author.Tests.{eqb-true, eq-eqb, ne-eqb}
+use borrow.Author.Tests.{eqb-true, eq-eqb, ne-eqb, le-ltb}
 use Rattle.common.proofs.Tests.{same?, below-or, clash, is-false, both, and, either, or-left, or-right}
 use Rattle.cube.specs.Bits.{has, withBit}
 use Rattle.cube.specs.Cube.{sourceOf}
@@ -135,7 +135,7 @@ module _ (v : View) (m : List ℕ) (framed : Framed v) (marks : PathsMarked v m)
       let c = v .owner n p in
       let at = endFor v c (pathOf v c) in
       let r = reach-facts v c s in
-      let inside : at < 256 = ⊎-elim (λ x. x) (λ x. absurd (held (sym (r .receives) ∙ framed .no-receive at (r .channel) (λ z. absurd (omega (arith, z .0, x)))))) (below-or 256 at) in
+      let inside : at < 256 = ⊎-elim (λ x. x) (λ x. absurd (held (sym (r .receives) ∙ framed .no-receive at (r .channel) (rw (le-ltb at 256 x))))) (below-or 256 at) in
       marks .covers at (r .channel) inside (r .small) (λ z. held (sym (r .receives) ∙ z)) n p h l (ap (λ x. passes v x n p) (r .receives) ∙ t)
 
   owned : (c : ℕ) → passes v c n p ≡ true → c ≡ v .owner n p

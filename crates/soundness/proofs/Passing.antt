@@ -11,7 +11,7 @@ use lib.ListN.{length}
 use borrow.Author.Tests.{ltb-true, ltb-false, eq-eqb, ne-eqb, le-leb, lt-leb}
 use Rattle.common.specs.Decides.{Decides}
 use Rattle.common.specs.Tests.{refusal, test}
-use Rattle.common.proofs.Tests.{same?, below-or, clash, is-false, both, and, both-below, decided-yes, decided-no, refused, passed, accepted}
+use Rattle.common.proofs.Tests.{same?, below-or, clash, is-false, both, and, decided-yes, decided-no, refused, passed, accepted}
 use Rattle.common.specs.Lists.{every}
 use Rattle.common.proofs.Every.{at, all}
 use Rattle.cube.specs.Bits.{has}
@@ -101,12 +101,9 @@ module _ (v : View) where
       }
 
 -- nothing lies outside 256 nodes and 8 ports or channels
-outside : (n p : ℕ) → ((n < 256) × (p < 8) → ⊥) → inTable n p ≡ false
-outside n p h = is-false (inTable n p) (λ e. h (both-below e))
-
 pub view-framed : (b : List ℕ) → Framed (view b)
 unfolding view enabledAt ownerAt receiverAt entryAt
-view-framed b = record { no-link = λ n p h. (rw (outside n p h), rw (outside n p h)); no-receive = λ n k h. rw (outside n k h) }
+view-framed b = record { no-link = λ n p o. (rw o, rw o); no-receive = λ n k o. rw o }
 
 -- so the test decides whether a table of a cube is sound
 pub decided : (b : List ℕ) → dimensionAt b ≤ 8 → Decides (Sound (view b)) (soundTest (view b))

@@ -1,16 +1,16 @@
 -- The test passes at every entry exactly where the table is sound.
 -- Assumes nothing.
-use mathlib.Core.Path.{_≡_, refl, sym, _∙_, ap, subst}
+use mathlib.Core.Path.{_≡_, refl, sym, _∙_, ap}
 use mathlib.Core.Logic.{_⊎_, inl, inr, ⊎-elim, _≢_}
-use mathlib.Core.Bool.{Bool, true, false, _&&_, not, false≢true}
+use mathlib.Core.Bool.{Bool, true, false, cond, _&&_, not, and-false, false≢true}
 use mathlib.Core.List.{List, [], _∷_, List·Memᴰ·head, List·Memᴰ·tail, List·Memᴰ·not-nil, List·Memᴰ·cases-cons}
 use Prim.Native.Nat.{ℕ, _*_, _^_, _≤_, _<_}
 use native.Mathlib.Omega.{arith}
 use lib.Dec.{eqb, ltb, leb}
 use lib.ListN.{length}
-use borrow.Author.Tests.{eqb-true, eq-eqb, not-true, ltb-true, lt-ltb, leb-true, le-leb}
+use borrow.Author.Tests.{eqb-true, eq-eqb, ne-eqb, not-true, ltb-true, lt-ltb, leb-true, le-leb}
 use Rattle.common.specs.Lists.{_∈_, keep, from, Sorted}
-use Rattle.common.proofs.Tests.{same?, clash, is-false, both-below, both, and, either, or-left, or-right}
+use Rattle.common.proofs.Tests.{same?, clash, is-false, both-below, both, and, or-left, or-right}
 use Rattle.common.proofs.Every.{decide₂}
 use Rattle.common.proofs.Lists.{keep-mem, mem-keep, keep-sorted, from-mem, mem-from, from-sorted, from-below, below-from}
 use Rattle.cube.specs.Cube.{sourceOf}
@@ -20,14 +20,15 @@ use Rattle.paths.specs.Permitted.{Permitted}
 use Rattle.paths.proofs.Links.{On, link-true, true-link}
 use Rattle.paths.proofs.Apart.{apart-permitted}
 use Rattle.paths.proofs.Trail.{trail-finds, trail-owned, trail-apart}
+use Rattle.table.specs.Layout.{inTable}
 use Rattle.table.specs.View.{View, fresh, channelsHeld}
 use Rattle.soundness.specs.Sound.{shapeOf, net, heldBy, endFor, Stands, Nowhere, Sound}
 use Rattle.soundness.specs.SoundTest.{pathOf, isEmpty, reaches, linkTest, receiveTest, passes}
 
--- what lies in a table: nothing outside 256 nodes and 8 ports or channels
+-- a table shows nothing at a place that it has no room for
 pub record Framed (v : View) : Type 0 where
-  pub no-link : (n p : ℕ) → ((n < 256) × (p < 8) → ⊥) → (v .enabled n p ≡ false) × (v .owner n p ≡ 0)
-  pub no-receive : (n k : ℕ) → ((n < 256) × (k < 8) → ⊥) → v .receiver n k ≡ 0
+  pub no-link : (n p : ℕ) → inTable n p ≡ false → (v .enabled n p ≡ false) × (v .owner n p ≡ 0)
+  pub no-receive : (n k : ℕ) → inTable n k ≡ false → v .receiver n k ≡ 0
 
 -- the test passes at every entry
 pub record EntriesPass (v : View) : Type 0 where
@@ -68,12 +69,17 @@ beyond : {n a p b : ℕ} → ltb n a && ltb p b ≡ false → (n < a) × (p < b)
 beyond e i = clash (and (lt-ltb _ _ (i .0)) (lt-ltb _ _ (i .1))) e
 
 -- a place is in the table or not
-placed : (n p : ℕ) → ((n < 256) × (p < 8)) ⊎ ((n < 256) × (p < 8) → ⊥)
-placed n p = go (ltb n 256 && ltb p 8) refl
+placed : (n p : ℕ) → ((n < 256) × (p < 8)) ⊎ (inTable n p ≡ false)
+placed n p = go (inTable n p) refl
   where
-    go : (b : Bool) → ltb n 256 && ltb p 8 ≡ b → ((n < 256) × (p < 8)) ⊎ ((n < 256) × (p < 8) → ⊥)
+    go : (b : Bool) → inTable n p ≡ b → ((n < 256) × (p < 8)) ⊎ (inTable n p ≡ false)
     go true e = inl (both-below e)
-    go false e = inr (beyond e)
+    go false e = inr e
+
+-- what a test that fails elsewhere says where it passes
+passing : (b : Bool) {x : Bool} → cond b x false ≡ true → x ≡ true
+passing true e = e
+passing false e = absurd (false≢true e)
 
 module _ (v : View) where
   -- the trail finds the path on which a circuit stands
@@ -96,13 +102,21 @@ module _ (v : View) where
   pub receive-stands : Sound v → (n k : ℕ) → v .receiver n k ≢ 0 → Stands v (v .receiver n k)
   receive-stands sound n k h = ⊎-elim (λ z. absurd (z .1 n k refl)) (λ s. s) (sound .numbers (v .receiver n k) h)
 
-  absent-passes : (n p : ℕ) → ((n < 2 ^ v .dimension) × (p < v .dimension) → ⊥) → (v .enabled n p ≡ false) × (v .owner n p ≡ 0) → linkTest v n p ≡ true
-  unfolding linkTest
-  absent-passes n p h a = rw (is-false (ltb n (2 ^ v .dimension) && ltb p (v .dimension)) (λ e. h (both-below e))) (and (ap not (a .0)) (eq-eqb _ 0 (a .1)))
+  -- what is left of a test outside the cube, where it passes for an entry that is zero and for no other
+  module _ (n p : ℕ) (out : (n < 2 ^ v .dimension) × (p < v .dimension) → ⊥) where
+    test-outside : linkTest v n p ≡ (not (v .enabled n p) && eqb (v .owner n p) 0)
+    unfolding linkTest
+    test-outside = rw (is-false (ltb n (2 ^ v .dimension) && ltb p (v .dimension)) (λ e. out (both-below e)))
 
-  absent-receives : (n k : ℕ) → (n < 2 ^ v .dimension → ⊥) → v .receiver n k ≡ 0 → receiveTest v n k ≡ true
+    absent-passes : (v .enabled n p ≡ false) × (v .owner n p ≡ 0) → linkTest v n p ≡ true
+    absent-passes a = test-outside ∙ and (ap not (a .0)) (eq-eqb _ 0 (a .1))
+
+    link-absent : linkTest v n p ≡ true → (v .enabled n p ≡ false) × (v .owner n p ≡ 0)
+    link-absent t = let r = both (not (v .enabled n p)) _ (sym test-outside ∙ t) in (not-true _ (r .0), eqb-true _ 0 (r .1))
+
+  receive-outside : (n k : ℕ) → (n < 2 ^ v .dimension → ⊥) → receiveTest v n k ≡ eqb (v .receiver n k) 0
   unfolding receiveTest
-  absent-receives n k h a = rw (is-false (ltb n (2 ^ v .dimension)) (λ e. h (ltb-true n _ e))) (eq-eqb _ 0 a)
+  receive-outside n k out = rw (is-false (ltb n (2 ^ v .dimension)) (λ e. out (ltb-true n _ e)))
 
   -- A sound table passes at every entry.
   sound-link : Sound v → (n p : ℕ) → linkTest v n p ≡ true
@@ -118,16 +132,24 @@ module _ (v : View) where
           (unfold passes in rw (path-is _ s) (link-true _ n p (s .exactly .only n p (eq-eqb (v .owner n p) _ refl)))))))
       go false e z = let h = beyond e in absent-passes n p h (sound .absent-link n p h)
 
+  -- a receive channel that nobody holds passes wherever it is
+  free-receive : (n k : ℕ) → v .receiver n k ≡ 0 → receiveTest v n k ≡ true
+  unfolding receiveTest
+  free-receive n k z = rw (eq-eqb (v .receiver n k) 0 z) (go (ltb n (2 ^ v .dimension)))
+    where
+      go : (b : Bool) → cond b true true ≡ true
+      go true = refl
+      go false = refl
+
   sound-receive : Sound v → (n k : ℕ) → receiveTest v n k ≡ true
   unfolding receiveTest
-  sound-receive sound n k = go (ltb n (2 ^ v .dimension)) refl (same? (v .receiver n k) 0)
+  sound-receive sound n k = ⊎-elim (free-receive n k) (λ h. held h (ltb n (2 ^ v .dimension)) refl) (same? (v .receiver n k) 0)
     where
-      go : (b : Bool) → ltb n (2 ^ v .dimension) ≡ b → (v .receiver n k ≡ 0) ⊎ (v .receiver n k ≢ 0) → receiveTest v n k ≡ true
-      go true e (inl z) = rw e (or-left _ (eq-eqb _ 0 z))
-      go true e (inr h) =
+      held : v .receiver n k ≢ 0 → (b : Bool) → ltb n (2 ^ v .dimension) ≡ b → receiveTest v n k ≡ true
+      held h false e = absurd (h (sound .absent-receive n k (λ l. clash (lt-ltb n _ l) e)))
+      held h true e =
           let s = receive-stands sound n k h in
           rw e (or-right (eqb (v .receiver n k) 0) (and (reaches-passes _ (sound .receive-number n k) s) (rw (path-is _ s) (eq-eqb n _ (s .once n k refl .0)))))
-      go false e z = let h : n < 2 ^ v .dimension → ⊥ = λ l. clash (lt-ltb n _ l) e in absent-receives n k h (sound .absent-receive n k h)
 
   pub sound-entries : Sound v → EntriesPass v
   sound-entries sound = record { links-pass = λ n p h l. sound-link sound n p; receives-pass = λ n k h l. sound-receive sound n k }
@@ -149,54 +171,30 @@ module _ (v : View) where
       let j = kept-one (λ k. eqb (v .receiver (endFor v c (pathOf v c)) k) c) (eqb-true _ 1 (b .1)) in
       record { in-range = leb-true c _ (a .0); some = b .0; channel = j .0; small = j .1; receives = eqb-true _ c (j .2); once = λ k l x. j .3 k l (eq-eqb _ c x) }
 
-  -- what the test of a held entry says
-  record LinkFacts (n p : ℕ) : Type 0 where
-    there : (n < 2 ^ v .dimension) × (p < v .dimension)
+  -- what the test of a link says of the circuit that holds it
+  record LinkFacts (n p c : ℕ) : Type 0 where
     on : v .enabled n p ≡ true
-    stands : reaches v (v .owner n p) ≡ true
-    passed : (n, p) ∈ links (net v) (sourceOf (v .owner n p)) (pathOf v (v .owner n p))
+    reaches-end : reaches v c ≡ true
+    passed : (n, p) ∈ links (net v) (sourceOf c) (pathOf v c)
 
-  link-facts : (n p : ℕ) → linkTest v n p ≡ true → v .owner n p ≢ 0 → LinkFacts n p
-  unfolding linkTest passes
-  link-facts n p t h = go (ltb n (2 ^ v .dimension) && ltb p (v .dimension)) refl
-    where
-      go : (b : Bool) → ltb n (2 ^ v .dimension) && ltb p (v .dimension) ≡ b → LinkFacts n p
-      go true e =
-          ⊎-elim (λ z. absurd (h (eqb-true _ 0 z)))
-          (λ r. let a = both (v .enabled n p) _ r in let b = both (reaches v (v .owner n p)) _ (a .1) in
-          record { there = both-below e; on = a .0; stands = b .0; passed = true-link _ n p (b .1) })
-          (either (eqb (v .owner n p) 0) _ (rw e at t))
-      go false e = absurd (h (eqb-true _ 0 (both (not (v .enabled n p)) _ (rw e at t) .1)))
+  module _ (links-pass : (n p : ℕ) → linkTest v n p ≡ true) (receives-pass : (n k : ℕ) → receiveTest v n k ≡ true) (framed : Framed v) (c : ℕ) (some : c ≢ 0) where
+    held-link : (n p : ℕ) → v .owner n p ≡ c → LinkFacts n p c
+    unfolding linkTest passes
+    held-link n p x =
+        let a = both (v .enabled n p) _ (passing (ltb n (2 ^ v .dimension) && ltb p (v .dimension)) (rw (x, ne-eqb c 0 some, and-false (not (v .enabled n p))) at (links-pass n p))) in
+        let b = both (reaches v c) _ (a .1) in
+        record { on = a .0; reaches-end = b .0; passed = true-link _ n p (b .1) }
 
-  link-absent : (n p : ℕ) → linkTest v n p ≡ true → ((n < 2 ^ v .dimension) × (p < v .dimension) → ⊥) → (v .enabled n p ≡ false) × (v .owner n p ≡ 0)
-  unfolding linkTest
-  link-absent n p t h =
-      let e = is-false (ltb n (2 ^ v .dimension) && ltb p (v .dimension)) (λ e. h (both-below e)) in
-      let r = both (not (v .enabled n p)) _ (rw e at t) in
-      (not-true _ (r .0), eqb-true _ 0 (r .1))
+    -- and that of a receive channel: its path ends there
+    held-receive : (n k : ℕ) → v .receiver n k ≡ c → (reaches v c ≡ true) × (n ≡ endFor v c (pathOf v c))
+    unfolding receiveTest
+    held-receive n k x =
+        let a = both (reaches v c) _ (passing (ltb n (2 ^ v .dimension)) (rw (x, ne-eqb c 0 some) at (receives-pass n k))) in
+        (a .0, eqb-true n _ (a .1))
 
-  record ReceiveFacts (n k : ℕ) : Type 0 where
-    stands : reaches v (v .receiver n k) ≡ true
-    ends : n ≡ endFor v (v .receiver n k) (pathOf v (v .receiver n k))
-
-  receive-facts : (n k : ℕ) → receiveTest v n k ≡ true → v .receiver n k ≢ 0 → ReceiveFacts n k
-  unfolding receiveTest
-  receive-facts n k t h = go (ltb n (2 ^ v .dimension)) refl
-    where
-      go : (b : Bool) → ltb n (2 ^ v .dimension) ≡ b → ReceiveFacts n k
-      go true e =
-          ⊎-elim (λ z. absurd (h (eqb-true _ 0 z))) (λ r. let a = both (reaches v (v .receiver n k)) _ r in record { stands = a .0; ends = eqb-true n _ (a .1) })
-          (either (eqb (v .receiver n k) 0) _ (rw e at t))
-      go false e = absurd (h (eqb-true _ 0 (rw e at t)))
-
-  receive-absent : (n k : ℕ) → receiveTest v n k ≡ true → (n < 2 ^ v .dimension → ⊥) → v .receiver n k ≡ 0
-  unfolding receiveTest
-  receive-absent n k t h = let e = is-false (ltb n (2 ^ v .dimension)) (λ e. h (ltb-true n _ e)) in eqb-true _ 0 (rw e at t)
-
-  module _ (links-pass : (n p : ℕ) → linkTest v n p ≡ true) (receives-pass : (n k : ℕ) → receiveTest v n k ≡ true) (framed : Framed v) where
-    -- a number that passes the test stands
-    passes-stands : (c : ℕ) → c ≢ 0 → reaches v c ≡ true → Stands v c
-    passes-stands c h e =
+    -- a number that reaches its end stands
+    reached-stands : reaches v c ≡ true → Stands v c
+    reached-stands e =
         let r = reach-facts c e in
         record {
           path = pathOf v c;
@@ -204,62 +202,50 @@ module _ (v : View) where
           exactly =
               record {
                 all = λ m q o. unfold pathOf On in trail-owned (shapeOf v) (heldBy v c) (sourceOf c) m q o;
-                only = λ m q o.
-                    let x : v .owner m q ≡ c = eqb-true _ c o in
-                    subst (λ (d : ℕ). (m, q) ∈ links (net v) (sourceOf d) (pathOf v d)) x (link-facts m q (links-pass m q) (λ z. h (sym x ∙ z)) .passed);
+                only = λ m q o. held-link m q (eqb-true _ c o) .passed;
               };
           channel = r .channel;
           small = r .small;
           receives = r .receives;
           once = λ n k x.
-              let f = receive-facts n k (receives-pass n k) (λ z. h (sym x ∙ z)) in
-              let at : n ≡ endFor v c (pathOf v c) = subst (λ (d : ℕ). n ≡ endFor v d (pathOf v d)) x (f .ends) in
-              (at, r .once k (⊎-elim (λ i. i .1) (λ i. absurd (h (sym x ∙ framed .no-receive n k i))) (placed n k)) (subst (λ (m : ℕ). v .receiver m k ≡ c) at x));
+              let ends = held-receive n k x .1 in
+              let inside = ⊎-elim (λ i. i .1) (λ o. absurd (some (sym x ∙ framed .no-receive n k o))) (placed n k) in
+              (ends, r .once k inside (rw (← ends) x));
         }
 
-    numbers-stand : (c : ℕ) → c ≢ 0 → Nowhere v c ⊎ Stands v c
-    numbers-stand c h = go (decide₂ 256 8 (λ n p. eqb (v .owner n p) c)) (decide₂ 256 8 (λ n k. eqb (v .receiver n k) c))
+    number-stands : Nowhere v c ⊎ Stands v c
+    number-stands = go (decide₂ 256 8 (λ n p. eqb (v .owner n p) c)) (decide₂ 256 8 (λ n k. eqb (v .receiver n k) c))
       where
-        link-found : (n p : ℕ) → v .owner n p ≡ c → Stands v c
-        link-found n p x = subst (Stands v) x (passes-stands (v .owner n p) (λ z. h (sym x ∙ z)) (link-facts n p (links-pass n p) (λ z. h (sym x ∙ z)) .stands))
-
-        receive-found : (n k : ℕ) → v .receiver n k ≡ c → Stands v c
-        receive-found n k x = subst (Stands v) x (passes-stands (v .receiver n k) (λ z. h (sym x ∙ z)) (receive-facts n k (receives-pass n k) (λ z. h (sym x ∙ z)) .stands))
-
         go : ((i : ℕ) × (j : ℕ) × (eqb (v .owner i j) c ≡ true)) ⊎ ((i j : ℕ) → i < 256 → j < 8 → eqb (v .owner i j) c ≡ false)
             → ((i : ℕ) × (j : ℕ) × (eqb (v .receiver i j) c ≡ true)) ⊎ ((i j : ℕ) → i < 256 → j < 8 → eqb (v .receiver i j) c ≡ false) → Nowhere v c ⊎ Stands v c
-        go (inl s) r = inr (link-found (s .0) (s .1) (eqb-true _ c (s .2)))
-        go (inr f) (inl s) = inr (receive-found (s .0) (s .1) (eqb-true _ c (s .2)))
+        go (inl s) r = inr (reached-stands (held-link (s .0) (s .1) (eqb-true _ c (s .2)) .reaches-end))
+        go (inr f) (inl s) = inr (reached-stands (held-receive (s .0) (s .1) (eqb-true _ c (s .2)) .0))
         go (inr f) (inr g) =
             inl (
-              (λ n p x. ⊎-elim (λ i. clash (eq-eqb _ c x) (f n p (i .0) (i .1))) (λ i. h (sym x ∙ framed .no-link n p i .1)) (placed n p)),
-              (λ n k x. ⊎-elim (λ i. clash (eq-eqb _ c x) (g n k (i .0) (i .1))) (λ i. h (sym x ∙ framed .no-receive n k i)) (placed n k)),
+              (λ n p x. ⊎-elim (λ i. clash (eq-eqb _ c x) (f n p (i .0) (i .1))) (λ o. some (sym x ∙ framed .no-link n p o .1)) (placed n p)),
+              (λ n k x. ⊎-elim (λ i. clash (eq-eqb _ c x) (g n k (i .0) (i .1))) (λ o. some (sym x ∙ framed .no-receive n k o)) (placed n k)),
             )
 
-    passes-sound : Sound v
-    passes-sound =
-        record {
-          absent-link = λ n p h. link-absent n p (links-pass n p) h;
-          absent-receive = λ n k h. receive-absent n k (receives-pass n k) h;
-          held-enabled = λ n p h. link-facts n p (links-pass n p) h .on;
-          link-number = λ n p. ⊎-elim (λ z. omega arith) (λ h. reach-facts _ (link-facts n p (links-pass n p) h .stands) .in-range) (same? (v .owner n p) 0);
-          receive-number = λ n k. ⊎-elim (λ z. omega arith) (λ h. reach-facts _ (receive-facts n k (receives-pass n k) h .stands) .in-range) (same? (v .receiver n k) 0);
-          numbers = numbers-stand;
-        }
+  passes-sound : ((n p : ℕ) → linkTest v n p ≡ true) → ((n k : ℕ) → receiveTest v n k ≡ true) → Framed v → Sound v
+  passes-sound links-pass receives-pass framed =
+      record {
+        absent-link = λ n p out. link-absent n p out (links-pass n p);
+        absent-receive = λ n k out. eqb-true _ 0 (sym (receive-outside n k out) ∙ receives-pass n k);
+        held-enabled = λ n p h. held-link links-pass receives-pass framed _ h n p refl .on;
+        link-number = λ n p. ⊎-elim (λ z. omega arith) (λ h. reach-facts _ (held-link links-pass receives-pass framed _ h n p refl .reaches-end) .in-range) (same? (v .owner n p) 0);
+        receive-number = λ n k. ⊎-elim (λ z. omega arith) (λ h. reach-facts _ (held-receive links-pass receives-pass framed _ h n k refl .0) .in-range) (same? (v .receiver n k) 0);
+        numbers = number-stands links-pass receives-pass framed;
+      }
 
   -- A table that passes at every entry is sound.
   pub entries-sound : v .dimension ≤ 8 → Framed v → EntriesPass v → Sound v
   entries-sound fits framed pass = passes-sound links receives framed
     where
       links : (n p : ℕ) → linkTest v n p ≡ true
-      links n p = ⊎-elim (λ i. pass .links-pass n p (i .0) (i .1)) (λ o. absent-passes n p (λ i. o (omega (arith, most-nodes fits))) (framed .no-link n p o)) (placed n p)
+      links n p = ⊎-elim (λ i. pass .links-pass n p (i .0) (i .1)) (λ o. absent-passes n p (λ i. let within : (n < 256) × (p < 8) = omega (arith, most-nodes fits) in beyond o within) (framed .no-link n p o)) (placed n p)
 
       receives : (n k : ℕ) → receiveTest v n k ≡ true
-      receives n k = ⊎-elim (λ i. pass .receives-pass n k (i .0) (i .1)) (λ o. outside (framed .no-receive n k o) (ltb n (2 ^ v .dimension)) refl) (placed n k)
-        where
-          outside : v .receiver n k ≡ 0 → (b : Bool) → ltb n (2 ^ v .dimension) ≡ b → receiveTest v n k ≡ true
-          outside z true e = unfold receiveTest in rw e (or-left _ (eq-eqb _ 0 z))
-          outside z false e = absent-receives n k (λ l. clash (lt-ltb n _ l) e) z
+      receives n k = ⊎-elim (λ i. pass .receives-pass n k (i .0) (i .1)) (λ o. free-receive n k (framed .no-receive n k o)) (placed n k)
 
   -- In a sound table a circuit that occurs has exactly one path and one receive channel.
   pub stands-once : (c : ℕ) (s r : Stands v c) → (s .path ≡ r .path) × (s .channel ≡ r .channel)
