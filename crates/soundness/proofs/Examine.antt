@@ -1,8 +1,8 @@
 -- Looking at a circuit, and the tests of one entry, as the code's branches meet them.
 -- Assumes nothing.
-use mathlib.Core.Path.{_≡_, refl, ap, ap₂, sym, _∙_}
+use mathlib.Core.Path.{_≡_, refl, ap, ap₂, sym, _∙_, transport}
 use mathlib.Core.Logic.{⊎-elim, _≢_}
-use mathlib.Core.Bool.{Bool, true, false, _&&_, _||_, not, and-false, and-true, and-comm, or-assoc}
+use mathlib.Core.Bool.{Bool, true, false, _&&_, _||_, not, and-false, and-true, and-comm, or-assoc, false≢true}
 use mathlib.Core.List.{List, [], _∷_, List·Memᴰ·not-nil}
 use Prim.Native.Nat.{ℕ, _+_, _-_, _*_, _^_, _≤_, _<_}
 use native.Mathlib.Omega.{arith}
@@ -72,10 +72,10 @@ module _ (v : View) (h : v .dimension < 9) (c : ℕ) where
 
   -- the ends of looking at it
   pub reached-large : {n : ℕ} {m after : List ℕ} → 8 * 2 ^ v .dimension < c → Reached v c n m after false
-  reached-large l = record { ends-here = unfold reaches in rw (lt-leb c (8 * 2 ^ v .dimension) l); marks = λ e. absurd (mathlib.Core.Bool.false≢true e) }
+  reached-large l = record { ends-here = unfold reaches in rw (lt-leb c (8 * 2 ^ v .dimension) l); marks = λ e. absurd (false≢true e) }
 
   pub reached-none : {n a : ℕ} {m after : List ℕ} → c ≤ 8 * 2 ^ v .dimension → a ≡ firstHop v c (sourceOf c) (allPorts v) → 8 ≤ a → Reached v c n m after false
-  reached-none l e g = record { ends-here = unfold reaches isEmpty in rw (le-leb c (8 * 2 ^ v .dimension) l, path-none e g); marks = λ e. absurd (mathlib.Core.Bool.false≢true e) }
+  reached-none l e g = record { ends-here = unfold reaches isEmpty in rw (le-leb c (8 * 2 ^ v .dimension) l, path-none e g); marks = λ e. absurd (false≢true e) }
 
   module _ {a at : ℕ} {m₁ m₂ : List ℕ} (e : a ≡ firstHop v c (sourceOf c) (allPorts v)) (g : a < 8) (f : Follows v c (next (sourceOf c) a) (allPorts v) m₁ m₂ at) where
     ends-at : at ≡ endFor v c (pathOf v c)
@@ -106,7 +106,7 @@ module _ (v : View) (h : v .dimension < 9) (c : ℕ) where
 
     pub reached-elsewhere : {n : ℕ} {m₀ : List ℕ} → n ≢ at → Reached v c n m₀ m₂ false
     reached-elsewhere {n} q =
-        record { ends-here = sym (ap (reaches v c &&_) (ne-eqb n _ (λ z. q (z ∙ sym ends-at))) ∙ and-false (reaches v c)); marks = λ z. absurd (mathlib.Core.Bool.false≢true z) }
+        record { ends-here = sym (ap (reaches v c &&_) (ne-eqb n _ (λ z. q (z ∙ sym ends-at))) ∙ and-false (reaches v c)); marks = λ z. absurd (false≢true z) }
 
 -- the same, of the numbers that the code has: the dimension, the count of nodes and the source
 module _ (v : View) (c : ℕ) {D nodes : ℕ} (d : D ≡ v .dimension) (h : D < 9) (m : nodes ≡ 2 ^ D) where
@@ -138,7 +138,7 @@ module _ (v : View) (c : ℕ) {D nodes : ℕ} (d : D ≡ v .dimension) (h : D < 
 
   module _ {s a start at : ℕ} {m₁ m₂ : List ℕ} (q : s ≡ sourceOf c) (e : a ≡ firstHop v c s (nodes - 1)) (g : a < 8) (to : start ≡ next s a) (f : Follows v c start (nodes - 1) m₁ m₂ at) where
     on-all : Follows v c (next (sourceOf c) a) (allPorts v) m₁ m₂ at
-    on-all = mathlib.Core.Path.transport (ap₂ (λ x y. Follows v c x y m₁ m₂ at) (to ∙ ap (λ x. next x a) q) (ap (_- 1) (count-of d m))) f
+    on-all = transport (ap₂ (λ x y. Follows v c x y m₁ m₂ at) (to ∙ ap (λ x. next x a) q) (ap (_- 1) (count-of d m))) f
 
     pub looked-here : {n count : ℕ} {m₀ : List ℕ} → c ≤ 8 * nodes → s < 256 → length m₀ ≡ 256 → m₁ ≡ marking m₀ s a → n ≡ at → count ≡ channelsHeld v c at → Reached v c n m₀ m₂ (eqb count 1)
     looked-here {m₀ = m₀} l small size mark here k =

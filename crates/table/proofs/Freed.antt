@@ -1,6 +1,6 @@
 -- Freeing the entries of a circuit: each byte afterwards, and what the table shows.
 -- Assumes nothing.
-use mathlib.Core.Path.{_≡_, refl, ap, _∙_}
+use mathlib.Core.Path.{_≡_, refl, ap, ap₂, _∙_}
 use mathlib.Core.Logic.{_≢_}
 use mathlib.Core.Bool.{Bool, true, false, cond, _&&_}
 use mathlib.Core.List.{List}
@@ -56,11 +56,8 @@ free-words c b i (suc k) zero h l =
 free-words c b i (suc k) (suc j) h l =
     let on : i + 2 * suc j ≡ i + 2 + 2 * j = omega arith in
     let same : wordAt (freeWord c b i) (i + 2 + 2 * j) ≡ wordAt b (i + 2 + 2 * j) =
-    ap2 (free-byte c b i (i + 2 + 2 * j) (λ e. omega arith) (λ e. omega arith)) (free-byte c b i (i + 2 + 2 * j + 1) (λ e. omega arith) (λ e. omega arith)) in
+    ap₂ (λ u w. u + 256 * w) (free-byte c b i (i + 2 + 2 * j) (λ e. omega arith) (λ e. omega arith)) (free-byte c b i (i + 2 + 2 * j + 1) (λ e. omega arith) (λ e. omega arith)) in
     rw on (free-words c (freeWord c b i) (i + 2) k j (omega arith) (omega (arith, free-length c b i)) ∙ ap (λ w. cond (eqb w c) 0 w) same)
-  where
-    ap2 : {a x y z : ℕ} → a ≡ x → y ≡ z → a + 256 * y ≡ x + 256 * z
-    ap2 e f = mathlib.Core.Path.ap₂ (λ u w. u + 256 * w) e f
 
 -- what the table shows
 module _ (b : List ℕ) (c : ℕ) (l : length b ≡ 8449) where

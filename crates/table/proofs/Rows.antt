@@ -1,6 +1,6 @@
 -- A row of eight entries: which of them are a circuit's, as loops find them, and what that says of links and receive channels.
 -- Assumes nothing.
-use mathlib.Core.Path.{_≡_, ap, sym, _∙_, subst}
+use mathlib.Core.Path.{_≡_, refl, ap, sym, _∙_, subst}
 use mathlib.Core.Logic.{_≢_}
 use mathlib.Core.Bool.{true, false}
 use mathlib.Core.List.{List}
@@ -60,7 +60,7 @@ module _ (b : List ℕ) (i c : ℕ) where
 -- the row of a node, in the part of links or in that of receive channels
 module _ (b : List ℕ) (n c i : ℕ) (h : n < 256) where
   entry-test : (part k : ℕ) → i ≡ entryPlace part n 0 → k < 8 → eqb (wordAt b (i + 2 * k)) c ≡ eqb (entryAt part b n k) c
-  entry-test part k e l = ap (λ x. eqb x c) (entry-is b n k h l part (wordAt b (i + 2 * k)) (i + 2 * k) (omega arith) mathlib.Core.Path.refl)
+  entry-test part k e l = ap (λ x. eqb x c) (entry-is b n k h l part (wordAt b (i + 2 * k)) (i + 2 * k) (omega arith) refl)
 
   pub links-vector : (vector : ℕ) → i ≡ entryPlace linkPart n 0 → RowVector b i c vector → HeldBy b c n vector
   unfolding ownerAt

@@ -1,10 +1,9 @@
 -- `listing::put::ports` meets its contract: what is left to write behind what was written are the ports.
 -- Assumes nothing.
 use mathlib.Core.Path.{_≡_, refl, sym, _∙_, ap}
-use Prim.Native.Nat.{_+_, _-_, _*_, _≤_}
+use Prim.Native.Nat.{ℕ, _+_, _-_, _*_, _≤_}
 use native.Mathlib.Omega.{arith}
 use mathlib.Core.List.{List}
-use Prim.Native.Nat.{ℕ}
 use lib.ListN.{length, getD, drop}
 use lib.Seq.{sets}
 use Rattle.listing.specs.Text.{decimal}

@@ -1,5 +1,6 @@
 -- `soundness::sound::receive_sound` meets its contract: a receive channel is free, or the end of the path of a circuit that stands.
 -- Assumes nothing.
+use mathlib.Core.Path.{refl}
 use native.Mathlib.Omega.{arith}
 use Rattle.table.specs.View.{view}
 use Rattle.soundness.proofs.Examine.{channel-free, channel-absent, channel-held}
@@ -13,7 +14,7 @@ receiver-requires c κs = search needs
 returns : tie.Need-returns
 returns c =
     let o = c .before .before in
-    unfold view in channel-free _ _ _ (o .before .before .before .pre .1 .stored) (o .receiver .ensures) mathlib.Core.Path.refl (c .if1 .taken)
+    unfold view in channel-free _ _ _ (o .before .before .before .pre .1 .stored) (o .receiver .ensures) refl (c .if1 .taken)
 
 node-count-requires : tie.Need-node-count-requires
 node-count-requires c κs = search needs
