@@ -29,8 +29,7 @@ returns c =
     let g = c .before in
     let m = g .before in
     let d = m .before in
-    opened-vector (d .dimension .ensures)
-    (omega (arith, d .dimension .ensures, d .before .before .pre .fits)) (m .node-count .ensures .value) (g .source-of .ensures) (c .held-by .ensures)
+    opened-vector (d .dimension .ensures) (omega (arith, d .dimension .ensures, d .before .before .pre .fits)) (m .node-count .ensures .value) (g .source-of .ensures) (c .held-by .ensures)
 
 pub is-open-spec : {M : Type 1} → statement M
 is-open-spec =
