@@ -104,7 +104,7 @@ typedef struct {
     uint16_t number;
     uint16_t hops;    /* links of the path */
     uint16_t receive; /* the receive channel taken at the target */
-    uint32_t scouts;  /* address packets sent by the search, over both passes */
+    uint32_t scouts;  /* address packets sent, in all passes */
 } maze_opened;
 
 typedef struct {
@@ -126,11 +126,12 @@ uint16_t maze_block(uint8_t *table, size_t table_len, uint16_t node, uint16_t po
  * Answers 0, or the first of 1, 2, 3, 4 and 6 that applies. */
 uint16_t maze_unblock(uint8_t *table, size_t table_len, uint16_t node, uint16_t port);
 
-/* Opens the circuit of a send channel of a node: looks for the first permitted path to the target, for the send vector (bit p for port p), whose
- * links are all free. The source tries its ports from 0 upward; a node that was reached on port a tries those above a upward and then those from
- * 0 up to a, so the order is helical. A scout, an address packet, goes over each free link that is tried, and goes back where it finds no way on.
- * With MAZE_TYPE_ALTERNATE_MAZE, if that is rejected, a second pass begins with the ports below the dimension that the vector left out; the answer
- * is then that of the second pass, with the scouts of both. An accepted open holds the links of that path and the target's lowest receive channel
+/* Opens the circuit of a send channel of a node: a pass looks for the first permitted path to the target, for the send vector (bit p for port p),
+ * whose links are all free. The source tries the ports of the vector from 0 upward. A node that was reached on port a tries, of the ports in whose
+ * bit it and the target differ, those above a upward and then those from 0 up to a: the helical order. Each time a free link is tried, a scout, an
+ * address packet, goes over it; where there is no way on it goes back, and the next port is tried. With MAZE_TYPE_ALTERNATE_MAZE, if this pass is
+ * rejected, a second one begins with the ports below the dimension that the vector left out; the answer is then that of the second pass, with the
+ * scouts of both. An accepted open holds the links of that path and the target's lowest receive channel
  * that no circuit holds; maze_trace tells the path. Alters the entries of those and leaves the rest alone.
  * Answers 0 with hops, receive channel and scouts, or the first of 1, 2, 3, 4, 5, 7, 8, 9, 10 and 11 that applies; 10 and 11 with scouts. On a
  * sound table a target whose eight receive channels are held has no free link into it, so 10 comes in place of 11. */

@@ -218,7 +218,7 @@ static void receive_channels(void) {
         expect(got.number == 0 && got.hops == 1 && got.receive == port && table[4353 + 2 * port] + 256u * table[4354 + 2 * port] == 8 * (1u << port) + 2, "receive channel", port, got.receive);
     }
     got = maze_open(table, BYTES, 3, 0, 0, 4, 3);
-    expect(got.number == 10 && got.receive == 0, "all receive channels held", got.number, got.scouts);
+    expect(got.number == 10 && got.hops == 0 && got.receive == 0 && got.scouts == 62, "all receive channels held", got.number, got.scouts);
 }
 
 /* ---- blocking ---- */

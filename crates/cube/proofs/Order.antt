@@ -19,7 +19,7 @@ use Rattle.cube.specs.Helical.{portsOf, helical, firstOr, firstPort, Fir
 use Rattle.cube.proofs.Bits.{no-ports, zero-has, high-has}
 use Rattle.cube.proofs.Ports.{without-power}
 
--- what stands in the helical order is one of the ports, and each port is past the arrival port or up to it
+-- the helical order has the same members: what stands in it is one of the ports, and each port, past the arrival port or up to it, stands in it
 pub helical-mem : (a : ℕ) (ps : List ℕ) {q : ℕ} → q ∈ helical a ps → q ∈ ps
 unfolding helical
 helical-mem a ps {q} = all-append (_∈ ps) (keep (λ p. ltb a p) ps) (λ p m. keep-mem _ ps m .0) (λ p m. keep-mem _ ps m .0) q

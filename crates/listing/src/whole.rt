@@ -14,7 +14,7 @@ use crate::put;
 // The most bytes of an input that is listed.
 pub const INPUT_LIMIT: usize = 60000;
 
-// The size of an output: the header, and 24 bytes for each byte of input and one more.
+// The size of an output: the header, and 24 bytes for each of 60,001 bytes, one more than the longest input has.
 pub const OUTPUT_BYTES: usize = 1440075;
 
 // The printed lines of an input, from a place on. Each line of input is found, carried out on the table and printed.

@@ -126,7 +126,7 @@ module _ (s c : ℕ) where
   still-first a n ps o l =
       record { before = []; target = o .0; type = o .1; vector = o .2; after = ps; split = (λ i. (o .3 i, o .4 i) ∷ ps); lasts = l }
 
-  -- the open that it was
+  -- the open that `StillOpen` names
   abbrev theOpen : {ps : List (Call × ℕ)} → StillOpen s c ps → Call × ℕ
   theOpen o = (opening s c (o .target) (o .type) (o .vector), 0)
 

@@ -68,7 +68,7 @@ pub record Standing (h : History) (x : Circuit) : Type 0 where
   pub enabled : (l : Link) → l ∈ linksOf (netOn h) x → enabledOn h (l .0) (l .1) ≡ true
   pub receive : x .receive < 8
 
--- "no two open circuits share a link or receive channel"; nor a send channel
+-- two circuits have no link, no receive channel and no send channel in common
 pub record Separate (N : Network) (x y : Circuit) : Type 0 where
   pub send : x .source ≡ y .source → x .channel ≡ y .channel → ⊥
   pub link : (l : Link) → l ∈ linksOf N x → l ∈ linksOf N y → ⊥

@@ -22,7 +22,7 @@ ways (suc k) N t n a = cond (eqb n t) [] (over (λ p. ways k N t (N .next n p) p
 unfoldable pub beginnings : Network → ℕ → List ℕ → ℕ → List Path
 beginnings N s vector t = over (λ p. ways (N .far t (N .next s p)) N t (N .next s p) p) vector
 
--- what a pass comes to, a path or none, with the scouts that it sent: address packets, one over each free link that is tried
+-- what a pass comes to, a path or none, with the scouts that it sent: address packets, one each time that a free link is tried
 pub data Pass : Type 0 where
   none : ℕ → Pass
   found : Path → ℕ → Pass

@@ -9,7 +9,7 @@ use Rattle.cube.specs.Helical.{helical}
 use Rattle.paths.specs.Network.{Network, offered}
 use Rattle.paths.specs.Pass.{Pass, none, found}
 
--- a hop over p: with it goes the path that the search behind it finds; where that finds none, the search goes on with the scouts sent by then
+-- a hop over p: p before the path that the search behind it finds; where that finds none, the search goes on with the scouts sent by then
 unfoldable pub hopOr : ℕ → Pass → (ℕ → Pass) → Pass
 hopOr p (found w c) more = found (p ∷ w) c
 hopOr p (none c) more = more c

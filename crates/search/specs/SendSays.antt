@@ -50,7 +50,7 @@ pub record SendSays (b : List ℕ) (s t c type vector : ℕ) (number receives ho
   pub says : PassesSay (net (view b)) (freeIn (view b)) s t (receive (view b) t) type (sendPorts (shapeOf (view b)) vector) (otherPorts (shapeOf (view b)) vector) outcome scouts
   -- the numbers and the bytes are those of that outcome: an acknowledged path's links and its receive channel are held, nothing else changes
   pub answer : settled number receives hops scouts after ≡ sentOn b c s t (record { outcome = outcome; scouts = scouts })
-  -- "acknowledged exactly when a free permitted path exists and a receive channel is available"
+  -- it is acknowledged exactly when one of its passes has a free permitted path and the target has a receive channel that nobody holds
   pub exactly : (number ≡ 0) ↔ (((ports : List ℕ) × (ports ∈ passesOf (shapeOf (view b)) type vector) × FreeRoute (view b) s t ports) × Available (view b) t)
   pub lowest : number ≡ 0 → Lowest (view b) t receives
   -- a rejected search leaves each byte as it was

@@ -140,7 +140,7 @@ fn all_receives(t: &[u8], dimension: u16, marks: &mut [u8]) -> bool
     true
 }
 
-// What the enable bits of a node are below if it has links of the cube alone.
+// A bound on a node's byte of enable bits: the cube's, or 1 (no bit) where the cube does not have the node.
 fn enable_limit(dimension: u16, n: Node) -> u16
     requires { ⌜ dimension < 9 ⌝ }
     ensures { λ r. ⌜ r ≡ enableLimit dimension (n .0) ⌝ }
