@@ -111,7 +111,7 @@ module _ {S : Type 0} (makes : S → Call → After S) (state : S) (n : ℕ) whe
     -- S: "node as given (source for S); channel as given; receive channel taken; scouts ..; ports in path order": those that a trace of this channel gives now
     pub acknowledged-shows : answer opens .number ≡ 0
         → shown opens ≡ shows n ∷ letter 83 ∷ shows 0 ∷ shows node ∷ shows channel ∷ shows (answer opens .receive) ∷ shows (answer opens .scouts)
-            ∷ path (traced makes (makes state opens .state) node channel) ∷ []
+        ∷ path (traced makes (makes state opens .state) node channel) ∷ []
     unfolding inOrder rowFor callRow
     acknowledged-shows e = rw e
 
