@@ -4,6 +4,7 @@ use mathlib.Core.Path.{_≡_, refl}
 use mathlib.Core.List.{List, [], _∷_, map}
 use Prim.Native.Nat.{ℕ, _+_, _*_}
 use lib.Dec.{eqb}
+use lib.ListN.{length}
 use Rattle.common.specs.Lists.{keep, from}
 use Rattle.common.specs.Tests.{Test, refusal}
 use Rattle.command_word.specs.declared.WordRead.{WordRead}
@@ -45,9 +46,9 @@ reserved-commands = refl
 record Seen : Type 0 where
   -- what reading answers for the command in packet types 0, 1, 2 and 3
   types : List ℕ
-  -- with which of the numbers 0 to 99 it is written, and what writing answers to 100
+  -- with which of the numbers 0 to 99 it is written, and what writing answers to the next number and to 65,535
   carries : List ℕ
-  above : ℕ
+  above : List ℕ
   -- its word with 0
   word : ℕ
   -- which numbers are read from the statuses 0, 1, 62 and 63, in the packet type of that word
@@ -56,37 +57,39 @@ record Seen : Type 0 where
 abbrev seen : ℕ → Seen
 seen c =
     let word = writeWord c 0 .word in
+    let carries = keep (λ k. eqb (writeWord c k .number) 0) (from 0 100) in
     record {
       types = map (λ type. readWord (type * 1024 + c * 64) .number) (from 0 4);
-      carries = keep (λ k. eqb (writeWord c k .number) 0) (from 0 100);
-      above = writeWord c 100 .number;
+      carries = carries;
+      above = map (λ k. writeWord c k .number) (length carries ∷ 65535 ∷ []);
       word = word;
       reads = map (λ status. readWord (word + status) .carried) (0 ∷ 1 ∷ 62 ∷ 63 ∷ []);
     }
 
 -- The sentences of document 01, each by what is seen where it holds.
--- "Commands 0 to 7 go with type 2": 16 of types 0 and 1, 17 of type 3; "commands 8 to 15 with type 3"; 18 in the command's own type where it is reserved
+-- "Commands 0 to 7 go with type 2, commands 8 to 15 with type 3": packet types 0 and 1 give 16, the other command type 17
 abbrev type2 : List ℕ
 type2 = 16 ∷ 16 ∷ 0 ∷ 17 ∷ []
 
 abbrev type3 : List ℕ
 type3 = 16 ∷ 16 ∷ 17 ∷ 0 ∷ []
 
+-- "Reserved": 18, in the type that the command goes with
 abbrev reserved2 : Seen
-reserved2 = record { types = 16 ∷ 16 ∷ 18 ∷ 17 ∷ []; carries = []; above = 18; word = 0; reads = 0 ∷ 0 ∷ 0 ∷ 0 ∷ [] }
+reserved2 = record { types = 16 ∷ 16 ∷ 18 ∷ 17 ∷ []; carries = []; above = 18 ∷ 18 ∷ []; word = 0; reads = 0 ∷ 0 ∷ 0 ∷ 0 ∷ [] }
 
 abbrev reserved3 : Seen
-reserved3 = record { types = 16 ∷ 16 ∷ 17 ∷ 18 ∷ []; carries = []; above = 18; word = 0; reads = 0 ∷ 0 ∷ 0 ∷ 0 ∷ [] }
+reserved3 = record { types = 16 ∷ 16 ∷ 17 ∷ 18 ∷ []; carries = []; above = 18 ∷ 18 ∷ []; word = 0; reads = 0 ∷ 0 ∷ 0 ∷ 0 ∷ [] }
 
 -- "carry 0 or 1", "carry 0 to 63", "the others carry 0": any other number is refused with 19, and other status bits are ignored
 abbrev carrying0 : List ℕ → ℕ → Seen
-carrying0 types word = record { types = types; carries = 0 ∷ []; above = 19; word = word; reads = 0 ∷ 0 ∷ 0 ∷ 0 ∷ [] }
+carrying0 types word = record { types = types; carries = 0 ∷ []; above = 19 ∷ 19 ∷ []; word = word; reads = 0 ∷ 0 ∷ 0 ∷ 0 ∷ [] }
 
 abbrev carrying1 : List ℕ → ℕ → Seen
-carrying1 types word = record { types = types; carries = 0 ∷ 1 ∷ []; above = 19; word = word; reads = 0 ∷ 1 ∷ 0 ∷ 1 ∷ [] }
+carrying1 types word = record { types = types; carries = 0 ∷ 1 ∷ []; above = 19 ∷ 19 ∷ []; word = word; reads = 0 ∷ 1 ∷ 0 ∷ 1 ∷ [] }
 
 abbrev carrying63 : List ℕ → ℕ → Seen
-carrying63 types word = record { types = types; carries = from 0 64; above = 19; word = word; reads = 0 ∷ 1 ∷ 62 ∷ 63 ∷ [] }
+carrying63 types word = record { types = types; carries = from 0 64; above = 19 ∷ 19 ∷ []; word = word; reads = 0 ∷ 1 ∷ 62 ∷ 63 ∷ [] }
 
 -- Commands 0 to 15 in turn, as document 01 has them.
 commands-seen : map seen (from 0 16) ≡
