@@ -12,4 +12,5 @@ pub mod Theorems
 pub mod Agreeing
 pub mod ShownPath
 pub mod ReadBack
+pub mod Letters
 pub mod Fitting

@@ -56,7 +56,7 @@ fields-one (x ∷ xs) p = let l = p .0 in rw (ne-eqb x space (λ e. omega arith)
     front : onFirst x (xs ∷ []) ≡ (x ∷ xs) ∷ []
     front = unfold onFirst in refl
 
-fields-spaced : (f : List ℕ) (fs : List (List ℕ)) → AllAbove space (f ∷ fs) → fields (spaced (f ∷ fs)) ≡ f ∷ fs
+pub fields-spaced : (f : List ℕ) (fs : List (List ℕ)) → AllAbove space (f ∷ fs) → fields (spaced (f ∷ fs)) ≡ f ∷ fs
 unfolding AllAbove spaced fields
 fields-spaced f [] p = fields-one f (p .0)
 fields-spaced f (g ∷ fs) p = cut-at space space ([] ∷ []) f (spaced (g ∷ fs)) (omega arith) (p .0) ∙ ap (f ∷_) (fields-spaced g fs (p .1))
@@ -78,7 +78,7 @@ above-digits (suc k) n = go (ltb n 10) (above-digits k (n / 10))
     go true p = (omega arith, tt)
     go false p = above-append space (Rattle.listing.specs.Text.digits k (n / 10)) (digit (n % 10) ∷ []) p (omega arith, tt)
 
-above-decimal : (n : ℕ) → Above space (decimal n)
+pub above-decimal : (n : ℕ) → Above space (decimal n)
 unfolding decimal
 above-decimal n = above-digits n n
 

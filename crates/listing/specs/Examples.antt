@@ -1,7 +1,8 @@
--- The printed example of document 01, computed: the bytes of its input, and the bytes of its output.
+-- The printed example of document 01, computed: the bytes of its input, and the bytes of its output. And what a line of each letter asks for, from its bytes.
 -- Assumes nothing.
 use mathlib.Core.Path.{_≡_, refl}
-use mathlib.Core.List.{List, [], _∷_}
+use mathlib.Core.List.{List, [], _∷_, map}
+use mathlib.Core.Option.{some}
 use Prim.Native.Nat.{ℕ}
 use Rattle.common.specs.Lists.{keep, from, any, lowest}
 use Rattle.common.specs.Tests.{refusal}
@@ -13,7 +14,7 @@ use Rattle.paths.specs.Pass.{over, ways, beginnings, scan, whole, pass, scouts}
 use Rattle.paths.specs.Send.{received, outcome, goesOn, runs, answered}
 use Rattle.paths.specs.CubeNetwork.{network, otherPorts, maze, alternateMaze, send}
 use Rattle.table.specs.View.{lowestOf}
-use Rattle.ownership.specs.Calls.{written, callTests, lent}
+use Rattle.ownership.specs.Calls.{making, blocking, unblocking, opening, closing, written, callTests, lent}
 use Rattle.ownership.specs.History.{holdsLink, holdsReceive, belongs, enabledOn, heldOn, freeOn, takenOn, openOn, receiveOn, listed, askedOn, stoppedOn, sendOn, adds, follows, gives, entered}
 use Rattle.listing.specs.Text.{digits, decimal, allDigits, value, leadingZero, number}
 use Rattle.listing.specs.Lines.{onFirst, cut, lines, fields}
@@ -58,3 +59,22 @@ output =
 pub printed-example : recorded input ≡ output
 unfolding entered stoppedOn callTests refusal askedOn openOn heldOn takenOn any holdsLink holdsReceive belongs enabledOn freeOn receiveOn lowestOf lowest listed sendOn adds follows gives written lent send maze alternateMaze network portsOf otherPorts keep from has flip uphill helical offered end links hasLink freePath over ways beginnings scan whole pass scouts received outcome goesOn runs answered digits decimal allDigits value leadingZero number onFirst cut lines fields inFront numbers numbersOf asked byLetter withNumbers ofFields asks inTurn bytesOf inOrder spaced ended rowText rowsText callRow unreadable traced rowFor behind rows header tooLong listing recorded
 printed-example = refl
+
+-- "`F D` make, `B node port` block, `E node port` unblock, `S node channel target type vector` open, `C node channel` close", with a number of its own in
+-- each place
+letters-asked :
+    map asks
+    -- F 10
+    ((70 ∷ 32 ∷ 49 ∷ 48 ∷ [])
+    -- B 11 12
+    ∷ (66 ∷ 32 ∷ 49 ∷ 49 ∷ 32 ∷ 49 ∷ 50 ∷ [])
+    -- E 13 14
+    ∷ (69 ∷ 32 ∷ 49 ∷ 51 ∷ 32 ∷ 49 ∷ 52 ∷ [])
+    -- S 1 2 3 4 5
+    ∷ (83 ∷ 32 ∷ 49 ∷ 32 ∷ 50 ∷ 32 ∷ 51 ∷ 32 ∷ 52 ∷ 32 ∷ 53 ∷ [])
+    -- C 15 16
+    ∷ (67 ∷ 32 ∷ 49 ∷ 53 ∷ 32 ∷ 49 ∷ 54 ∷ [])
+    ∷ [])
+    ≡ some (making 10) ∷ some (blocking 11 12) ∷ some (unblocking 13 14) ∷ some (opening 1 2 3 4 5) ∷ some (closing 15 16) ∷ []
+unfolding allDigits value leadingZero number onFirst cut fields inFront numbers numbersOf asked byLetter withNumbers ofFields asks
+letters-asked = refl

@@ -2,11 +2,12 @@
 -- Assumes nothing.
 use mathlib.Core.Path.{_≡_}
 use mathlib.Core.Logic.{_⊎_}
-use mathlib.Core.List.{List, [], _∷_}
-use Prim.Native.Nat.{ℕ, _<_}
+use mathlib.Core.List.{List, [], _∷_, map}
+use Prim.Native.Nat.{ℕ, _≤_, _<_}
 use Rattle.paths.specs.Send.{Answer}
 use Rattle.ownership.specs.Calls.{Call, making, blocking, unblocking, opening, closing, tracing}
-use Rattle.listing.specs.Row.{Field, nothing, shows, letter, path}
+use Rattle.listing.specs.Text.{decimal, largest}
+use Rattle.listing.specs.Row.{Field, nothing, shows, letter, path, spaced}
 
 -- every byte of a text is above b: above 32, it has no space and no newline
 unfoldable pub Above : ℕ → List ℕ → Type 0
@@ -37,3 +38,12 @@ IsOpen (tracing s c buffer) = ⊥
 -- "S answered 0, 10 or 11"
 abbrev pub WasSent : Call → Answer → Type 0
 WasSent a x = IsOpen a × ((x .number ≡ 0) ⊎ ((x .number ≡ 10) ⊎ (x .number ≡ 11)))
+
+-- the input line of a call letter and the numbers behind it
+unfoldable pub lineOf : ℕ → List ℕ → List ℕ
+lineOf x ns = spaced ((x ∷ []) ∷ map decimal ns)
+
+-- numbers that a line can give: "0 to 65,535"
+unfoldable pub CanBeGiven : List ℕ → Type 0
+CanBeGiven [] = Unit
+CanBeGiven (n ∷ ns) = (n ≤ largest) × CanBeGiven ns

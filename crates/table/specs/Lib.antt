@@ -2,3 +2,4 @@
 pub mod Layout
 pub mod View
 pub mod Encode
+pub mod Examples
