@@ -337,9 +337,6 @@ module _ {b : List ℕ} {t c n a h s : ℕ} (may : MayArrive b t c n a h s) wher
           room = omega (arith, may .room, ports);
         }
 
-    pub arrive-byte : v < 256
-    arrive-byte = byte-vector (may .here .fits) (all-may .ports)
-
     -- those of them that are left
     module _ {left : ℕ} (narrow : Narrowed (view b) n v left) where
       pub arrive-may : MayTry b t c n left a h s
@@ -347,9 +344,6 @@ module _ {b : List ℕ} {t c n a h s : ℕ} (may : MayArrive b t c n a h s) wher
 
       pub arrive-tries : tries b t c n left a h s ≡ arrived b t c n a h s
       arrive-tries = narrow-tries b t c a h s narrow ∙ all-tried
-
-      pub arrive-none : left ≡ 0 → settled 10 0 0 s b ≡ arrived b t c n a h s
-      arrive-none z = turn-over (first-turn arrive-may) z ∙ arrive-tries
 
       pub arrive-falls : 2 * reach b t n left + 1 < 2 * distance b t n
       arrive-falls = omega (arith, arrive-reach, narrow-reach b t narrow)

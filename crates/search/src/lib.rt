@@ -1,7 +1,6 @@
 // The search for a free permitted path on a lent table.
 ghost use mathlib.Core.Path.{_≡_};
 ghost use mathlib.Core.Bool.{true};
-ghost use Prim.Native.Nat.{_<_};
 ghost use Rattle.table.specs.Layout.{Within};
 ghost use Rattle.table.specs.View.{view};
 ghost use Rattle.cube.specs.Helical.{FirstPorts};
@@ -28,29 +27,6 @@ fn is_free(t: &[u8], n: Node, p: Port) -> bool
     ensures { λ r. ⌜ r ≡ freeIn (view (now (t .entry))) (n .0) (p .0) ⌝ }
 {
     table::owner(t, n, p).0 == 0
-}
-
-// The ports of a vector by which a scout may go on from a node: the enabled ones. Where there is one alone, and its link is held, there is none:
-// many searches end so, and this spares them a call.
-fn ways_on(t: &[u8], n: Node, vector: u16, arrival: Port, first: &[u8; 2048]) -> u16
-    requires { ⌜ FirstPorts (now first) ⌝ }
-    requires { ⌜ Within (now t) (n .0) (arrival .0) ⌝ }
-    requires { ⌜ vector < 256 ⌝ }
-    ensures { λ r. ⌜ Narrowed (view (now (t .entry))) (n .0) vector r × Enabled (view (now (t .entry))) (n .0) r ⌝ }
-{
-    let left = enabled_ports(t, n, vector);
-    if left == 0 {
-        return left;
-    }
-    if left & (left - 1) != 0 {
-        return left;
-    }
-    let p = cube::first_port(first, left, arrival);
-    if is_free(t, n, p) {
-        left
-    } else {
-        cube::without(left, p)
-    }
 }
 
 // What a pass comes to: 0 with the receive channel and the hops, or the refusal; and the scouts sent.
@@ -114,8 +90,8 @@ fn try_ports(
     }
 }
 
-// A scout arrives: at the target, whose lowest receive channel that nobody holds is answered, or at a node that tries its uphill ports, if any is
-// enabled.
+// A scout arrives: at the target, whose lowest receive channel that nobody holds is answered, or at a node that tries its uphill ports, those of them
+// that are enabled.
 fn arrive(
     t: &mut [u8],
     at: Node,
@@ -148,17 +124,8 @@ fn arrive(
             }
         }
     } else {
-        let vector = ways_on(t, at, cube::uphill_vector(at, target), arrival, first);
-        if vector == 0 {
-            Pass {
-                refused: refusal::ROUTE_REJECTED,
-                channel: 0,
-                hops: 0,
-                scouts,
-            }
-        } else {
-            try_ports(t, at, target, c, vector, arrival, hops, scouts, first)
-        }
+        let vector = enabled_ports(t, at, cube::uphill_vector(at, target));
+        try_ports(t, at, target, c, vector, arrival, hops, scouts, first)
     }
 }
 

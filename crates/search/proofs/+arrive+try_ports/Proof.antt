@@ -8,7 +8,7 @@ use lib.Dec.{lit<}
 use lib.ListN.{length}
 use lib.Pow.{pow-pos}
 use Rattle.search.specs.Turns.{distance, reach}
-use Rattle.search.proofs.Turns.{Turn, first-turn, byte-vector, here-tried, now-within, now-enabled, here-room, here-arrives, here-falls, turn-busy, turn-acknowledged, turn-full, turn-next, turn-over, arrive-receives, arrive-full, arrive-tries, arrive-none, arrive-byte, arrive-may, arrive-falls}
+use Rattle.search.proofs.Turns.{Turn, first-turn, byte-vector, here-tried, now-within, now-enabled, here-room, here-arrives, here-falls, turn-busy, turn-acknowledged, turn-full, turn-next, turn-over, arrive-receives, arrive-full, arrive-tries, arrive-may, arrive-falls}
 use borrow.Fn.Kinds.{In, Out}
 use borrow.Fn.PlainCycle.{Measures, is, falls, and}
 use Rattle.search.proofs.arrive.Reads as arrive
@@ -21,7 +21,7 @@ use Rattle.cube.proofs.first_port.Reads as first-port-reads
 use Rattle.cube.proofs.neighbour.Reads as neighbour-reads
 use Rattle.cube.proofs.uphill_vector.Reads as uphill-vector-reads
 use Rattle.cube.proofs.without.Reads as without-reads
-use Rattle.search.proofs.ways_on.Reads as ways-on-reads
+use Rattle.search.proofs.enabled_ports.Reads as enabled-ports-reads
 use Rattle.search.proofs.is_free.Reads as is-free-reads
 use Rattle.table.proofs.free_channel.Reads as free-channel-reads
 use Rattle.table.proofs.set_owner.Reads as set-owner-reads
@@ -60,8 +60,8 @@ arrive-in t = (
   free-channel-reads.Learnt,
   uphill-vector-reads.Asked,
   uphill-vector-reads.Learnt,
-  ways-on-reads.Asked,
-  ways-on-reads.Learnt,
+  enabled-ports-reads.Asked,
+  enabled-ports-reads.Learnt,
   try-ports-below t,
   try-ports.Post,
 )
@@ -97,26 +97,20 @@ arrive-free-channel-requires t c κs =
 arrive-uphill-vector-requires : (t : ℕ) → arrive-At arrive-lts.Need-uphill-vector-requires t
 arrive-uphill-vector-requires t c κs = search needs
 
-arrive-ways-on-requires : (t : ℕ) → arrive-At arrive-lts.Need-ways-on-requires t
-arrive-ways-on-requires t c κs =
+arrive-enabled-ports-requires : (t : ℕ) → arrive-At arrive-lts.Need-enabled-ports-requires t
+arrive-enabled-ports-requires t c κs =
     let e = c .before .before in
     let s = e .before .before .before .before in
-    let h = s .pre .1 .1 .here in (
-      s .pre .1 .0,
-      (
-        record { bytes = h .bytes; node = byte-vector (h .fits) (h .node); port = h .port },
-        arrive-byte (s .pre .1 .1) (e .if1 .left) (c .uphill-vector .ensures),
-      ),
-    )
+    record { bytes = s .pre .1 .1 .here .bytes; node = byte-vector (s .pre .1 .1 .here .fits) (s .pre .1 .1 .here .node); port = lit< tt }
 
 arrive-try-ports-requires : (t : ℕ) → arrive-At arrive-lts.Need-try-ports-requires t
 arrive-try-ports-requires t c κs =
-    let g = c .before .before in
+    let g = c .before in
     let u = g .before in
     let e = u .before .before in
     let s = e .before .before .before .before in (
-      omega (arith, arrive-falls (s .pre .1 .1) (e .if1 .left) (u .uphill-vector .ensures) (g .ways-on .ensures .0), s .pre .0),
-      (s .pre .1 .0, (arrive-may (s .pre .1 .1) (e .if1 .left) (u .uphill-vector .ensures) (g .ways-on .ensures .0), g .ways-on .ensures .1)),
+      omega (arith, arrive-falls (s .pre .1 .1) (e .if1 .left) (u .uphill-vector .ensures) (g .enabled-ports .ensures .0), s .pre .0),
+      (s .pre .1 .0, (arrive-may (s .pre .1 .1) (e .if1 .left) (u .uphill-vector .ensures) (g .enabled-ports .ensures .0), g .enabled-ports .ensures .1)),
     )
 
 arrive-same-length : (t : ℕ) → arrive-At arrive-lts.Need-same-length t
@@ -144,23 +138,12 @@ arrive-same-length-3 t c = search needs
 
 arrive-returns-3 : (t : ℕ) → arrive-At arrive-lts.Need-returns-3 t
 arrive-returns-3 t c =
-    let g = c .before in
-    let u = g .before in
-    let e = u .before .before in
-    let s = e .before .before .before .before in
-    arrive-none (s .pre .1 .1) (e .if1 .left) (u .uphill-vector .ensures) (g .ways-on .ensures .0) (c .if3 .taken)
-
-arrive-same-length-4 : (t : ℕ) → arrive-At arrive-lts.Need-same-length-4 t
-arrive-same-length-4 t c = search needs
-
-arrive-returns-4 : (t : ℕ) → arrive-At arrive-lts.Need-returns-4 t
-arrive-returns-4 t c =
     let y = c .before .before in
-    let g = y .before .before .before in
+    let g = y .before .before in
     let u = g .before in
     let e = u .before .before in
     let s = e .before .before .before .before in
-    y .try-ports .ensures ∙ arrive-tries (s .pre .1 .1) (e .if1 .left) (u .uphill-vector .ensures) (g .ways-on .ensures .0)
+    y .try-ports .ensures ∙ arrive-tries (s .pre .1 .1) (e .if1 .left) (u .uphill-vector .ensures) (g .enabled-ports .ensures .0)
 
 try-ports-loop-holds : (t : ℕ) → try-ports-At try-ports-lts.Need-loop-holds t
 try-ports-loop-holds t c =
@@ -317,16 +300,14 @@ pub +arrive+try-ports-spec : {M : Type 1} → statement M
     arrive.Post
     (arrive-free-channel-requires t)
     (arrive-uphill-vector-requires t)
-    (arrive-ways-on-requires t)
+    (arrive-enabled-ports-requires t)
     (arrive-try-ports-requires t)
     (arrive-same-length t)
     (arrive-returns t)
     (arrive-same-length-2 t)
     (arrive-returns-2 t)
     (arrive-same-length-3 t)
-    (arrive-returns-3 t)
-    (arrive-same-length-4 t)
-    (arrive-returns-4 t))
+    (arrive-returns-3 t))
     λ t. try-ports-lts.spec (try-ports-in t)
     (try-ports-at t)
     try-ports.Post
