@@ -37,9 +37,37 @@ pub struct Pass {
     pub scouts: u32,
 }
 
-// A node tries the ports of a vector, all of them enabled, in the helical order. Each hop is held as the scout goes, and given back when it is
-// rejected.
+// A node tries the ports of a vector, all of them enabled. With none it rejects at once, as most do in a search that finds no path.
 fn try_ports(
+    t: &mut [u8],
+    at: Node,
+    target: Node,
+    c: Circuit,
+    vector: u16,
+    arrival: Port,
+    hops: u16,
+    scouts: u32,
+    first: &[u8; 2048],
+) -> Pass
+    requires { ⌜ FirstPorts (now first) ⌝ }
+    requires { ⌜ MayTry (now t) (target .0) (c .0) (at .0) vector (arrival .0) hops scouts ⌝ }
+    requires { ⌜ Enabled (view (now t)) (at .0) vector ⌝ }
+    ensures { λ r. ⌜ settled (r .refused) (r .channel) (r .hops) (r .scouts) (now (t .exit)) ≡ tries (now (t .entry)) (target .0) (c .0) (at .0) vector (arrival .0) hops scouts ⌝ }
+{
+    if vector == 0 {
+        return Pass {
+            refused: refusal::ROUTE_REJECTED,
+            channel: 0,
+            hops: 0,
+            scouts,
+        };
+    }
+    try_in_turn(t, at, target, c, vector, arrival, hops, scouts, first)
+}
+
+// It tries them in turn, in the helical order, and hands on to an arrival at the next node. Each hop is held as the scout goes, and given back when
+// it is rejected.
+fn try_in_turn(
     t: &mut [u8],
     at: Node,
     target: Node,
@@ -90,8 +118,8 @@ fn try_ports(
     }
 }
 
-// A scout arrives: at the target, whose lowest receive channel that nobody holds is answered, or at a node that tries its uphill ports, those of them
-// that are enabled.
+// A scout arrives: at the target, whose lowest receive channel that nobody holds is answered, or at a node, which hands on to the trying of its
+// uphill ports, those of them that are enabled.
 fn arrive(
     t: &mut [u8],
     at: Node,
@@ -144,7 +172,7 @@ fn maze(
     ensures { λ r. ⌜ settled (r .refused) (r .channel) (r .hops) (r .scouts) (now (t .exit)) ≡ sendsMaze (now (t .entry)) (source .0) (target .0) (c .0) vector ⌝ }
 {
     let ports = enabled_ports(t, source, vector);
-    let got = try_ports(t, source, target, c, ports, Port(7), 0, 0, first);
+    let got = try_in_turn(t, source, target, c, ports, Port(7), 0, 0, first);
     if got.refused == refusal::ACCEPTED {
         table::set_receiver(t, target, got.channel, c);
     }
