@@ -37,7 +37,7 @@ pub struct Pass {
     pub scouts: u32,
 }
 
-// A node tries the ports of a vector, all of them enabled. With none it rejects at once, as most do in a search that finds no path.
+// A node tries the ports of a vector, all of them enabled. With none it rejects at once, as many do in a search that finds no path.
 fn try_ports(
     t: &mut [u8],
     at: Node,
