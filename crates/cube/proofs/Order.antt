@@ -132,8 +132,3 @@ table-of xs l t = record { entries = l; entry = λ v a h k. at v a h k }
         let row : i / 8 ≡ v = omega arith in
         let place : i % 8 ≡ a = omega arith in
         table-rule (λ k. firstPort (k / 8) (k % 8)) 2048 xs l t i (omega arith) ∙ rw (row, place)
-
--- The entry at a vector that is not zero is a port of it, and the vector without it has the rest of the helical order.
-pub entry-tried : (xs : List ℕ) → FirstPorts xs → (v a : ℕ) → v < 256 → a < 8 → v ≢ 0 → FirstTried 8 v a (getD xs (8 * v + a) 0)
-unfolding firstPort
-entry-tried xs t v a h l z = rw (t .entry v a h l) (first-tried 8 8 v a h z)

@@ -17,7 +17,7 @@ use Rattle.cube.proofs.Order.{helical-mem, length-helical}
 use Rattle.paths.specs.Network.{Network, Path, offered, freePath, Nearing}
 use Rattle.paths.specs.Pass.{found, over, ways, beginnings, scan, whole, pass, scouts}
 use Rattle.paths.specs.Search.{arriving}
-use Rattle.paths.specs.Bound.{waysFrom, sendsFrom}
+use Rattle.paths.specs.Bound.{waysFrom, sendsFrom, mostBeginnings}
 use Rattle.paths.proofs.Scan.{scan-sends}
 use Rattle.paths.proofs.Beginnings.{ways-all}
 use Rattle.paths.proofs.Depth.{over-cons, arriving-scan}
@@ -125,19 +125,16 @@ ways-more zero k h = omega arith
 ways-more (suc j) zero h = absurd (omega arith)
 ways-more (suc j) (suc k) h = mul-le-mul h (let r = ways-more j k (omega arith) in omega arith)
 
--- "Both passes together never send more than 123,300": the largest count of up to 8 ports, at distance 7 of 8.
-pub largest-count : sendsFrom 8 7 ≡ 123300
-unfolding sendsFrom waysFrom
-largest-count = refl
-
-counts-below : (D d : ℕ) → D ≤ 8 → d ≤ D → sendsFrom D d ≤ 123300
-unfolding sendsFrom waysFrom
-counts-below D d h l = go (at₂ 9 9 (λ D d. not (leb d D) || leb (sendsFrom D d) 123300) refl D d (omega arith) (omega arith))
+-- No count of beginnings of up to 8 ports is larger: all 45 are computed.
+pub counts-below : (D d : ℕ) → D ≤ 8 → d ≤ D → sendsFrom D d ≤ mostBeginnings
+unfolding sendsFrom waysFrom mostBeginnings
+counts-below D d h l = go (at₂ 9 9 (λ D d. not (leb d D) || leb (sendsFrom D d) mostBeginnings) refl D d (omega arith) (omega arith))
   where
-    go : not (leb d D) || leb (sendsFrom D d) 123300 ≡ true → sendsFrom D d ≤ 123300
+    go : not (leb d D) || leb (sendsFrom D d) mostBeginnings ≡ true → sendsFrom D d ≤ mostBeginnings
     go e = leb-true _ _ (rw (le-leb d D l) at e)
 
 pub two-passes-bound : {N : Network} {t : ℕ} → Nearing N t → Cubical N t → N .width ≤ 8 → (s : ℕ) (v : ℕ → Bool) (f g : ℕ → ℕ → Bool)
     → scouts (pass N f s (keep v (from 0 (N .width))) t) + scouts (pass N g s (keep (λ p. not (v p)) (from 0 (N .width))) t) ≤ 123300
+unfolding mostBeginnings
 two-passes-bound {N} {t} near cubic h s v f g =
     le-trans (two-passes near cubic s v f g) (counts-below (N .width) (N .far t s) h (far-width near cubic s))

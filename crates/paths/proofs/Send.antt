@@ -10,8 +10,8 @@ use Rattle.paths.specs.Network.{Network}
 use Rattle.paths.specs.Pass.{Pass, none, found, pass, scouts}
 use Rattle.paths.specs.Send.{Receive, channel, all-held, Outcome, acknowledged, route-rejected, receive-rejected, Acknowledged, received, outcome, goesOn, runs}
 use Rattle.paths.specs.Sentences.{Says, AnswerSays, says-acknowledged, says-receive-rejected, says-route-rejected}
-use Rattle.paths.specs.CubeNetwork.{Shape, Node, network, sendPorts, otherPorts, maze, alternateMaze}
-use Rattle.paths.proofs.CubeNetwork.{scouts-bound, cube-says}
+use Rattle.paths.specs.CubeNetwork.{Shape, network, sendPorts, otherPorts, maze, alternateMaze}
+use Rattle.paths.proofs.CubeNetwork.{scouts-bound}
 
 -- What a pass and the target's receive channels come to says what document 01 says of it.
 pub answer-says : (N : Network) (free : ℕ → ℕ → Bool) (s : ℕ) (vector : List ℕ) (t : ℕ) (r : Receive) (x : Pass) → Says N free s vector t x → AnswerSays N free s vector t r (outcome r x) (scouts x)
@@ -60,10 +60,6 @@ module _ (S : Shape) (free : ℕ → ℕ → Bool) (r : Receive) (s vector t : �
   pub alternate-goes-on : goesOn (outcome r first) ≡ true → alternateMaze S free r s vector t ≡ record { outcome = outcome r second; scouts = scouts first + scouts second }
   unfolding alternateMaze
   alternate-goes-on e = rw (runs-on r first second [] e, runs-last r second)
-
-  -- The same in document 01's words: the answer is that of the first pass or, where that is no acknowledgement, of the second.
-  pub maze-says : Node S s → Node S t → AnswerSays (network S) free s (sendPorts S vector) t r (maze S free r s vector t .outcome) (maze S free r s vector t .scouts)
-  maze-says i l = rw maze-answers (answer-says (network S) free s (sendPorts S vector) t r first (cube-says S free s vector t i l))
 
   -- No send reports more than 123,300 scouts.
   pub sends-bounded : S .dimension ≤ 8 → (maze S free r s vector t .scouts ≤ 123300) × (alternateMaze S free r s vector t .scouts ≤ 123300)

@@ -1,20 +1,15 @@
 -- Ports that are not free may be dropped from a vector before it is tried.
 -- Assumes nothing.
 use mathlib.Core.Path.{_≡_, refl, ap, sym, _∙_, fun-ext}
-use mathlib.Core.Bool.{Bool, true, false, not, _&&_, and-false}
+use mathlib.Core.Bool.{Bool, true, false, _&&_, and-false}
 use mathlib.Core.List.{List, [], _∷_, List·Memᴰ·head, List·Memᴰ·tail}
 use Prim.Native.Nat.{ℕ, _≤_, _<_}
-use native.Mathlib.Omega.{arith}
-use native.Mathlib.Nat.{le-trans}
-use lib.Dec.{eqb}
 use lib.ListN.{length}
 use lib.Bits.{bitAnd, and-le-l}
-use borrow.Author.Tests.{eqb-true}
 use Rattle.common.specs.Lists.{_∈_, keep, from}
 use Rattle.common.proofs.Lists.{keep-yes, keep-no, keep-keep, keep-same, length-keep}
 use Rattle.common.proofs.Tests.{clash, is-false, both}
 use Rattle.cube.specs.Bits.{has}
-use Rattle.cube.specs.Cube.{Without}
 use Rattle.cube.specs.Helical.{helical, portsOf}
 use Rattle.cube.proofs.Bits.{has-and}
 use Rattle.cube.proofs.Order.{helical-keep, helical-mem, ports-mem, mem-ports}
@@ -65,27 +60,6 @@ narrow-tries b t c a h s {n} {vector} {left} narrow =
     ∙ ap (λ ps. trying (freeIn (view b) n) on ps s) (helical-keep a (has left) (portsOf 8 vector))
     ∙ trying-kept (has left) (freeIn (view b) n) on (helical a (portsOf 8 vector))
     (λ p m e. let r = ports-mem 8 vector (helical-mem a (portsOf 8 vector) m) in narrow .dropped p (r .0) (r .1) e) s)
-
--- dropped in two steps; and one port dropped that is not free
-pub narrow-twice : {v : View} {n vector left less : ℕ} → Narrowed v n vector left → Narrowed v n left less → Narrowed v n vector less
-narrow-twice {v} {n} {vector} {left} {less} f g =
-    record { most = le-trans (g .most) (f .most); among = λ p e. f .among p (g .among p e); dropped = λ p l e h. go p l e h (has left p) refl }
-  where
-    go : (p : ℕ) → p < 8 → has vector p ≡ true → has less p ≡ false → (x : Bool) → has left p ≡ x → freeIn v n p ≡ false
-    go p l e h true i = g .dropped p l i h
-    go p l e h false i = f .dropped p l e i
-
-pub narrow-without : {v : View} {n left p less : ℕ} → Without left p less → freeIn v n p ≡ false → Narrowed v n left less
-narrow-without {v} {n} {left} {p} {less} w busy =
-    record {
-      most = (let e = w .value in omega arith);
-      among = λ q e. both (has left q) (not (eqb q p)) (sym (w .bits q) ∙ e) .0;
-      dropped = λ q l e f. go q e f (eqb q p) refl;
-    }
-  where
-    go : (q : ℕ) → has left q ≡ true → has less q ≡ false → (x : Bool) → eqb q p ≡ x → freeIn v n q ≡ false
-    go q e f true i = ap (freeIn v n) (eqb-true q p i) ∙ busy
-    go q e f false i = absurd (clash (w .bits q ∙ (rw (e, i))) f)
 
 -- the ports of a vector that are enabled at a node: x is the byte that the code found there
 module _ (b : List ℕ) (n vector x : ℕ) (within : Within b n 0) (byte : x ≡ enableBits b n) where

@@ -184,7 +184,7 @@ module _ {b now : List ℕ} {t c n a h v left p sent s : ℕ} (may : MayTry b t 
         let more = ways-more (distance b t (next n p)) (reach b t n v) here-reach in
         record { here = held-here; hops = rw far (omega (arith, may .hops)); room = rw far (omega (arith, here-room)) }
 
-    pub here-falls : 2 * distance b₁ t n₁ < 2 * reach b t n v + 1
+    pub here-falls : distance b₁ t n₁ ≤ reach b t n v
     here-falls = omega (arith, held-distance, here-reach)
 
   -- the vector without that port
@@ -337,9 +337,6 @@ module _ {b : List ℕ} {t c n a h s : ℕ} (may : MayArrive b t c n a h s) wher
           room = omega (arith, may .room, ports);
         }
 
-    pub arrive-byte : v < 256
-    arrive-byte = byte-vector (may .here .fits) (all-may .ports)
-
     -- those of them that are left
     module _ {left : ℕ} (narrow : Narrowed (view b) n v left) where
       pub arrive-may : MayTry b t c n left a h s
@@ -348,8 +345,5 @@ module _ {b : List ℕ} {t c n a h s : ℕ} (may : MayArrive b t c n a h s) wher
       pub arrive-tries : tries b t c n left a h s ≡ arrived b t c n a h s
       arrive-tries = narrow-tries b t c a h s narrow ∙ all-tried
 
-      pub arrive-none : left ≡ 0 → settled 10 0 0 s b ≡ arrived b t c n a h s
-      arrive-none z = turn-over (first-turn arrive-may) z ∙ arrive-tries
-
-      pub arrive-falls : 2 * reach b t n left + 1 < 2 * distance b t n
+      pub arrive-falls : reach b t n left < distance b t n
       arrive-falls = omega (arith, arrive-reach, narrow-reach b t narrow)

@@ -1,7 +1,6 @@
 // The search for a free permitted path on a lent table.
 ghost use mathlib.Core.Path.{_≡_};
 ghost use mathlib.Core.Bool.{true};
-ghost use Prim.Native.Nat.{_<_};
 ghost use Rattle.table.specs.Layout.{Within};
 ghost use Rattle.table.specs.View.{view};
 ghost use Rattle.cube.specs.Helical.{FirstPorts};
@@ -30,29 +29,6 @@ fn is_free(t: &[u8], n: Node, p: Port) -> bool
     table::owner(t, n, p).0 == 0
 }
 
-// The ports of a vector by which a scout may go on from a node: the enabled ones. Where there is one alone, and its link is held, there is none:
-// many searches end so, and this spares them a call.
-fn ways_on(t: &[u8], n: Node, vector: u16, arrival: Port, first: &[u8; 2048]) -> u16
-    requires { ⌜ FirstPorts (now first) ⌝ }
-    requires { ⌜ Within (now t) (n .0) (arrival .0) ⌝ }
-    requires { ⌜ vector < 256 ⌝ }
-    ensures { λ r. ⌜ Narrowed (view (now (t .entry))) (n .0) vector r × Enabled (view (now (t .entry))) (n .0) r ⌝ }
-{
-    let left = enabled_ports(t, n, vector);
-    if left == 0 {
-        return left;
-    }
-    if left & (left - 1) != 0 {
-        return left;
-    }
-    let p = cube::first_port(first, left, arrival);
-    if is_free(t, n, p) {
-        left
-    } else {
-        cube::without(left, p)
-    }
-}
-
 // What a pass comes to: 0 with the receive channel and the hops, or the refusal; and the scouts sent.
 pub struct Pass {
     pub refused: u16,
@@ -61,9 +37,37 @@ pub struct Pass {
     pub scouts: u32,
 }
 
-// A node tries the ports of a vector, all of them enabled, in the helical order. Each hop is held as the scout goes, and given back when it is
-// rejected.
+// A node tries the ports of a vector, all of them enabled. With none it rejects at once, as many do in a search that finds no path.
 fn try_ports(
+    t: &mut [u8],
+    at: Node,
+    target: Node,
+    c: Circuit,
+    vector: u16,
+    arrival: Port,
+    hops: u16,
+    scouts: u32,
+    first: &[u8; 2048],
+) -> Pass
+    requires { ⌜ FirstPorts (now first) ⌝ }
+    requires { ⌜ MayTry (now t) (target .0) (c .0) (at .0) vector (arrival .0) hops scouts ⌝ }
+    requires { ⌜ Enabled (view (now t)) (at .0) vector ⌝ }
+    ensures { λ r. ⌜ settled (r .refused) (r .channel) (r .hops) (r .scouts) (now (t .exit)) ≡ tries (now (t .entry)) (target .0) (c .0) (at .0) vector (arrival .0) hops scouts ⌝ }
+{
+    if vector == 0 {
+        return Pass {
+            refused: refusal::ROUTE_REJECTED,
+            channel: 0,
+            hops: 0,
+            scouts,
+        };
+    }
+    try_in_turn(t, at, target, c, vector, arrival, hops, scouts, first)
+}
+
+// It tries them in turn, in the helical order, and hands on to an arrival at the next node. Each hop is held as the scout goes, and given back when
+// it is rejected.
+fn try_in_turn(
     t: &mut [u8],
     at: Node,
     target: Node,
@@ -114,8 +118,8 @@ fn try_ports(
     }
 }
 
-// A scout arrives: at the target, whose lowest receive channel that nobody holds is answered, or at a node that tries its uphill ports, if any is
-// enabled.
+// A scout arrives: at the target, whose lowest receive channel that nobody holds is answered, or at a node, which hands on to the trying of its
+// uphill ports, those of them that are enabled.
 fn arrive(
     t: &mut [u8],
     at: Node,
@@ -148,17 +152,8 @@ fn arrive(
             }
         }
     } else {
-        let vector = ways_on(t, at, cube::uphill_vector(at, target), arrival, first);
-        if vector == 0 {
-            Pass {
-                refused: refusal::ROUTE_REJECTED,
-                channel: 0,
-                hops: 0,
-                scouts,
-            }
-        } else {
-            try_ports(t, at, target, c, vector, arrival, hops, scouts, first)
-        }
+        let vector = enabled_ports(t, at, cube::uphill_vector(at, target));
+        try_ports(t, at, target, c, vector, arrival, hops, scouts, first)
     }
 }
 
@@ -177,7 +172,7 @@ fn maze(
     ensures { λ r. ⌜ settled (r .refused) (r .channel) (r .hops) (r .scouts) (now (t .exit)) ≡ sendsMaze (now (t .entry)) (source .0) (target .0) (c .0) vector ⌝ }
 {
     let ports = enabled_ports(t, source, vector);
-    let got = try_ports(t, source, target, c, ports, Port(7), 0, 0, first);
+    let got = try_in_turn(t, source, target, c, ports, Port(7), 0, 0, first);
     if got.refused == refusal::ACCEPTED {
         table::set_receiver(t, target, got.channel, c);
     }

@@ -14,8 +14,8 @@ enabled-ports-requires c κs =
     let may = s .pre .1 in
     record { bytes = may .bytes; node = byte-vector (may .fits) (may .source); port = lit< tt }
 
-try-ports-requires : tie.Need-try-ports-requires
-try-ports-requires c κs =
+try-in-turn-requires : tie.Need-try-in-turn-requires
+try-in-turn-requires c κs =
     let e = c .before in
     let s = e .before .before .before in
     (s .pre .0, (narrow-may (may-try (s .pre .1)) (e .enabled-ports .ensures .0), e .enabled-ports .ensures .1))
@@ -27,9 +27,9 @@ set-receiver-requires c κs =
     let s = e .before .before .before in
     let may = s .pre .1 in
     record {
-      bytes = g .try-ports .kept .0 ∙ may .bytes;
+      bytes = g .try-in-turn .kept .0 ∙ may .bytes;
       node = byte-vector (may .fits) (may .target);
-      port = maze-channel may (e .enabled-ports .ensures .0) (g .try-ports .ensures) (c .before .if1 .taken);
+      port = maze-channel may (e .enabled-ports .ensures .0) (g .try-in-turn .ensures) (c .before .if1 .taken);
     }
 
 same-length : tie.Need-same-length
@@ -41,7 +41,7 @@ returns c =
     let g = r .before .before .before .before .before .before in
     let e = g .before .before in
     let s = e .before .before .before in
-    maze-taken (s .pre .1) (e .enabled-ports .ensures .0) (g .try-ports .ensures) (r .before .before .if1 .taken) (r .set-receiver .ensures)
+    maze-taken (s .pre .1) (e .enabled-ports .ensures .0) (g .try-in-turn .ensures) (r .before .before .if1 .taken) (r .set-receiver .ensures)
 
 same-length-2 : tie.Need-same-length-2
 same-length-2 c = search needs
@@ -51,7 +51,7 @@ returns-2 c =
     let g = c .before .before .before .before in
     let e = g .before .before in
     let s = e .before .before .before in
-    maze-rejected (s .pre .1) (e .enabled-ports .ensures .0) (g .try-ports .ensures) (c .if1 .left)
+    maze-rejected (s .pre .1) (e .enabled-ports .ensures .0) (g .try-in-turn .ensures) (c .if1 .left)
 
 pub maze-spec : {M : Type 1} → statement M
-maze-spec = tie.close (tie.spec enabled-ports-requires try-ports-requires set-receiver-requires same-length returns same-length-2 returns-2)
+maze-spec = tie.close (tie.spec enabled-ports-requires try-in-turn-requires set-receiver-requires same-length returns same-length-2 returns-2)
