@@ -1,0 +1,2 @@
+-- The laws of the arbiter's choice that the functions' proofs cite, and the theorem about lists of calls.
+pub mod Order

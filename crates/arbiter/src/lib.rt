@@ -1,0 +1,80 @@
+// The routing arbiter of document 02, request (l): a round-robin choice among 26 requesters, 18 input ports and then 8 send channels. Each has one bit of
+// a 32-bit number, from bit 0 on.
+ghost use mathlib.Core.Path.{_≡_};
+ghost use Prim.Native.Nat.{_<_, _^_};
+ghost use Rattle.arbiter.specs.Arbiter.{chosen, arbitrated};
+ghost use Rattle.arbiter.specs.Chosen.{Requested};
+use common::refusal;
+
+// The requesters: 0 to 17 are the input ports, 18 to 25 the send channels. As an answer their number stands for nobody.
+pub const REQUESTERS: u16 = 26;
+
+// The lowest number with a bit that no requester has.
+pub const REQUESTS_END: u32 = 67108864;
+
+// The record, kept by the caller: the last requester served.
+#[repr(C)]
+pub struct Arbiter {
+    pub last: u16,
+}
+
+// The answer of a call: a refusal has a zero beside its number.
+#[repr(C)]
+pub struct Served {
+    pub number: u16,
+    pub requester: u16,
+}
+
+// A call by value: its answer, and the record after it.
+pub struct Choice {
+    pub number: u16,
+    pub requester: u16,
+    pub last: u16,
+}
+
+// The first requester after the last one served, where somebody asks: the lowest one above it, or else the lowest of all.
+fn first_after(last: u16, requests: u32) -> u16
+    requires { ⌜ Requested last requests ⌝ }
+    ensures { λ r. ⌜ r ≡ chosen last requests ⌝ }
+{
+    let past = last + 1;
+    let above = requests >> past;
+    if above == 0 {
+        u32::trailing_zeros(requests) as u16
+    } else {
+        u32::trailing_zeros(above) as u16 + past
+    }
+}
+
+// A call by value.
+pub fn choose(last: u16, requests: u32) -> Choice
+    ensures { λ r. ⌜ r ≡ arbitrated last requests ⌝ }
+{
+    if requests >= REQUESTS_END {
+        return Choice {
+            number: refusal::REQUESTER,
+            requester: 0,
+            last,
+        };
+    }
+    if last >= REQUESTERS {
+        return Choice {
+            number: refusal::REQUESTER,
+            requester: 0,
+            last,
+        };
+    }
+    if requests == 0 {
+        return Choice {
+            number: refusal::ACCEPTED,
+            requester: REQUESTERS,
+            last,
+        };
+    }
+    let requester = first_after(last, requests);
+    Choice {
+        number: refusal::ACCEPTED,
+        requester,
+        last: requester,
+    }
+}
