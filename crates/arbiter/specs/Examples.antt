@@ -2,7 +2,8 @@
 -- Assumes nothing.
 use mathlib.Core.Path.{_≡_, refl}
 use mathlib.Core.List.{List, [], _∷_, _++_, map}
-use Prim.Native.Nat.{ℕ, zero, suc, _+_, _-_, _^_}
+use Prim.Native.Nat.{ℕ, _+_, _-_, _^_}
+use lib.ListN.{replicate}
 use Rattle.common.specs.Lists.{keep, from}
 use Rattle.common.specs.Tests.{refusal}
 use Rattle.arbiter.specs.declared.Choice.{Choice}
@@ -33,12 +34,7 @@ edges : arbitrated 5 0 ∷ arbitrated 5 (2 ^ 26) ∷ arbitrated 26 1 ∷ arbitra
 unfolding keep from asks order chosen refusal arbiterTests accepted arbitrated
 edges = refl
 
--- a number of calls in which all 26 ask
-all-ask : ℕ → List ℕ
-all-ask zero = []
-all-ask (suc n) = 2 ^ 26 - 1 ∷ all-ask n
-
 -- 26 calls from record 0, in each of which all ask, and a refused call among them: 0 is served by the last accepted one
-all-served : map servedBy (acceptedCalls 0 (all-ask 3 ++ 2 ^ 26 ∷ all-ask 23)) ≡ from 1 25 ++ 0 ∷ []
-unfolding keep from asks order chosen refusal arbiterTests accepted arbitrated calls acceptedCalls all-ask
+all-served : map servedBy (acceptedCalls 0 (replicate 3 (2 ^ 26 - 1) ++ (2 ^ 26 ∷ replicate 23 (2 ^ 26 - 1)))) ≡ from 1 25 ++ 0 ∷ []
+unfolding keep from asks order chosen refusal arbiterTests accepted arbitrated calls acceptedCalls
 all-served = refl
