@@ -2,7 +2,7 @@
 // a 32-bit number, from bit 0 on.
 ghost use mathlib.Core.Path.{_≡_};
 ghost use Prim.Native.Nat.{_<_, _^_};
-ghost use Rattle.arbiter.specs.Arbiter.{chosen, arbitrated};
+ghost use Rattle.arbiter.specs.Arbiter.{chosen, arbitrated, choice};
 ghost use Rattle.arbiter.specs.Chosen.{Requested};
 use common::refusal;
 
@@ -76,5 +76,17 @@ pub fn choose(last: u16, requests: u32) -> Choice
         number: refusal::ACCEPTED,
         requester,
         last: requester,
+    }
+}
+
+// A call on a record that the caller keeps and lends: the choice by value, and the record after it put where the caller has it.
+pub fn serve(arbiter: &mut Arbiter, requests: u32) -> Served
+    ensures { λ r. ⌜ choice r (now (arbiter .exit) .last) ≡ arbitrated (now (arbiter .entry) .last) requests ⌝ }
+{
+    let chosen = choose(arbiter.last, requests);
+    arbiter.last = chosen.last;
+    Served {
+        number: chosen.number,
+        requester: chosen.requester,
     }
 }
