@@ -2,3 +2,4 @@
 pub mod Order
 pub mod Requests
 pub mod Answers
+pub mod Waiting
