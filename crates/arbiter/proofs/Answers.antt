@@ -17,9 +17,9 @@ use Rattle.common.proofs.Tests.{refused, passed, accepted, or-left, or-right, e
 use Rattle.arbiter.specs.declared.Choice.{Choice}
 use Rattle.arbiter.specs.Arbiter as A
 use Rattle.arbiter.specs.Arbiter.{asks, order, chosen, arbiterTests, arbitrated}
-use Rattle.arbiter.specs.Chosen.{Chosen, Requested}
-use Rattle.arbiter.proofs.Order.{chosen-says}
-use Rattle.arbiter.proofs.Requests.{asks-zero, asks-below, lowest-asks}
+use Rattle.arbiter.specs.Chosen.{Chosen, CallSays, bad-request, bad-record, nobody-asks, one-served, Requested}
+use Rattle.arbiter.proofs.Order.{chosen-says, chosen-is}
+use Rattle.arbiter.proofs.Requests.{asks-zero, asks-high, asks-below, lowest-asks, high-asks, none-asks}
 
 module _ (last requests : ℕ) where
   -- a call is refused where its one test applies, and accepted where it does not
@@ -76,3 +76,27 @@ recorded last requests h =
 
 pub answered : (last requests : ℕ) → Requested last requests → {r : ℕ} → r ≡ chosen last requests → record { number = 0; requester = r; last = r } ≡ arbitrated last requests
 answered last requests h e = rw e (sym (recorded last requests h))
+
+-- A call gives what the plain words say,
+pub call-says : (last requests : ℕ) → CallSays last requests (arbitrated last requests)
+call-says last requests =
+    ⊎-elim
+    (λ inside.
+    ⊎-elim
+    (λ stored.
+    ⊎-elim
+    (λ some. let h : Requested last requests = record { stored = stored; inside = inside; some = some } in rw (recorded last requests h) (one-served _ (omega arith) (λ j l. asks-high 26 requests j inside l) (served last requests h)))
+    (λ (none : requests ≤ 0). let z : requests ≡ 0 = omega arith in rw (z, nobody last stored) (nobody-asks (omega arith) asks-zero)) (below-or requests 0))
+    (λ l. rw (refused-record last requests (omega arith)) (bad-record (omega arith))) (below-or 26 last))
+    (λ l. let r = high-asks 26 requests l in rw (refused-requests last requests l) (bad-request (r .0) (r .1) (r .2))) (below-or (2 ^ 26) requests)
+
+-- and they say no more than one thing.
+pub says-only : (last requests : ℕ) (c : Choice) → CallSays last requests c → arbitrated last requests ≡ c
+says-only last requests _ (bad-request r h e) = refused-requests last requests (⊎-elim (λ l. absurd (clash e (asks-high 26 requests r l h))) (λ l. l) (below-or (2 ^ 26) requests))
+says-only last requests _ (bad-record h) = refused-record last requests h
+says-only last requests _ (nobody-asks h e) = rw (none-asks requests e) (nobody last (omega arith))
+says-only last requests _ (one-served r h e c) =
+    let inside : requests < 2 ^ 26 = ⊎-elim (λ l. l) (λ l. let g = high-asks 26 requests l in absurd (clash (g .2) (e (g .0) (g .1)))) (below-or (2 ^ 26) requests) in
+    let some : 0 < requests = ⊎-elim (λ l. l) (λ l. absurd (let z : requests ≡ 0 = omega arith in clash (rw z at (c .requested)) (asks-zero r))) (below-or requests 0) in
+    let h : Requested last requests = record { stored = omega arith; inside = inside; some = some } in
+    recorded last requests h ∙ rw (chosen-is last (omega arith) requests r c)

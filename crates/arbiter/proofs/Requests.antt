@@ -5,9 +5,9 @@ use mathlib.Core.Logic.{_≢_, ⊎-elim}
 use mathlib.Core.Bool.{Bool, true, false}
 use Prim.Native.Nat.{ℕ, zero, suc, _+_, _-_, _/_, _%_, _^_, _≤_, _<_}
 use native.Mathlib.Omega.{arith}
-use native.Mathlib.Nat.{div-one, div-eq-of-lt, lt-of-lt-of-le, pow-succ'}
+use native.Mathlib.Nat.{div-one, div-eq-of-lt, lt-of-lt-of-le, le-div-iff-mul-le, pow-succ'}
 use lib.Dec.{eqb}
-use lib.Pow.{pow-mono, shr-shr, shr-le}
+use lib.Pow.{pow-pos, pow-mono, shr-shr, shr-le}
 use lib.Count.{trailingZeros, under}
 use Rattle.common.proofs.Tests.{below-or, clash}
 use Rattle.arbiter.specs.Arbiter.{asks}
@@ -63,6 +63,21 @@ lowest-least (suc k) q j e = go (q % 2) refl j e (lowest-least k (q / 2))
     go zero e zero f more = absurd (clash f (asks-even q e))
     go zero e (suc j) f more = omega (arith, more j (sym (asks-half q j) ∙ f))
     go (suc d) e j f more = omega arith
+
+-- a number of 2 ^ k or more has a request at k or above
+power-above : (n : ℕ) → n < 2 ^ n
+power-above zero = omega arith
+power-above (suc n) = omega (arith, power-above n, pow-succ' 2 n)
+
+pub high-asks : (k q : ℕ) → 2 ^ k ≤ q → (r : ℕ) × (k ≤ r) × (asks q r ≡ true)
+high-asks k q h =
+    let t : ℕ = trailingZeros (q / 2 ^ k) (q / 2 ^ k) in
+    let some : 1 ≤ q / 2 ^ k = le-div-iff-mul-le (pow-pos k) .1 (omega arith) in
+    (k + t, omega arith, sym (asks-behind q k t) ∙ lowest-asks (q / 2 ^ k) (q / 2 ^ k) (λ e. omega arith) (power-above (q / 2 ^ k)))
+
+-- a number with no request is 0
+pub none-asks : (q : ℕ) → ((r : ℕ) → asks q r ≡ false) → q ≡ 0
+none-asks q h = ⊎-elim (λ l. absurd (let a = lowest-asks q q (λ e. omega arith) (power-above q) in clash a (h _))) (λ l. omega arith) (below-or q 0)
 
 -- what the code finds
 module _ (last q : ℕ) (h : Requested last q) where

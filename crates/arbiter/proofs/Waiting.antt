@@ -97,7 +97,7 @@ waiting (q ∷ more) = one-more q more (waiting more)
 -- "A requester that keeps asking is served within 26 accepted calls, however others ask"
 pub served-within : ServedWithin limit
 unfolding ServedWithin
-served-within r last list k = waiting list 26 r last (omega arith) (λ h l. steps-range last r h l .1) k
+served-within r last list k = waiting list limit r last (omega arith) (λ h l. let range = steps-range last r h l in omega arith) k
 
 -- "that limit is reached": from record r, where all 26 ask in each of 26 calls
 none-of : {A : Type 0} (f : A → Bool) (xs : List A) → any f xs ≡ false → (x : A) → x ∈ xs → f x ≡ false
@@ -106,13 +106,13 @@ none-of f [] e x m = absurd (List·Memᴰ·not-nil m)
 none-of f (y ∷ ys) e x m = let r = neither (f y) (any f ys) e in ⊎-elim (λ i. ap f i ∙ r .0) (none-of f ys (r .1) x) (List·Memᴰ·cases-cons m)
 
 everybody : List ℕ
-everybody = replicate 26 (2 ^ 26 - 1)
+everybody = replicate limit (2 ^ 26 - 1)
 
--- one computed test: r asks in the 26 calls, and the first 25 do not serve it
+-- one computed test: r asks in each of the calls, and those before the last do not serve it
 lastServed : ℕ → Bool
 lastServed r =
-    eqb (length (take 26 (acceptedCalls r everybody))) 26
-    && (not (any (λ c. not (asks (c .requests) r)) (take 26 (acceptedCalls r everybody))) && not (any (λ c. eqb (servedBy c) r) (take 25 (acceptedCalls r everybody))))
+    eqb (length (take limit (acceptedCalls r everybody))) limit
+    && (not (any (λ c. not (asks (c .requests) r)) (take limit (acceptedCalls r everybody))) && not (any (λ c. eqb (servedBy c) r) (take (limit - 1) (acceptedCalls r everybody))))
 
 all-last : every 26 lastServed ≡ true
 unfolding keep from any refusal asks order chosen arbiterTests accepted arbitrated calls acceptedCalls everybody lastServed
@@ -127,5 +127,5 @@ limit-reached r h =
       last = r;
       list = everybody;
       asked = record { count = eqb-true _ _ (t .0); asking = λ c m. not-false _ (none-of (λ c. not (asks (c .requests) r)) _ (not-true _ (s .0)) c m) };
-      not-before = λ m. let o = Memᴰ·of-map servedBy (take 25 (acceptedCalls r everybody)) m in clash (eq-eqb _ _ (o .2)) (none-of (λ c. eqb (servedBy c) r) _ (not-true _ (s .1)) (o .0) (o .1))
+      not-before = λ m. let o = Memᴰ·of-map servedBy (take (limit - 1) (acceptedCalls r everybody)) m in clash (eq-eqb _ _ (o .2)) (none-of (λ c. eqb (servedBy c) r) _ (not-true _ (s .1)) (o .0) (o .1))
     }
