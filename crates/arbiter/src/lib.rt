@@ -90,3 +90,13 @@ pub fn serve(arbiter: &mut Arbiter, requests: u32) -> Served
         requester: chosen.requester,
     }
 }
+
+// The same for a caller that keeps the record as a bare number: its parameters are plain, so whoever calls it is proved without a walk.
+pub fn serve_number(last: &mut u16, requests: u32) -> Served
+    ensures { λ r. ⌜ choice r (now (last .exit)) ≡ arbitrated (now (last .entry)) requests ⌝ }
+{
+    let mut arbiter = Arbiter { last: *last };
+    let served = serve(&mut arbiter, requests);
+    *last = arbiter.last;
+    served
+}
