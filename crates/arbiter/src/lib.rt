@@ -6,8 +6,11 @@ ghost use Rattle.arbiter.specs.Arbiter.{chosen, arbitrated, choice};
 ghost use Rattle.arbiter.specs.Chosen.{Requested};
 use common::refusal;
 
-// The requesters: 0 to 17 are the input ports, 18 to 25 the send channels. As an answer their number stands for nobody.
+// The requesters: 0 to 17 are the input ports, 18 to 25 the send channels.
 pub const REQUESTERS: u16 = 26;
+
+// The answer where nobody asks.
+pub const NOBODY: u16 = 26;
 
 // The lowest number with a bit that no requester has.
 pub const REQUESTS_END: u32 = 67108864;
@@ -50,14 +53,7 @@ fn first_after(last: u16, requests: u32) -> u16
 pub fn choose(last: u16, requests: u32) -> Choice
     ensures { λ r. ⌜ r ≡ arbitrated last requests ⌝ }
 {
-    if requests >= REQUESTS_END {
-        return Choice {
-            number: refusal::REQUESTER,
-            requester: 0,
-            last,
-        };
-    }
-    if last >= REQUESTERS {
+    if requests >= REQUESTS_END || last >= REQUESTERS {
         return Choice {
             number: refusal::REQUESTER,
             requester: 0,
@@ -67,7 +63,7 @@ pub fn choose(last: u16, requests: u32) -> Choice
     if requests == 0 {
         return Choice {
             number: refusal::ACCEPTED,
-            requester: REQUESTERS,
+            requester: NOBODY,
             last,
         };
     }
