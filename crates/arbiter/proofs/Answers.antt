@@ -1,19 +1,18 @@
 -- What a call answers, case by case: refused, with no request, and with some.
 -- Assumes nothing.
 use mathlib.Core.Path.{_≡_, refl, ap, sym, _∙_}
-use mathlib.Core.Logic.{_≢_, _⊎_, inl, inr, ⊎-elim}
-use mathlib.Core.Bool.{Bool, true, false, cond, _||_}
-use mathlib.Core.List.{[], _∷_}
+use mathlib.Core.Logic.{_≢_, _⊎_, ⊎-elim}
+use mathlib.Core.Bool.{Bool, true, false, _||_}
+use mathlib.Core.List.{[]}
 use Prim.Native.Nat.{ℕ, _≤_, _<_, _^_}
 use native.Mathlib.Omega.{arith}
-use lib.Dec.{eqb, leb, ltb}
+use lib.Dec.{leb, ltb}
 use lib.ListN.{getD}
 use lib.Count.{trailingZeros}
-use borrow.Author.Tests.{lt-ltb, le-ltb, le-leb, lt-leb, ltb-false, leb-false, eqb-true, eqb-false, eq-eqb, ne-eqb}
+use borrow.Author.Tests.{lt-ltb, le-ltb, le-leb, lt-leb, ltb-false, leb-false, ne-eqb}
 use Rattle.common.specs.Tests.{test, refusal}
-use Rattle.common.specs.Lists.{_∈_, keep}
 use Rattle.common.proofs.Lists.{keep-none}
-use Rattle.common.proofs.Tests.{refused, passed, accepted, or-left, or-right, either, neither, below-or, same?, clash}
+use Rattle.common.proofs.Tests.{refused, passed, accepted, or-left, or-right, neither, below-or, clash}
 use Rattle.arbiter.specs.declared.Choice.{Choice}
 use Rattle.arbiter.specs.Arbiter as A
 use Rattle.arbiter.specs.Arbiter.{asks, order, chosen, arbiterTests, arbitrated}

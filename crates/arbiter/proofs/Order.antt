@@ -1,16 +1,15 @@
 -- The order after a record: it has every requester, in the order of the places after the record. So its first member who asks is the one of `Chosen`.
 -- Assumes nothing.
 use mathlib.Core.Path.{_≡_, refl, ap, sym, _∙_}
-use mathlib.Core.Logic.{_≢_, _⊎_, inl, inr, ⊎-elim}
-use mathlib.Core.Bool.{Bool, true, false, cond}
-use mathlib.Core.List.{List, [], _∷_, _++_, Memᴰ·append-left, Memᴰ·append-right, List·Memᴰ·head, List·Memᴰ·tail, List·Memᴰ·not-nil, List·Memᴰ·append-cases, List·Memᴰ·cases-cons}
-use Prim.Native.Nat.{ℕ, zero, suc, _+_, _-_, _≤_, _<_}
+use mathlib.Core.Logic.{_⊎_, ⊎-elim}
+use mathlib.Core.Bool.{Bool, true, false}
+use mathlib.Core.List.{List, [], _∷_, Memᴰ·append-left, Memᴰ·append-right, List·Memᴰ·head, List·Memᴰ·tail, List·Memᴰ·not-nil, List·Memᴰ·append-cases, List·Memᴰ·cases-cons}
+use Prim.Native.Nat.{ℕ, _+_, _-_, _≤_, _<_}
 use native.Mathlib.Omega.{arith}
-use lib.Dec.{ltb}
 use lib.ListN.{getD}
 use borrow.Author.Tests.{lt-ltb, le-ltb}
 use Rattle.common.specs.Lists.{_∈_, keep, from, Sorted}
-use Rattle.common.proofs.Lists.{keep-nil, keep-yes, keep-no, from-mem, mem-from, from-sorted, sorted-append, sorted-imp}
+use Rattle.common.proofs.Lists.{keep-yes, keep-no, from-mem, mem-from, from-sorted, sorted-append, sorted-imp}
 use Rattle.common.proofs.Tests.{below-or, clash}
 use Rattle.arbiter.specs.Arbiter.{asks, order, chosen}
 use Rattle.arbiter.specs.Chosen.{steps, Chosen}
@@ -44,14 +43,14 @@ module _ (rank : ℕ → ℕ) (f : ℕ → Bool) (none : ℕ) where
       go true q ih = rw (keep-yes f x xs q) (record {
         member = List·Memᴰ·head refl;
         passes = q;
-        least = λ j k t. ⊎-elim (λ i. rw i (omega arith)) (λ l. let over = s .0 j l in omega arith) (List·Memᴰ·cases-cons k)
+        least = λ j k t. ⊎-elim (λ i. rw i (omega arith)) (λ l. let over = s .0 j l in omega arith) (List·Memᴰ·cases-cons k);
       })
       go false q ih =
           let r = ih (⊎-elim (λ i. absurd (clash e (ap f i ∙ q))) (λ l. l) (List·Memᴰ·cases-cons m)) e in
           rw (keep-no f x xs q) (record {
             member = List·Memᴰ·tail (r .member);
             passes = r .passes;
-            least = λ j k t. ⊎-elim (λ i. absurd (clash t (ap f i ∙ q))) (λ l. r .least j l t) (List·Memᴰ·cases-cons k)
+            least = λ j k t. ⊎-elim (λ i. absurd (clash t (ap f i ∙ q))) (λ l. r .least j l t) (List·Memᴰ·cases-cons k);
           })
 
   -- and it is the only one
@@ -69,7 +68,7 @@ module _ (rank : ℕ → ℕ) (f : ℕ → Bool) (none : ℕ) where
           (ih (record {
             member = ⊎-elim (λ i. absurd (clash (h .passes) (ap f i ∙ q))) (λ l. l) (List·Memᴰ·cases-cons (h .member));
             passes = h .passes;
-            least = λ j l t. h .least j (List·Memᴰ·tail l) t
+            least = λ j l t. h .least j (List·Memᴰ·tail l) t;
           }))
 
 module _ (last : ℕ) (stored : last < 26) where

@@ -1,11 +1,11 @@
 -- How long a requester waits that keeps asking: with each accepted call that serves another, the record comes nearer to it, so that it is served within 26. That
 -- limit is reached for each of the 26.
 -- Assumes nothing.
-use mathlib.Core.Path.{_≡_, refl, ap, sym, _∙_, subst}
+use mathlib.Core.Path.{_≡_, refl, ap, sym, _∙_}
 use mathlib.Core.Logic.{_≢_, _⊎_, inl, inr, ⊎-elim}
 use mathlib.Core.Bool.{Bool, true, false, not, _&&_}
 use mathlib.Core.List.{List, [], _∷_, map, Memᴰ·of-map, List·Memᴰ·head, List·Memᴰ·tail, List·Memᴰ·not-nil, List·Memᴰ·cases-cons}
-use Prim.Native.Nat.{ℕ, zero, suc, _+_, _-_, _^_, _≤_, _<_}
+use Prim.Native.Nat.{ℕ, zero, suc, _-_, _^_, _≤_, _<_}
 use native.Mathlib.Omega.{arith}
 use lib.Dec.{eqb}
 use lib.ListN.{length, take, replicate}
@@ -16,8 +16,8 @@ use Rattle.common.proofs.Every.{at}
 use Rattle.common.proofs.Lists.{keep-yes, keep-no}
 use Rattle.common.proofs.Tests.{both, neither, clash, same?, below-or}
 use Rattle.arbiter.specs.declared.Choice.{Choice}
-use Rattle.arbiter.specs.Arbiter.{asks, order, chosen, arbiterTests, accepted, refused, arbitrated}
-use Rattle.arbiter.specs.Chosen.{steps, Chosen, Requested}
+use Rattle.arbiter.specs.Arbiter.{asks, order, chosen, arbiterTests, accepted, arbitrated}
+use Rattle.arbiter.specs.Chosen.{steps, Requested}
 use Rattle.arbiter.specs.Calls.{Made, made, calls, acceptedCalls, servedBy, KeepsAsking, ServedWithin, ServedLast, limit}
 use Rattle.arbiter.proofs.Order.{steps-above, steps-round}
 use Rattle.arbiter.proofs.Requests.{asks-below, asks-zero}
@@ -127,5 +127,5 @@ limit-reached r h =
       last = r;
       list = everybody;
       asked = record { count = eqb-true _ _ (t .0); asking = λ c m. not-false _ (none-of (λ c. not (asks (c .requests) r)) _ (not-true _ (s .0)) c m) };
-      not-before = λ m. let o = Memᴰ·of-map servedBy (take (limit - 1) (acceptedCalls r everybody)) m in clash (eq-eqb _ _ (o .2)) (none-of (λ c. eqb (servedBy c) r) _ (not-true _ (s .1)) (o .0) (o .1))
+      not-before = λ m. let o = Memᴰ·of-map servedBy (take (limit - 1) (acceptedCalls r everybody)) m in clash (eq-eqb _ _ (o .2)) (none-of (λ c. eqb (servedBy c) r) _ (not-true _ (s .1)) (o .0) (o .1));
     }

@@ -1,7 +1,7 @@
 -- The definitions of request (l), computed on small examples.
 -- Assumes nothing.
 use mathlib.Core.Path.{_≡_, refl}
-use mathlib.Core.List.{List, [], _∷_, _++_, map}
+use mathlib.Core.List.{[], _∷_, _++_, map}
 use Prim.Native.Nat.{ℕ, _+_, _-_, _^_}
 use lib.ListN.{replicate}
 use Rattle.common.specs.Lists.{keep, from}
