@@ -1,23 +1,25 @@
 /* The routing arbiter from C: choices worked by hand, every record with every requester and every pair of requesters, the edges, random runs beside a
  * second version that takes one step after another round the 26, and how long requesters wait that keep asking. */
 #include "expect.h"
-
-#include <maze.h>
+#include "subject.h"
 
 #define PORT(p) (1ul << (p))
 #define CHANNEL(c) (1ul << (18 + (c)))
 
 static const unsigned long everybody = (1ul << 26) - 1;
 
-/* One call: what it answers and the record after it. */
+/* One call: what it answers and the record after it. The records on either side of the one that is lent stay as they are. */
 struct call {
     unsigned number, requester, last;
 };
 
+static int neighbours_kept = 1;
+
 static struct call call(unsigned last, unsigned long requests) {
-    maze_arbiter arbiter = {(uint16_t)last};
-    maze_served served = maze_arbitrate(&arbiter, (uint32_t)requests);
-    struct call got = {served.number, served.requester, arbiter.last};
+    maze_arbiter records[3] = {{0xa5c3}, {(uint16_t)last}, {0x3c5a}};
+    maze_served served = maze_arbitrate(&records[1], (uint32_t)requests);
+    struct call got = {served.number, served.requester, records[1].last};
+    neighbours_kept &= records[0].last == 0xa5c3 && records[2].last == 0x3c5a;
     return got;
 }
 
@@ -190,5 +192,6 @@ int main(void) {
     random_runs();
     waiting();
     limit();
+    expect(neighbours_kept, "the records beside the one that is lent", 0, 0);
     return verdict();
 }
