@@ -18,7 +18,7 @@ use Rattle.common.proofs.Tests.{both, neither, clash, same?, below-or}
 use Rattle.arbiter.specs.declared.Choice.{Choice}
 use Rattle.arbiter.specs.Arbiter.{asks, order, chosen, arbiterTests, accepted, arbitrated}
 use Rattle.arbiter.specs.Chosen.{steps, Requested}
-use Rattle.arbiter.specs.Calls.{Made, made, calls, acceptedCalls, servedBy, KeepsAsking, ServedWithin, ServedLast, limit}
+use Rattle.arbiter.specs.Calls.{Call, made, calls, acceptedCalls, servedBy, KeepsAsking, ServedWithin, ServedLast, limit}
 use Rattle.arbiter.proofs.Order.{steps-above, steps-round}
 use Rattle.arbiter.proofs.Requests.{asks-below, asks-zero}
 use Rattle.arbiter.proofs.Answers.{accepted-for, refused-else, served, recorded}
@@ -51,12 +51,12 @@ no-calls : (last : ℕ) → acceptedCalls last [] ≡ []
 unfolding keep acceptedCalls calls
 no-calls last = refl
 
-not-none : (n : ℕ) → 0 < n → length (take {A = Made} n []) ≡ n → ⊥
+not-none : (n : ℕ) → 0 < n → length (take {A = Call} n []) ≡ n → ⊥
 not-none zero some e = omega arith
 not-none (suc n) some e = omega arith
 
 -- Of n calls that a requester asks in, it asks in the first and in the others.
-asks-first : {m r : ℕ} {c : Made} {cs : List Made} → KeepsAsking (suc m) r (c ∷ cs) → (asks (c .requests) r ≡ true) × KeepsAsking m r cs
+asks-first : {m r : ℕ} {c : Call} {cs : List Call} → KeepsAsking (suc m) r (c ∷ cs) → (asks (c .requests) r ≡ true) × KeepsAsking m r cs
 asks-first k = (k .asking _ (List·Memᴰ·head refl), record { count = (let e = k .count in omega arith); asking = λ c i. k .asking c (List·Memᴰ·tail i) })
 
 -- A requester that asks in n accepted calls, and comes at most n places after the record, is served by one of them.
@@ -91,7 +91,7 @@ one-more q more ih (suc m) r last some near k = go (same? (arbitrated last q .nu
     go (inr e) = rw (left-out last q more e) (ih (suc m) r last some near (rw (left-out last q more e) at k))
 
 waiting : (list : List ℕ) → Waits list
-waiting [] = λ n r last some near k. absurd (let z : length (take {A = Made} n []) ≡ n = rw (no-calls last) at (k .count) in not-none n some z)
+waiting [] = λ n r last some near k. absurd (let z : length (take {A = Call} n []) ≡ n = rw (no-calls last) at (k .count) in not-none n some z)
 waiting (q ∷ more) = one-more q more (waiting more)
 
 -- "A requester that keeps asking is served within 26 accepted calls, however others ask"

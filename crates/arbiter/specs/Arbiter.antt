@@ -16,12 +16,10 @@ asks requests r = eqb (requests / 2 ^ r % 2) 1
 
 -- "The choice is the first requester after it [the last requester served], wrapping round to it last": last + 1, .., 25, 0, .., last
 unfoldable pub order : ℕ → List ℕ
-unfolding from
 order last = from (last + 1) (25 - last) ++ from 0 (last + 1)
 
 -- the first in that order who asks; "with no request nobody is served, the answer is 0 and 26"
 unfoldable pub chosen : ℕ → ℕ → ℕ
-unfolding keep asks order
 chosen last requests = getD (keep (asks requests) (order last)) 0 26
 
 -- "A request bit at 26 or above, or a stored record above 25, is 31"
@@ -38,7 +36,6 @@ refused last number = record { number = number; requester = 0; last = last }
 
 -- what a call answers, and the record after it
 unfoldable pub arbitrated : ℕ → ℕ → Choice
-unfolding refusal arbiterTests chosen accepted
 arbitrated last requests =
     let number = refusal (arbiterTests last requests) in
     cond (eqb number 0) (accepted last (chosen last requests)) (refused last number)
