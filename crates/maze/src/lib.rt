@@ -1,4 +1,4 @@
-// The calls that C links, over bare numbers and byte slices. Each hands its arguments on to the call that is proved, and promises the same.
+// The calls that C links, over bare numbers, byte slices and the arbiter's record. Each hands its arguments on to the call that is proved, and promises the same.
 ghost use mathlib.Core.Path.{_≡_};
 ghost use mathlib.Core.List.{[]};
 ghost use Rattle.arbiter.specs.Arbiter.{arbitrated, choice};
