@@ -332,3 +332,21 @@ maze_word_written base_word_write(uint16_t command, uint16_t carried) {
     else answer.word = (uint16_t)((2 + command / 8) * MAZE_WORD_TYPE_PLACE + command * MAZE_WORD_COMMAND_PLACE + carried);
     return answer;
 }
+
+/* The lowest request above the record, or else the lowest of all. */
+maze_served base_arbitrate(maze_arbiter *arbiter, uint32_t requests) {
+    maze_served answer = {0, 0};
+    uint32_t above;
+    if (requests >> MAZE_REQUESTERS || arbiter->last >= MAZE_REQUESTERS) {
+        answer.number = MAZE_BAD_REQUESTER;
+        return answer;
+    }
+    if (!requests) {
+        answer.requester = MAZE_REQUESTER_NOBODY;
+        return answer;
+    }
+    above = requests >> (arbiter->last + 1) << (arbiter->last + 1);
+    answer.requester = (uint16_t)__builtin_ctz(above ? above : requests);
+    arbiter->last = answer.requester;
+    return answer;
+}

@@ -1,4 +1,4 @@
-/* The maze router's calls for C and C++: the table of one cube, its circuits, and command words.
+/* The maze router's calls for C and C++: the table of one cube, its circuits, command words, and the routing arbiter.
  *
  * Every call finishes, takes any numbers, and answers MAZE_ACCEPTED or a refusal number. The tests of a call run in rising order of
  * number, and the first that applies is the answer. A refused call alters no byte lent to it and answers zero beside its number; only
@@ -10,6 +10,7 @@
  *   written by every call but maze_trace, those of a buffer by maze_trace. With length 0 the pointer may be anything, also null. No
  *   alignment is asked for.
  * - The buffer of maze_trace does not overlap the table.
+ * - The arbiter lent to maze_arbitrate is a maze_arbiter of the caller's, never null, that nobody else reads or writes during the call.
  * - During a call nobody else reads or writes the table or the buffer. A search marks the links of its path in the table as it goes and
  *   frees each of them again where it goes back, so a table looked at during a call may show circuits that are never opened, even where the
  *   call is refused in the end. Between calls anybody may read the table. Calls on different tables may run at the same time: the library keeps
@@ -47,6 +48,7 @@ extern "C" {
 #define MAZE_RESERVED_COMMAND 18  /* the command is reserved or, in writing, above 15 */
 #define MAZE_CARRIED_TOO_LARGE 19 /* writing: the command cannot carry the number */
 #define MAZE_UNREADABLE_LINE 20   /* the printed list: a line that cannot be read; no call here gives it */
+#define MAZE_BAD_REQUESTER 31     /* arbitrate: a request bit at 26 or above, or a record above 25 */
 
 /* ---- The table of one cube ----
  *
@@ -194,6 +196,29 @@ maze_word_read_answer maze_word_read(uint16_t word);
 /* The word of a command that carries a number; what is written reads back as given.
  * Answers 0, or the first of 18 and 19 that applies. */
 maze_word_written maze_word_write(uint16_t command, uint16_t carried);
+
+/* ---- The routing arbiter ----
+ *
+ * It serves one of 26 requesters at a time: the input ports 0 to 17 as requesters 0 to 17, the send channels 0 to 7 as 18 to 25. Requester r asks in a call
+ * where bit r of its requests is set. The record is the last requester served; the caller keeps it, 0 to 25 at the start. */
+#define MAZE_REQUESTERS 26
+#define MAZE_REQUESTER_PORTS 18   /* the requesters below are input ports; send channel c is requester MAZE_REQUESTER_PORTS + c */
+#define MAZE_REQUESTER_NOBODY 26  /* answered where nobody asks */
+
+typedef struct {
+    uint16_t last; /* the last requester served */
+} maze_arbiter;
+
+typedef struct {
+    uint16_t number;
+    uint16_t requester; /* who is served, or MAZE_REQUESTER_NOBODY */
+} maze_served;
+
+/* Serves the first requester after the record that asks: those above the record upward, then those from 0 up to the record itself. The record is then that
+ * requester. Where nobody asks, nobody is served, and the record stays. A requester that asks in every call is served within 26 accepted calls, as long as
+ * nobody but these calls writes the record.
+ * Answers 0, or 31. */
+maze_served maze_arbitrate(maze_arbiter *arbiter, uint32_t requests);
 
 #ifdef __cplusplus
 }

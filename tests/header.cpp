@@ -29,6 +29,9 @@ int main() {
     check(maze_unblock(table.data(), table.size(), 1, 2) == MAZE_ACCEPTED, "unblock");
     check(maze_word_read(2437).command == 6, "read a word");
     check(maze_word_write(1, 0).word == 2112, "write a word");
+    maze_arbiter arbiter = {MAZE_REQUESTERS - 1};
+    const maze_served served = maze_arbitrate(&arbiter, 1u << MAZE_REQUESTER_PORTS | 4);
+    check(served.number == MAZE_ACCEPTED && served.requester == 2 && arbiter.last == 2, "arbitrate");
 
     std::printf("%u passed, %u failed\n", passed, failed);
     return failed != 0;

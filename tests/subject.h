@@ -8,6 +8,7 @@
 #include "../bench/baseline.h"
 #define maze_word_read base_word_read
 #define maze_word_write base_word_write
+#define maze_arbitrate base_arbitrate
 #endif
 
 #ifdef SUBJECT_BASELINE

@@ -47,3 +47,6 @@ pub const CARRIED_TOO_LARGE: u16 = 19;
 
 // The printed list.
 pub const UNREADABLE_LINE: u16 = 20;
+
+// The arbiter: a request or a record that is no requester.
+pub const REQUESTER: u16 = 31;

@@ -1,9 +1,12 @@
-// The calls that C links, over bare numbers and byte slices. Each hands its arguments on to the call that is proved, and promises the same.
+// The calls that C links, over bare numbers, byte slices and the arbiter's record. Each hands its arguments on to the call that is proved, and promises the same.
 ghost use mathlib.Core.Path.{_≡_};
 ghost use mathlib.Core.List.{[]};
+ghost use Rattle.arbiter.specs.Arbiter.{arbitrated, choice};
 ghost use Rattle.command_word.specs.Word.{readWord, writeWord};
 ghost use Rattle.ownership.specs.Calls.{only, making, blocking, unblocking, opening, closing, tracing};
 ghost use Rattle.ownership.specs.OnTable.{called, done};
+use arbiter::Arbiter;
+use arbiter::Served;
 use command_word::CommandWord;
 use command_word::WordRead;
 use command_word::WordWritten;
@@ -73,4 +76,11 @@ pub extern "C" fn maze_word_write(command: u16, carried: u16) -> WordWritten
     ensures { λ r. ⌜ r ≡ writeWord command carried ⌝ }
 {
     CommandWord::write(command, carried)
+}
+
+#[no_mangle]
+pub extern "C" fn maze_arbitrate(arbiter: &mut Arbiter, requests: u32) -> Served
+    ensures { λ r. ⌜ choice r (now (arbiter .exit) .last) ≡ arbitrated (now (arbiter .entry) .last) requests ⌝ }
+{
+    arbiter::serve(arbiter, requests)
 }
