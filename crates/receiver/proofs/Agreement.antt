@@ -26,7 +26,7 @@ number-same : (m : Machine) (c : Channel) (p : Packet) → c .running ≡ cond (
 unfolding numbered packetTests refusal unread number
 number-same m c dataPacket e = rw e (go (m .stopped))
   where
-    go : (b : Bool) → cond (eqb (cond b 0 1) 0) 30 0 ≡ cond b 30 0
+    go : (b : Bool) → _≡_ {A = ℕ} (cond (eqb (cond b 0 1) 0) 30 0) (cond b 30 0)
     go true = refl
     go false = refl
 number-same m c (commandWord word) e = rw e (go (readWord word .number) (eqb (readWord word .number) 0) (m .stopped))
@@ -40,34 +40,34 @@ number-is : (c : Channel) (p : Packet) → received c p .number ≡ numbered c p
 unfolding received
 number-is c p = refl
 
--- the count and the address after a data packet; `n` have come, `g` were given, `k` is the counter
-module _ (a n g k x : ℕ) (fits : g < 2 ^ 32) (below : k < 2 ^ 32) (count : (k + n) % 2 ^ 32 ≡ g) (address : x ≡ (a + 8 * min n g) % 2 ^ 32) where
-  one-less : (oneLess k + suc n) % 2 ^ 32 ≡ g
-  one-less = omega arith
-
-  stands : g ≤ n → x ≡ (a + 8 * min (suc n) g) % 2 ^ 32
-  stands h = rw (min-eq-right (suc n) g (omega arith)) (rw (min-eq-right n g h) at address)
-
-  moves : n < g → eightMore x ≡ (a + 8 * min (suc n) g) % 2 ^ 32
-  moves h =
-      let e : x ≡ (a + 8 * n) % 2 ^ 32 = rw (min-eq-left n g (omega arith)) at address in
-      rw (min-eq-left (suc n) g h) (omega arith)
-
-  at-zero : n ≤ g → k ≡ 0 → n ≡ g
-  at-zero h e = omega arith
-
-  not-zero : n < g → k ≢ 0
-  not-zero h e = omega arith
-
-  is-zero : n ≡ g → k ≡ 0
-  is-zero e = omega arith
-
 -- the machine after a data packet that is not refused
 abbrev one-more : Start → Machine → Machine
 one-more s m = record { packets = suc (m .packets); marked = m .marked || eqb (m .packets) (s .count); stopped = false }
 
 -- A data packet to a machine that runs.
 module _ (s : Start) (m : Machine) (c : Channel) (fits : s .count < 2 ^ 32) (running : m .stopped ≡ false) (h : Held s m c) where
+  -- the counter goes down; it is zero exactly where as many packets have come as were given, as long as no more have
+  counts-down : (oneLess (c .count) + suc (m .packets)) % 2 ^ 32 ≡ s .count
+  counts-down = omega arith
+
+  is-zero : m .packets ≡ s .count → c .count ≡ 0
+  is-zero e = omega arith
+
+  not-zero : m .packets < s .count → c .count ≢ 0
+  not-zero l e = omega arith
+
+  -- the address stands, or moves by 8
+  stands : s .count ≤ m .packets → c .address ≡ (s .address + 8 * min (suc (m .packets)) (s .count)) % 2 ^ 32
+  stands g =
+      let l : s .count ≤ suc (m .packets) = omega arith in
+      rw (min-eq-right l) (rw (min-eq-right g) at (h .shows .address))
+
+  moves : m .packets < s .count → eightMore (c .address) ≡ (s .address + 8 * min (suc (m .packets)) (s .count)) % 2 ^ 32
+  moves g =
+      let l : m .packets ≤ s .count = omega arith in
+      let e : c .address ≡ (s .address + 8 * m .packets) % 2 ^ 32 = rw (min-eq-left l) at (h .shows .address) in
+      rw (min-eq-left g) (omega arith)
+
   -- by whether the packet overflows
   data-by : (o : Bool) → overflows c ≡ o → m .marked || eqb (m .packets) (s .count) ≡ o → ltb (s .count) (suc (m .packets)) ≡ o
       → cond o (c .address) (eightMore (c .address)) ≡ (s .address + 8 * min (suc (m .packets)) (s .count)) % 2 ^ 32 → Held s (one-more s m) (afterData c)
@@ -75,15 +75,15 @@ module _ (s : Start) (m : Machine) (c : Channel) (fits : s .count < 2 ^ 32) (run
   data-by o e k l x =
       record {
         shows =
-          record {
-            address = ap (λ (b : Bool). cond b (c .address) (eightMore (c .address))) e ∙ x;
-            count = one-less (s .address) (m .packets) (s .count) (c .count) (c .address) fits (h .shows .count-fits) (h .shows .count) (h .shows .address);
-            count-fits = omega arith;
-            overflow = ap (λ (b : Bool). cond b 1 0) (e ∙ sym k);
-            running = h .shows .running ∙ ap (λ (b : Bool). cond b 0 1) running;
-            ignores = h .shows .ignores
-          };
-        mark = k ∙ sym l
+            record {
+              address = ap (λ (b : Bool). cond b (c .address) (eightMore (c .address))) e ∙ x;
+              count = counts-down;
+              count-fits = omega arith;
+              overflow = ap (λ (b : Bool). cond b 1 0) (e ∙ sym k);
+              running = h .shows .running ∙ ap (λ (b : Bool). cond b 0 1) running;
+              ignores = h .shows .ignores;
+            };
+        mark = k ∙ sym l;
       }
 
   data-held : Held s (one-more s m) (afterData c)
@@ -107,27 +107,27 @@ module _ (s : Start) (m : Machine) (c : Channel) (fits : s .count < 2 ^ 32) (run
           (rw (over true e))
           (rw e)
           (lt-ltb g (suc n) (omega arith))
-          (stands (s .address) n g (c .count) (c .address) fits (h .shows .count-fits) (h .shows .count) (h .shows .address) (omega arith))
+          (stands (omega arith))
       go false e true f =
           let same : n ≡ g = eqb-true n g f in
-          let zero : c .count ≡ 0 = is-zero (s .address) n g (c .count) (c .address) fits (h .shows .count-fits) (h .shows .count) (h .shows .address) same in
+          let zero : c .count ≡ 0 = is-zero same in
           data-by
           true
           (rw (over false e, eq-eqb (c .count) 0 zero))
           (rw (e, f))
           (lt-ltb g (suc n) (omega arith))
-          (stands (s .address) n g (c .count) (c .address) fits (h .shows .count-fits) (h .shows .count) (h .shows .address) (omega arith))
+          (stands (omega arith))
       go false e false f =
           let most : n ≤ g = ltb-false g n (sym (h .mark) ∙ e) in
           let other : n ≢ g = eqb-false n g f in
           let fewer : n < g = omega arith in
-          let some : c .count ≢ 0 = not-zero (s .address) n g (c .count) (c .address) fits (h .shows .count-fits) (h .shows .count) (h .shows .address) fewer in
+          let some : c .count ≢ 0 = not-zero fewer in
           data-by
           false
           (rw (over false e, ne-eqb (c .count) 0 some))
           (rw (e, f))
           (le-ltb g (suc n) fewer)
-          (moves (s .address) n g (c .count) (c .address) fits (h .shows .count-fits) (h .shows .count) (h .shows .address) fewer)
+          (moves fewer)
 
 -- A packet that changes at most whether the channel runs.
 stop-held : (s : Start) (m : Machine) (c : Channel) (t : Bool) (r : ℕ) → Held s m c → r ≡ cond t 0 1
@@ -135,15 +135,15 @@ stop-held : (s : Start) (m : Machine) (c : Channel) (t : Bool) (r : ℕ) → Hel
 stop-held s m c t r h e =
     record {
       shows =
-        record {
-          address = h .shows .address;
-          count = h .shows .count;
-          count-fits = h .shows .count-fits;
-          overflow = h .shows .overflow;
-          running = e;
-          ignores = h .shows .ignores
-        };
-      mark = h .mark
+          record {
+            address = h .shows .address;
+            count = h .shows .count;
+            count-fits = h .shows .count-fits;
+            overflow = h .shows .overflow;
+            running = e;
+            ignores = h .shows .ignores;
+          };
+      mark = h .mark;
     }
 
 -- which commands stop, said twice
@@ -253,10 +253,10 @@ unfolding started
 fresh-held s a g =
     record {
       shows = record { address = rw zero-min (omega arith); count = omega arith; count-fits = g; overflow = refl; running = refl; ignores = flags (eqb (s .ignores) 0) };
-      mark = sym (le-ltb (s .count) 0 (omega arith))
+      mark = sym (le-ltb (s .count) 0 (omega arith));
     }
   where
-    flags : (b : Bool) → cond (not b) 1 0 ≡ cond b 0 1
+    flags : (b : Bool) → _≡_ {A = ℕ} (cond (not b) 1 0) (cond b 0 1)
     flags true = refl
     flags false = refl
 
@@ -270,8 +270,8 @@ every-sequence-agrees s a g ps =
     record {
       shows = last .shows;
       answers = same;
-      counted = counted-by s ps fresh ∙ ap (dataAccepted ps) (sym same);
+      counted = let e = counted-by s ps fresh in let f = ap (dataAccepted ps) same in omega arith;
       mark = last .mark;
       ended = ended-by s ps fresh ∙ ap (endAccepted s ps) (sym same);
-      overshot = overshot-by s (machineAfter s fresh ps) (after c ps) g last
+      overshot = overshot-by s (machineAfter s fresh ps) (after c ps) g last;
     }

@@ -8,10 +8,11 @@ use native.Mathlib.Omega.{arith}
 use lib.Dec.{eqb}
 use borrow.Author.Tests.{eq-eqb, ne-eqb}
 use Rattle.common.specs.Tests.{refusal}
+use Rattle.command_word.specs.Commands.{endOfMessage, endOfTransmission}
 use Rattle.command_word.specs.Word.{readWord}
 use Rattle.receiver.specs.declared.Channel.{Channel}
 use Rattle.receiver.specs.declared.Received.{Received}
-use Rattle.receiver.specs.Receive.{Packet, dataPacket, commandWord, packetTests, unread, numbered, taken, received, afterData, afterCommand}
+use Rattle.receiver.specs.Receive.{Packet, dataPacket, commandWord, packetTests, unread, numbered, taken, received, eightMore, oneLess, overflows, afterData, stops, afterCommand}
 
 -- a packet that is refused, by what its reading answered or as 30, leaves the channel
 refused-as : (c : Channel) (p : Packet) (n : ℕ) → numbered c p ≡ n → n ≢ 0 → record { channel = c; number = n } ≡ received c p
@@ -21,6 +22,11 @@ refused-as c p n e h = rw (e, ne-eqb n 0 h)
 accepted-as : (c : Channel) (p : Packet) → numbered c p ≡ 0 → record { channel = taken c p; number = 0 } ≡ received c p
 unfolding received
 accepted-as c p e = rw e
+
+-- "both change nothing": whatever the channel, a packet with a number leaves it.
+pub refused-leaves : (c : Channel) (p : Packet) → received c p .number ≢ 0 → received c p .channel ≡ c
+unfolding received
+refused-leaves c p h = rw (ne-eqb (numbered c p) 0 h)
 
 -- data
 pub data-stopped : (c : Channel) → c .running ≡ 0 → record { channel = c; number = 30 } ≡ received c dataPacket
@@ -44,3 +50,48 @@ pub word-taken : (c d : Channel) (word command : ℕ) → readWord word .number 
     → record { channel = d; number = 0 } ≡ received c (commandWord word)
 unfolding numbered packetTests refusal unread taken
 word-taken c d word command r k h e = rw (e, k) (accepted-as c (commandWord word) (rw (r, ne-eqb (c .running) 0 h)))
+
+-- A data packet that is taken: the counter that the code has wrapped is one less, and the mark, found set or set now, holds the address.
+pub one-less : (k r : ℕ) → r < 2 ^ 32 → k < 2 ^ 32 → (r + 1) % 2 ^ 32 ≡ k → r ≡ oneLess k
+one-less k r h l e = omega arith
+
+pub data-marked : (c : Channel) (k : ℕ) → c .overflow ≢ 0 → k ≡ oneLess (c .count)
+    → record { address = c .address; count = k; running = c .running; overflow = 1; ignores = c .ignores } ≡ afterData c
+unfolding afterData overflows
+data-marked c k h e = rw (e, ne-eqb (c .overflow) 0 h)
+
+pub data-marks : (c : Channel) (k : ℕ) → c .overflow ≡ 0 → c .count ≡ 0 → k ≡ oneLess (c .count)
+    → record { address = c .address; count = k; running = c .running; overflow = 1; ignores = c .ignores } ≡ afterData c
+unfolding afterData overflows
+data-marks c k h z e = rw (e, h, z)
+
+pub data-counted : (c : Channel) (k a : ℕ) → c .overflow ≡ 0 → c .count ≢ 0 → k ≡ oneLess (c .count) → a ≡ eightMore (c .address)
+    → record { address = a; count = k; running = c .running; overflow = c .overflow; ignores = c .ignores } ≡ afterData c
+unfolding afterData overflows
+data-counted c k a h z e f = rw (e, f, h, ne-eqb (c .count) 0 z)
+
+-- A command that is obeyed.
+pub stopped-by : (c : Channel) (command : ℕ) → stops c command ≡ true
+    → record { address = c .address; count = c .count; running = 0; overflow = c .overflow; ignores = c .ignores } ≡ afterCommand c command
+unfolding afterCommand
+stopped-by c command e = rw e
+
+pub unchanged-by : (c : Channel) (command : ℕ) → stops c command ≡ false → c ≡ afterCommand c command
+unfolding afterCommand
+unchanged-by c command e = rw e
+
+pub transmission-ends : (c : Channel) (command : ℕ) → command ≡ endOfTransmission → stops c command ≡ true
+unfolding stops
+transmission-ends c command e = rw e
+
+pub message-ends : (c : Channel) (command : ℕ) → command ≡ endOfMessage → c .ignores ≡ 0 → stops c command ≡ true
+unfolding stops
+message-ends c command e h = rw (e, h)
+
+pub message-ignored : (c : Channel) (command : ℕ) → command ≡ endOfMessage → c .ignores ≢ 0 → stops c command ≡ false
+unfolding stops
+message-ignored c command e h = rw (e, ne-eqb (c .ignores) 0 h)
+
+pub other-command : (c : Channel) (command : ℕ) → command ≢ endOfTransmission → command ≢ endOfMessage → stops c command ≡ false
+unfolding stops
+other-command c command h l = rw (ne-eqb command endOfTransmission h, ne-eqb command endOfMessage l)

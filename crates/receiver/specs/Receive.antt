@@ -50,7 +50,7 @@ afterData c =
       count = oneLess (c .count);
       running = c .running;
       overflow = flag (overflows c);
-      ignores = c .ignores
+      ignores = c .ignores;
     }
 
 -- "An end of message stops the channel unless it was told to ignore those; an end of transmission always stops it."
@@ -65,7 +65,7 @@ afterCommand c command =
       count = c .count;
       running = cond (stops c command) 0 (c .running);
       overflow = c .overflow;
-      ignores = c .ignores
+      ignores = c .ignores;
     }
 
 -- what reading a packet answers: data is not read
@@ -101,7 +101,7 @@ followed o address count ignores =
     record {
       number = o .number;
       receive = cond (eqb (o .number) 0) (o .receive) 0;
-      channel = cond (eqb (o .number) 0) (started address count ignores) (record { address = 0; count = 0; running = 0; overflow = 0; ignores = 0 })
+      channel = cond (eqb (o .number) 0) (started address count ignores) (record { address = 0; count = 0; running = 0; overflow = 0; ignores = 0 });
     }
 
 -- a list of packets, one after another: the channel afterwards, and the number of each
