@@ -66,11 +66,11 @@ fn doubleword(channel: Channel) -> Channel
     let mut next = channel;
     next.count = std::num::wrapping_sub_u32(channel.count, 1);
     if channel.overflow != 0 {
-        next.overflow = 1;
+        next.overflow = 1; // as before
         return next;
     }
     if channel.count == 0 {
-        next.overflow = 1;
+        next.overflow = 1; // from this packet on
         return next;
     }
     next.address = std::num::wrapping_add_u32(channel.address, 8);
@@ -88,7 +88,8 @@ pub fn take_word(channel: Channel, word: u16) -> Received
             number: read.number,
         };
     }
-    if channel.running == 0 {
+    let running = channel.running;
+    if running == 0 {
         return Received {
             channel,
             number: refusal::CHANNEL_STOPPED,

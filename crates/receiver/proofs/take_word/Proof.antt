@@ -15,15 +15,15 @@ returns c = word-unread _ _ _ (ap (λ (r : WordRead). r .number) (c .before .bef
 
 returns-2 : tie.Need-returns-2
 returns-2 c =
-    let r = c .before .before .before .before in
-    word-stopped _ _ (sym (ap (λ (r : WordRead). r .number) (r .read .ensures)) ∙ c .before .before .if1 .left) (c .if2 .taken)
+    let r = c .before .before .before in
+    word-stopped _ _ (sym (ap (λ (r : WordRead). r .number) (r .read .ensures)) ∙ c .before .if1 .left) (c .if2 .taken)
 
 obey-requires : tie.Need-obey-requires
 obey-requires c κs = search needs
 
 returns-3 : tie.Need-returns-3
 returns-3 c =
-    let e = c .before .before .before in
+    let e = c .before .before in
     let r = e .before .before in
     word-taken
     _
