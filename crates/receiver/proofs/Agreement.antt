@@ -9,12 +9,11 @@ use native.Mathlib.Nat.{zero-min, min-eq-left, min-eq-right}
 use native.Mathlib.Omega.{arith}
 use lib.Dec.{eqb, ltb}
 use borrow.Author.Tests.{eqb-true, eqb-false, eq-eqb, ne-eqb, ltb-true, ltb-false, lt-ltb, le-ltb}
-use Rattle.common.specs.Tests.{refusal}
 use Rattle.command_word.specs.Word.{readWord}
 use Rattle.receiver.specs.declared.Channel.{Channel}
-use Rattle.receiver.specs.declared.Received.{Received}
-use Rattle.receiver.specs.Receive.{Packet, dataPacket, commandWord, started, eightMore, oneLess, overflows, afterData, stops, afterCommand, unread, packetTests, numbered, taken, received, overshoot, after, numbers}
-use Rattle.receiver.specs.Machine.{Start, Machine, fresh, isEnd, isData, number, next, machineAfter, machineNumbers, dataAccepted, endAccepted, Shows, Agrees, AgreesAfter}
+use Rattle.receiver.specs.Receive.{Packet, dataPacket, commandWord, started, eightMore, oneLess, overflows, afterData, stops, afterCommand, unread, numbered, taken, received, overshoot, after, numbers}
+use Rattle.receiver.specs.Machine.{Start, Machine, fresh, isEnd, isData, number, next, machineAfter, machineNumbers, dataAccepted, endAccepted, Shows, AgreesAfter}
+use Rattle.receiver.proofs.Steps.{unread-number, stopped-number, taken-number}
 
 -- what holds of machine and channel after every packet
 record Held (s : Start) (m : Machine) (c : Channel) : Type 0 where
@@ -23,18 +22,18 @@ record Held (s : Start) (m : Machine) (c : Channel) : Type 0 where
 
 -- the number of a packet
 number-same : (m : Machine) (c : Channel) (p : Packet) → c .running ≡ cond (m .stopped) 0 1 → numbered c p ≡ number m p
-unfolding numbered packetTests refusal unread number
-number-same m c dataPacket e = rw e (go (m .stopped))
+unfolding unread number
+number-same m c dataPacket e = go (m .stopped) e
   where
-    go : (b : Bool) → _≡_ {A = ℕ} (cond (eqb (cond b 0 1) 0) 30 0) (cond b 30 0)
-    go true = refl
-    go false = refl
-number-same m c (commandWord word) e = rw e (go (readWord word .number) (eqb (readWord word .number) 0) (m .stopped))
+    go : (b : Bool) → c .running ≡ cond b 0 1 → numbered c dataPacket ≡ cond b 30 0
+    go true r = stopped-number c dataPacket refl r
+    go false r = taken-number c dataPacket refl (λ z. omega arith)
+number-same m c (commandWord word) e = go (eqb (readWord word .number) 0) refl (m .stopped) e
   where
-    go : (r : ℕ) (x b : Bool) → cond (not x) r (cond (eqb (cond b 0 1) 0) 30 0) ≡ cond x (cond b 30 0) r
-    go r true true = refl
-    go r true false = refl
-    go r false b = refl
+    go : (x : Bool) → eqb (readWord word .number) 0 ≡ x → (b : Bool) → c .running ≡ cond b 0 1 → numbered c (commandWord word) ≡ cond x (cond b 30 0) (readWord word .number)
+    go true f true r = stopped-number c (commandWord word) (eqb-true _ 0 f) r
+    go true f false r = taken-number c (commandWord word) (eqb-true _ 0 f) (λ z. omega arith)
+    go false f b r = unread-number c (commandWord word) (readWord word .number) refl (eqb-false _ 0 f)
 
 number-is : (c : Channel) (p : Packet) → received c p .number ≡ numbered c p
 unfolding received

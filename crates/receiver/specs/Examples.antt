@@ -5,8 +5,7 @@ use mathlib.Core.List.{[], _∷_, map}
 use Prim.Native.Nat.{ℕ}
 use Rattle.common.specs.Tests.{refusal}
 use Rattle.receiver.specs.declared.Channel.{Channel}
-use Rattle.receiver.specs.declared.Received.{Received}
-use Rattle.receiver.specs.Receive.{Packet, dataPacket, started, overflows, afterData, stops, afterCommand, unread, packetTests, numbered, taken, received, overshoot, after, numbers}
+use Rattle.receiver.specs.Receive.{dataPacket, started, overflows, afterData, stops, afterCommand, unread, packetTests, numbered, taken, received, overshoot, after}
 
 abbrev state : ℕ → ℕ → ℕ → ℕ → ℕ → Channel
 state address count running overflow ignores = record { address = address; count = count; running = running; overflow = overflow; ignores = ignores }

@@ -1,7 +1,7 @@
 -- Document 02, request (m), "Every sequence agrees with this small machine": the machine, which counts without end, and what it is to agree with it.
 -- Assumes nothing.
 use mathlib.Core.Path.{_≡_}
-use mathlib.Core.Bool.{Bool, true, false, cond, not, _&&_, _||_}
+use mathlib.Core.Bool.{Bool, true, false, cond, _&&_, _||_}
 use mathlib.Core.List.{List, [], _∷_}
 use Prim.Native.Nat.{ℕ, suc, _+_, _*_, _-_, _%_, _^_, _<_, min}
 use lib.Dec.{eqb, ltb}

@@ -19,8 +19,8 @@ pub data Packet : Type 0 where
   commandWord : ℕ → Packet
 
 -- a flag is a number, of which 0 alone says no
-abbrev pub yes : ℕ → Bool
-yes flag = not (eqb flag 0)
+abbrev pub isSet : ℕ → Bool
+isSet flag = not (eqb flag 0)
 
 abbrev pub flag : Bool → ℕ
 flag b = cond b 1 0
@@ -28,7 +28,7 @@ flag b = cond b 1 0
 -- "a 32-bit address and a 32-bit count of doublewords, both given at its start with whether it ignores ends of message; it starts running,
 -- its overflow mark clear"
 unfoldable pub started : ℕ → ℕ → ℕ → Channel
-started address count ignores = record { address = address; count = count; running = 1; overflow = 0; ignores = flag (yes ignores) }
+started address count ignores = record { address = address; count = count; running = 1; overflow = 0; ignores = flag (isSet ignores) }
 
 -- "adds 8 to the address, which wraps"
 abbrev pub eightMore : ℕ → ℕ
@@ -40,7 +40,7 @@ oneLess count = (count + (2 ^ 32 - 1)) % 2 ^ 32
 
 -- "A data packet at count zero sets the overflow mark": once set it stays
 unfoldable pub overflows : Channel → Bool
-overflows c = yes (c .overflow) || eqb (c .count) 0
+overflows c = isSet (c .overflow) || eqb (c .count) 0
 
 -- A data packet. "from that packet on the address stands": the mark decides, since the count is not zero any more once it has wrapped.
 unfoldable pub afterData : Channel → Channel
@@ -76,7 +76,7 @@ unread (commandWord word) = readWord word .number
 -- "A word that can't be read gets its 15 to 18; then any packet, data or command, to a stopped channel is 30": the tests of a packet, in that
 -- order, by what its reading answered
 unfoldable pub packetTests : Channel → ℕ → List Test
-packetTests c number = test (yes number) number ∷ test (eqb (c .running) 0) 30 ∷ []
+packetTests c number = test (isSet number) number ∷ test (eqb (c .running) 0) 30 ∷ []
 
 unfoldable pub numbered : Channel → Packet → ℕ
 numbered c p = refusal (packetTests c (unread p))
@@ -92,7 +92,7 @@ received c p = record { channel = cond (eqb (numbered c p) 0) (taken c p) c; num
 
 -- How many doublewords came too many, modulo 2^32, read from the wrapped count: none while the mark is clear.
 unfoldable pub overshoot : Channel → ℕ
-overshoot c = cond (yes (c .overflow)) ((2 ^ 32 - c .count) % 2 ^ 32) 0
+overshoot c = cond (isSet (c .overflow)) ((2 ^ 32 - c .count) % 2 ^ 32) 0
 
 -- "One receive channel that follows its circuit": the channel that an open named, started. A refused open names none, and hands on its number;
 -- the channel beside it is all zero, and so stopped.
