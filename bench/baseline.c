@@ -350,3 +350,27 @@ maze_served base_arbitrate(maze_arbiter *arbiter, uint32_t requests) {
     arbiter->last = answer.requester;
     return answer;
 }
+
+maze_receive_channel base_receive_start(uint32_t address, uint32_t count, uint16_t ignores) {
+    maze_receive_channel channel = {address, count, 1, 0, ignores != 0};
+    return channel;
+}
+
+maze_received base_receive_data(maze_receive_channel channel) {
+    if (!channel.running) return (maze_received){channel, MAZE_CHANNEL_STOPPED};
+    uint8_t overflow = channel.overflow || !channel.count;
+    return (maze_received){{overflow ? channel.address : channel.address + 8, channel.count - 1, channel.running, overflow, channel.ignores}, MAZE_ACCEPTED};
+}
+
+maze_received base_receive_word(maze_receive_channel channel, uint16_t word) {
+    maze_word_read_answer read = base_word_read(word);
+    maze_received answer = {channel, read.number};
+    if (read.number) return answer;
+    if (!channel.running) answer.number = MAZE_CHANNEL_STOPPED;
+    else if (read.command == MAZE_END_OF_TRANSMISSION || (read.command == MAZE_END_OF_MESSAGE && !channel.ignores)) answer.channel.running = 0;
+    return answer;
+}
+
+uint32_t base_receive_overshoot(maze_receive_channel channel) {
+    return channel.overflow ? 0u - channel.count : 0;
+}

@@ -22,10 +22,15 @@ struct calls {
     maze_word_read_answer (*word_read)(uint16_t);
     maze_word_written (*word_write)(uint16_t, uint16_t);
     maze_served (*arbitrate)(maze_arbiter *, uint32_t);
+    maze_receive_channel (*receive_start)(uint32_t, uint32_t, uint16_t);
+    maze_received (*receive_data)(maze_receive_channel);
+    maze_received (*receive_word)(maze_receive_channel, uint16_t);
 };
 
-static const struct calls plain = {base_make, base_block, base_unblock, base_open, base_close, base_trace, base_word_read, base_word_write, base_arbitrate};
-static const struct calls library = {maze_make, maze_block, maze_unblock, maze_open, maze_close, maze_trace, maze_word_read, maze_word_write, maze_arbitrate};
+static const struct calls plain = {base_make, base_block, base_unblock, base_open, base_close, base_trace, base_word_read, base_word_write,
+                                   base_arbitrate, base_receive_start, base_receive_data, base_receive_word};
+static const struct calls library = {maze_make, maze_block, maze_unblock, maze_open, maze_close, maze_trace, maze_word_read, maze_word_write,
+                                     maze_arbitrate, maze_receive_start, maze_receive_data, maze_receive_word};
 
 enum { BYTES = MAZE_TABLE_BYTES };
 
@@ -172,6 +177,18 @@ static unsigned long turn_arbitrate(const struct calls *c, struct with with) {
     return 100 * sum;
 }
 
+/* A channel for 60 doublewords takes 100 and an end of transmission. */
+static unsigned long turn_receive(const struct calls *c, struct with with) {
+    maze_received received = {c->receive_start(with.node, 60, 0), 0};
+    unsigned long numbers = 0;
+    for (unsigned i = 0; i < 100; i++) {
+        received = c->receive_data(received.channel);
+        numbers += received.number;
+    }
+    received = c->receive_word(received.channel, 3648);
+    return numbers + received.number + 100ul * (received.channel.address + (unsigned long)received.channel.count);
+}
+
 static const struct {
     const char *what;
     void (*prepare)(void);
@@ -200,6 +217,7 @@ static const struct {
     {"writing a word, of 1,024", mixed_words, turn_words_write, {0, 0, 0}, MAZE_ACCEPTED, 200, 1024},
     {"a choice of the arbiter, few ask, of 1,024", few_requests, turn_arbitrate, {0, 0, 0}, MAZE_ACCEPTED, 200, 1024},
     {"a choice of the arbiter, half ask, of 1,024", many_requests, turn_arbitrate, {0, 0, 0}, MAZE_ACCEPTED, 200, 1024},
+    {"100 data packets and an end of transmission", empty_3, turn_receive, {8, 0, 0}, MAZE_ACCEPTED, 5000, 1},
 };
 
 /* ---- time ---- */

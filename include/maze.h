@@ -1,8 +1,8 @@
-/* The maze router's calls for C and C++: the table of one cube, its circuits, command words, and the routing arbiter.
+/* The maze router's calls for C and C++: the table of one cube, its circuits, command words, the routing arbiter, and a receive channel.
  *
  * Every call finishes, takes any numbers, and answers MAZE_ACCEPTED or a refusal number. The tests of a call run in rising order of
  * number, and the first that applies is the answer. A refused call alters no byte lent to it and answers zero beside its number; only
- * MAZE_ROUTE_REJECTED and MAZE_RECEIVE_REJECTED carry their scouts. Numbers are tested at their 16 bits and never cut: node 256 is not
+ * MAZE_ROUTE_REJECTED and MAZE_RECEIVE_REJECTED carry their scouts, and a receive channel comes back as it was. Numbers are tested at their 16 bits and never cut: node 256 is not
  * node 0. (C itself cuts a wider number to 16 bits before the call.)
  *
  * What the caller sees to:
@@ -48,6 +48,7 @@ extern "C" {
 #define MAZE_RESERVED_COMMAND 18  /* the command is reserved or, in writing, above 15 */
 #define MAZE_CARRIED_TOO_LARGE 19 /* writing: the command cannot carry the number */
 #define MAZE_UNREADABLE_LINE 20   /* the printed list: a line that cannot be read; no call here gives it */
+#define MAZE_CHANNEL_STOPPED 30   /* a packet to a receive channel that is stopped */
 #define MAZE_BAD_REQUESTER 31     /* arbitrate: a request bit at 26 or above, or a record above 25 */
 
 /* ---- The table of one cube ----
@@ -219,6 +220,40 @@ typedef struct {
  * nobody but these calls writes the record.
  * Answers 0, or 31. */
 maze_served maze_arbitrate(maze_arbiter *arbiter, uint32_t requests);
+
+/* ---- A receive channel ----
+ *
+ * One receive channel, such as maze_open answers, takes the packets of its circuit: data packets, of one doubleword each, and command words. Its
+ * state is a struct that goes in by value and comes back in the answer; the library keeps none of it. Any state may be handed in: a flag is a
+ * number of which 0 alone says no. A state that is all zero is stopped. */
+typedef struct {
+    uint32_t address; /* where the next doubleword goes */
+    uint32_t count;   /* doublewords still to come; below zero it wraps and counts on */
+    uint8_t running;  /* 0: stopped */
+    uint8_t overflow; /* the overflow mark; 0: clear */
+    uint8_t ignores;  /* 0: an end of message stops the channel */
+} maze_receive_channel;
+
+typedef struct {
+    maze_receive_channel channel; /* after the packet; as it was, where the packet is refused */
+    uint16_t number;
+} maze_received;
+
+/* A channel that runs, its overflow mark clear. Any `ignores` but 0 has it ignore ends of message. */
+maze_receive_channel maze_receive_start(uint32_t address, uint32_t count, uint16_t ignores);
+
+/* A data packet takes one from the count, which wraps, and adds 8 to the address, which wraps too. One that finds the count zero sets the
+ * overflow mark; from that packet on the address stands, whatever the count, and the count goes on down.
+ * Answers 0, or 30. */
+maze_received maze_receive_data(maze_receive_channel channel);
+
+/* A command word: an end of transmission (MAZE_END_OF_TRANSMISSION) stops the channel, and so does an end of message (MAZE_END_OF_MESSAGE) unless
+ * the channel ignores those. Any other word that can be read changes nothing.
+ * Answers 0, or the first of 15, 16, 17, 18 and 30 that applies. */
+maze_received maze_receive_word(maze_receive_channel channel, uint16_t word);
+
+/* How many doublewords came too many, modulo 2^32: 0 while the overflow mark is clear, and otherwise how far the count is below zero. */
+uint32_t maze_receive_overshoot(maze_receive_channel channel);
 
 #ifdef __cplusplus
 }
