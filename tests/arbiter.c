@@ -1,4 +1,4 @@
-/* The routing arbiter from C: choices worked by hand, every record with every requester and every pair of requesters, the edges, random runs beside a
+/* The routing arbiter from C: choices worked by hand, every record with no requester, with every one and with every pair, the edges, random runs beside a
  * second version that takes one step after another round the 26, and how long requesters wait that keep asking. */
 #include "expect.h"
 #include "subject.h"
@@ -82,11 +82,12 @@ static void by_hand(void) {
     }
 }
 
-/* ---- every record with one requester and with two ---- */
+/* ---- every record with no requester, with one and with two ---- */
 
-static void ones_and_pairs(void) {
+static void none_ones_and_pairs(void) {
     for (unsigned last = 0; last < 26; last++) {
-        int good = 1;
+        struct call nobody = {0, 26, last};
+        int good = same(call(last, 0), nobody);
         for (unsigned r = 0; r < 26; r++) {
             struct call one = {0, r, r}, got = call(last, 1ul << r);
             good &= same(got, one);
@@ -101,7 +102,7 @@ static void ones_and_pairs(void) {
                 good &= same(call(last, 1ul << r | 1ul << high), refused) && same(call(last, 1ul << high), refused);
             }
         }
-        expect(good, "one requester and two, from record", last, 0);
+        expect(good, "none, one requester and two, from record", last, 0);
     }
     for (unsigned last = 26; last < 65536; last++) {
         struct call refused = {31, 0, last};
@@ -160,6 +161,10 @@ static void waiting(void) {
             refusals++;
             continue;
         }
+        if (served.requester >= 26) {
+            expect(0, "an accepted call serves one of the 26", served.requester, asking);
+            return;
+        }
         accepted++;
         for (unsigned r = 0; r < 26; r++)
             if (asking >> r & 1) {
@@ -188,7 +193,7 @@ static void limit(void) {
 
 int main(void) {
     by_hand();
-    ones_and_pairs();
+    none_ones_and_pairs();
     random_runs();
     waiting();
     limit();
