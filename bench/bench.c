@@ -25,12 +25,13 @@ struct calls {
     maze_receive_channel (*receive_start)(uint32_t, uint32_t, uint16_t);
     maze_received (*receive_data)(maze_receive_channel);
     maze_received (*receive_word)(maze_receive_channel, uint16_t);
+    uint32_t (*receive_overshoot)(maze_receive_channel);
 };
 
 static const struct calls plain = {base_make, base_block, base_unblock, base_open, base_close, base_trace, base_word_read, base_word_write,
-                                   base_arbitrate, base_receive_start, base_receive_data, base_receive_word};
+                                   base_arbitrate, base_receive_start, base_receive_data, base_receive_word, base_receive_overshoot};
 static const struct calls library = {maze_make, maze_block, maze_unblock, maze_open, maze_close, maze_trace, maze_word_read, maze_word_write,
-                                     maze_arbitrate, maze_receive_start, maze_receive_data, maze_receive_word};
+                                     maze_arbitrate, maze_receive_start, maze_receive_data, maze_receive_word, maze_receive_overshoot};
 
 enum { BYTES = MAZE_TABLE_BYTES };
 
@@ -114,6 +115,18 @@ static void mix_requests(unsigned spread) {
 static void few_requests(void) { mix_requests(26); }
 static void many_requests(void) { mix_requests(2); }
 
+/* 256 channels of any count, about half of them with the overflow mark. */
+static maze_receive_channel channels[256];
+
+static void mixed_channels(void) {
+    unsigned x = 1;
+    for (unsigned i = 0; i < 256; i++) {
+        unsigned count = x = x * 1664525u + 1013904223u, marked = (x = x * 1664525u + 1013904223u) >> 31;
+        channels[i] = base_receive_start(0, count, 0);
+        channels[i].overflow = (uint8_t)marked;
+    }
+}
+
 /* ---- one turn of each line: answers a sum that both versions must agree on; its last two digits are the numbers that the calls answered ---- */
 
 /* What a turn is made with. Opens are on send channel 0; `other` is their target, the port of a link, or the channel that is traced. */
@@ -189,6 +202,24 @@ static unsigned long turn_receive(const struct calls *c, struct with with) {
     return numbers + received.number + 100ul * (received.channel.address + (unsigned long)received.channel.count);
 }
 
+/* Every word once, each to the same channel, which runs. */
+static unsigned long turn_receive_words(const struct calls *c, struct with with) {
+    maze_receive_channel channel = base_receive_start(with.node, 60, 0);
+    unsigned long sum = 0;
+    for (unsigned i = 0; i < 4096; i++) {
+        maze_received received = c->receive_word(channel, words[i]);
+        sum += received.number + (unsigned long)received.channel.running;
+    }
+    return 100 * sum;
+}
+
+static unsigned long turn_overshoots(const struct calls *c, struct with with) {
+    (void)with;
+    unsigned long sum = 0;
+    for (unsigned i = 0; i < 256; i++) sum += c->receive_overshoot(channels[i]);
+    return 100 * sum;
+}
+
 static const struct {
     const char *what;
     void (*prepare)(void);
@@ -218,6 +249,8 @@ static const struct {
     {"a choice of the arbiter, few ask, of 1,024", few_requests, turn_arbitrate, {0, 0, 0}, MAZE_ACCEPTED, 200, 1024},
     {"a choice of the arbiter, half ask, of 1,024", many_requests, turn_arbitrate, {0, 0, 0}, MAZE_ACCEPTED, 200, 1024},
     {"100 data packets and an end of transmission", empty_3, turn_receive, {8, 0, 0}, MAZE_ACCEPTED, 5000, 1},
+    {"a word to a receive channel, of 4,096", mixed_words, turn_receive_words, {8, 0, 0}, MAZE_ACCEPTED, 50, 4096},
+    {"the overshoot of a receive channel, of 256", mixed_channels, turn_overshoots, {0, 0, 0}, MAZE_ACCEPTED, 1000, 256},
 };
 
 /* ---- time ---- */
