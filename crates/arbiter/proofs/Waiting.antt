@@ -114,14 +114,10 @@ lastServed r =
     eqb (length (take limit (acceptedCalls r everybody))) limit
     && (not (any (λ c. not (asks (c .requests) r)) (take limit (acceptedCalls r everybody))) && not (any (λ c. eqb (servedBy c) r) (take (limit - 1) (acceptedCalls r everybody))))
 
-all-last : every 26 lastServed ≡ true
-unfolding keep from any refusal asks order chosen arbiterTests accepted arbitrated calls acceptedCalls everybody lastServed
-all-last = refl
-
-pub limit-reached : (r : ℕ) → r < 26 → ServedLast limit r
+last-of-all : every 26 lastServed ≡ true → (r : ℕ) → r < 26 → ServedLast limit r
 unfolding lastServed
-limit-reached r h =
-    let t = both _ _ (at 26 lastServed all-last r h) in
+last-of-all all r h =
+    let t = both _ _ (at 26 lastServed all r h) in
     let s = both _ _ (t .1) in
     record {
       last = r;
@@ -129,3 +125,8 @@ limit-reached r h =
       asked = record { count = eqb-true _ _ (t .0); asking = λ c m. not-false _ (none-of (λ c. not (asks (c .requests) r)) _ (not-true _ (s .0)) c m) };
       not-before = λ m. let o = Memᴰ·of-map servedBy (take (limit - 1) (acceptedCalls r everybody)) m in clash (eq-eqb _ _ (o .2)) (none-of (λ c. eqb (servedBy c) r) _ (not-true _ (s .1)) (o .0) (o .1));
     }
+
+-- the test computes to true for each of the 26
+pub limit-reached : (r : ℕ) → r < 26 → ServedLast limit r
+unfolding keep from any refusal asks order chosen arbiterTests accepted arbitrated calls acceptedCalls everybody lastServed
+limit-reached = last-of-all refl
