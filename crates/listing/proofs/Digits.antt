@@ -3,7 +3,7 @@
 use mathlib.Core.Path.{_≡_, refl, ap, sym, _∙_}
 use mathlib.Core.Logic.{_⊎_, inl, inr, ⊎-elim}
 use mathlib.Core.List.{[], _∷_, _++_}
-use Prim.Native.Nat.{ℕ, zero, suc, _/_, _%_, _^_, _≤_, _<_}
+use Prim.Native.Nat.{ℕ, zero, suc, _+_, _/_, _%_, _^_, _≤_, _<_}
 use native.Mathlib.Omega.{arith}
 use lib.ListN.{length, length-append}
 use borrow.Author.Tests.{lt-ltb, le-ltb}
@@ -38,10 +38,16 @@ decimal-long zero h = absurd (omega arith)
 decimal-long (suc k) h = digits-long k (suc k) h ∙ ap (_++ (digit (suc k % 10) ∷ [])) (digits-enough k (suc k / 10) (suc k / 10) (omega arith) (omega arith))
 
 -- how many digits a number has
+pub long-length : (n : ℕ) → 10 ≤ n → length (decimal n) ≡ length (decimal (n / 10)) + 1
+long-length n h = ap length (decimal-long n h) ∙ length-append (decimal (n / 10)) (digit (n % 10) ∷ [])
+
+pub decimal-some : (n : ℕ) → 1 ≤ length (decimal n)
+decimal-some n = ⊎-elim (λ s. omega (arith, ap length (decimal-short n s))) (λ l. omega (arith, long-length n l)) (below-or 10 n)
+
 pub decimal-length : (k n : ℕ) → n < 10 ^ suc k → length (decimal n) ≤ suc k
 decimal-length zero n h = rw (decimal-short n h) (omega arith)
 decimal-length (suc k) n h = go (below-or 10 n) (decimal-length k (n / 10))
   where
     go : (n < 10) ⊎ (10 ≤ n) → (n / 10 < 10 ^ suc k → length (decimal (n / 10)) ≤ suc k) → length (decimal n) ≤ suc (suc k)
     go (inl s) ih = rw (decimal-short n s) (omega arith)
-    go (inr l) ih = rw (decimal-long n l, length-append (decimal (n / 10)) (digit (n % 10) ∷ [])) (let p = ih (omega arith) in omega arith)
+    go (inr l) ih = let p = ih (omega arith) in omega (arith, long-length n l)

@@ -1,13 +1,13 @@
 -- Texts written one behind the other.
 -- Assumes nothing.
-use mathlib.Core.Path.{_≡_, ap, sym, _∙_}
+use mathlib.Core.Path.{_≡_, refl, ap, sym, _∙_}
 use mathlib.Core.List.{List, [], _∷_, _++_}
 use Prim.Native.Nat.{ℕ, suc, _+_, _≤_, _<_}
 use native.Mathlib.Nat.{add-zero}
 use native.Mathlib.Numerals.{add-one}
 use native.Mathlib.Omega.{arith}
 use lib.ListN.{length, getD, set, drop, length-append, drop-of-length-le}
-use lib.Seq.{sets, drop-cons}
+use lib.Seq.{sets, set-comm, drop-cons}
 use Rattle.listing.specs.Printed.{Wrote}
 
 -- two texts, the second behind the first, are one
@@ -16,6 +16,11 @@ sets-append b i [] ys = ap (λ j. sets b j ys) (sym (add-zero i))
 sets-append b i (x ∷ xs) ys =
     let e : suc i + length xs ≡ i + suc (length xs) = omega arith in
     sets-append (set b i x) (suc i) xs ys ∙ ap (λ j. sets (sets (set b i x) (suc i) xs) j ys) e
+
+-- a byte behind a text may be written before it
+pub set-sets : (b : List ℕ) (i j d : ℕ) (xs : List ℕ) → i + length xs ≤ j → set (sets b i xs) j d ≡ sets (set b j d) i xs
+set-sets b i j d [] h = refl
+set-sets b i j d (x ∷ xs) h = set-sets (set b i x) (suc i) j d xs (omega arith) ∙ ap (λ (l : List ℕ). sets l (suc i) xs) (set-comm b i j x d (λ e. omega (arith, e)))
 
 -- what is left to write behind a text that was written
 pub carries : (ys : List ℕ) {k i j : ℕ} {b c xs : List ℕ} → Wrote k b i xs c j → sets c j ys ≡ sets b i (xs ++ ys)

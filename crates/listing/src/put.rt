@@ -34,16 +34,33 @@ fn digit(d: u32) -> u8
     48 + d as u8
 }
 
-// A number in decimal: its higher digits first.
+fn digit_count(n: u32) -> usize
+    ensures { λ r. ⌜ r ≡ length (decimal n) ⌝ }
+{
+    let mut left = n;
+    let mut count: usize = 1;
+    while left >= 10 {
+        left /= 10;
+        count += 1;
+    }
+    count
+}
+
+// A number in decimal: its last digit first, from the back.
 pub fn decimal(out: &mut [u8], at: usize, n: u32) -> usize
     requires { ⌜ at + length (decimal n) ≤ length (now out) ⌝ }
     ensures { λ r. ⌜ Wrote (length (decimal n)) (now (out .entry)) at (decimal n) (now (out .exit)) r ⌝ }
 {
-    if n < 10 {
-        return byte(out, at, digit(n));
+    let end = at + digit_count(n);
+    let mut left = n;
+    let mut i = end - 1;
+    while left >= 10 {
+        out[i] = digit(left % 10);
+        left /= 10;
+        i -= 1;
     }
-    let last = decimal(out, at, n / 10);
-    byte(out, last, digit(n % 10))
+    out[i] = digit(left);
+    end
 }
 
 // A number of 16 bits, of at most 5 digits.

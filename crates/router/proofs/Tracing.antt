@@ -1,6 +1,6 @@
 -- Tracing: what is followed fits the buffer, and what is written hop after hop is the path, with what was there behind it.
 -- Assumes nothing.
-use mathlib.Core.Path.{_≡_, ap, sym, _∙_}
+use mathlib.Core.Path.{_≡_, refl, ap, sym, _∙_}
 use mathlib.Core.Bool.{Bool, true, not}
 use mathlib.Core.List.{List, [], _∷_, _++_}
 use Prim.Native.Nat.{ℕ, zero, suc, _+_, _-_, _^_, _≤_, _<_}
@@ -11,6 +11,7 @@ use lib.ListN.{length, set, drop, length-set}
 use lib.Seq.{sets, sets-eq}
 use borrow.Author.Tests.{ltb-true}
 use Rattle.common.specs.Lists.{keep, lowest}
+use Rattle.cube.specs.Bits.{has}
 use Rattle.cube.specs.Cube.{next, sourceOf, NodeCount, Without}
 use Rattle.cube.proofs.Bits.{flip-inside}
 use Rattle.cube.proofs.Ports.{without-power}
@@ -23,7 +24,6 @@ use Rattle.soundness.specs.Follow.{takes, followed, firstHop, HasSource}
 use Rattle.soundness.proofs.Follow.{follow-on, follow-end, follow-port}
 use Rattle.soundness.proofs.Examine.{opened, path-behind, source-within}
 use Rattle.ownership.specs.Calls.{written}
-use Rattle.router.specs.Tracer.{MayTrace}
 
 -- a course is no longer than its fuel
 hop-short : (k : ℕ) (ps : List ℕ) (on : ℕ → Path) → ((p : ℕ) → length (on p) ≤ k) → length (hop ps on) ≤ suc k
@@ -46,38 +46,42 @@ pub written-whole : (w : Path) (buffer : List ℕ) → length w ≤ length buffe
 unfolding written
 written-whole w buffer h = sets-eq w buffer 0 (omega arith) ∙ ap (λ i. w ++ drop i buffer) (zero-add (length w))
 
--- tracing on from node n, where q is the port of the hop out of it
-module _ (b : List ℕ) (c n left : ℕ) {q : ℕ} (e : q ≡ lowest (takes (view b) c n left) 8 0) where
-  pub end-count : {hops : ℕ} → 8 ≤ q → hops ≡ hops + length (followed (view b) c n left)
-  end-count h = rw (follow-end (view b) c n left q e h) (omega arith)
+-- What holds while the ports are written: from node n on, the hops to come and those written are as many as the path has, and writing the ports to
+-- come leaves what writing all of them leaves. The first hop, to node n₀, is written before.
+pub record Tracing (v : View) (c : ℕ) (buffer₀ : List ℕ) (left₀ n₀ : ℕ) (buffer : List ℕ) (left n hops : ℕ) : Type 0 where
+  pub node : n < 256
+  pub ports : left < 256
+  pub count : hops + length (followed v c n left) ≡ 1 + length (followed v c n₀ left₀)
+  pub bytes : sets buffer hops (followed v c n left) ≡ sets buffer₀ 1 (followed v c n₀ left₀)
+  pub long : length buffer ≡ length buffer₀
 
-  pub end-bytes : (hops : ℕ) {buffer : List ℕ} → 8 ≤ q → buffer ≡ sets buffer hops (followed (view b) c n left)
-  end-bytes hops h = rw (follow-end (view b) c n left q e h)
+-- one turn at node n, where q is the port of the hop out of it
+module _ {v : View} {c left₀ n₀ left n hops q : ℕ} {buffer₀ buffer : List ℕ} (inv : Tracing v c buffer₀ left₀ n₀ buffer left n hops) (e : q ≡ lowest (takes v c n left) 8 0) where
+  pub end-count : 8 ≤ q → hops ≡ 1 + length (followed v c n₀ left₀)
+  end-count h = omega (arith, inv .count, ap length (follow-end v c n left q e h))
 
-  pub on-place : {hops : ℕ} {buffer : List ℕ} → q < 8 → MayTrace b c n left hops buffer → hops < length buffer
-  on-place h may =
-      let w = without-power left q (follow-port (view b) c n left q e h) in
-      omega (arith, may .most, may .room, ap length (follow-on (view b) c n left q (left - 2 ^ q) e h w))
+  pub end-bytes : 8 ≤ q → buffer ≡ sets buffer₀ 1 (followed v c n₀ left₀)
+  end-bytes h = sym (ap (sets buffer hops) (follow-end v c n left q e h)) ∙ inv .bytes
 
-  module _ {rest m : ℕ} (h : q < 8) (w : Without left q rest) (to : m ≡ next n q) where
-    on : followed (view b) c n left ≡ q ∷ followed (view b) c m rest
-    on = follow-on (view b) c n left q rest e h w ∙ ap (λ x. q ∷ followed (view b) c x rest) (sym to)
+  module _ (h : q < 8) where
+    pub port-left : has left q ≡ true
+    port-left = follow-port v c n left q e h
 
-    pub on-may : {hops : ℕ} {buffer : List ℕ} → MayTrace b c n left hops buffer → MayTrace b c m rest (hops + 1) (set buffer hops q)
-    on-may {hops} {buffer} may =
+    pub on-place : hops < 9
+    on-place =
+        let on = follow-on v c n left q (left - 2 ^ q) e h (without-power left q port-left) in
+        omega (arith, inv .count, ap length on, followed-short v c n₀ left₀)
+
+    pub on-tracing : {rest m : ℕ} → Without left q rest → m ≡ next n q → Tracing v c buffer₀ left₀ n₀ (set buffer hops q) rest m (hops + 1)
+    on-tracing {rest} {m} w to =
+        let on : followed v c n left ≡ q ∷ followed v c m rest = follow-on v c n left q rest e h w ∙ ap (λ x. q ∷ followed v c x rest) (sym to) in
         record {
-          bytes = may .bytes;
-          node = rw to (flip-inside 8 n q (may .node) h);
-          ports = omega (arith, w .value, may .ports);
-          most = omega (arith, may .most, ap length on);
-          room = rw (length-set buffer hops q) (may .room);
+          node = rw to (flip-inside 8 n q (inv .node) h);
+          ports = omega (arith, w .value, inv .ports);
+          count = omega (arith, inv .count, ap length on);
+          bytes = ap (λ i. sets (set buffer hops q) i (followed v c m rest)) (add-one hops) ∙ ap (sets buffer hops) (sym on) ∙ inv .bytes;
+          long = length-set buffer hops q ∙ inv .long;
         }
-
-    pub on-count : (hops : ℕ) {answer : ℕ} → answer ≡ hops + 1 + length (followed (view b) c m rest) → answer ≡ hops + length (followed (view b) c n left)
-    on-count hops k = omega (arith, k, ap length on)
-
-    pub on-bytes : (hops : ℕ) (buffer : List ℕ) {after : List ℕ} → after ≡ sets (set buffer hops q) (hops + 1) (followed (view b) c m rest) → after ≡ sets buffer hops (followed (view b) c n left)
-    on-bytes hops buffer k = rw on (k ∙ ap (λ i. sets (set buffer hops q) i (followed (view b) c m rest)) (add-one hops))
 
 -- the whole path, of the numbers that the code has: the dimension, the count of nodes, the source and the first hop
 module _ {b : List ℕ} {c D nodes s a : ℕ} (known : HasSource b c) (d : D ≡ dimensionAt b) (m : NodeCount D nodes) (q : s ≡ sourceOf c) (e : a ≡ firstHop (view b) c s (nodes - 1)) (some : not (isEmpty (pathOf (view b) c)) ≡ true) where
@@ -98,18 +102,17 @@ module _ {b : List ℕ} {c D nodes s a : ℕ} (known : HasSource b c) (d : D ≡
     pub whole-count : {answer : ℕ} → answer ≡ 1 + length (followed (view b) c start (nodes - 1)) → answer ≡ length (pathOf (view b) c)
     whole-count k = omega (arith, k, ap length path-is)
 
-    module _ (buffer : List ℕ) (room : 9 ≤ length buffer) where
-      pub behind-may : MayTrace b c start (nodes - 1) 1 (set buffer 0 a)
-      behind-may =
-          record {
-            bytes = known .bytes;
-            node = rw to (flip-inside 8 s a (source-within known d m q .node) first-below);
-            ports = omega (arith, m .some, m .most);
-            most = omega (arith, followed-short (view b) c start (nodes - 1));
-            room = rw (length-set buffer 0 a) room;
-          }
+    pub start-tracing : (buffer : List ℕ) → Tracing (view b) c buffer (nodes - 1) start buffer (nodes - 1) start 1
+    start-tracing buffer =
+        record {
+          node = rw to (flip-inside 8 s a (source-within known d m q .node) first-below);
+          ports = omega (arith, m .some, m .most);
+          count = refl;
+          bytes = refl;
+          long = refl;
+        }
 
-      pub whole-bytes : {after : List ℕ} → after ≡ sets (set buffer 0 a) 1 (followed (view b) c start (nodes - 1)) → after ≡ written (pathOf (view b) c) buffer
-      whole-bytes k =
-          let short : length (pathOf (view b) c) ≤ length buffer = omega (arith, ap length path-is, followed-short (view b) c start (nodes - 1)) in
-          k ∙ ap (sets buffer 0) (sym path-is) ∙ written-whole (pathOf (view b) c) buffer short
+    pub whole-bytes : (buffer : List ℕ) {after : List ℕ} → 9 ≤ length buffer → after ≡ sets (set buffer 0 a) 1 (followed (view b) c start (nodes - 1)) → after ≡ written (pathOf (view b) c) buffer
+    whole-bytes buffer room k =
+        let short : length (pathOf (view b) c) ≤ length buffer = omega (arith, ap length path-is, followed-short (view b) c start (nodes - 1)) in
+        k ∙ ap (sets buffer 0) (sym path-is) ∙ written-whole (pathOf (view b) c) buffer short

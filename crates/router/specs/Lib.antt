@@ -1,4 +1,3 @@
--- The tests of the calls in the portions in which the code makes them, what the tracer may be asked, and what closing frees.
+-- The tests of the calls in the portions in which the code makes them, and what closing frees.
 pub mod Portions
-pub mod Tracer
 pub mod Release
