@@ -332,3 +332,45 @@ maze_word_written base_word_write(uint16_t command, uint16_t carried) {
     else answer.word = (uint16_t)((2 + command / 8) * MAZE_WORD_TYPE_PLACE + command * MAZE_WORD_COMMAND_PLACE + carried);
     return answer;
 }
+
+/* The lowest request above the record, or else the lowest of all. */
+maze_served base_arbitrate(maze_arbiter *arbiter, uint32_t requests) {
+    maze_served answer = {0, 0};
+    uint32_t above;
+    if (requests >> MAZE_REQUESTERS || arbiter->last >= MAZE_REQUESTERS) {
+        answer.number = MAZE_BAD_REQUESTER;
+        return answer;
+    }
+    if (!requests) {
+        answer.requester = MAZE_REQUESTER_NOBODY;
+        return answer;
+    }
+    above = requests >> (arbiter->last + 1) << (arbiter->last + 1);
+    answer.requester = (uint16_t)__builtin_ctz(above ? above : requests);
+    arbiter->last = answer.requester;
+    return answer;
+}
+
+maze_receive_channel base_receive_start(uint32_t address, uint32_t count, uint16_t ignores) {
+    maze_receive_channel channel = {address, count, 1, 0, ignores != 0};
+    return channel;
+}
+
+maze_received base_receive_data(maze_receive_channel channel) {
+    if (!channel.running) return (maze_received){channel, MAZE_CHANNEL_STOPPED};
+    uint8_t overflow = channel.overflow || !channel.count;
+    return (maze_received){{overflow ? channel.address : channel.address + 8, channel.count - 1, channel.running, overflow, channel.ignores}, MAZE_ACCEPTED};
+}
+
+maze_received base_receive_word(maze_receive_channel channel, uint16_t word) {
+    maze_word_read_answer read = base_word_read(word);
+    maze_received answer = {channel, read.number};
+    if (read.number) return answer;
+    if (!channel.running) answer.number = MAZE_CHANNEL_STOPPED;
+    else if (read.command == MAZE_END_OF_TRANSMISSION || (read.command == MAZE_END_OF_MESSAGE && !channel.ignores)) answer.channel.running = 0;
+    return answer;
+}
+
+uint32_t base_receive_overshoot(maze_receive_channel channel) {
+    return channel.overflow ? 0u - channel.count : 0;
+}

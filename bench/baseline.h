@@ -13,5 +13,10 @@ uint16_t base_close(uint8_t *table, size_t table_len, uint16_t node, uint16_t ch
 maze_traced base_trace(const uint8_t *table, size_t table_len, uint16_t node, uint16_t channel, uint8_t *buffer, size_t buffer_len);
 maze_word_read_answer base_word_read(uint16_t word);
 maze_word_written base_word_write(uint16_t command, uint16_t carried);
+maze_served base_arbitrate(maze_arbiter *arbiter, uint32_t requests);
+maze_receive_channel base_receive_start(uint32_t address, uint32_t count, uint16_t ignores);
+maze_received base_receive_data(maze_receive_channel channel);
+maze_received base_receive_word(maze_receive_channel channel, uint16_t word);
+uint32_t base_receive_overshoot(maze_receive_channel channel);
 
 #endif

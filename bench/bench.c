@@ -21,10 +21,16 @@ struct calls {
     maze_traced (*trace)(const uint8_t *, size_t, uint16_t, uint16_t, uint8_t *, size_t);
     maze_word_read_answer (*word_read)(uint16_t);
     maze_word_written (*word_write)(uint16_t, uint16_t);
+    maze_served (*arbitrate)(maze_arbiter *, uint32_t);
+    maze_receive_channel (*receive_start)(uint32_t, uint32_t, uint16_t);
+    maze_received (*receive_data)(maze_receive_channel);
+    maze_received (*receive_word)(maze_receive_channel, uint16_t);
 };
 
-static const struct calls plain = {base_make, base_block, base_unblock, base_open, base_close, base_trace, base_word_read, base_word_write};
-static const struct calls library = {maze_make, maze_block, maze_unblock, maze_open, maze_close, maze_trace, maze_word_read, maze_word_write};
+static const struct calls plain = {base_make, base_block, base_unblock, base_open, base_close, base_trace, base_word_read, base_word_write,
+                                   base_arbitrate, base_receive_start, base_receive_data, base_receive_word};
+static const struct calls library = {maze_make, maze_block, maze_unblock, maze_open, maze_close, maze_trace, maze_word_read, maze_word_write,
+                                     maze_arbitrate, maze_receive_start, maze_receive_data, maze_receive_word};
 
 enum { BYTES = MAZE_TABLE_BYTES };
 
@@ -93,6 +99,21 @@ static void mixed_words(void) {
     mix(pairs, 1024);
 }
 
+/* Requests of 1,024 calls that a processor cannot foresee: each requester asks in about one call of `spread`. */
+static uint32_t requests[1024];
+
+static void mix_requests(unsigned spread) {
+    unsigned x = 1;
+    for (unsigned i = 0; i < 1024; i++) {
+        requests[i] = 0;
+        for (unsigned r = 0; r < MAZE_REQUESTERS; r++)
+            if (((x = x * 1664525u + 1013904223u) >> 16) % spread == 0) requests[i] |= 1u << r;
+    }
+}
+
+static void few_requests(void) { mix_requests(26); }
+static void many_requests(void) { mix_requests(2); }
+
 /* ---- one turn of each line: answers a sum that both versions must agree on; its last two digits are the numbers that the calls answered ---- */
 
 /* What a turn is made with. Opens are on send channel 0; `other` is their target, the port of a link, or the channel that is traced. */
@@ -145,6 +166,29 @@ static unsigned long turn_words_write(const struct calls *c, struct with with) {
     return 100 * sum;
 }
 
+static unsigned long turn_arbitrate(const struct calls *c, struct with with) {
+    (void)with;
+    maze_arbiter arbiter = {0};
+    unsigned long sum = 0;
+    for (unsigned i = 0; i < 1024; i++) {
+        maze_served served = c->arbitrate(&arbiter, requests[i]);
+        sum += served.number + (unsigned long)served.requester;
+    }
+    return 100 * sum;
+}
+
+/* A channel for 60 doublewords takes 100 and an end of transmission. */
+static unsigned long turn_receive(const struct calls *c, struct with with) {
+    maze_received received = {c->receive_start(with.node, 60, 0), 0};
+    unsigned long numbers = 0;
+    for (unsigned i = 0; i < 100; i++) {
+        received = c->receive_data(received.channel);
+        numbers += received.number;
+    }
+    received = c->receive_word(received.channel, 3648);
+    return numbers + received.number + 100ul * (received.channel.address + (unsigned long)received.channel.count);
+}
+
 static const struct {
     const char *what;
     void (*prepare)(void);
@@ -171,6 +215,9 @@ static const struct {
     {"  trace of 8 hops", full_of_long, turn_trace, {220, 1, 0}, MAZE_ACCEPTED, 300, 1},
     {"reading a word, of 4,096", mixed_words, turn_words_read, {0, 0, 0}, MAZE_ACCEPTED, 50, 4096},
     {"writing a word, of 1,024", mixed_words, turn_words_write, {0, 0, 0}, MAZE_ACCEPTED, 200, 1024},
+    {"a choice of the arbiter, few ask, of 1,024", few_requests, turn_arbitrate, {0, 0, 0}, MAZE_ACCEPTED, 200, 1024},
+    {"a choice of the arbiter, half ask, of 1,024", many_requests, turn_arbitrate, {0, 0, 0}, MAZE_ACCEPTED, 200, 1024},
+    {"100 data packets and an end of transmission", empty_3, turn_receive, {8, 0, 0}, MAZE_ACCEPTED, 5000, 1},
 };
 
 /* ---- time ---- */

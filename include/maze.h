@@ -1,8 +1,8 @@
-/* The maze router's calls for C and C++: the table of one cube, its circuits, and command words.
+/* The maze router's calls for C and C++: the table of one cube, its circuits, command words, the routing arbiter, and a receive channel.
  *
  * Every call finishes, takes any numbers, and answers MAZE_ACCEPTED or a refusal number. The tests of a call run in rising order of
  * number, and the first that applies is the answer. A refused call alters no byte lent to it and answers zero beside its number; only
- * MAZE_ROUTE_REJECTED and MAZE_RECEIVE_REJECTED carry their scouts. Numbers are tested at their 16 bits and never cut: node 256 is not
+ * MAZE_ROUTE_REJECTED and MAZE_RECEIVE_REJECTED carry their scouts, and a receive channel comes back as it was. Numbers are tested at their 16 bits and never cut: node 256 is not
  * node 0. (C itself cuts a wider number to 16 bits before the call.)
  *
  * What the caller sees to:
@@ -10,6 +10,7 @@
  *   written by every call but maze_trace, those of a buffer by maze_trace. With length 0 the pointer may be anything, also null. No
  *   alignment is asked for.
  * - The buffer of maze_trace does not overlap the table.
+ * - The arbiter lent to maze_arbitrate is a maze_arbiter of the caller's, never null, that nobody else reads or writes during the call.
  * - During a call nobody else reads or writes the table or the buffer. A search marks the links of its path in the table as it goes and
  *   frees each of them again where it goes back, so a table looked at during a call may show circuits that are never opened, even where the
  *   call is refused in the end. Between calls anybody may read the table. Calls on different tables may run at the same time: the library keeps
@@ -47,6 +48,8 @@ extern "C" {
 #define MAZE_RESERVED_COMMAND 18  /* the command is reserved or, in writing, above 15 */
 #define MAZE_CARRIED_TOO_LARGE 19 /* writing: the command cannot carry the number */
 #define MAZE_UNREADABLE_LINE 20   /* the printed list: a line that cannot be read; no call here gives it */
+#define MAZE_CHANNEL_STOPPED 30   /* a packet to a receive channel that is stopped */
+#define MAZE_BAD_REQUESTER 31     /* arbitrate: a request bit at 26 or above, or a record above 25 */
 
 /* ---- The table of one cube ----
  *
@@ -194,6 +197,63 @@ maze_word_read_answer maze_word_read(uint16_t word);
 /* The word of a command that carries a number; what is written reads back as given.
  * Answers 0, or the first of 18 and 19 that applies. */
 maze_word_written maze_word_write(uint16_t command, uint16_t carried);
+
+/* ---- The routing arbiter ----
+ *
+ * It serves one of 26 requesters at a time: the input ports 0 to 17 as requesters 0 to 17, the send channels 0 to 7 as 18 to 25. Requester r asks in a call
+ * where bit r of its requests is set. The record is the last requester served; the caller keeps it, 0 to 25 at the start. */
+#define MAZE_REQUESTERS 26
+#define MAZE_REQUESTER_PORTS 18   /* the requesters below are input ports; send channel c is requester MAZE_REQUESTER_PORTS + c */
+#define MAZE_REQUESTER_NOBODY 26  /* answered where nobody asks */
+
+typedef struct {
+    uint16_t last; /* the last requester served */
+} maze_arbiter;
+
+typedef struct {
+    uint16_t number;
+    uint16_t requester; /* who is served, or MAZE_REQUESTER_NOBODY */
+} maze_served;
+
+/* Serves the first requester after the record that asks: those above the record upward, then those from 0 up to the record itself. The record is then that
+ * requester. Where nobody asks, nobody is served, and the record stays. A requester that asks in every call is served within 26 accepted calls, as long as
+ * nobody but these calls writes the record.
+ * Answers 0, or 31. */
+maze_served maze_arbitrate(maze_arbiter *arbiter, uint32_t requests);
+
+/* ---- A receive channel ----
+ *
+ * One receive channel, such as maze_open answers, takes the packets of its circuit: data packets, of one doubleword each, and command words. Its
+ * state is a struct that goes in by value and comes back in the answer; the library keeps none of it. Any state may be handed in: a flag is a
+ * number of which 0 alone says no. A state that is all zero is stopped. */
+typedef struct {
+    uint32_t address; /* where the next doubleword goes */
+    uint32_t count;   /* doublewords still to come; below zero it wraps and counts on */
+    uint8_t running;  /* 0: stopped */
+    uint8_t overflow; /* the overflow mark; 0: clear */
+    uint8_t ignores;  /* 0: an end of message stops the channel */
+} maze_receive_channel;
+
+typedef struct {
+    maze_receive_channel channel; /* after the packet; as it was, where the packet is refused */
+    uint16_t number;
+} maze_received;
+
+/* A channel that runs, its overflow mark clear. Any `ignores` but 0 has it ignore ends of message. */
+maze_receive_channel maze_receive_start(uint32_t address, uint32_t count, uint16_t ignores);
+
+/* A data packet takes one from the count, which wraps, and adds 8 to the address, which wraps too. One that finds the count zero sets the
+ * overflow mark; from that packet on the address stands, whatever the count, and the count goes on down.
+ * Answers 0, or 30. */
+maze_received maze_receive_data(maze_receive_channel channel);
+
+/* A command word: an end of transmission (MAZE_END_OF_TRANSMISSION) stops the channel, and so does an end of message (MAZE_END_OF_MESSAGE) unless
+ * the channel ignores those. Any other word that can be read changes nothing.
+ * Answers 0, or the first of 15, 16, 17, 18 and 30 that applies. */
+maze_received maze_receive_word(maze_receive_channel channel, uint16_t word);
+
+/* How many doublewords came too many, modulo 2^32: 0 while the overflow mark is clear, and otherwise how far the count is below zero. */
+uint32_t maze_receive_overshoot(maze_receive_channel channel);
 
 #ifdef __cplusplus
 }

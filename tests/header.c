@@ -8,7 +8,12 @@ _Static_assert(sizeof(maze_word_read_answer) == 6 && offsetof(maze_word_read_ans
 _Static_assert(sizeof(maze_word_written) == 4 && offsetof(maze_word_written, word) == 2, "a writing is two 16-bit numbers");
 
 _Static_assert(sizeof(maze_opened) == 12 && offsetof(maze_opened, hops) == 2 && offsetof(maze_opened, receive) == 4 && offsetof(maze_opened, scouts) == 8, "an open is three 16-bit numbers and a 32-bit number");
+_Static_assert(sizeof(maze_receive_channel) == 12 && offsetof(maze_receive_channel, count) == 4 && offsetof(maze_receive_channel, running) == 8 && offsetof(maze_receive_channel, overflow) == 9 && offsetof(maze_receive_channel, ignores) == 10, "a channel is two 32-bit numbers and three bytes");
+_Static_assert(sizeof(maze_received) == 16 && offsetof(maze_received, number) == 12, "a packet's answer is a channel and a 16-bit number");
 _Static_assert(sizeof(maze_traced) == 4 && offsetof(maze_traced, hops) == 2, "a trace is two 16-bit numbers");
+
+_Static_assert(sizeof(maze_arbiter) == 2 && _Alignof(maze_arbiter) == _Alignof(uint16_t), "a record is one 16-bit number");
+_Static_assert(sizeof(maze_served) == 4 && offsetof(maze_served, requester) == 2, "what is served is two 16-bit numbers");
 
 #define HAS_TYPE(call, answer, ...) _Static_assert(_Generic(&call, answer (*)(__VA_ARGS__): 1, default: 0), #call)
 HAS_TYPE(maze_make, uint16_t, uint8_t *, size_t, uint16_t);
@@ -17,6 +22,11 @@ HAS_TYPE(maze_unblock, uint16_t, uint8_t *, size_t, uint16_t, uint16_t);
 HAS_TYPE(maze_open, maze_opened, uint8_t *, size_t, uint16_t, uint16_t, uint16_t, uint16_t, uint16_t);
 HAS_TYPE(maze_close, uint16_t, uint8_t *, size_t, uint16_t, uint16_t);
 HAS_TYPE(maze_trace, maze_traced, const uint8_t *, size_t, uint16_t, uint16_t, uint8_t *, size_t);
+HAS_TYPE(maze_arbitrate, maze_served, maze_arbiter *, uint32_t);
+HAS_TYPE(maze_receive_start, maze_receive_channel, uint32_t, uint32_t, uint16_t);
+HAS_TYPE(maze_receive_data, maze_received, maze_receive_channel);
+HAS_TYPE(maze_receive_word, maze_received, maze_receive_channel, uint16_t);
+HAS_TYPE(maze_receive_overshoot, uint32_t, maze_receive_channel);
 
 static const struct {
     const char *name;
@@ -44,6 +54,8 @@ static const struct {
     NAME(MAZE_RESERVED_COMMAND, 18),
     NAME(MAZE_CARRIED_TOO_LARGE, 19),
     NAME(MAZE_UNREADABLE_LINE, 20),
+    NAME(MAZE_CHANNEL_STOPPED, 30),
+    NAME(MAZE_BAD_REQUESTER, 31),
     NAME(MAZE_TABLE_BYTES, 8449),
     NAME(MAZE_NODES, 256),
     NAME(MAZE_PORTS, 8),
@@ -80,6 +92,9 @@ static const struct {
     NAME(MAZE_STATUS_FLUSH_PATH, 0),
     NAME(MAZE_STATUS_PARITY_ERROR_FORWARD, 1),
     NAME(MAZE_STATUS_CODE_PLACE, 16),
+    NAME(MAZE_REQUESTERS, 26),
+    NAME(MAZE_REQUESTER_PORTS, 18),
+    NAME(MAZE_REQUESTER_NOBODY, 26),
 };
 
 /* What the macros read in a table, beside document 01's layout: each byte is the low byte of its place plus 1, so that neighbours

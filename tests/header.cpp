@@ -29,6 +29,16 @@ int main() {
     check(maze_unblock(table.data(), table.size(), 1, 2) == MAZE_ACCEPTED, "unblock");
     check(maze_word_read(2437).command == 6, "read a word");
     check(maze_word_write(1, 0).word == 2112, "write a word");
+    maze_arbiter arbiter = {MAZE_REQUESTERS - 1};
+    const maze_served served = maze_arbitrate(&arbiter, 1u << MAZE_REQUESTER_PORTS | 4);
+    check(served.number == MAZE_ACCEPTED && served.requester == 2 && arbiter.last == 2, "arbitrate");
+    const maze_received taken = maze_receive_data(maze_receive_start(4294967288u, 1, 256));
+    check(taken.number == MAZE_ACCEPTED && taken.channel.address == 0 && taken.channel.count == 0 && taken.channel.running == 1 && taken.channel.overflow == 0 && taken.channel.ignores == 1, "a data packet");
+    const maze_received over = maze_receive_data(taken.channel);
+    check(over.number == MAZE_ACCEPTED && over.channel.address == 0 && over.channel.overflow == 1 && maze_receive_overshoot(over.channel) == 1, "one too many");
+    const maze_received ended = maze_receive_word(over.channel, 3648);
+    check(ended.number == MAZE_ACCEPTED && ended.channel.running == 0 && ended.channel.count == 4294967295u, "an end of transmission");
+    check(maze_receive_data(ended.channel).number == MAZE_CHANNEL_STOPPED, "a stopped channel");
 
     std::printf("%u passed, %u failed\n", passed, failed);
     return failed != 0;

@@ -8,6 +8,11 @@
 #include "../bench/baseline.h"
 #define maze_word_read base_word_read
 #define maze_word_write base_word_write
+#define maze_arbitrate base_arbitrate
+#define maze_receive_start base_receive_start
+#define maze_receive_data base_receive_data
+#define maze_receive_word base_receive_word
+#define maze_receive_overshoot base_receive_overshoot
 #endif
 
 #ifdef SUBJECT_BASELINE

@@ -1,4 +1,4 @@
-// The refusal numbers of document 01, "Where each call is stopped". Success is 0.
+// The refusal numbers of document 01, "Where each call is stopped", and of document 02. Success is 0.
 pub const ACCEPTED: u16 = 0;
 
 // The lent table.
@@ -47,3 +47,9 @@ pub const CARRIED_TOO_LARGE: u16 = 19;
 
 // The printed list.
 pub const UNREADABLE_LINE: u16 = 20;
+
+// A packet to a receive channel (document 02).
+pub const CHANNEL_STOPPED: u16 = 30;
+
+// The arbiter: a request or a record that is no requester.
+pub const REQUESTER: u16 = 31;

@@ -34,6 +34,7 @@ fn digit(d: u32) -> u8
     48 + d as u8
 }
 
+// How many digits a number has.
 fn digit_count(n: u32) -> usize
     ensures { λ r. ⌜ r ≡ length (decimal n) ⌝ }
 {

@@ -1,14 +1,20 @@
-// The calls that C links, over bare numbers and byte slices. Each hands its arguments on to the call that is proved, and promises the same.
+// The calls that C links, over bare numbers, byte slices and the arbiter's record. Each hands its arguments on to the call that is proved, and promises the same.
 ghost use mathlib.Core.Path.{_≡_};
 ghost use mathlib.Core.List.{[]};
+ghost use Rattle.arbiter.specs.Arbiter.{arbitrated, choice};
 ghost use Rattle.command_word.specs.Word.{readWord, writeWord};
 ghost use Rattle.ownership.specs.Calls.{only, making, blocking, unblocking, opening, closing, tracing};
 ghost use Rattle.ownership.specs.OnTable.{called, done};
+ghost use Rattle.receiver.specs.Receive.{dataPacket, commandWord, started, received, overshoot};
+use arbiter::Arbiter;
+use arbiter::Served;
 use command_word::CommandWord;
 use command_word::WordRead;
 use command_word::WordWritten;
 use cube::Node;
 use cube::Port;
+use receiver::Channel;
+use receiver::Received;
 use router::Opened;
 use router::Traced;
 
@@ -73,4 +79,39 @@ pub extern "C" fn maze_word_write(command: u16, carried: u16) -> WordWritten
     ensures { λ r. ⌜ r ≡ writeWord command carried ⌝ }
 {
     CommandWord::write(command, carried)
+}
+
+#[no_mangle]
+pub extern "C" fn maze_arbitrate(arbiter: &mut Arbiter, requests: u32) -> Served
+    ensures { λ r. ⌜ choice r (now (arbiter .exit) .last) ≡ arbitrated (now (arbiter .entry) .last) requests ⌝ }
+{
+    arbiter::serve(arbiter, requests)
+}
+
+#[no_mangle]
+pub extern "C" fn maze_receive_start(address: u32, count: u32, ignores: u16) -> Channel
+    ensures { λ r. ⌜ r ≡ started address count ignores ⌝ }
+{
+    receiver::start(address, count, ignores)
+}
+
+#[no_mangle]
+pub extern "C" fn maze_receive_data(channel: Channel) -> Received
+    ensures { λ r. ⌜ r ≡ received channel dataPacket ⌝ }
+{
+    receiver::take_data(channel)
+}
+
+#[no_mangle]
+pub extern "C" fn maze_receive_word(channel: Channel, word: u16) -> Received
+    ensures { λ r. ⌜ r ≡ received channel (commandWord word) ⌝ }
+{
+    receiver::take_word(channel, word)
+}
+
+#[no_mangle]
+pub extern "C" fn maze_receive_overshoot(channel: Channel) -> u32
+    ensures { λ r. ⌜ r ≡ overshoot channel ⌝ }
+{
+    receiver::overshoot(channel)
 }

@@ -1,7 +1,8 @@
-// Runs document 01's examples through the library and prints what it gets; the gate compares that with the stored answers.
+// Runs document 01's examples, and a few calls of the arbiter, through the library and prints what it gets; the gate compares that with the stored answers.
 mod calls;
 mod print;
 mod refusals;
+mod served;
 mod words;
 
 fn main() {
@@ -10,4 +11,5 @@ fn main() {
     words::carried();
     words::examples();
     calls::examples();
+    served::run();
 }

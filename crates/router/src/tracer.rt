@@ -8,7 +8,6 @@ ghost use Rattle.soundness.specs.SoundTest.{pathOf, isEmpty};
 ghost use Rattle.soundness.specs.Follow.{HasSource};
 ghost use Rattle.ownership.specs.Calls.{written};
 use cube::Circuit;
-use cube::Node;
 
 // Writes the ports of an open circuit from the start of a buffer, one byte a hop in path order, and answers how many hops it has.
 pub fn write_path(t: &[u8], c: Circuit, buffer: &mut [u8]) -> u16
@@ -22,6 +21,7 @@ pub fn write_path(t: &[u8], c: Circuit, buffer: &mut [u8]) -> u16
     let source = cube::source_of(c);
     let first = soundness::first_hop(t, c, source, left);
     buffer[0] = first.0 as u8;
+    // The port of the first hop may be taken again; behind it each port is taken once.
     let mut at = cube::neighbour(source, first);
     let mut hops: u16 = 1;
     loop {

@@ -1,0 +1,2 @@
+-- Where a circuit and its receive channel meet.
+pub mod Meets

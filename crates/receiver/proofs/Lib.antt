@@ -1,0 +1,3 @@
+-- What a packet does to a channel, clause by clause, as the functions' proofs cite it; and the theorem about lists of packets.
+pub mod Steps
+pub mod Agreement
