@@ -5,7 +5,7 @@ use Prim.Native.Nat.{ℕ, _-_}
 use lib.Dec.{eqb, ltb}
 use Rattle.cube.specs.Bits.{has}
 
--- Document 02, (h): "port 17 - p leads where port p leads". A port below 9 is its own axis; 9 to 17 are partners, and share that of 17 less them.
+-- Document 02, (h): "port 17 - p leads where port p leads". A port below 9 is its own axis, and the axis of port q above is 17 - q.
 unfoldable pub axis : ℕ → ℕ
 axis q = cond (ltb q 9) q (17 - q)
 

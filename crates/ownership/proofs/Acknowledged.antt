@@ -32,7 +32,7 @@ module _ (S : Shape) (free : ℕ → ℕ → Bool) (r : Receive) (s t : ℕ) whe
     pub is-free : (l : Link) → l ∈ links (network S) s w → free (l .0) (l .1) ≡ true
     pub receives : r ≡ channel k
 
-  -- what a pass over ports below D comes to
+  -- what a pass over ports of the cube comes to
   pass-taken : (ps : List ℕ) → ((p : ℕ) → p ∈ ps → p ∈ ports S) → (x : Pass) → Says (network S) free s ps t x
       → (w : Path) (k : ℕ) → outcome r x ≡ acknowledged w k → Taken w k
   unfolding outcome received

@@ -41,7 +41,7 @@ listed-some s c (x ∷ xs) e = go (belongs s c x) refl (listed-some s c xs)
     go false f ih = let r = ih (rw f at e) in (r .0, List·Memᴰ·tail (r .1), r .2, rw f (r .3))
 
 module _ (h : History) (valid : Valid h) (s c : ℕ) (small : c < 8) where
-  -- a listed circuit of the send channel has its number, and the trail finds its path
+  -- a listed circuit of the send channel has its number, and its path is the one recovered
   found : (x : Circuit) → x ∈ h .circuits → belongs s c x ≡ true → pathOf (viewOf h) (circuitOf s c) ≡ x .ports
   found x m e =
       let r = belongs-parts s c x e in

@@ -26,8 +26,8 @@ use Rattle.paths.proofs.Depth.{over-cons, arriving-scan}
 abbrev pub others : Network → List ℕ → ℕ → ℕ → List ℕ
 others N ports t n = keep (λ p. not (N .offers t n p)) ports
 
--- what the bound alone asks of a network and the ports of its nodes: a target is at most D hops away; at most m ports are offered for each hop
--- that it is away, and at most m others there are for each of the D that it is not, which lead one farther
+-- what the bound alone asks of a network and the ports of its nodes: a target is at most D hops away; a node offers at most m ports for each
+-- hop that it is away, has at most m others for each of the D that it is not, and these lead one farther
 pub record Cubical (N : Network) (ports : List ℕ) (D m t : ℕ) : Type 0 where
   pub there : N .far t t ≡ 0
   pub within : (n : ℕ) → N .far t n ≤ D

@@ -83,7 +83,7 @@ passing true e = e
 passing false e = absurd (false≢true e)
 
 module _ (v : View) where
-  -- the trail finds the path on which a circuit stands
+  -- the path recovered is the one on which a circuit stands
   pub path-is : (c : ℕ) (s : Stands v c) → pathOf v c ≡ s .path
   unfolding pathOf
   path-is c s = path-found (shapeOf v) (heldBy v c) (sourceOf c) (endFor v c (s .path)) (s .path) (s .permitted) (s .exactly)

@@ -27,7 +27,7 @@ abbrev pub endFor : View → ℕ → Path → ℕ
 endFor v c w = end (net v) (sourceOf c) w
 
 -- circuit number c "stands on exactly the links of one permitted path from its source, and on exactly one receive channel, at that path's end".
--- The path is permitted for some send vector, so its first hop is any port below D, and its target is its end.
+-- The path is permitted for some send vector, so its first hop is any port of the cube, and its target is its end.
 pub record Stands (v : View) (c : ℕ) : Type 0 where
   pub path : Path
   pub permitted : Permitted (net v) (sourceOf c) (ports (shapeOf v)) (endFor v c path) path
