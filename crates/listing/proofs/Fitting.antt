@@ -11,12 +11,10 @@ use lib.Dec.{eqb, ltb, leb, lit≤, lit<}
 use lib.ListN.{length, getD, take, drop, length-append}
 use lib.Seq.{take-append-seam}
 use borrow.Author.Tests.{eqb-true, ltb-false}
-use Rattle.common.specs.Lists.{_∈_}
 use Rattle.common.proofs.Tests.{same?, below-or}
 use Rattle.cube.specs.Cube.{circuitOf}
 use Rattle.paths.specs.Network.{Path}
-use Rattle.paths.proofs.CubeNetwork.{unfolded-port}
-use Rattle.paths.proofs.Apart.{permitted-ports}
+use Rattle.paths.proofs.Apart.{permitted-below}
 use Rattle.paths.proofs.CubeNetwork.{path-hops}
 use Rattle.table.specs.Layout.{made}
 use Rattle.table.specs.View.{view}
@@ -136,7 +134,7 @@ module _ (b : List ℕ) (s c : ℕ) where
       let t = pass-tests b (none-stops-lent b trace (λ D q. let z : _≡_ {A = ℕ} 0 1 = cc in omega arith) e) in
       let stands = open-stands (view b) (t .3) s c .0 (allowed (askedOf (view b)) trace (none-stops b trace e) .2) in
       let most : view b .dimension ≤ 8 = unfold view in t .2 in
-      let below : (q : ℕ) → q ∈ stands .path → q < view b .dimension = λ q m. unfolded-port (shapeOf (view b)) most refl q .0 (permitted-ports (shapeOf (view b)) _ _ (stands .path) (stands .permitted) q m) in
+      let below = permitted-below (shapeOf (view b)) most refl _ _ (stands .path) (stands .permitted) in
       let hops = path-hops (shapeOf (view b)) _ _ _ (stands .path) (stands .permitted) .1 in
       rw (path-is (view b) (circuitOf s c) stands) (path-width (stands .path) (omega arith) (turn-length (view b .dimension) (stands .path) (omega arith) below))
 

@@ -12,8 +12,7 @@ use Rattle.cube.proofs.Axes.{next-inside}
 use Rattle.cube.proofs.Ports.{below-256}
 use Rattle.paths.specs.Network.{Path}
 use Rattle.paths.specs.Send.{Outcome, acknowledged, route-rejected, receive-rejected}
-use Rattle.paths.proofs.CubeNetwork.{unfolded-port}
-use Rattle.paths.proofs.Apart.{permitted-ports}
+use Rattle.paths.proofs.Apart.{permitted-below}
 use Rattle.table.specs.Layout.{tableLength, putOwner}
 use Rattle.table.specs.View.{View, view, setReceiver, receive}
 use Rattle.soundness.specs.Sound.{shapeOf}
@@ -67,6 +66,6 @@ sent-fits v s t y vector h i j = go (sendIn v s t y vector .outcome) refl
     go : (o : Outcome) → sendIn v s t y vector .outcome ≡ o → Fits (v .dimension) o
     go (acknowledged w k) e =
         let r = send-taken (shapeOf v) (freeIn v) (receive v t) s t vector h i j w k y (unfold sendIn in e) in
-        unfold Fits PortsBelow in ((λ q m. unfolded-port (shapeOf v) h refl q .0 (permitted-ports (shapeOf v) s t w (r .permitted) q m)), receive-small v t k (r .receives))
+        unfold Fits PortsBelow in (permitted-below (shapeOf v) h refl s t w (r .permitted), receive-small v t k (r .receives))
     go route-rejected e = unfold Fits in tt
     go receive-rejected e = unfold Fits in tt

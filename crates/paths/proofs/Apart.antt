@@ -4,7 +4,7 @@ use mathlib.Core.Path.{_≡_, refl, ap, sym, _∙_}
 use mathlib.Core.Logic.{_⊎_, inl, inr, ⊎-elim, _≢_}
 use mathlib.Core.Bool.{true, not}
 use mathlib.Core.List.{List, [], _∷_, List·Memᴰ·head, List·Memᴰ·tail, List·Memᴰ·not-nil}
-use Prim.Native.Nat.{ℕ}
+use Prim.Native.Nat.{ℕ, _≤_, _<_}
 use native.Mathlib.Omega.{arith}
 use borrow.Author.Tests.{ne-eqb}
 use Rattle.common.specs.Lists.{_∈_}
@@ -18,7 +18,7 @@ use Rattle.paths.specs.Network.{Path, end}
 use Rattle.paths.specs.Permitted.{Onward, Permitted}
 use Rattle.paths.specs.CubeNetwork.{Shape, Node, ports, network}
 use Rattle.paths.proofs.Links.{On, on-cases, on-none}
-use Rattle.paths.proofs.CubeNetwork.{uphill-flipped, uphill-kept, uphill-there, port-axis, offered-port, port-offered}
+use Rattle.paths.proofs.CubeNetwork.{uphill-flipped, uphill-kept, uphill-there, port-axis, offered-port, port-offered, unfolded-port}
 
 -- no port of a list has this axis
 unfoldable pub Avoids : ℕ → List ℕ → Type 0
@@ -85,10 +85,13 @@ module _ (S : Shape) where
   unfolding Permitted LaterApart end
   apart-permitted s (p ∷ w) h = (h .0, apart-onward (network S .next s p) w (h .1))
 
-  -- the ports of a permitted path are the cube's,
-  pub permitted-ports : (s t : ℕ) (w : Path) → Permitted (network S) s (ports S) t w → (q : ℕ) → q ∈ w → q ∈ ports S
+  -- the ports of a permitted path are the cube's, so below D where nothing is folded,
+  permitted-ports : (s t : ℕ) (w : Path) → Permitted (network S) s (ports S) t w → (q : ℕ) → q ∈ w → q ∈ ports S
   unfolding Permitted
   permitted-ports s t (p ∷ w) o = all-cons (_∈ ports S) (o .0) (apart-ports S w (onward-apart t (network S .next s p) w (o .1)))
+
+  pub permitted-below : S .dimension ≤ 8 → S .fold ≡ 0 → (s t : ℕ) (w : Path) → Permitted (network S) s (ports S) t w → (q : ℕ) → q ∈ w → q < S .dimension
+  permitted-below h z s t w o q m = unfolded-port S h z q .0 (permitted-ports s t w o q m)
 
   -- and a path over such ports does not leave the cube: its links and its end lie there
   ports-inside : (n : ℕ) (w : Path) → ((q : ℕ) → q ∈ w → q ∈ ports S) → Node S n → ((m q : ℕ) → On (network S) n w m q → Node S m × (q ∈ ports S)) × Node S (end (network S) n w)

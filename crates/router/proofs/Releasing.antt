@@ -22,8 +22,7 @@ use Rattle.paths.specs.Network.{Network, Path, end, links, hasLink}
 use Rattle.paths.specs.Send.{acknowledged}
 use Rattle.paths.specs.CubeNetwork.{Shape, network}
 use Rattle.paths.proofs.Links.{link-true, true-link}
-use Rattle.paths.proofs.CubeNetwork.{unfolded-port}
-use Rattle.paths.proofs.Apart.{permitted-ports, permitted-inside}
+use Rattle.paths.proofs.Apart.{permitted-below, permitted-inside}
 use Rattle.table.specs.Layout.{Within, dimensionAt, receiverAt, putOwner, putReceiver, freed}
 use Rattle.table.specs.View.{View, view, setReceiver, setAt, freeing}
 use Rattle.table.specs.Encode.{encode}
@@ -107,7 +106,7 @@ module _ {b : List ℕ} {c : ℕ} (known : HasSource b c) (some : not (isEmpty (
   unfolding view
   ports-below =
       subst (PortsBelow (dimensionAt b)) same
-      (unfold PortsBelow in λ q m. unfolded-port (shapeOf (view b)) (known .fits) refl q .0 (permitted-ports (shapeOf (view b)) (sourceOf c) (endFor (view b) c (stands .path)) (stands .path) (stands .permitted) q m))
+      (unfold PortsBelow in permitted-below (shapeOf (view b)) (known .fits) refl (sourceOf c) (endFor (view b) c (stands .path)) (stands .path) (stands .permitted))
 
   target-inside : target < 2 ^ dimensionAt b
   unfolding view
