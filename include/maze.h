@@ -1,16 +1,18 @@
 /* The maze router's calls for C and C++: the table of one cube, its circuits, command words, the routing arbiter, and a receive channel.
  *
- * Every call finishes, takes any numbers, and answers MAZE_ACCEPTED or a refusal number. The tests of a call run in rising order of
- * number, and the first that applies is the answer. A refused call alters no byte lent to it and answers zero beside its number; only
- * MAZE_ROUTE_REJECTED and MAZE_RECEIVE_REJECTED carry their scouts, and a receive channel comes back as it was. Numbers are tested at their 16 bits and never cut: node 256 is not
- * node 0. (C itself cuts a wider number to 16 bits before the call.)
+ * Every call finishes, takes any numbers, and answers MAZE_ACCEPTED or a refusal number; maze_receive_start and maze_receive_overshoot, which
+ * refuse nothing, answer a channel and a count. The tests of a call run in rising order of number, and the first that applies is the answer. A
+ * refused call alters no byte lent to it and answers zero beside its number; only MAZE_ROUTE_REJECTED and MAZE_RECEIVE_REJECTED carry their
+ * scouts, and a receive channel comes back as it was. Numbers are tested at their whole width and never cut: node 256 is not node 0. (C itself
+ * cuts a wider number to the width of the parameter before the call.)
  *
  * What the caller sees to:
- * - A pointer comes with a length, and points to at least that many bytes that stay valid during the call; those of a table may be
+ * - A pointer to bytes comes with a length, and points to at least that many bytes that stay valid during the call; those of a table may be
  *   written by every call but maze_trace, those of a buffer by maze_trace. With length 0 the pointer may be anything, also null. No
  *   alignment is asked for.
  * - The buffer of maze_trace does not overlap the table.
- * - The arbiter lent to maze_arbitrate is a maze_arbiter of the caller's, never null, that nobody else reads or writes during the call.
+ * - The arbiter lent to maze_arbitrate is a maze_arbiter of the caller's, aligned as C aligns one and never null, that nobody else reads or
+ *   writes during the call.
  * - During a call nobody else reads or writes the table or the buffer. A search marks the links of its path in the table as it goes and
  *   frees each of them again where it goes back, so a table looked at during a call may show circuits that are never opened, even where the
  *   call is refused in the end. Between calls anybody may read the table. Calls on different tables may run at the same time: the library keeps
@@ -228,7 +230,7 @@ maze_served maze_arbitrate(maze_arbiter *arbiter, uint32_t requests);
  * number of which 0 alone says no. A state that is all zero is stopped. */
 typedef struct {
     uint32_t address; /* where the next doubleword goes */
-    uint32_t count;   /* doublewords still to come; below zero it wraps and counts on */
+    uint32_t count;   /* doublewords still to come; below zero it wraps and keeps counting down */
     uint8_t running;  /* 0: stopped */
     uint8_t overflow; /* the overflow mark; 0: clear */
     uint8_t ignores;  /* 0: an end of message stops the channel */

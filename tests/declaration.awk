@@ -3,7 +3,7 @@ function indent(line) { match(line, /^ */); return RLENGTH }
 /^ *$/ || /^ *--/ { next }
 FNR <= LINE {
     while (depth > 0 && indent($0) <= level[depth]) depth--
-    if ($0 ~ /^ *module _/) { level[++depth] = indent($0); next }
+    if ($0 ~ /^[[:space:]]*(pub )?module[[:space:]]/) { level[++depth] = indent($0); next }
     if (indent($0) != (depth ? level[depth] + 2 : 0)) next
     words = split($0, word, " ")
     kind = 0

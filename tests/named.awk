@@ -33,10 +33,12 @@
                 print "name", crate, file, name
             } else if (crate != "" && file != "" && name ~ /^[^ ]+$/) print "name", crate, file, name
             else if (crate != "" && file == "" && name ~ /^[a-z0-9_]+$/) print "edit", crate, name
-            # a name within a sentence
+            # a name within a sentence; what follows after a comma is of its file too
             else while (match(name, /[a-z_]+\/[A-Z][A-Za-z]*\.[^ .]+/)) {
                 split(substr(name, RSTART, RLENGTH), within, /[\/.]/)
-                print "name", within[1], within[2], within[3]
+                crate = within[1]
+                file = within[2]
+                print "name", crate, file, within[3]
                 name = substr(name, RSTART + RLENGTH)
             }
         }

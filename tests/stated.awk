@@ -1,6 +1,11 @@
-# What a file of definitions or proofs states under given names: for each name of NAMES, a header 'KEY.name' and the text of its declaration. A
-# definition, record or data type is printed whole, a theorem by its statement alone; above both stand the section headers that bind their variables.
-# Comments are left out. A field or a constructor stands for the type that has it. Exit status 1 where a name is not declared.
+# What a file of definitions or proofs states: a header 'KEY.name' for each declaration that is asked for, and its text. A definition, record or data type is
+# printed whole, a theorem by its statement alone; above both stand the section headers that bind their variables. Comments are left out.
+#
+#     NAMES   the names asked for, where a field or a constructor stands for the type that has it; exit status 1 where one is not declared
+#     WHOLE   1: also every definition of the file. 2: also every theorem, and the file's `use` lines
+#
+# A line that is neither of a declaration nor a `use`, `mod`, `infix`, `ruleset`, section header or line comment is not understood: it is printed as such, and so is a
+# block comment, so that nothing stands in a file unseen.
 BEGIN {
     count = split(NAMES, list, " ")
     for (i = 1; i <= count; i++) wanted[list[i]] = 1
@@ -8,13 +13,14 @@ BEGIN {
 }
 function indent(line) { match(line, /^ */); return RLENGTH }
 # the name that a line declares, or nothing; whether it is a definition, printed whole, is left in `whole`
-function declared(line,    n, w, i) {
+function declared(line,    n, w, i, kind) {
     n = split(line, w, " ")
-    whole = 0
+    whole = kind = 0
     for (i = 1; i <= n; i++) {
         if (w[i] == "pub" || w[i] == "private") continue
-        if (w[i] == "abbrev" || w[i] == "unfoldable" || w[i] == "record" || w[i] == "data") { whole = 1; continue }
-        return (i < n && (w[i + 1] == ":" || line ~ / (record|data) |^(record|data) /)) ? w[i] : ""
+        if (w[i] == "abbrev" || w[i] == "unfoldable") { whole = 1; continue }
+        if (w[i] == "record" || w[i] == "data") { whole = kind = 1; continue }
+        return (i < n && (w[i + 1] == ":" || kind)) ? w[i] : ""
     }
     return ""
 }
@@ -23,40 +29,53 @@ function headers(    i, text) {
     for (i = 1; i <= depth; i++) text = text section[i]
     return text
 }
-# a run of lines without an empty one between them is one declaration
+function print_once(name, text) { if (!(name in found)) { found[name] = 1; printf "== %s.%s\n%s%s\n", KEY, name, headers(), text } }
+# a run of lines without an empty one between them is one declaration, or a line of a kind that declares nothing
 function ended(    i, name, text, at, signature) {
     if (lines == 0) return
-    name = declared(line[1])
-    if (name == "") { lines = 0; return }
     at = indent(line[1])
+    name = declared(line[1])
+    if (name == "") {
+        for (i = 1; i <= lines; i++)
+            if (line[i] ~ /^use /) { if (WHOLE > 1) print KEY ": " line[i] }
+            else if (line[i] !~ /^((pub )?mod|ruleset) / && at <= outer) print "== " KEY ": not understood: " line[i]
+        lines = 0
+        return
+    }
+    outer = at
     text = ""
     signature = !whole
     for (i = 1; i <= lines; i++) {
         if (signature && i > 1 && indent(line[i]) <= at) break
         text = text line[i] "\n"
     }
-    if (name in wanted) { found[name] = 1; printf "== %s.%s\n%s%s\n", KEY, name, headers(), text }
-    if (!signature)
-        for (i = 2; i <= lines; i++) {
-            name = declared(line[i])
-            if (indent(line[i]) > at && (name in wanted) && !(name in found)) { found[name] = 1; printf "== %s.%s\n%s%s\n", KEY, name, headers(), text }
-        }
+    # what stands in a `where` block belongs to the declaration above it
+    if (at == (depth ? level[depth] + 2 : 0)) {
+        if ((name in wanted) || (WHOLE && !signature) || WHOLE > 1) print_once(name, text)
+        if (!signature)
+            for (i = 2; i <= lines; i++)
+                if (indent(line[i]) > at && ((name = declared(line[i])) in wanted)) print_once(name, text)
+    } else if (at < (depth ? level[depth] + 2 : 0)) print "== " KEY ": not understood: " line[1]
     lines = 0
 }
+/\{-|-\}/ { print "== " KEY ": a block comment: " $0 }
 /^ *--/ { next }
-/^ *$/ { ended(); next }
+/^[[:space:]]*$/ { ended(); next }
 {
     if (opening) {
         section[depth] = section[depth] $0 "\n"
         if ($0 ~ /where$/) opening = 0
         next
     }
-    if (lines == 0)
+    if (lines == 0) {
+        if ($0 ~ /^infix/) next
         while (depth > 0 && indent($0) <= level[depth]) depth--
-    if ($0 ~ /^ *module _/) {
+    }
+    if ($0 ~ /^[[:space:]]*(pub )?module[[:space:]]/) {
         ended()
+        while (depth > 0 && indent($0) <= level[depth]) depth--
         depth++
-        level[depth] = indent($0)
+        level[depth] = outer = indent($0)
         section[depth] = $0 "\n"
         opening = ($0 !~ /where$/)
         next

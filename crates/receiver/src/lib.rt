@@ -59,7 +59,7 @@ pub fn take_data(channel: Channel) -> Received
     }
 }
 
-// Counts a doubleword. The address looks at the mark: once the count has wrapped below zero it is not zero any more.
+// Counts a doubleword. The mark decides whether the address moves: once the count has wrapped below zero it is not zero any more.
 fn doubleword(channel: Channel) -> Channel
     ensures { λ r. ⌜ r ≡ afterData channel ⌝ }
 {
