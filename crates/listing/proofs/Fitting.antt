@@ -134,7 +134,7 @@ module _ (b : List ℕ) (s c : ℕ) where
       let t = pass-tests b (none-stops-lent b trace (λ D q. let z : _≡_ {A = ℕ} 0 1 = cc in omega arith) e) in
       let stands = open-stands (view b) (t .3) s c .0 (allowed (askedOf (view b)) trace (none-stops b trace e) .2) in
       let most : view b .dimension ≤ 8 = unfold view in t .2 in
-      let below = permitted-below (shapeOf (view b)) _ _ (stands .path) (stands .permitted) in
+      let below = permitted-below (shapeOf (view b)) most refl _ _ (stands .path) (stands .permitted) in
       let hops = path-hops (shapeOf (view b)) _ _ _ (stands .path) (stands .permitted) .1 in
       rw (path-is (view b) (circuitOf s c) stands) (path-width (stands .path) (omega arith) (turn-length (view b .dimension) (stands .path) (omega arith) below))
 

@@ -40,7 +40,7 @@ module _ (b : List ℕ) (long : length b ≡ tableLength) (most : dimensionAt b 
   shows (blocking n p) h = view-put-enabled b n p false (place n p (h .0) (h .1))
   shows (unblocking n p) h = view-put-enabled b n p true (place n p (h .0) (h .1))
   shows (opening s c t y v) h =
-      view-marked (circuitOf s c) (circuit-small s c (h .0) (h .2)) (dimensionAt b) most b long s t (h .0) (h .1) (sendIn (view b) s t y v .outcome) (sent-fits (view b) s t y v (h .0) (h .1))
+      view-marked (circuitOf s c) (circuit-small s c (h .0) (h .2)) (dimensionAt b) most b long s t (h .0) (h .1) (sendIn (view b) s t y v .outcome) (sent-fits (view b) s t y v most (h .0) (h .1))
   shows (closing s c) h = view-freed b (circuitOf s c) long
   shows (tracing s c buffer) h = refl
 

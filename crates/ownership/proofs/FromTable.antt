@@ -23,9 +23,10 @@ use Rattle.table.specs.View.{View, view}
 use Rattle.soundness.specs.Sound.{endFor, Stands, Sound}
 use Rattle.soundness.specs.SoundTest.{pathOf, isEmpty, tableTests}
 use Rattle.soundness.proofs.Soundness.{path-is, link-stands, receive-stands}
+use Rattle.paths.specs.CubeNetwork.{ports}
 use Rattle.ownership.specs.Calls.{Call}
 use Rattle.ownership.specs.OnTable.{called}
-use Rattle.ownership.specs.History.{Circuit, History, netOn, linksOf, holdsLink, holdsReceive, enabledOn}
+use Rattle.ownership.specs.History.{Circuit, History, shapeOn, netOn, linksOf, holdsLink, holdsReceive, enabledOn}
 use Rattle.ownership.specs.Lists.{numberOf, viewOf, Standing, Separate, Valid, Covered, Agrees}
 use Rattle.ownership.specs.FromTable.{linksOut, circuitAt, openNumbers, historyOf}
 use Rattle.ownership.proofs.Circuits.{numberFor, number-none, Once, number-at}
@@ -82,7 +83,7 @@ module _ (v : View) (sound : Sound v) where
     unfolding circuitAt
     number-is = circuit-of-parts c (o .positive)
 
-    permitted-is : Permitted (netOn h) (circuitAt v c .source) (from 0 (h .dimension)) (circuitAt v c .target) (circuitAt v c .ports)
+    permitted-is : Permitted (netOn h) (circuitAt v c .source) (ports (shapeOn h)) (circuitAt v c .target) (circuitAt v c .ports)
     unfolding circuitAt historyOf
     permitted-is = rw (path-is v c (o .stands)) (o .stands .permitted)
 

@@ -15,7 +15,7 @@ use Rattle.cube.specs.Cube.{circuitOf, sourceOf}
 use Rattle.cube.proofs.Bits.{no-bit-above}
 use Rattle.paths.specs.Network.{Path}
 use Rattle.paths.proofs.Links.{on-first}
-use Rattle.paths.proofs.Trail.{trail-owned}
+use Rattle.paths.proofs.Recover.{path-owned}
 use Rattle.table.specs.Layout.{tableLength, dimensionAt, enabledAt, ownerAt}
 use Rattle.table.specs.View.{View, view}
 use Rattle.soundness.specs.Sound.{shapeOf, net, heldBy, Stands, Sound}
@@ -63,7 +63,7 @@ open-says b s c t y v e =
 module _ (w : View) (sound : Sound w) (c : ℕ) (some : c ≢ 0) where
   first-held : (p : ℕ) (u : Path) → pathOf w c ≡ p ∷ u → heldBy w c (sourceOf c) p ≡ true
   unfolding pathOf
-  first-held p u q = trail-owned (shapeOf w) (heldBy w c) (sourceOf c) (sourceOf c) p (rw q (on-first (net w) (sourceOf c) p u))
+  first-held p u q = path-owned (shapeOf w) (heldBy w c) (sourceOf c) (sourceOf c) p (rw q (on-first (net w) (sourceOf c) p u))
 
   pub path-stands : not (isEmpty (pathOf w c)) ≡ true → Stands w c
   path-stands e = go (pathOf w c) refl

@@ -28,7 +28,7 @@ pub record History : Type 0 where
   pub circuits : List Circuit
 
 abbrev pub shapeOn : History → Shape
-shapeOn h = record { dimension = h .dimension }
+shapeOn h = record { dimension = h .dimension; fold = 0 }
 
 abbrev pub netOn : History → Network
 netOn h = network (shapeOn h)

@@ -16,7 +16,7 @@ use Rattle.common.specs.Lists.{_∈_, lowest}
 use Rattle.common.proofs.Tests.{below-or, clash, is-false, both, and}
 use Rattle.common.proofs.Lowest.{lowest-passes, lowest-before}
 use Rattle.cube.specs.Cube.{next, sourceOf}
-use Rattle.cube.proofs.Bits.{flip-inside}
+use Rattle.cube.proofs.Axes.{next-inside}
 use Rattle.cube.proofs.Ports.{below-256}
 use Rattle.paths.specs.Network.{Network, Path, end, links, hasLink}
 use Rattle.paths.specs.Send.{acknowledged}
@@ -60,7 +60,7 @@ module _ (S : Shape) {b ports : List ℕ} {s hops : ℕ} where
   freeing-on {now} {after} {at} {to} {i} {p} f h room e l q t =
       record {
         most = omega arith;
-        node = rw t (flip-inside 8 at p (f .node) l);
+        node = rw t (next-inside 8 at p (omega arith) (f .node) l);
         long = ap length q ∙ owner-length now at p 0 ∙ f .long;
         ends = rw (t, add-one i) (sym (ap (end (network S) at) split ∙ (unfold end network in refl)) ∙ f .ends);
         holds = rw (q, t, add-one i) (sym (ap (hold now 0 at) split ∙ (unfold hold in refl)) ∙ f .holds);
@@ -106,7 +106,7 @@ module _ {b : List ℕ} {c : ℕ} (known : HasSource b c) (some : not (isEmpty (
   unfolding view
   ports-below =
       subst (PortsBelow (dimensionAt b)) same
-      (unfold PortsBelow in permitted-below (shapeOf (view b)) (sourceOf c) (endFor (view b) c (stands .path)) (stands .path) (stands .permitted))
+      (unfold PortsBelow in permitted-below (shapeOf (view b)) (known .fits) refl (sourceOf c) (endFor (view b) c (stands .path)) (stands .path) (stands .permitted))
 
   target-inside : target < 2 ^ dimensionAt b
   unfolding view

@@ -13,10 +13,10 @@ use borrow.Author.Tests.{ltb-true}
 use Rattle.common.specs.Lists.{keep, lowest}
 use Rattle.cube.specs.Bits.{has}
 use Rattle.cube.specs.Cube.{next, sourceOf, NodeCount, Without}
-use Rattle.cube.proofs.Bits.{flip-inside}
+use Rattle.cube.proofs.Axes.{next-inside}
 use Rattle.cube.proofs.Ports.{without-power}
 use Rattle.paths.specs.Network.{Network, Path}
-use Rattle.paths.specs.Trail.{hop, dropPort, course}
+use Rattle.paths.specs.Recover.{takeFirst, dropAxis, walkFrom}
 use Rattle.table.specs.Layout.{dimensionAt}
 use Rattle.table.specs.View.{View, view}
 use Rattle.soundness.specs.SoundTest.{pathOf, isEmpty}
@@ -25,21 +25,21 @@ use Rattle.soundness.proofs.Follow.{follow-on, follow-end, follow-port}
 use Rattle.soundness.proofs.Examine.{opened, path-behind, source-within}
 use Rattle.ownership.specs.Calls.{written}
 
--- a course is no longer than its fuel
-hop-short : (k : ℕ) (ps : List ℕ) (on : ℕ → Path) → ((p : ℕ) → length (on p) ≤ k) → length (hop ps on) ≤ suc k
-unfolding hop
-hop-short k [] on h = omega arith
-hop-short k (p ∷ ps) on h = omega (arith, h p)
+-- a walk is no longer than its fuel
+take-short : (k : ℕ) (ps : List ℕ) (on : ℕ → Path) → ((p : ℕ) → length (on p) ≤ k) → length (takeFirst ps on) ≤ suc k
+unfolding takeFirst
+take-short k [] on h = omega arith
+take-short k (p ∷ ps) on h = omega (arith, h p)
 
-course-short : (k : ℕ) (N : Network) (left : List ℕ) (own : ℕ → ℕ → Bool) (n : ℕ) → length (course k N left own n) ≤ k
-unfolding course
-course-short zero N left own n = omega arith
-course-short (suc k) N left own n =
-    hop-short k (keep (own n) left) (λ p. course k N (dropPort p left) own (N .next n p)) (λ p. course-short k N (dropPort p left) own (N .next n p))
+walk-short : (k : ℕ) (N : Network) (left : List ℕ) (own : ℕ → ℕ → Bool) (n : ℕ) → length (walkFrom k N left own n) ≤ k
+unfolding walkFrom
+walk-short zero N left own n = omega arith
+walk-short (suc k) N left own n =
+    take-short k (keep (own n) left) (λ p. walkFrom k N (dropAxis p left) own (N .next n p)) (λ p. walk-short k N (dropAxis p left) own (N .next n p))
 
 pub followed-short : (v : View) (c n left : ℕ) → length (followed v c n left) ≤ 8
 unfolding followed
-followed-short v c n left = course-short 8 _ _ _ n
+followed-short v c n left = walk-short 8 _ _ _ n
 
 -- writing from place 0 on leaves the path, and what was there behind it
 pub written-whole : (w : Path) (buffer : List ℕ) → length w ≤ length buffer → sets buffer 0 w ≡ written w buffer
@@ -76,7 +76,7 @@ module _ {v : View} {c left₀ n₀ left n hops q : ℕ} {buffer₀ buffer : Lis
     on-tracing {rest} {m} w to =
         let on : followed v c n left ≡ q ∷ followed v c m rest = follow-on v c n left q rest e h w ∙ ap (λ x. q ∷ followed v c x rest) (sym to) in
         record {
-          node = rw to (flip-inside 8 n q (inv .node) h);
+          node = rw to (next-inside 8 n q (omega arith) (inv .node) h);
           ports = omega (arith, w .value, inv .ports);
           count = omega (arith, inv .count, ap length on);
           bytes = ap (λ i. sets (set buffer hops q) i (followed v c m rest)) (add-one hops) ∙ ap (sets buffer hops) (sym on) ∙ inv .bytes;
@@ -105,7 +105,7 @@ module _ {b : List ℕ} {c D nodes s a : ℕ} (known : HasSource b c) (d : D ≡
     pub start-tracing : (buffer : List ℕ) → Tracing (view b) c buffer (nodes - 1) start buffer (nodes - 1) start 1
     start-tracing buffer =
         record {
-          node = rw to (flip-inside 8 s a (source-within known d m q .node) first-below);
+          node = rw to (next-inside 8 s a (omega arith) (source-within known d m q .node) first-below);
           ports = omega (arith, m .some, m .most);
           count = refl;
           bytes = refl;

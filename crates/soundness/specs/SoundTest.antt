@@ -12,7 +12,7 @@ use Rattle.common.specs.Lists.{every}
 use Rattle.common.specs.Tests.{Test, test, refusal}
 use Rattle.cube.specs.Cube.{sourceOf}
 use Rattle.paths.specs.Network.{Path, links, hasLink}
-use Rattle.paths.specs.Trail.{trail}
+use Rattle.paths.specs.Recover.{pathOfLinks}
 use Rattle.table.specs.Layout.{tableLength, dimensionAt, EnablesFit}
 use Rattle.table.specs.View.{View, view, channelsHeld}
 use Rattle.soundness.specs.Sound.{shapeOf, net, heldBy, endFor, Sound}
@@ -20,7 +20,7 @@ use Rattle.soundness.specs.Marks.{markCount, marked, Adds}
 
 -- the path that the links held by circuit c make
 unfoldable pub pathOf : View → ℕ → Path
-pathOf v c = trail (shapeOf v) (heldBy v c) (sourceOf c)
+pathOf v c = pathOfLinks (shapeOf v) (heldBy v c) (sourceOf c)
 
 unfoldable pub isEmpty : Path → Bool
 isEmpty [] = true
