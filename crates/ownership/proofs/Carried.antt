@@ -1,6 +1,6 @@
 -- A call on the bytes of a table: what the table shows afterwards, and that its bytes stay in range.
 -- Assumes nothing.
-use mathlib.Core.Path.{_≡_, refl, sym, _∙_, subst}
+use mathlib.Core.Path.{_≡_, refl, ap, sym, _∙_, subst}
 use mathlib.Core.Logic.{⊎-elim, _≢_}
 use mathlib.Core.Bool.{Bool, true, false}
 use mathlib.Core.List.{List}
@@ -14,6 +14,8 @@ use Rattle.cube.specs.Cube.{circuitOf}
 use Rattle.cube.proofs.Ports.{most-nodes, below-256}
 use Rattle.table.specs.Layout.{tableLength, dimensionAt, enabledAt, putEnabled, Within}
 use Rattle.table.specs.View.{view, fresh}
+use Rattle.table.specs.Encode.{encode}
+use Rattle.table.proofs.Encode.{encode-view}
 use Rattle.table.proofs.Entries.{kept-is}
 use Rattle.table.proofs.Views.{view-put-enabled}
 use Rattle.table.proofs.Freed.{view-freed}
@@ -61,6 +63,12 @@ module _ (b : List ℕ) (bytes : Bytes b) (most : dimensionAt b ≤ 8) where
   -- Its bytes stay in range.
   pub carried-bytes : (a : Call) → refusal (callTests (askedOf (view b)) a) ≡ 0 → Bytes (carriedOut b a .state)
   carried-bytes a e = in-range a (allowed (askedOf (view b)) a e)
+
+-- Said of the view instead: the bytes after a call that no test of the call stops are those that show the update of what the table showed.
+pub carried-encoded : (b : List ℕ) → Bytes b → dimensionAt b ≤ 8 → (a : Call) → refusal (callTests (askedOf (view b)) a) ≡ 0 → carriedOut b a .state ≡ encode (updated (view b) a)
+carried-encoded b bytes most a e =
+    let after = carried-bytes b bytes most a e in
+    sym (encode-view _ (after .long) (after .small)) ∙ ap encode (carried-shows b (bytes .long) most a e)
 
 -- a call is carried out where no test stops it, and otherwise no byte changes
 module _ (b : List ℕ) (a : Call) where

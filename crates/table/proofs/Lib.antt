@@ -7,4 +7,5 @@ pub mod Freed
 pub mod Fills
 pub mod Made
 pub mod Encode
+pub mod Encoded
 pub mod Receives
