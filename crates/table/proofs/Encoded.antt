@@ -183,21 +183,3 @@ module _ (v : View) (fit : ViewFits v) where
 -- Bytes of a table that show a view are those that `encode` writes of it.
 pub encode-shown : (b : List ℕ) (v : View) → Bytes b → view b ≡ v → b ≡ encode v
 encode-shown b v bytes e = sym (encode-view b (bytes .long) (bytes .small)) ∙ ap encode e
-
--- What the bytes of a table show has room in them.
-module _ (b : List ℕ) (bytes : Bytes b) where
-  shown-entries : (part : ℕ) → EntriesFit (entryAt part b)
-  unfolding entryAt
-  shown-entries part =
-      record {
-        small = λ n k. word (inTable n k) (wordAt b (entryPlace part n k)) (omega (arith, bytes .small (entryPlace part n k), bytes .small (entryPlace part n k + 1)));
-        outside = λ n k e. rw e;
-      }
-    where
-      word : (x : Bool) (c : ℕ) → c < 65536 → cond x c 0 < 65536
-      word true c h = h
-      word false c h = lit< tt
-
-  pub view-fits : ViewFits (view b)
-  unfolding view dimensionAt enabledAt ownerAt receiverAt
-  view-fits = record { dimension = bytes .small 0; enabled = λ n p e. rw e; owner = shown-entries linkPart; receiver = shown-entries receivePart }

@@ -3,7 +3,6 @@ pub mod Entries
 pub mod Views
 pub mod Gathered
 pub mod Rows
-pub mod Freed
 pub mod Fills
 pub mod Made
 pub mod Encode
