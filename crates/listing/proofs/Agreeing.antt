@@ -15,8 +15,7 @@ use Rattle.ownership.specs.History.{History, entered}
 use Rattle.ownership.specs.Lists.{Covered}
 use Rattle.ownership.proofs.Agreement.{covered-step}
 use Rattle.ownership.proofs.Followed.{made-valid, made-view}
-use Rattle.ownership.proofs.Range.{made-bytes}
-use Rattle.table.proofs.Made.{view-made}
+use Rattle.table.proofs.Made.{made-bytes, view-made}
 use Rattle.listing.specs.Examples.{input, output, printed-example}
 use Rattle.listing.specs.Lines.{lines}
 use Rattle.listing.specs.Line.{asks}

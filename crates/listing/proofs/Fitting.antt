@@ -22,13 +22,13 @@ use Rattle.soundness.specs.Sound.{shapeOf}
 use Rattle.soundness.specs.SoundTest.{pathOf}
 use Rattle.soundness.proofs.Soundness.{path-is}
 use Rattle.ownership.specs.Calls.{Call, making, blocking, unblocking, opening, closing, tracing, written, After}
-use Rattle.ownership.specs.OnTable.{askedOf, stoppedAt, carriedOut, called}
+use Rattle.ownership.specs.OnTable.{askedOf, stoppedAt, givesIn, carriedOut, called}
 use Rattle.ownership.specs.Allowed.{Allowed}
 use Rattle.ownership.proofs.Allowed.{allowed}
 use Rattle.ownership.proofs.Stops.{none-stops, none-stops-lent, pass-tests}
 use Rattle.ownership.proofs.Carried.{called-carried, called-stopped}
 use Rattle.ownership.proofs.Shows.{PortsBelow}
-use Rattle.ownership.proofs.OnSound.{open-says, open-stands}
+use Rattle.ownership.proofs.OnSound.{open-answers, open-stands}
 use Rattle.listing.specs.Text.{newline, decimal}
 use Rattle.listing.specs.Lines.{onFirst, cut, lines, fields}
 use Rattle.listing.specs.Line.{numbers, numbersOf, byLetter, withNumbers, ofFields, longest, asks}
@@ -119,7 +119,7 @@ module _ (b : List ℕ) (s c : ℕ) where
   trace = tracing s c empty
 
   entered-path : stoppedAt b trace ≡ 0 → traced called b s c ≡ pathOf (view b) (circuitOf s c)
-  unfolding traced carriedOut written
+  unfolding traced carriedOut givesIn written
   entered-path e =
       ap (λ (d : After (List ℕ)). take (d .given .answer .hops) (d .given .buffer)) (called-carried b trace e)
       ∙ take-append-seam (pathOf (view b) (circuitOf s c)) (drop (length (pathOf (view b) (circuitOf s c))) empty)
@@ -148,10 +148,10 @@ module _ (b : List ℕ) (s c t y v : ℕ) where
   opens = opening s c t y v
 
   open-scouts : called b opens .given .answer .scouts ≤ 123300
-  open-scouts = ⊎-elim (λ e. open-says b s c t y v e .bounded) (λ e. rw (called-stopped b opens e) (lit≤ tt)) (same? (stoppedAt b opens) 0)
+  open-scouts = ⊎-elim (λ e. open-answers b s c t y v e .bounded) (λ e. rw (called-stopped b opens e) (lit≤ tt)) (same? (stoppedAt b opens) 0)
 
   open-receive : called b opens .given .answer .number ≡ 0 → called b opens .given .answer .receive < 8
-  open-receive z = ⊎-elim (λ e. open-says b s c t y v e .lowest z .small) (λ e. absurd (e (rw (called-stopped b opens e) at z))) (same? (stoppedAt b opens) 0)
+  open-receive z = ⊎-elim (λ e. open-answers b s c t y v e .lowest z .small) (λ e. absurd (e (rw (called-stopped b opens e) at z))) (same? (stoppedAt b opens) 0)
 
 -- the line of each call
 module _ (b : List ℕ) (n : ℕ) (small : n < 65536) where

@@ -18,7 +18,8 @@ use Rattle.paths.specs.Send.{Answer, Outcome, acknowledged, route-rejected, rec
 use Rattle.table.specs.View.{view}
 use Rattle.soundness.specs.SoundTest.{tableTests}
 use Rattle.ownership.specs.Calls.{Call, making, blocking, unblocking, opening, closing, tracing, callTests, After}
-use Rattle.ownership.specs.OnTable.{lentTests, stoppedAt, sendIn, carriedOut, called}
+use Rattle.ownership.specs.Update.{sendIn}
+use Rattle.ownership.specs.OnTable.{lentTests, stoppedAt, givesIn, carriedOut, called}
 use Rattle.ownership.proofs.Carried.{called-carried, called-stopped}
 use Rattle.listing.specs.Text.{newline, space, digit, decimal}
 use Rattle.listing.specs.Lines.{onFirst, cut, lines, fields}
@@ -276,7 +277,7 @@ answered-below route-rejected n = lit< tt
 answered-below receive-rejected n = lit< tt
 
 carried-below : (b : List ℕ) (a : Call) → carriedOut b a .given .answer .number < 20
-unfolding carriedOut
+unfolding carriedOut givesIn
 carried-below b (making D) = lit< tt
 carried-below b (blocking n p) = lit< tt
 carried-below b (unblocking n p) = lit< tt

@@ -18,7 +18,7 @@ use Rattle.table.specs.View.{View, setAt, setOwner, setReceiver, setEnabled, fr
 use Rattle.ownership.specs.Calls.{Call, making, blocking, unblocking, opening, closing, tracing}
 use Rattle.ownership.specs.History.{Circuit, History, shapeOn, netOn, linksOf, holdsLink, holdsReceive, belongs, enabledOn, heldOn, freeOn, takenOn, openOn, receiveOn, askedOn, stoppedOn, sendOn, withBlocked, withCircuits, adds, follows}
 use Rattle.ownership.specs.Lists.{numberOf, viewOf, Standing, Separate, Valid}
-use Rattle.ownership.proofs.Update.{holdLinks, marking, updated}
+use Rattle.ownership.specs.Update.{holdLinks, marking, updated}
 use Rattle.ownership.proofs.Circuits.{parts-belong, number-drop}
 use Rattle.ownership.proofs.Sameness.{send-same}
 use Rattle.ownership.proofs.Standing.{link-holds, receive-holds, links-once, receives-once}

@@ -35,13 +35,13 @@ use Rattle.search.specs.Settle.{freeIn, Settled, settled}
 use Rattle.search.specs.Sent.{sentOn}
 use Rattle.search.specs.SendSays.{PassesSay, one-acknowledged, only-one, two}
 use Rattle.ownership.specs.Calls.{Call, making, blocking, unblocking, opening, closing, tracing, callTests, After}
-use Rattle.ownership.specs.OnTable.{askedOf, lentTests, stoppedAt, carriedOut, called}
+use Rattle.ownership.specs.OnTable.{askedOf, lentTests, stoppedAt, givesIn, carriedOut, called}
 use Rattle.ownership.proofs.Carried.{called-carried, called-stopped}
 use Rattle.ownership.specs.Allowed.{Allowed}
 use Rattle.ownership.proofs.Acknowledged.{wider}
 use Rattle.ownership.proofs.Allowed.{allowed}
 use Rattle.ownership.proofs.Stops.{none-stops, none-stops-lent, pass-tests}
-use Rattle.ownership.proofs.OnSound.{open-says}
+use Rattle.ownership.proofs.OnSound.{open-answers}
 
 -- a list without repetition is no longer than one that has all its members
 fits : (xs ys : List ℕ) → Sorted _≢_ xs → ((x : ℕ) → x ∈ xs → x ∈ ys) → length xs ≤ length ys
@@ -187,11 +187,11 @@ unfolding Allowed askedOf view sentOn settledNumber
 open-otherwise b s c t y v z e =
     let p = pass-tests b (none-stops-lent b (opening s c t y v) (λ D q. let x : _≡_ {A = ℕ} 0 1 = cc in omega arith) z) in
     let r = allowed (askedOf (view b)) (opening s c t y v) (none-stops b (opening s c t y v) z) in
-    let x = open-says b s c t y v z in
+    let x = open-answers b s c t y v z in
     send-receives (view b) (p .3) (p .2) t s (r .0) y v (x .outcome) _ (x .says) (rejected (x .outcome) _ (sym (ap settledNumber (x .answer)) ∙ e))
 
 carried-otherwise : (b : List ℕ) (a : Call) → stoppedAt b a ≡ 0 → called b a .given .answer .number ≢ 11
-unfolding carriedOut
+unfolding carriedOut givesIn
 carried-otherwise b (making D) z e = let q = called-carried b (making D) z in omega (arith, ap (λ (d : After (List ℕ)). d .given .answer .number) q, e)
 carried-otherwise b (blocking n p) z e = let q = called-carried b (blocking n p) z in omega (arith, ap (λ (d : After (List ℕ)). d .given .answer .number) q, e)
 carried-otherwise b (unblocking n p) z e = let q = called-carried b (unblocking n p) z in omega (arith, ap (λ (d : After (List ℕ)). d .given .answer .number) q, e)

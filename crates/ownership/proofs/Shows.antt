@@ -21,8 +21,7 @@ use Rattle.search.specs.Settle.{freeIn, hold}
 use Rattle.search.specs.Sent.{marked}
 use Rattle.search.proofs.Sends.{receive-small}
 use Rattle.search.proofs.Turns.{owner-length}
-use Rattle.ownership.specs.OnTable.{sendIn}
-use Rattle.ownership.proofs.Update.{holdLinks, marking}
+use Rattle.ownership.specs.Update.{sendIn, holdLinks, marking}
 use Rattle.ownership.proofs.Acknowledged.{send-taken}
 
 -- the ports of a path are below D

@@ -3,8 +3,8 @@ ghost use mathlib.Core.Path.{_≡_};
 ghost use mathlib.Core.Bool.{true, not};
 ghost use lib.ListN.{take};
 ghost use Rattle.paths.specs.Network.{end};
-ghost use Rattle.table.specs.Layout.{freed};
-ghost use Rattle.table.specs.View.{view};
+ghost use Rattle.table.specs.View.{view, freeing};
+ghost use Rattle.table.specs.Encode.{encode};
 ghost use Rattle.soundness.specs.Sound.{net, Sound};
 ghost use Rattle.soundness.specs.SoundTest.{pathOf, isEmpty};
 ghost use Rattle.soundness.specs.Follow.{HasSource};
@@ -38,7 +38,7 @@ pub fn release(t: &mut [u8], c: Circuit)
     requires { ⌜ HasSource (now t) (c .0) ⌝ }
     requires { ⌜ not (isEmpty (pathOf (view (now t)) (c .0))) ≡ true ⌝ }
     requires { ⌜ Sound (view (now t)) ⌝ }
-    ensures { λ _. ⌜ now (t .exit) ≡ freed (now (t .entry)) (c .0) ⌝ }
+    ensures { λ _. ⌜ now (t .exit) ≡ encode (freeing (view (now (t .entry))) (c .0)) ⌝ }
 {
     let mut ports = [0u8; 9];
     let hops = tracer::write_path(t, c, &mut ports);

@@ -2,6 +2,7 @@
 -- Assumes nothing.
 use Rattle.router.proofs.Stopping.{link-passed, link-within}
 use Rattle.router.proofs.Called.{call-unblocks, unblock-refused}
+use native.Mathlib.Omega.{arith}
 use borrow.Author.Needs.{needs}
 use Rattle.router.proofs.calls.unblock.Statement.{statement}
 use Rattle.router.proofs.calls.unblock.Tie as tie
@@ -24,7 +25,8 @@ same-length-2 c = search needs
 returns-2 : tie.Need-returns-2
 returns-2 c =
     let d = c .before .before in
-    call-unblocks _ _ _ (d .before .before .before .link .ensures) (d .before .before .if1 .left) (d .enable .ensures)
+    let e = d .before .before in
+    call-unblocks _ _ _ (e .before .link .ensures) (e .if1 .left) (λ i. omega (arith, e .before .before .before .slice-known .given i)) (d .enable .ensures)
 
 pub unblock-spec : {M : Type 1} → statement M
 unblock-spec = tie.close (tie.spec link-requires same-length returns enable-requires same-length-2 returns-2)
