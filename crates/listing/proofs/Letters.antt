@@ -1,7 +1,7 @@
 -- The call letters of document 01: which call a line asks for, and what its printed line shows, field by field. The letters are written by their bytes:
 -- F is 70, B 66, E 69, S 83 and C 67.
 -- Assumes nothing.
-use mathlib.Core.Path.{_≡_, refl, ap, ap₂, _∙_}
+use mathlib.Core.Path.{_≡_, refl, ap₂, _∙_}
 use mathlib.Core.Logic.{_≢_, _⊎_, inl, inr}
 use mathlib.Core.List.{List, [], _∷_, map}
 use mathlib.Core.Option.{some}

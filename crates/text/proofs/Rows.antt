@@ -3,7 +3,7 @@
 use mathlib.Core.Path.{_≡_, refl, ap, sym, _∙_}
 use mathlib.Core.Logic.{_≢_, ⊎-elim}
 use mathlib.Core.List.{List, [], _∷_, _++_, append-assoc}
-use Prim.Native.Nat.{ℕ, _-_, _≤_, _<_, min}
+use Prim.Native.Nat.{ℕ, _-_, _<_, min}
 use native.Mathlib.Omega.{arith}
 use lib.ListN.{length, take, length-append, length-take}
 use lib.Seq.{take-all}
