@@ -29,27 +29,19 @@ use Rattle.ownership.proofs.Stops.{none-stops, none-stops-lent, pass-tests}
 use Rattle.ownership.proofs.Carried.{called-carried, called-stopped}
 use Rattle.ownership.proofs.Shows.{PortsBelow}
 use Rattle.ownership.proofs.OnSound.{open-answers, open-stands}
-use Rattle.listing.specs.Text.{newline, decimal}
-use Rattle.listing.specs.Lines.{onFirst, cut, lines, fields}
+use Rattle.text.specs.Text.{newline, decimal}
+use Rattle.text.specs.Lines.{onFirst, cut, lines, fields}
 use Rattle.listing.specs.Line.{numbers, numbersOf, byLetter, withNumbers, ofFields, longest, asks}
-use Rattle.listing.specs.Row.{Field, nothing, shows, path, inTurn, bytesOf, Row, inOrder, spaced, ended, rowText, rowsText}
+use Rattle.text.specs.Row.{Field, nothing, shows, path, inTurn, bytesOf, spaced, ended, rowText, rowsText}
 use Rattle.listing.specs.Listing.{accepted, sent, callRow, unreadable, empty, traced, rowFor, behind, rows, header, inputLimit, tooLong, listing, printed}
 use Rattle.listing.specs.Printed.{outputBytes}
-use Rattle.listing.proofs.Digits.{decimal-length}
-use Rattle.listing.proofs.Fields.{five-digits}
-use Rattle.listing.proofs.Reading.{IfRead}
+use Rattle.text.specs.Written.{width}
+use Rattle.text.proofs.Digits.{decimal-length}
+use Rattle.text.proofs.Fields.{five-digits}
+use Rattle.text.proofs.Rows.{row-length}
+use Rattle.text.proofs.Reading.{IfRead}
 use Rattle.listing.proofs.Asking.{numbers-hold, each-letter, short-line}
 use Rattle.listing.proofs.Theorems.{call-below}
-
--- how many bytes a field takes
-abbrev width : Field → ℕ
-width f = length (bytesOf f)
-
--- a printed line is its eight fields, seven spaces and a newline
-row-length : (r : Row) → length (rowText r)
-    ≡ width (r .line) + width (r .call) + width (r .answer) + width (r .node) + width (r .channel) + width (r .receive) + width (r .scouts) + width (r .ports) + 8
-unfolding rowText ended spaced inOrder
-row-length r = simp length-append (omega arith)
 
 -- a field that is shown in one case only
 if-fits : (k : ℕ) (b : Bool) (f : Field) → 1 ≤ k → (b ≡ true → width f ≤ k) → width (cond b f nothing) ≤ k

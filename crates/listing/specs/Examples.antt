@@ -17,10 +17,10 @@ use Rattle.paths.specs.CubeNetwork.{network, ports, sendPorts, otherPorts, maze
 use Rattle.table.specs.View.{lowestOf}
 use Rattle.ownership.specs.Calls.{making, blocking, unblocking, opening, closing, written, callTests, lent}
 use Rattle.ownership.specs.History.{holdsLink, holdsReceive, belongs, enabledOn, heldOn, freeOn, takenOn, openOn, receiveOn, listed, askedOn, stoppedOn, sendOn, adds, follows, gives, entered}
-use Rattle.listing.specs.Text.{digits, decimal, allDigits, value, leadingZero, number}
-use Rattle.listing.specs.Lines.{onFirst, cut, lines, fields}
+use Rattle.text.specs.Text.{digits, decimal, allDigits, value, leadingZero, number}
+use Rattle.text.specs.Lines.{onFirst, cut, lines, fields}
 use Rattle.listing.specs.Line.{inFront, numbers, numbersOf, asked, byLetter, withNumbers, ofFields, asks}
-use Rattle.listing.specs.Row.{inTurn, bytesOf, inOrder, spaced, ended, rowText, rowsText}
+use Rattle.text.specs.Row.{inTurn, bytesOf, inOrder, spaced, ended, rowText, rowsText}
 use Rattle.listing.specs.Listing.{callRow, unreadable, traced, rowFor, behind, rows, header, tooLong, listing, recorded}
 
 abbrev pub input : List ℕ
