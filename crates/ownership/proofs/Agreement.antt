@@ -16,10 +16,10 @@ use Rattle.paths.specs.Send.{Sent, answered}
 use Rattle.table.specs.Layout.{tableLength, dimensionAt}
 use Rattle.table.specs.View.{View, view}
 use Rattle.soundness.specs.Sound.{Sound}
-use Rattle.soundness.specs.SoundTest.{pathOf, tableTests}
+use Rattle.soundness.specs.SoundTest.{pathOf, tableTests, written}
 use Rattle.table.specs.Encode.{encode}
 use Rattle.table.proofs.Encode.{encode-view}
-use Rattle.ownership.specs.Calls.{Call, making, blocking, unblocking, opening, closing, tracing, only, written, callTests, lent, After}
+use Rattle.ownership.specs.Calls.{Call, making, blocking, unblocking, opening, closing, tracing, only, callTests, lent, After}
 use Rattle.ownership.specs.OnTable.{askedOf, stoppedAt, sendIn, carriedOut, called}
 use Rattle.ownership.specs.History.{History, askedOn, stoppedOn, listed, follows, gives, entered}
 use Rattle.ownership.specs.Lists.{tableAfter, tableGives, historyAfter, historyGives, viewOf, bytesOf, Covered, Agrees, Accepted, leaves, answers}

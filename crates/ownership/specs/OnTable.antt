@@ -12,10 +12,10 @@ use Rattle.paths.specs.CubeNetwork.{send}
 use Rattle.table.specs.Layout.{tableLength, made, putEnabled, freed}
 use Rattle.table.specs.View.{View, view, receive}
 use Rattle.soundness.specs.Sound.{shapeOf}
-use Rattle.soundness.specs.SoundTest.{pathOf, isEmpty, tableTests}
+use Rattle.soundness.specs.SoundTest.{pathOf, isEmpty, tableTests, written}
 use Rattle.search.specs.Settle.{freeIn}
 use Rattle.search.specs.Sent.{marked}
-use Rattle.ownership.specs.Calls.{Call, making, blocking, unblocking, opening, closing, tracing, Asked, only, written, callTests, lent, After}
+use Rattle.ownership.specs.Calls.{Call, making, blocking, unblocking, opening, closing, tracing, Asked, only, callTests, lent, After}
 
 -- "this send channel has an open circuit": the links that its circuit holds make a path
 unfoldable pub openIn : View → ℕ → ℕ → Bool

@@ -14,8 +14,8 @@ use Rattle.common.proofs.Tests.{refused, passed, accepted}
 use Rattle.cube.specs.Cube.{circuitOf}
 use Rattle.table.specs.Layout.{tableLength, made, putEnabled, freed}
 use Rattle.table.specs.View.{view}
-use Rattle.soundness.specs.SoundTest.{tableTests, pathOf, isEmpty}
-use Rattle.ownership.specs.Calls.{Call, making, blocking, unblocking, opening, closing, tracing, Asked, only, written, node, nodes, channel, port, noCircuit, linkHeld, shortBuffer, callTests, lent, After}
+use Rattle.soundness.specs.SoundTest.{tableTests, pathOf, isEmpty, written}
+use Rattle.ownership.specs.Calls.{Call, making, blocking, unblocking, opening, closing, tracing, Asked, only, node, nodes, channel, port, noCircuit, linkHeld, shortBuffer, callTests, lent, After}
 use Rattle.search.specs.Settle.{Settled, settled}
 use Rattle.search.specs.Sent.{sentOn, sends}
 use Rattle.ownership.specs.OnTable.{openIn, sendIn, askedOf, lentTests, stoppedAt, done, carriedOut, called}
