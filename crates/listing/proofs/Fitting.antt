@@ -19,9 +19,9 @@ use Rattle.paths.proofs.CubeNetwork.{path-hops}
 use Rattle.table.specs.Layout.{made}
 use Rattle.table.specs.View.{view}
 use Rattle.soundness.specs.Sound.{shapeOf}
-use Rattle.soundness.specs.SoundTest.{pathOf}
+use Rattle.soundness.specs.SoundTest.{pathOf, written}
 use Rattle.soundness.proofs.Soundness.{path-is}
-use Rattle.ownership.specs.Calls.{Call, making, blocking, unblocking, opening, closing, tracing, written, After}
+use Rattle.ownership.specs.Calls.{Call, making, blocking, unblocking, opening, closing, tracing, After}
 use Rattle.ownership.specs.OnTable.{askedOf, stoppedAt, givesIn, carriedOut, called}
 use Rattle.ownership.specs.Allowed.{Allowed}
 use Rattle.ownership.proofs.Allowed.{allowed}

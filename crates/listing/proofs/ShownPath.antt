@@ -12,7 +12,8 @@ use borrow.Author.Tests.{eq-eqb}
 use Rattle.common.specs.Lists.{any}
 use Rattle.paths.specs.Network.{Path}
 use Rattle.paths.specs.Send.{acknowledged, answered}
-use Rattle.ownership.specs.Calls.{opening, tracing, written, After}
+use Rattle.soundness.specs.SoundTest.{written}
+use Rattle.ownership.specs.Calls.{opening, tracing, After}
 use Rattle.ownership.specs.Allowed.{Allowed}
 use Rattle.ownership.specs.History.{Circuit, History, belongs, openOn, listed, askedOn, stoppedOn, sendOn, withCircuits, adds, follows, gives, entered}
 use Rattle.ownership.proofs.Allowed.{allowed-on, allowed-passes}

@@ -15,7 +15,8 @@ use Rattle.paths.specs.Pass.{over, ways, beginnings, scan, whole, pass, scouts}
 use Rattle.paths.specs.Send.{received, outcome, goesOn, runs, answered}
 use Rattle.paths.specs.CubeNetwork.{network, ports, sendPorts, otherPorts, maze, alternateMaze, send}
 use Rattle.table.specs.View.{lowestOf}
-use Rattle.ownership.specs.Calls.{making, blocking, unblocking, opening, closing, written, callTests, lent}
+use Rattle.soundness.specs.SoundTest.{written}
+use Rattle.ownership.specs.Calls.{making, blocking, unblocking, opening, closing, callTests, lent}
 use Rattle.ownership.specs.History.{holdsLink, holdsReceive, belongs, enabledOn, heldOn, freeOn, takenOn, openOn, receiveOn, listed, askedOn, stoppedOn, sendOn, adds, follows, gives, entered}
 use Rattle.text.specs.Text.{digits, decimal, allDigits, value, leadingZero, number}
 use Rattle.text.specs.Lines.{onFirst, cut, lines, fields}

@@ -17,7 +17,8 @@ use Rattle.paths.specs.CubeNetwork.{network, ports, sendPorts, otherPorts, maze
 use Rattle.command_word.specs.Commands.{commands, valuesIn, values, reserved}
 use Rattle.command_word.specs.Word.{readTests, reading, readWord, writeTests, writing, writeWord}
 use Rattle.table.specs.View.{lowestOf}
-use Rattle.ownership.specs.Calls.{Call, making, blocking, opening, closing, tracing, Given, written, callTests, lent}
+use Rattle.soundness.specs.SoundTest.{written}
+use Rattle.ownership.specs.Calls.{Call, making, blocking, opening, closing, tracing, Given, callTests, lent}
 use Rattle.ownership.specs.History.{History, holdsLink, holdsReceive, belongs, enabledOn, heldOn, freeOn, takenOn, openOn, receiveOn, listed, askedOn, stoppedOn, sendOn, adds, follows, gives, entered}
 use Rattle.ownership.specs.Lists.{historyGives, answers}
 

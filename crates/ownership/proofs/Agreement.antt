@@ -16,11 +16,11 @@ use Rattle.paths.specs.Send.{Sent, answered}
 use Rattle.table.specs.Layout.{tableLength, dimensionAt}
 use Rattle.table.specs.View.{View, view}
 use Rattle.soundness.specs.Sound.{Sound}
-use Rattle.soundness.specs.SoundTest.{pathOf, tableTests}
+use Rattle.soundness.specs.SoundTest.{pathOf, tableTests, written}
 use Rattle.table.specs.Encode.{encode}
 use Rattle.table.proofs.Encode.{encode-view}
 use Rattle.table.proofs.Encoded.{encode-bytes, view-encode}
-use Rattle.ownership.specs.Calls.{Call, making, blocking, unblocking, opening, closing, tracing, only, written, callTests, lent, After}
+use Rattle.ownership.specs.Calls.{Call, making, blocking, unblocking, opening, closing, tracing, only, callTests, lent, After}
 use Rattle.ownership.specs.Update.{sendIn, updated}
 use Rattle.ownership.specs.OnTable.{askedOf, stoppedAt, givesIn, carriedOut, called}
 use Rattle.ownership.specs.History.{History, askedOn, stoppedOn, listed, follows, gives, entered}

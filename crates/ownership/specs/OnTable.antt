@@ -11,8 +11,8 @@ use Rattle.paths.specs.Send.{Answer, answered}
 use Rattle.table.specs.Layout.{tableLength}
 use Rattle.table.specs.View.{View, view}
 use Rattle.table.specs.Encode.{encode}
-use Rattle.soundness.specs.SoundTest.{pathOf, isEmpty, tableTests}
-use Rattle.ownership.specs.Calls.{Call, making, blocking, unblocking, opening, closing, tracing, Given, Asked, only, written, callTests, lent, After}
+use Rattle.soundness.specs.SoundTest.{pathOf, isEmpty, tableTests, written}
+use Rattle.ownership.specs.Calls.{Call, making, blocking, unblocking, opening, closing, tracing, Given, Asked, only, callTests, lent, After}
 use Rattle.ownership.specs.Update.{sendIn, updated}
 
 -- "this send channel has an open circuit": the links that its circuit holds make a path

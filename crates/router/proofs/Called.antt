@@ -15,8 +15,8 @@ use Rattle.cube.specs.Cube.{circuitOf}
 use Rattle.table.specs.Layout.{tableLength, made, putEnabled}
 use Rattle.table.specs.View.{view, freeing}
 use Rattle.table.specs.Encode.{encode}
-use Rattle.soundness.specs.SoundTest.{tableTests, pathOf, isEmpty}
-use Rattle.ownership.specs.Calls.{Call, making, blocking, unblocking, opening, closing, tracing, Asked, only, written, node, nodes, channel, port, noCircuit, linkHeld, shortBuffer, callTests, lent, After}
+use Rattle.soundness.specs.SoundTest.{tableTests, pathOf, isEmpty, written}
+use Rattle.ownership.specs.Calls.{Call, making, blocking, unblocking, opening, closing, tracing, Asked, only, node, nodes, channel, port, noCircuit, linkHeld, shortBuffer, callTests, lent, After}
 use Rattle.search.specs.Settle.{Settled, settled}
 use Rattle.search.specs.Sent.{sentOn, sends}
 use Rattle.ownership.specs.Update.{sendIn}

@@ -2,5 +2,4 @@
 pub mod Stopping
 pub mod Returns
 pub mod Called
-pub mod Tracing
 pub mod Releasing

@@ -27,13 +27,12 @@ use Rattle.table.specs.Layout.{Within, dimensionAt, receiverAt, putOwner, putRe
 use Rattle.table.specs.View.{View, view, setReceiver, setAt, freeing}
 use Rattle.table.specs.Encode.{encode, Bytes}
 use Rattle.soundness.specs.Sound.{shapeOf, net, heldBy, endFor, Stands, Sound}
-use Rattle.soundness.specs.SoundTest.{pathOf, isEmpty}
+use Rattle.soundness.specs.SoundTest.{pathOf, isEmpty, written}
 use Rattle.soundness.specs.Follow.{HasSource}
 use Rattle.soundness.proofs.Soundness.{path-is}
 use Rattle.search.specs.Settle.{hold}
 use Rattle.search.specs.Sent.{marked}
 use Rattle.search.proofs.Turns.{owner-length}
-use Rattle.ownership.specs.Calls.{written}
 use Rattle.ownership.specs.Update.{holdLinks, marking}
 use Rattle.ownership.proofs.Shows.{PortsBelow, Fits, hold-length, view-hold}
 use Rattle.ownership.proofs.Written.{marked-encoded}

@@ -5,7 +5,6 @@ ghost use Rattle.ownership.specs.Calls.{only, making, blocking, unblocking, ope
 ghost use Rattle.ownership.specs.OnTable.{called, done};
 use crate::release;
 use crate::stopped;
-use crate::tracer;
 use common::refusal;
 use cube::Node;
 use cube::Port;
@@ -120,7 +119,7 @@ pub fn trace(t: &[u8], source: Node, channel: u16, buffer: &mut [u8]) -> Traced
             hops: 0,
         };
     }
-    let hops = tracer::write_path(t, cube::circuit_of(source, channel), buffer);
+    let hops = soundness::write_path(t, cube::circuit_of(source, channel), buffer);
     Traced {
         number: refusal::ACCEPTED,
         hops,

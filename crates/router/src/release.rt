@@ -10,7 +10,6 @@ ghost use Rattle.soundness.specs.SoundTest.{pathOf, isEmpty};
 ghost use Rattle.soundness.specs.Follow.{HasSource};
 ghost use Rattle.search.specs.Settle.{hold};
 ghost use Rattle.router.specs.Release.{MayFree};
-use crate::tracer;
 use cube::Circuit;
 use cube::Node;
 use cube::Port;
@@ -41,7 +40,7 @@ pub fn release(t: &mut [u8], c: Circuit)
     ensures { λ _. ⌜ now (t .exit) ≡ encode (freeing (view (now (t .entry))) (c .0)) ⌝ }
 {
     let mut ports = [0u8; 9];
-    let hops = tracer::write_path(t, c, &mut ports);
+    let hops = soundness::write_path(t, c, &mut ports);
     let target = free_links(t, cube::source_of(c), &ports, hops);
     let channel = table::held_channel(t, c, target);
     table::set_receiver(t, target, channel, Circuit(0));

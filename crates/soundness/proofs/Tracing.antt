@@ -19,11 +19,10 @@ use Rattle.paths.specs.Network.{Network, Path}
 use Rattle.paths.specs.Recover.{takeFirst, dropAxis, walkFrom}
 use Rattle.table.specs.Layout.{dimensionAt}
 use Rattle.table.specs.View.{View, view}
-use Rattle.soundness.specs.SoundTest.{pathOf, isEmpty}
+use Rattle.soundness.specs.SoundTest.{pathOf, isEmpty, written}
 use Rattle.soundness.specs.Follow.{takes, followed, firstHop, HasSource}
 use Rattle.soundness.proofs.Follow.{follow-on, follow-end, follow-port}
 use Rattle.soundness.proofs.Examine.{opened, path-behind, source-within}
-use Rattle.ownership.specs.Calls.{written}
 
 -- a walk is no longer than its fuel
 take-short : (k : ℕ) (ps : List ℕ) (on : ℕ → Path) → ((p : ℕ) → length (on p) ≤ k) → length (takeFirst ps on) ≤ suc k

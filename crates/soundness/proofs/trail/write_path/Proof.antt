@@ -1,4 +1,4 @@
--- `router::tracer::write_path` meets its contract: the port of the first hop, and behind it, port by port, what is left to follow. The measure is
+-- `soundness::trail::write_path` meets its contract: the port of the first hop, and behind it, port by port, what is left to follow. The measure is
 -- the ports that are left.
 -- Assumes nothing.
 use mathlib.Core.Path.{_∙_}
@@ -7,11 +7,11 @@ use lib.Dec.{lit<}
 use lib.ListN.{length-set}
 use lib.Pow.{pow-pos}
 use Rattle.table.specs.View.{view}
 use Rattle.soundness.proofs.Examine.{source-within}
-use Rattle.router.proofs.Tracing.{Tracing, first-below, start-tracing, end-count, end-bytes, port-left, on-place, on-tracing, whole-count, whole-bytes}
+use Rattle.soundness.proofs.Tracing.{Tracing, first-below, start-tracing, end-count, end-bytes, port-left, on-place, on-tracing, whole-count, whole-bytes}
 use borrow.Author.Needs.{needs}
-use Rattle.router.proofs.tracer.write_path.Statement.{statement}
-use Rattle.router.proofs.tracer.write_path.Tie as tie
+use Rattle.soundness.proofs.trail.write_path.Statement.{statement}
+use Rattle.soundness.proofs.trail.write_path.Tie as tie
 
 abbrev Inv-loop : tie.InvT-loop
 Inv-loop t c buffer₀ left₀ at₀ hops₀ buffer left at hops = Tracing (view t) (c .0) buffer₀ left₀ (at₀ .0) buffer left (at .0) hops
