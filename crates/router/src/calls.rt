@@ -42,7 +42,7 @@ pub fn block(t: &mut [u8], node: Node, port: Port) -> u16
 pub fn unblock(t: &mut [u8], node: Node, port: Port) -> u16
     ensures { λ r. ⌜ done (now (t .exit)) (only r) [] ≡ called (now (t .entry)) (unblocking (node .0) (port .0)) ⌝ }
 {
-    let refused = stopped::link(t, node, port);
+    let refused = stopped::unblock(t, node, port);
     if refused != refusal::ACCEPTED {
         return refused;
     }
