@@ -60,7 +60,7 @@ fn open(
         return row::of_call(line, b'S', number, node, send, none, scouts, none);
     }
     let receive = Field::Number(got.receive as u32);
-    let path = Field::Path(router::trace(t, source, channel, ports).hops as usize);
+    let path = Field::Path(router::trace(t, source, channel, ports).hops);
     row::of_call(line, b'S', number, node, send, receive, scouts, path)
 }
 

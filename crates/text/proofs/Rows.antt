@@ -8,20 +8,26 @@ use native.Mathlib.Omega.{arith}
 use lib.ListN.{length, take, length-append, length-take}
 use lib.Seq.{take-all}
 use Rattle.common.proofs.Tests.{below-or}
-use Rattle.text.specs.Text.{newline, space, dash}
-use Rattle.text.specs.Row.{path, inTurn, bytesOf, Row, inOrder, spaced, ended, rowText}
-use Rattle.text.specs.Written.{rowWidth}
+use Rattle.text.specs.Text.{newline, space, dash, decimal}
+use Rattle.text.specs.Row.{Field, shows, path, inTurn, bytesOf, Row, inOrder, spaced, ended, rowText}
+use Rattle.text.specs.Written.{width, rowWidth}
 
 -- lists one behind the other, from the left and from the right
-regroup : (l a b c d e f g h : List ℕ) → (((((((l ++ a) ++ b) ++ c) ++ d) ++ e) ++ f) ++ g) ++ h ≡ (l ++ (a ++ (b ++ (c ++ (d ++ (e ++ (f ++ g))))))) ++ h
-regroup l a b c d e f g h = simp append-assoc
+regroup : (l a s b c d e f g h : List ℕ) → ((((((((l ++ a) ++ s) ++ b) ++ c) ++ d) ++ e) ++ f) ++ g) ++ h ≡ (l ++ (a ++ (s ++ (b ++ (c ++ (d ++ (e ++ (f ++ g)))))))) ++ h
+regroup l a s b c d e f g h = simp append-assoc
 
--- a printed line is its first field, the other seven behind a space each, and a newline
-pub row-text : (r : Row) → (((((((bytesOf (r .line) ++ space ∷ bytesOf (r .call)) ++ space ∷ bytesOf (r .answer)) ++ space ∷ bytesOf (r .node)) ++ space ∷ bytesOf (r .channel)) ++ space ∷ bytesOf (r .receive))
-    ++ space ∷ bytesOf (r .scouts)) ++ space ∷ bytesOf (r .ports)) ++ newline ∷ [] ≡ rowText r
-unfolding rowText ended spaced inOrder
-row-text r =
-    regroup (bytesOf (r .line)) (space ∷ bytesOf (r .call)) (space ∷ bytesOf (r .answer)) (space ∷ bytesOf (r .node)) (space ∷ bytesOf (r .channel)) (space ∷ bytesOf (r .receive)) (space ∷ bytesOf (r .scouts)) (space ∷ bytesOf (r .ports)) (newline ∷ [])
+-- a printed line is its number, the other seven fields behind a space each, and a newline
+pub row-text : (n : ℕ) (c : Field) (a : ℕ) (d e f g h : Field)
+    → ((((((((decimal n ++ space ∷ bytesOf c) ++ space ∷ []) ++ decimal a) ++ space ∷ bytesOf d) ++ space ∷ bytesOf e) ++ space ∷ bytesOf f) ++ space ∷ bytesOf g) ++ space ∷ bytesOf h) ++ newline ∷ []
+    ≡ rowText (record { line = shows n; call = c; answer = shows a; node = d; channel = e; receive = f; scouts = g; ports = h })
+unfolding rowText ended spaced inOrder bytesOf
+row-text n c a d e f g h =
+    regroup (decimal n) (space ∷ bytesOf c) (space ∷ []) (decimal a) (space ∷ bytesOf d) (space ∷ bytesOf e) (space ∷ bytesOf f) (space ∷ bytesOf g) (space ∷ bytesOf h) (newline ∷ [])
+
+-- how many bytes a number takes
+pub number-width : (n : ℕ) → width (shows n) ≡ length (decimal n)
+unfolding bytesOf
+number-width n = refl
 
 -- and so many bytes long
 pub row-length : (r : Row) → length (rowText r) ≡ rowWidth r

@@ -44,9 +44,9 @@ fieldOf ports (Path n) = path (take n ports)
 abbrev pub rowOf : List ℕ → GivenRow → Row
 rowOf ports r =
     record {
-      line = fieldOf ports (r .line);
+      line = shows (r .line);
       call = fieldOf ports (r .call);
-      answer = fieldOf ports (r .answer);
+      answer = shows (r .answer);
       node = fieldOf ports (r .node);
       channel = fieldOf ports (r .channel);
       receive = fieldOf ports (r .receive);

@@ -85,11 +85,11 @@ fn least(m: usize, n: usize) -> usize
 }
 
 // The path that the first ports of a buffer are; `-` where it has none.
-pub fn path(out: &mut [u8], at: usize, buffer: &[u8], count: usize) -> usize
+pub fn path(out: &mut [u8], at: usize, buffer: &[u8], count: u16) -> usize
     requires { ⌜ at + length (bytesOf (showsPath (take count (now buffer)))) ≤ length (now out) ⌝ }
     ensures { λ r. ⌜ Wrote (now (out .entry)) at (bytesOf (showsPath (take count (now (buffer .entry))))) (now (out .exit)) r ⌝ }
 {
-    let hops = least(count, buffer.len());
+    let hops = least(count as usize, buffer.len());
     if hops == 0 {
         return byte(out, at, b'-');
     }

@@ -13,14 +13,14 @@ pub enum Field {
     Nothing,
     Number(u32),
     Letter(u8),
-    Path(usize),
+    Path(u16),
 }
 
 // The fields of a printed line, in their order.
 pub struct Row {
-    pub line: Field,
+    pub line: u16,
     pub call: Field,
-    pub answer: Field,
+    pub answer: u16,
     pub node: Field,
     pub channel: Field,
     pub receive: Field,
@@ -42,9 +42,9 @@ pub fn of_call(
     ensures { λ r. ⌜ ((w : List ℕ) → rowOf w r ≡ row line letter answer (fieldOf w node) (fieldOf w channel) (fieldOf w receive) (fieldOf w scouts) (fieldOf w ports)) ⌝ }
 {
     Row {
-        line: Field::Number(line as u32),
+        line,
         call: Field::Letter(letter),
-        answer: Field::Number(answer as u32),
+        answer,
         node,
         channel,
         receive,
@@ -58,9 +58,9 @@ pub fn lone(line: u16, answer: u16) -> Row
     ensures { λ r. ⌜ ((w : List ℕ) → rowOf w r ≡ lone line answer) ⌝ }
 {
     Row {
-        line: Field::Number(line as u32),
+        line,
         call: Field::Nothing,
-        answer: Field::Number(answer as u32),
+        answer,
         node: Field::Nothing,
         channel: Field::Nothing,
         receive: Field::Nothing,
@@ -96,17 +96,16 @@ pub fn write(out: &mut [u8], at: usize, row: Row, ports: &[u8]) -> usize
     requires { ⌜ at + rowWidth (rowOf (now ports) row) ≤ length (now out) ⌝ }
     ensures { λ r. ⌜ Wrote (now (out .entry)) at (rowText (rowOf (now (ports .entry)) row)) (now (out .exit)) r ⌝ }
 {
-    let line = row.line;
     let call = row.call;
-    let answer = row.answer;
     let node = row.node;
     let channel = row.channel;
     let receive = row.receive;
     let scouts = row.scouts;
     let path = row.ports;
-    let mut end = write_field(out, at, line, ports);
+    let mut end = put::decimal(out, at, row.line as u32);
     end = write_next(out, end, call, ports);
-    end = write_next(out, end, answer, ports);
+    end = put::byte(out, end, b' ');
+    end = put::decimal(out, end, row.answer as u32);
     end = write_next(out, end, node, ports);
     end = write_next(out, end, channel, ports);
     end = write_next(out, end, receive, ports);

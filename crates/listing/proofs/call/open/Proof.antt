@@ -33,9 +33,6 @@ cast-t19-2 c = search needs
 trace-requires : tie.Need-trace-requires
 trace-requires c κs = search needs
 
-cast-t26 : tie.Need-cast-t26
-cast-t26 c = search needs
-
 of-call-requires-2 : tie.Need-of-call-requires-2
 of-call-requires-2 c κs = search needs
 
@@ -47,7 +44,7 @@ same-length-3 c = search needs
 
 returns-2 : tie.Need-returns-2
 returns-2 c =
-    let m = c .before .before .before .before in
+    let m = c .before .before .before in
     let e = m .before .before .before .before in
     let o = e .before .before .before .before .before in
     let s = o .before .before .before .before in
@@ -66,7 +63,6 @@ open-spec =
     returns
     cast-t19-2
     trace-requires
-    cast-t26
     of-call-requires-2
     same-length-2
     same-length-3
