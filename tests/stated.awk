@@ -38,7 +38,7 @@ function ended(    i, name, text, at, signature) {
     if (name == "") {
         for (i = 1; i <= lines; i++)
             if (line[i] ~ /^use /) { if (WHOLE > 1) print KEY ": " line[i] }
-            else if (line[i] !~ /^((pub )?mod|ruleset) / && at <= outer) print "== " KEY ": not understood: " line[i]
+            else if (line[i] !~ /^(pub )?(mod|ruleset) / && at <= outer) print "== " KEY ": not understood: " line[i]
         lines = 0
         return
     }

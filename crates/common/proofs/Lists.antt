@@ -1,4 +1,4 @@
--- Laws of `keep`, `from` and `Sorted`, and of counting.
+-- Laws of `keep`, `any`, `from` and `Sorted`, and of counting.
 -- Assumes nothing.
 use mathlib.Core.Path.{_≡_, refl, ap, _∙_, sym, subst}
 use mathlib.Core.Logic.{⊎-elim}
@@ -9,7 +9,8 @@ use native.Mathlib.Omega.{arith}
 use native.Mathlib.Nat.{eq-or-lt-of-le}
 use native.Mathlib.Numerals.{add-one}
 use lib.ListN.{length, length-append}
-use Rattle.common.specs.Lists.{_∈_, keep, from, Sorted}
+use Rattle.common.specs.Lists.{_∈_, keep, any, from, Sorted}
+use Rattle.common.proofs.Tests.{clash, either, or-left, or-right}
 
 -- what holds of every member, where a list is put together of others or is another under a function
 module _ {A : Type 0} (P : A → Type 0) where
@@ -154,6 +155,18 @@ length-parts f (x ∷ xs) = go (f x) (length-parts f xs)
 
 pub length-keep : {A : Type 0} (f : A → Bool) (xs : List A) → length (keep f xs) ≤ length xs
 length-keep f xs = omega (arith, length-parts f xs)
+
+-- some member passes, exactly where the test of the list says so
+module _ {A : Type 0} (f : A → Bool) where
+  pub any-some : (xs : List A) → any f xs ≡ true → (x : A) × (x ∈ xs) × (f x ≡ true)
+  unfolding any
+  any-some [] e = absurd (clash e refl)
+  any-some (x ∷ xs) e = ⊎-elim (λ y. (x, List·Memᴰ·head refl, y)) (λ y. let r = any-some xs y in (r .0, List·Memᴰ·tail (r .1), r .2)) (either (f x) (any f xs) e)
+
+  pub some-any : (xs : List A) {x : A} → x ∈ xs → f x ≡ true → any f xs ≡ true
+  unfolding any
+  some-any (y ∷ xs) {x} (List·Memᴰ·head h) e = or-left (any f xs) (sym (ap f h) ∙ e)
+  some-any (y ∷ xs) {x} (List·Memᴰ·tail m) e = or-right (f y) (some-any xs m e)
 
 -- the numbers from s, k of them: which they are, that they rise, how many
 pub from-mem : (s k : ℕ) {n : ℕ} → n ∈ from s k → (s ≤ n) × (n < s + k)

@@ -12,7 +12,7 @@ x ∈ xs = List·Memᴰ x xs
 -- the members that pass a test, in their order
 unfoldable pub keep : {A : Type 0} → (A → Bool) → List A → List A
 keep f [] = []
-keep f (x ∷ xs) = cond (f x) (x ∷ keep f xs) (keep f xs)
+keep f (x ∷ xs) = let rest = keep f xs in cond (f x) (x ∷ rest) rest
 
 -- some member passes a test
 unfoldable pub any : {A : Type 0} → (A → Bool) → List A → Bool

@@ -3,3 +3,4 @@ pub mod Bits
 pub mod Circuits
 pub mod Ports
 pub mod Order
+pub mod Axes

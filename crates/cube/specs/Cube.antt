@@ -6,6 +6,7 @@ use Prim.Native.Nat.{ℕ, _+_, _-_, _*_, _/_, _%_, _^_, _≤_, _<_}
 use lib.Dec.{eqb}
 use lib.Bits.{bitXor}
 use Rattle.cube.specs.Bits.{bitAt, has, flip}
+use Rattle.cube.specs.Axes.{axis}
 
 -- "A cube of dimension D has nodes 0 to 2^D - 1": how many, for a dimension up to 8
 pub record NodeCount (D count : ℕ) : Type 0 where
@@ -13,9 +14,9 @@ pub record NodeCount (D count : ℕ) : Type 0 where
   pub some : 0 < count
   pub most : count ≤ 256
 
--- "Port p, below D, of a node leads to the node whose number differs in bit p alone"
+-- "Port p, below D, of a node leads to the node whose number differs in bit p alone": the bit of the port's axis
 abbrev pub next : ℕ → ℕ → ℕ
-next n p = flip n p
+next n p = flip n (axis p)
 
 -- "The circuit of send channel c at node s has the number 8·s + c + 1; zero means no circuit."
 abbrev pub circuitOf : ℕ → ℕ → ℕ

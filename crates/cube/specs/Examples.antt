@@ -1,10 +1,13 @@
--- Document 01's entries of the table of first ports, which any table that keeps the rule has; and one circuit number.
+-- Document 01's entries of the table of first ports, which any table that keeps the rule has; one circuit number; and the ports of small cubes.
 -- Assumes nothing.
 use mathlib.Core.Path.{_≡_, refl}
-use mathlib.Core.List.{List}
+use mathlib.Core.List.{List, [], _∷_}
 use Prim.Native.Nat.{ℕ}
 use lib.Dec.{lit<}
 use lib.ListN.{getD}
+use Rattle.common.specs.Lists.{keep, from}
+use Rattle.cube.specs.Bits.{has}
+use Rattle.cube.specs.Axes.{axis, present}
 use Rattle.cube.specs.Cube.{circuitOf}
 use Rattle.cube.specs.Helical.{firstPort, FirstPorts}
 
@@ -25,3 +28,12 @@ module _ (table : List ℕ) (rule : FirstPorts table) where
 -- "The circuit of send channel c at node s has the number 8·s + c + 1": send channel 3 of node 200
 circuit-1604 : circuitOf 200 3 ≡ 1604
 circuit-1604 = refl
+
+-- A cube of dimension 3 has ports 0 to 2; with dimensions 0 and 2 folded, 17 and 15 besides. Nothing is there from 18 on.
+ports-of-three : keep (present 3 0) (from 0 20) ≡ 0 ∷ 1 ∷ 2 ∷ []
+unfolding keep from present axis has
+ports-of-three = refl
+
+ports-folded : keep (present 3 5) (from 0 20) ≡ 0 ∷ 1 ∷ 2 ∷ 15 ∷ 17 ∷ []
+unfolding keep from present axis has
+ports-folded = refl

@@ -16,9 +16,9 @@ pub fn node_count(dimension: u16) -> u16
     1 << dimension
 }
 
-// The node that a port leads to.
+// The node that a port below 9 leads to: such a port is its own axis.
 pub fn neighbour(node: Node, port: Port) -> Node
-    requires { ⌜ port .0 < 16 ⌝ }
+    requires { ⌜ port .0 < 9 ⌝ }
     ensures { λ r. ⌜ r .0 ≡ next (node .0) (port .0) ⌝ }
 {
     let n = node.0;

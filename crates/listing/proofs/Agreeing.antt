@@ -15,12 +15,11 @@ use Rattle.ownership.specs.History.{History, entered}
 use Rattle.ownership.specs.Lists.{Covered}
 use Rattle.ownership.proofs.Agreement.{covered-step}
 use Rattle.ownership.proofs.Followed.{made-valid, made-view}
-use Rattle.ownership.proofs.Range.{made-bytes}
-use Rattle.table.proofs.Made.{view-made}
+use Rattle.table.proofs.Made.{made-bytes, view-made}
 use Rattle.listing.specs.Examples.{input, output, printed-example}
-use Rattle.listing.specs.Lines.{lines}
+use Rattle.text.specs.Lines.{lines}
 use Rattle.listing.specs.Line.{asks}
-use Rattle.listing.specs.Row.{Row, rowsText}
+use Rattle.text.specs.Row.{Row, rowsText}
 use Rattle.listing.specs.Listing.{callRow, traced, rowFor, behind, rows, header, inputLimit, tooLong, empty, listing, printed, recorded}
 
 -- The list says what the ownership history says: on a table that a history covers, the printed lines are those of the history.

@@ -1,75 +1,63 @@
--- From what a call answers to the line that is printed for it.
+-- From what a call answers to the fields of its printed line.
 -- Assumes nothing.
 use mathlib.Core.Path.{_≡_, refl, ap, sym, _∙_}
-use mathlib.Core.Logic.{_≢_, ⊎-elim}
-use mathlib.Core.Bool.{true, false, _||_}
+use mathlib.Core.Logic.{_≢_}
 use mathlib.Core.List.{List}
 use mathlib.Core.Option.{Option, none, some}
-use Prim.Native.Nat.{ℕ, _-_, _≤_, min}
-use native.Mathlib.Omega.{arith}
-use lib.Dec.{eqb}
+use Prim.Native.Nat.{ℕ}
 use lib.ListN.{length, take}
-use lib.Seq.{take-all}
-use borrow.Author.Tests.{eqb-true, ne-eqb}
-use Rattle.common.proofs.Tests.{below-or, either}
+use borrow.Author.Tests.{ne-eqb}
 use Rattle.paths.specs.Send.{Answer}
 use Rattle.ownership.specs.Calls.{Call, opening, tracing, After}
 use Rattle.ownership.specs.OnTable.{done, called}
-use Rattle.listing.specs.Text.{letterB, letterC, letterE, letterF, letterS}
-use Rattle.listing.specs.Line.{asked}
-use Rattle.listing.specs.Row.{nothing, shows, path, Row, rowText, row}
-use Rattle.listing.specs.Listing.{callRow, unreadable, empty, traced, rowFor, behind}
-use Rattle.listing.specs.Printed.{Wrote, Answered}
-use Rattle.listing.proofs.Writing.{within}
-use Rattle.listing.proofs.Rows.{retext}
+use Rattle.text.specs.Row.{Field, nothing, shows, path, Row as PrintedRow, row, rowText}
+use Rattle.text.specs.Written.{Wrote, rowOf, rowWidth}
+use Rattle.text.specs.declared.row.Row.{Row}
+use Rattle.text.proofs.Writing.{retext}
+use Rattle.text.proofs.Rows.{row-length}
+use Rattle.listing.specs.Line.{letterS}
+use Rattle.listing.specs.Listing.{sent, showsIf, callRow, unreadable, empty, traced, rowFor, behind}
+use Rattle.listing.specs.Printed.{Answered, WroteLine}
 
--- a call on a table gave an answer, and the line of that answer was written
-pub answered : {b b′ : List ℕ} {a : Call} {x : Answer} {buffer : List ℕ} {k m n i j : ℕ} {out out′ : List ℕ} {r : Row} → done b′ x buffer ≡ called b a
-    → callRow n a x (traced called b′) ≡ r → k ≤ m → Wrote k out i (rowText r) out′ j → Answered m b n (some a) out i b′ out′ j
+-- a call on a table gave an answer, and the fields are those of that answer
+pub answered : {b b′ w : List ℕ} {a : Call} {x : Answer} {buffer : List ℕ} {n : ℕ} {r : Row} → done b′ x buffer ≡ called b a
+    → rowOf w r ≡ callRow n a x (traced called b′) → Answered b n (some a) w r b′
 unfolding rowFor behind
-answered {a = a} {n = n} e same h w =
+answered {a = a} {n = n} e same =
     record {
-      text = within h (retext (ap rowText (sym same ∙ ap (λ (d : After (List ℕ)). callRow n a (d .given .answer) (traced called (d .state))) e)) w);
+      row = same ∙ ap (λ (d : After (List ℕ)). callRow n a (d .given .answer) (traced called (d .state))) e;
       table = ap (λ (d : After (List ℕ)). d .state) e;
     }
 
--- the same of a line that asks for the call, within more places
-pub answered-line : {k m n i j : ℕ} {b b′ out out′ : List ℕ} {a a′ : Option Call} → a ≡ a′ → k ≤ m → Answered k b n a out i b′ out′ j → Answered m b n a′ out i b′ out′ j
-answered-line e h w = rw (← e) (record { text = within h (w .text); table = w .table })
-
 -- a line that cannot be read
-pub unread-line : {m n i j : ℕ} {b out out′ : List ℕ} {a : Option Call} → a ≡ none → 24 ≤ m → Wrote 24 out i (rowText (unreadable n)) out′ j → Answered m b n a out i b out′ j
+pub unread-line : {b w : List ℕ} {n : ℕ} {r : Row} → rowOf w r ≡ unreadable n → Answered b n none w r b
 unfolding rowFor behind
-unread-line e h w = rw e (record { text = within h w; table = refl })
+unread-line e = record { row = e; table = refl }
 
 -- the line of an open, by its answer
-module _ (n : ℕ) (way : ℕ → ℕ → List ℕ) (s c t y v : ℕ) (x : Answer) where
-  pub acknowledged-row : x .number ≡ 0 → callRow n (opening s c t y v) x way ≡ row n letterS 0 (shows s) (shows c) (shows (x .receive)) (shows (x .scouts)) (path (way s c))
+module _ (n : ℕ) (way : ℕ → ℕ → List ℕ) (s c t y v : ℕ) (x : Answer) {scouts : Field} (shown : scouts ≡ showsIf (sent x) (shows (x .scouts))) where
+  pub refused-row : x .number ≢ 0 → row n letterS (x .number) (shows s) (shows c) nothing scouts nothing ≡ callRow n (opening s c t y v) x way
   unfolding callRow
-  acknowledged-row e = rw e
+  refused-row p = rw (ne-eqb (x .number) 0 p) (rw (shown, ne-eqb (x .number) 0 p))
 
-  pub rejected-row : (eqb (x .number) 10 || eqb (x .number) 11) ≡ true → callRow n (opening s c t y v) x way ≡ row n letterS (x .number) (shows s) (shows c) nothing (shows (x .scouts)) nothing
+  pub acknowledged-row : {w : List ℕ} → x .number ≡ 0 → w ≡ way s c
+      → row n letterS (x .number) (shows s) (shows c) (shows (x .receive)) scouts (path w) ≡ callRow n (opening s c t y v) x way
   unfolding callRow
-  rejected-row e = ⊎-elim (λ q. rw (eqb-true (x .number) 10 q)) (λ q. rw (eqb-true (x .number) 11 q)) (either (eqb (x .number) 10) _ e)
+  acknowledged-row p q = rw (shown, p, q)
 
-  pub refused-row : x .number ≢ 0 → (eqb (x .number) 10 || eqb (x .number) 11) ≡ false → callRow n (opening s c t y v) x way ≡ row n letterS (x .number) (shows s) (shows c) nothing nothing nothing
-  unfolding callRow
-  refused-row p q = rw (ne-eqb (x .number) 0 p, q)
-
--- the ports that a trace wrote into a buffer of nine bytes; a count above nine takes no more of it
-take-nine : (h : ℕ) (xs : List ℕ) → length xs ≡ 9 → take (min h 9) xs ≡ take h xs
-take-nine h xs l =
-    ⊎-elim (λ g. let m : min h 9 ≡ h = omega arith in ap (λ i. take i xs) m)
-    (λ g. let m : min h 9 ≡ 9 = omega arith in ap (λ i. take i xs) m ∙ take-all 9 xs (omega arith) ∙ sym (take-all h xs (omega arith))) (below-or 9 h)
-
-pub ports-are : (s c : ℕ) {k r h : ℕ} {b buffer : List ℕ} → k ≡ min h 9 → length buffer ≡ 9
-    → done b (record { number = r; hops = h; receive = 0; scouts = 0 }) buffer ≡ called b (tracing s c empty) → take (k - 0) buffer ≡ traced called b s c
+-- the ports that a trace wrote into the buffer it was lent
+pub ports-are : (s c : ℕ) {r h : ℕ} {b lent buffer : List ℕ} → lent ≡ empty
+    → done b (record { number = r; hops = h; receive = 0; scouts = 0 }) buffer ≡ called b (tracing s c lent) → take h buffer ≡ traced called b s c
 unfolding traced
-ports-are s c {k = k} {h = h} {buffer = buffer} e l t =
-    let z : k - 0 ≡ min h 9 = omega arith in
-    ap (λ i. take i buffer) z ∙ take-nine h buffer l ∙ ap (λ (d : After (List ℕ)). take (d .given .answer .hops) (d .given .buffer)) t
+ports-are s c {b = b} l t = ap (λ (d : After (List ℕ)). take (d .given .answer .hops) (d .given .buffer)) (t ∙ ap (λ (m : List ℕ). called b (tracing s c m)) l)
 
--- a letter that is none of the five asks for nothing
-pub asked-other : (x a b c d e : ℕ) → x ≢ letterF → x ≢ letterB → x ≢ letterE → x ≢ letterS → x ≢ letterC → asked x a b c d e ≡ none
-unfolding asked
-asked-other x a b c d e f g h i j = rw (ne-eqb x letterF f, ne-eqb x letterB g, ne-eqb x letterE h, ne-eqb x letterS i, ne-eqb x letterC j)
+-- The line of what was carried out, of which it is known what it asks: how many bytes it takes, and that it was written.
+module _ {b b′ w : List ℕ} {n : ℕ} {a a′ : Option Call} {r : Row} (e : a ≡ a′) (x : Answered b n a w r b′) where
+  row-is : rowOf w r ≡ rowFor called b n a′
+  row-is = x .row ∙ ap (rowFor called b n) e
+
+  pub line-width : rowWidth (rowOf w r) ≡ length (rowText (rowFor called b n a′))
+  line-width = sym (row-length (rowOf w r)) ∙ ap (λ (q : PrintedRow). length (rowText q)) row-is
+
+  pub line-written : {out out′ : List ℕ} {i j : ℕ} → Wrote out i (rowText (rowOf w r)) out′ j → WroteLine b n a′ out i b′ out′ j
+  line-written t = record { text = retext (ap rowText row-is) t; table = x .table ∙ ap (behind called b) e }

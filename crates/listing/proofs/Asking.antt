@@ -14,11 +14,11 @@ use lib.Seq.{take-suc-set, append-snoc, length-take-le}
 use borrow.Author.Tests.{eq-eqb, ne-eqb, le-leb, lt-leb}
 use Rattle.common.proofs.Tests.{same?}
 use Rattle.ownership.specs.Calls.{Call, making, blocking, unblocking, opening, closing}
-use Rattle.listing.specs.Text.{letterB, letterC, letterE, letterF, letterS, space, number}
-use Rattle.listing.specs.Lines.{onFirst, cut, fields}
-use Rattle.listing.specs.Line.{inFront, numbers, numbersOf, asked, byLetter, withNumbers, ofFields, longest, asks}
+use Rattle.text.specs.Text.{space, number}
+use Rattle.text.specs.Lines.{onFirst, cut, fields}
+use Rattle.listing.specs.Line.{letterB, letterC, letterE, letterF, letterS, inFront, numbers, numbersOf, asked, byLetter, withNumbers, ofFields, longest, asks}
 use Rattle.listing.specs.Printed.{ReadNumbers}
-use Rattle.listing.proofs.Reading.{IfRead, number-small}
+use Rattle.text.proofs.Reading.{IfRead, number-small}
 
 -- numbers that were read, in front of those of the fields that are left
 unfoldable pub joined : List ℕ → Option (List ℕ) → Option (List ℕ)
@@ -123,10 +123,13 @@ of-line : (l : List ℕ) → length l ≤ longest → asks l ≡ ofFields (field
 unfolding asks
 of-line l h = rw (le-leb (length l) longest h)
 
--- a letter with no number behind it
+-- no number goes with no letter
+none-counted : (x a b c d e : ℕ) → cond (eqb 0 (numbersOf x)) (asked x a b c d e) none ≡ none
+none-counted x a b c d e = each-letter (λ n f. cond (eqb 0 n) (f a b c d e) none ≡ none) refl refl refl refl refl refl x
+
 letter-alone : (x : ℕ) → ofFields ((x ∷ []) ∷ []) ≡ none
 unfolding ofFields withNumbers numbers byLetter
-letter-alone x = each-letter (λ n f. cond (eqb 0 n) (f 0 0 0 0 0) none ≡ none) refl refl refl refl refl refl x
+letter-alone x = none-counted x 0 0 0 0 0
 
 pub short-line : (l : List ℕ) → length l < 2 → asks l ≡ none
 unfolding fields cut onFirst ofFields
@@ -154,45 +157,42 @@ second-byte (x ∷ y ∷ l) h s e = of-line (x ∷ y ∷ l) s ∙ go (eqb x spac
     go true c k = refl
     go false c k = rw k (long-field x y (cut space ([] ∷ []) l))
 
-pub no-letter : (l : List ℕ) → 2 ≤ length l → length l ≤ longest → getD l 0 0 ≡ space → asks l ≡ none
-unfolding fields cut ofFields
-no-letter [] h s e = absurd (omega arith)
-no-letter (x ∷ l) h s e = of-line (x ∷ l) s ∙ rw (eq-eqb x space e)
+either-none : (b : Bool) → _≡_ {A = Option Call} (cond b none none) none
+either-none true = refl
+either-none false = refl
 
--- a letter alone, a space, and the rest
-pub letter-line : (l : List ℕ) → 2 ≤ length l → length l ≤ longest → getD l 1 0 ≡ space → getD l 0 0 ≢ space → asks l ≡ withNumbers (getD l 0 0) (numbers (fields (drop 2 l)))
+-- a byte that is no call letter, whatever the count of numbers behind it
+pub other-letter : (x k a b c d e : ℕ) → x ≢ letterF → x ≢ letterB → x ≢ letterE → x ≢ letterS → x ≢ letterC → cond (eqb k (numbersOf x)) (asked x a b c d e) none ≡ none
+unfolding numbersOf asked
+other-letter x k a b c d e f g h i j = rw (ne-eqb x letterF f, ne-eqb x letterB g, ne-eqb x letterE h, ne-eqb x letterS i, ne-eqb x letterC j) (either-none (eqb k 0))
+
+-- as a space is
+space-asks : (m : Option (List ℕ)) → withNumbers space m ≡ none
+unfolding withNumbers byLetter numbersOf asked
+space-asks none = refl
+space-asks (some ns) = either-none (eqb (length ns) 0)
+
+-- a byte, a space, and the rest
+letter-line : (l : List ℕ) → 2 ≤ length l → length l ≤ longest → getD l 1 0 ≡ space → asks l ≡ withNumbers (getD l 0 0) (numbers (fields (drop 2 l)))
 unfolding fields cut onFirst ofFields
-letter-line [] h s e f = absurd (omega arith)
-letter-line (x ∷ []) h s e f = absurd (omega arith)
-letter-line (x ∷ y ∷ l) h s e f = of-line (x ∷ y ∷ l) s ∙ rw (ne-eqb x space f, eq-eqb y space e)
+letter-line [] h s e = absurd (omega arith)
+letter-line (x ∷ []) h s e = absurd (omega arith)
+letter-line (x ∷ y ∷ l) h s e =
+    of-line (x ∷ y ∷ l) s
+    ∙ ⊎-elim (λ p. rw (eq-eqb x space p) (sym (ap (λ b. withNumbers b (numbers (cut space ([] ∷ []) l))) p ∙ space-asks (numbers (cut space ([] ∷ []) l))))) (λ p. rw (ne-eqb x space p, eq-eqb y space e)) (same? x space)
 
-pub asked-none : (x a b c d e : ℕ) → x ≡ 0 → asked x a b c d e ≡ none
-unfolding asked
-asked-none x a b c d e z = rw z
+-- numbers that were read into five places, by their count
+by-five : (x k : ℕ) (vs : List ℕ) → length vs ≡ 5 → k ≤ 5
+    → cond (eqb k (numbersOf x)) (asked x (getD vs 0 0) (getD vs 1 0) (getD vs 2 0) (getD vs 3 0) (getD vs 4 0)) none ≡ byLetter x (take k vs)
+by-five x k vs l h =
+    ⊎-elim (λ e. rw (eq-eqb k (numbersOf x) e) (sym (own-count x k vs l e)))
+    (λ e. rw (ne-eqb k (numbersOf x) e) (sym (other-count x (take k vs) (λ n. e (sym (length-take-le k vs (omega arith)) ∙ n))))) (same? k (numbersOf x))
 
--- Lines that a look at their numbers decides: what was read of the numbers behind the second byte, a space, and of the first.
-module _ (l : List ℕ) {vs : List ℕ} {k : ℕ} (least : 2 ≤ length l) (most : length l ≤ longest) (gap : getD l 1 0 ≡ space) (numbered : ReadNumbers (fields (drop 2 l)) vs k) where
-  by-count : k ≢ 0 → getD l 0 0 ≢ space → asks l ≡ byLetter (getD l 0 0) (take k vs)
-  unfolding withNumbers
-  by-count z s = letter-line l least most gap s ∙ ap (withNumbers (getD l 0 0)) (numbered .read z)
-
-  pub unread-line : k ≡ 0 → asks l ≡ none
-  unread-line z = ⊎-elim (λ e. no-letter l least most e) (λ e. letter-line l least most gap e ∙ numbered .unread z (getD l 0 0)) (same? (getD l 0 0) space)
-
-  count-length : length (take k vs) ≡ k
-  count-length = length-take-le k vs (let r = numbered .room in let f = numbered .few in omega arith)
-
-  pub other-line : k ≢ 0 → k ≢ numbersOf (getD l 0 0) → asks l ≡ none
-  other-line z h =
-      ⊎-elim (λ e. no-letter l least most e) (λ e. by-count z e ∙ other-count (getD l 0 0) (take k vs) (λ n. h (sym count-length ∙ n))) (same? (getD l 0 0) space)
-
-  space-has-none : getD l 0 0 ≡ space → numbersOf (getD l 0 0) ≡ 0
-  unfolding numbersOf
-  space-has-none e = rw e
-
-  pub own-line : k ≢ 0 → k ≡ numbersOf (getD l 0 0) → asked (getD l 0 0) (getD vs 0 0) (getD vs 1 0) (getD vs 2 0) (getD vs 3 0) (getD vs 4 0) ≡ asks l
-  own-line z h = sym (by-count z (λ e. z (h ∙ space-has-none e)) ∙ own-count (getD l 0 0) k vs (numbered .room) h)
-
--- the answer of a line that cannot be read
-pub refused-line : (l : List ℕ) (x a b c d e : ℕ) → x ≡ 0 → asks l ≡ none → (asked x a b c d e ≡ asks l) × (x ≢ 0 → 2 ≤ length l)
-refused-line l x a b c d e z n = (asked-none x a b c d e z ∙ sym n, λ f. absurd (f z))
+-- A line that a look at its numbers decides: what was read of the numbers behind the second byte, a space.
+pub line-read : (l : List ℕ) {vs : List ℕ} {k : ℕ} → 2 ≤ length l → length l ≤ longest → getD l 1 0 ≡ space → ReadNumbers (fields (drop 2 l)) vs k
+    → cond (eqb k (numbersOf (getD l 0 0))) (asked (getD l 0 0) (getD vs 0 0) (getD vs 1 0) (getD vs 2 0) (getD vs 3 0) (getD vs 4 0)) none ≡ asks l
+unfolding withNumbers
+line-read l {vs = vs} {k = k} least most gap numbered =
+    ⊎-elim (λ z. rw z (none-counted (getD l 0 0) _ _ _ _ _) ∙ sym (numbered .unread z (getD l 0 0)))
+    (λ z. by-five (getD l 0 0) k vs (numbered .room) (numbered .few) ∙ sym (ap (withNumbers (getD l 0 0)) (numbered .read z))) (same? k 0)
+    ∙ sym (letter-line l least most gap)

@@ -19,37 +19,29 @@ use Rattle.paths.proofs.CubeNetwork.{path-hops}
 use Rattle.table.specs.Layout.{made}
 use Rattle.table.specs.View.{view}
 use Rattle.soundness.specs.Sound.{shapeOf}
-use Rattle.soundness.specs.SoundTest.{pathOf}
+use Rattle.soundness.specs.SoundTest.{pathOf, written}
 use Rattle.soundness.proofs.Soundness.{path-is}
-use Rattle.ownership.specs.Calls.{Call, making, blocking, unblocking, opening, closing, tracing, written, After}
-use Rattle.ownership.specs.OnTable.{askedOf, stoppedAt, carriedOut, called}
+use Rattle.ownership.specs.Calls.{Call, making, blocking, unblocking, opening, closing, tracing, After}
+use Rattle.ownership.specs.OnTable.{askedOf, stoppedAt, givesIn, carriedOut, called}
 use Rattle.ownership.specs.Allowed.{Allowed}
 use Rattle.ownership.proofs.Allowed.{allowed}
 use Rattle.ownership.proofs.Stops.{none-stops, none-stops-lent, pass-tests}
 use Rattle.ownership.proofs.Carried.{called-carried, called-stopped}
 use Rattle.ownership.proofs.Shows.{PortsBelow}
-use Rattle.ownership.proofs.OnSound.{open-says, open-stands}
-use Rattle.listing.specs.Text.{newline, decimal}
-use Rattle.listing.specs.Lines.{onFirst, cut, lines, fields}
+use Rattle.ownership.proofs.OnSound.{open-answers, open-stands}
+use Rattle.text.specs.Text.{newline, decimal}
+use Rattle.text.specs.Lines.{onFirst, cut, lines, fields}
 use Rattle.listing.specs.Line.{numbers, numbersOf, byLetter, withNumbers, ofFields, longest, asks}
-use Rattle.listing.specs.Row.{Field, nothing, shows, path, inTurn, bytesOf, Row, inOrder, spaced, ended, rowText, rowsText}
+use Rattle.text.specs.Row.{Field, nothing, shows, path, inTurn, bytesOf, spaced, ended, rowText, rowsText}
 use Rattle.listing.specs.Listing.{accepted, sent, callRow, unreadable, empty, traced, rowFor, behind, rows, header, inputLimit, tooLong, listing, printed}
 use Rattle.listing.specs.Printed.{outputBytes}
-use Rattle.listing.proofs.Digits.{decimal-length}
-use Rattle.listing.proofs.Fields.{five-digits}
-use Rattle.listing.proofs.Reading.{IfRead}
+use Rattle.text.specs.Written.{width}
+use Rattle.text.proofs.Digits.{decimal-length}
+use Rattle.text.proofs.Fields.{five-digits}
+use Rattle.text.proofs.Rows.{row-length}
+use Rattle.text.proofs.Reading.{IfRead}
 use Rattle.listing.proofs.Asking.{numbers-hold, each-letter, short-line}
 use Rattle.listing.proofs.Theorems.{call-below}
-
--- how many bytes a field takes
-abbrev width : Field → ℕ
-width f = length (bytesOf f)
-
--- a printed line is its eight fields, seven spaces and a newline
-row-length : (r : Row) → length (rowText r)
-    ≡ width (r .line) + width (r .call) + width (r .answer) + width (r .node) + width (r .channel) + width (r .receive) + width (r .scouts) + width (r .ports) + 8
-unfolding rowText ended spaced inOrder
-row-length r = simp length-append (omega arith)
 
 -- a field that is shown in one case only
 if-fits : (k : ℕ) (b : Bool) (f : Field) → 1 ≤ k → (b ≡ true → width f ≤ k) → width (cond b f nothing) ≤ k
@@ -119,7 +111,7 @@ module _ (b : List ℕ) (s c : ℕ) where
   trace = tracing s c empty
 
   entered-path : stoppedAt b trace ≡ 0 → traced called b s c ≡ pathOf (view b) (circuitOf s c)
-  unfolding traced carriedOut written
+  unfolding traced carriedOut givesIn written
   entered-path e =
       ap (λ (d : After (List ℕ)). take (d .given .answer .hops) (d .given .buffer)) (called-carried b trace e)
       ∙ take-append-seam (pathOf (view b) (circuitOf s c)) (drop (length (pathOf (view b) (circuitOf s c))) empty)
@@ -134,7 +126,7 @@ module _ (b : List ℕ) (s c : ℕ) where
       let t = pass-tests b (none-stops-lent b trace (λ D q. let z : _≡_ {A = ℕ} 0 1 = cc in omega arith) e) in
       let stands = open-stands (view b) (t .3) s c .0 (allowed (askedOf (view b)) trace (none-stops b trace e) .2) in
       let most : view b .dimension ≤ 8 = unfold view in t .2 in
-      let below = permitted-below (shapeOf (view b)) _ _ (stands .path) (stands .permitted) in
+      let below = permitted-below (shapeOf (view b)) most refl _ _ (stands .path) (stands .permitted) in
       let hops = path-hops (shapeOf (view b)) _ _ _ (stands .path) (stands .permitted) .1 in
       rw (path-is (view b) (circuitOf s c) stands) (path-width (stands .path) (omega arith) (turn-length (view b .dimension) (stands .path) (omega arith) below))
 
@@ -148,10 +140,10 @@ module _ (b : List ℕ) (s c t y v : ℕ) where
   opens = opening s c t y v
 
   open-scouts : called b opens .given .answer .scouts ≤ 123300
-  open-scouts = ⊎-elim (λ e. open-says b s c t y v e .bounded) (λ e. rw (called-stopped b opens e) (lit≤ tt)) (same? (stoppedAt b opens) 0)
+  open-scouts = ⊎-elim (λ e. open-answers b s c t y v e .bounded) (λ e. rw (called-stopped b opens e) (lit≤ tt)) (same? (stoppedAt b opens) 0)
 
   open-receive : called b opens .given .answer .number ≡ 0 → called b opens .given .answer .receive < 8
-  open-receive z = ⊎-elim (λ e. open-says b s c t y v e .lowest z .small) (λ e. absurd (e (rw (called-stopped b opens e) at z))) (same? (stoppedAt b opens) 0)
+  open-receive z = ⊎-elim (λ e. open-answers b s c t y v e .lowest z .small) (λ e. absurd (e (rw (called-stopped b opens e) at z))) (same? (stoppedAt b opens) 0)
 
 -- the line of each call
 module _ (b : List ℕ) (n : ℕ) (small : n < 65536) where

@@ -1,7 +1,7 @@
 -- The call letters of document 01: which call a line asks for, and what its printed line shows, field by field. The letters are written by their bytes:
 -- F is 70, B 66, E 69, S 83 and C 67.
 -- Assumes nothing.
-use mathlib.Core.Path.{_≡_, refl, ap, ap₂, _∙_}
+use mathlib.Core.Path.{_≡_, refl, ap₂, _∙_}
 use mathlib.Core.Logic.{_≢_, _⊎_, inl, inr}
 use mathlib.Core.List.{List, [], _∷_, map}
 use mathlib.Core.Option.{some}
@@ -12,13 +12,13 @@ use lib.ListN.{length, length-append}
 use borrow.Author.Tests.{le-leb, ne-eqb}
 use Rattle.paths.specs.Send.{Answer}
 use Rattle.ownership.specs.Calls.{Call, making, blocking, unblocking, opening, closing, After}
-use Rattle.listing.specs.Text.{space, decimal}
+use Rattle.text.specs.Text.{space, decimal}
 use Rattle.listing.specs.Line.{inFront, numbers, numbersOf, asked, byLetter, withNumbers, ofFields, longest, asks}
-use Rattle.listing.specs.Row.{Field, nothing, shows, letter, path, inOrder, spaced}
+use Rattle.text.specs.Row.{Field, nothing, shows, letter, path, inOrder, spaced}
 use Rattle.listing.specs.Listing.{callRow, traced, rowFor}
 use Rattle.listing.specs.Sentences.{Above, AllAbove, lineOf, CanBeGiven}
-use Rattle.listing.proofs.Fields.{five-digits}
-use Rattle.listing.proofs.ReadBack.{reads-back}
+use Rattle.text.proofs.Fields.{five-digits}
+use Rattle.text.proofs.ReadBack.{reads-back}
 use Rattle.listing.proofs.Theorems.{above-decimal, fields-spaced}
 
 -- the numbers of a line, as its fields give them

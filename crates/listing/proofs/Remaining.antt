@@ -9,19 +9,21 @@ use native.Mathlib.Nat.{zero-add}
 use native.Mathlib.Numerals.{add-one}
 use native.Mathlib.Omega.{arith}
 use lib.Dec.{ltb}
-use lib.ListN.{length, take, drop, length-take, length-drop, length-append, drop-of-length-le}
+use lib.ListN.{length, take, drop, length-drop, length-append, drop-of-length-le}
 use lib.Seq.{sets, sets-eq}
 use borrow.Author.Tests.{lt-ltb, le-ltb}
 use Rattle.common.proofs.Tests.{same?}
 use Rattle.table.specs.Layout.{made}
-use Rattle.listing.specs.Text.{newline}
-use Rattle.listing.specs.Lines.{cut, lines}
+use Rattle.text.specs.Text.{newline}
+use Rattle.text.specs.Lines.{cut, lines}
 use Rattle.listing.specs.Line.{asks}
-use Rattle.listing.specs.Row.{rowText, rowsText}
+use Rattle.text.specs.Row.{rowText, rowsText}
 use Rattle.listing.specs.Listing.{rowFor, behind, rows, header, inputLimit, tooLong, listing, printed}
-use Rattle.listing.specs.Printed.{before, Wrote, Answered, outputBytes, Filled, lists}
-use Rattle.listing.proofs.Cuts.{part-is, part-more, lines-last}
-use Rattle.listing.proofs.Writing.{carries, carries-place}
+use Rattle.text.specs.Written.{before, Wrote}
+use Rattle.listing.specs.Printed.{WroteLine, outputBytes, Filled, lists}
+use Rattle.text.proofs.Cuts.{part-is, part-more, lines-last}
+use Rattle.text.proofs.Writing.{carries, carries-place}
+use Rattle.listing.proofs.Fitting.{text-fits}
 use Rattle.ownership.specs.OnTable.{called}
 
 -- behind an input there is no line
@@ -44,17 +46,18 @@ module _ (input : List ℕ) (i j : ℕ) (inside : i < length input) (found : j �
       more : (j ≡ length input → ⊥) → lines (drop i input) ≡ take (j - i) (drop i input) ∷ lines (drop (j + 1) input)
       more e = unfold lines in part-more input newline i j (omega arith) found [] (omega (arith, e))
 
-  pub line-length : length (take (j - i) (drop i input)) ≡ j - i
-  line-length = let n = length-drop i input in length-take (j - i) (drop i input) ∙ omega arith
-
   -- the printed line of it, and those behind it
   pub rows-step : (b : List ℕ) (n : ℕ) → rowsText (rows called b n (lines (drop i input)))
       ≡ rowText (rowFor called b n (asks (take (j - i) (drop i input)))) ++ rowsText (rows called (behind called b (asks (take (j - i) (drop i input)))) (n + 1) (lines (drop (j + 1) input)))
   unfolding rowsText rows
   rows-step b n = rw (line-step, add-one n)
 
+  -- where they fit, it does
+  pub line-fits : (b : List ℕ) (n : ℕ) → length (rowText (rowFor called b n (asks (take (j - i) (drop i input))))) ≤ length (rowsText (rows called b n (lines (drop i input))))
+  line-fits b n = rw (rows-step b n, length-append (rowText (rowFor called b n (asks (take (j - i) (drop i input)))))) (omega arith)
+
   -- what is left to write, after that line
-  module _ {k n p q : ℕ} {b b′ out out′ : List ℕ} (w : Answered k b n (asks (take (j - i) (drop i input))) out p b′ out′ q) where
+  module _ {n p q : ℕ} {b b′ out out′ : List ℕ} (w : WroteLine b n (asks (take (j - i) (drop i input))) out p b′ out′ q) where
     left-is : rowText (rowFor called b n (asks (take (j - i) (drop i input)))) ++ rowsText (rows called b′ (n + 1) (lines (drop (j + 1) input))) ≡ rowsText (rows called b n (lines (drop i input)))
     left-is = rw (w .table) (sym (rows-step b n))
 
@@ -78,22 +81,29 @@ pub printed-rows : (input b : List ℕ) → length input ≤ inputLimit → b �
 unfolding printed listing
 printed-rows input b h e = rw (e, le-ltb inputLimit (length input) h)
 
+-- the lines behind the header fit the output
+pub rows-fit : (input b : List ℕ) → length input ≤ inputLimit → b ≡ made 1 → length header + length (rowsText (rows called b 1 (lines input))) ≤ outputBytes
+rows-fit input b h e =
+    let f = text-fits input in
+    let l = ap length (printed-rows input b h e) in
+    omega (arith, length-append header (rowsText (rows called b 1 (lines input))))
+
 -- an output that is too short stays as it is; one that is not holds the text, and its own bytes behind it
 pub lists-short : (input out : List ℕ) → length out < outputBytes → record { short = true; written = 0; output = out } ≡ lists input out
 unfolding lists
 lists-short input out h = rw (lt-ltb (length out) outputBytes h)
 
-pub lists-all : (input : List ℕ) {k r : ℕ} {out text out′ : List ℕ} → outputBytes ≤ length out → k ≤ outputBytes → text ≡ printed input → Wrote k out 0 text out′ r
+pub lists-all : (input : List ℕ) {r : ℕ} {out text out′ : List ℕ} → outputBytes ≤ length out → text ≡ printed input → Wrote out 0 text out′ r
     → record { short = false; written = r; output = out′ } ≡ lists input out
 unfolding lists
-lists-all input {r = r} {out = out} {text = text} {out′ = out′} h l e w = rw (le-ltb (length out) outputBytes h, ← e) (λ i. record { short = false; written = place i; output = bytes i })
+lists-all input {r = r} {out = out} {text = text} {out′ = out′} h e w = rw (le-ltb (length out) outputBytes h, ← e) (λ i. record { short = false; written = place i; output = bytes i })
   where
     place : r ≡ length text
     place = w .place ∙ zero-add (length text)
 
     bytes : out′ ≡ text ++ drop (length text) out
     bytes =
-        w .bytes ∙ sets-eq text out 0 (let p = w .place in let q = w .most in omega arith)
+        w .bytes ∙ sets-eq text out 0 (let f = text-fits input in let l = ap length e in omega arith)
         ∙ ap (λ n. text ++ drop n out) (zero-add (length text))
 
 -- what was written is within the output

@@ -12,12 +12,13 @@ use borrow.Author.Tests.{eq-eqb}
 use Rattle.common.specs.Lists.{any}
 use Rattle.paths.specs.Network.{Path}
 use Rattle.paths.specs.Send.{acknowledged, answered}
-use Rattle.ownership.specs.Calls.{opening, tracing, written, After}
+use Rattle.soundness.specs.SoundTest.{written}
+use Rattle.ownership.specs.Calls.{opening, tracing, After}
 use Rattle.ownership.specs.Allowed.{Allowed}
 use Rattle.ownership.specs.History.{Circuit, History, belongs, openOn, listed, askedOn, stoppedOn, sendOn, withCircuits, adds, follows, gives, entered}
 use Rattle.ownership.proofs.Allowed.{allowed-on, allowed-passes}
 use Rattle.ownership.proofs.Entered.{entered-passed}
-use Rattle.listing.specs.Row.{path}
+use Rattle.text.specs.Row.{path}
 use Rattle.listing.specs.Listing.{callRow, empty, traced, rowFor}
 
 module _ (h : History) (s c t y v : ℕ) (w : Path) (k : ℕ) (passes : stoppedOn h (opening s c t y v) ≡ 0) (sends : sendOn h s t y v .outcome ≡ acknowledged w k) where

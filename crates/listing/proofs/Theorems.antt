@@ -18,12 +18,13 @@ use Rattle.paths.specs.Send.{Answer, Outcome, acknowledged, route-rejected, rec
 use Rattle.table.specs.View.{view}
 use Rattle.soundness.specs.SoundTest.{tableTests}
 use Rattle.ownership.specs.Calls.{Call, making, blocking, unblocking, opening, closing, tracing, callTests, After}
-use Rattle.ownership.specs.OnTable.{lentTests, stoppedAt, sendIn, carriedOut, called}
+use Rattle.ownership.specs.Update.{sendIn}
+use Rattle.ownership.specs.OnTable.{lentTests, stoppedAt, givesIn, carriedOut, called}
 use Rattle.ownership.proofs.Carried.{called-carried, called-stopped}
-use Rattle.listing.specs.Text.{newline, space, digit, decimal}
-use Rattle.listing.specs.Lines.{onFirst, cut, lines, fields}
+use Rattle.text.specs.Text.{newline, space, digit, decimal}
+use Rattle.text.specs.Lines.{onFirst, cut, lines, fields}
 use Rattle.listing.specs.Line.{asks}
-use Rattle.listing.specs.Row.{Field, nothing, shows, letter, path, inTurn, bytesOf, Row, inOrder, spaced, ended, rowText, rowsText}
+use Rattle.text.specs.Row.{Field, nothing, shows, letter, path, inTurn, bytesOf, Row, inOrder, spaced, ended, rowText, rowsText}
 use Rattle.listing.specs.Listing.{sent, callRow, unreadable, traced, rowFor, behind, rows, headerWords, header, inputLimit, listing, printed}
 use Rattle.listing.specs.Sentences.{Above, AllAbove, Shown, IsOpen, WasSent}
 use Rattle.listing.proofs.Asking.{short-line}
@@ -68,15 +69,15 @@ above-spaced (f ∷ []) p = above-less space 31 f (lit≤ tt) (p .0)
 above-spaced (f ∷ g ∷ fs) p = above-append 31 f (space ∷ spaced (g ∷ fs)) (above-less space 31 f (lit≤ tt) (p .0)) (lit< tt, above-spaced (g ∷ fs) (p .1))
 
 -- the bytes of a field are digits, a dash or a call letter
-above-digits : (k n : ℕ) → Above space (Rattle.listing.specs.Text.digits k n)
-unfolding Rattle.listing.specs.Text.digits Above
+above-digits : (k n : ℕ) → Above space (Rattle.text.specs.Text.digits k n)
+unfolding Rattle.text.specs.Text.digits Above
 above-digits zero n = (omega arith, tt)
 above-digits (suc k) n = go (ltb n 10) (above-digits k (n / 10))
   where
-    go : (b : Bool) → Above space (Rattle.listing.specs.Text.digits k (n / 10))
-        → Above space (cond b (digit n ∷ []) (Rattle.listing.specs.Text.digits k (n / 10) ++ (digit (n % 10) ∷ [])))
+    go : (b : Bool) → Above space (Rattle.text.specs.Text.digits k (n / 10))
+        → Above space (cond b (digit n ∷ []) (Rattle.text.specs.Text.digits k (n / 10) ++ (digit (n % 10) ∷ [])))
     go true p = (omega arith, tt)
-    go false p = above-append space (Rattle.listing.specs.Text.digits k (n / 10)) (digit (n % 10) ∷ []) p (omega arith, tt)
+    go false p = above-append space (Rattle.text.specs.Text.digits k (n / 10)) (digit (n % 10) ∷ []) p (omega arith, tt)
 
 pub above-decimal : (n : ℕ) → Above space (decimal n)
 unfolding decimal
@@ -276,7 +277,7 @@ answered-below route-rejected n = lit< tt
 answered-below receive-rejected n = lit< tt
 
 carried-below : (b : List ℕ) (a : Call) → carriedOut b a .given .answer .number < 20
-unfolding carriedOut
+unfolding carriedOut givesIn
 carried-below b (making D) = lit< tt
 carried-below b (blocking n p) = lit< tt
 carried-below b (unblocking n p) = lit< tt

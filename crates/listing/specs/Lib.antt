@@ -1,8 +1,5 @@
--- The printed list: document 01, section "The printed list". From numbers and lines of text up to the whole list.
-pub mod Text
-pub mod Lines
+-- The printed list: document 01, section "The printed list". From what a line asks up to the whole list.
 pub mod Line
-pub mod Row
 pub mod Listing
 pub mod Sentences
 pub mod Printed

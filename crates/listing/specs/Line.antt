@@ -7,8 +7,24 @@ use Prim.Native.Nat.{ℕ}
 use lib.Dec.{eqb, leb}
 use lib.ListN.{length, getD}
 use Rattle.ownership.specs.Calls.{Call, making, blocking, unblocking, opening, closing}
-use Rattle.listing.specs.Text.{letterB, letterC, letterE, letterF, letterS, number}
-use Rattle.listing.specs.Lines.{fields}
+use Rattle.text.specs.Text.{number}
+use Rattle.text.specs.Lines.{fields}
+
+-- the call letters
+abbrev pub letterB : ℕ
+letterB = 66
+
+abbrev pub letterC : ℕ
+letterC = 67
+
+abbrev pub letterE : ℕ
+letterE = 69
+
+abbrev pub letterF : ℕ
+letterF = 70
+
+abbrev pub letterS : ℕ
+letterS = 83
 
 -- the numbers that fields say, where each of them is one
 unfoldable pub inFront : Option ℕ → Option (List ℕ) → Option (List ℕ)

@@ -12,10 +12,9 @@ use Rattle.table.specs.Layout.{made}
 use Rattle.ownership.specs.Calls.{Call, making, blocking, unblocking, opening, closing, tracing, After}
 use Rattle.ownership.specs.OnTable.{called}
 use Rattle.ownership.specs.History.{entered}
-use Rattle.listing.specs.Text.{letterB, letterC, letterE, letterF, letterS}
-use Rattle.listing.specs.Lines.{lines}
-use Rattle.listing.specs.Line.{asks}
-use Rattle.listing.specs.Row.{Field, nothing, shows, path, Row, row, lone, ended, rowsText}
+use Rattle.text.specs.Lines.{lines}
+use Rattle.listing.specs.Line.{letterB, letterC, letterE, letterF, letterS, asks}
+use Rattle.text.specs.Row.{Field, nothing, shows, path, Row, row, lone, ended, rowsText}
 
 -- "Success is 0."; "S answered 0, 10 or 11"
 abbrev pub accepted : Answer → Bool

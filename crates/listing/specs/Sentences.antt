@@ -6,8 +6,8 @@ use mathlib.Core.List.{List, [], _∷_, map}
 use Prim.Native.Nat.{ℕ, _≤_, _<_}
 use Rattle.paths.specs.Send.{Answer}
 use Rattle.ownership.specs.Calls.{Call, making, blocking, unblocking, opening, closing, tracing}
-use Rattle.listing.specs.Text.{decimal, largest}
-use Rattle.listing.specs.Row.{Field, nothing, shows, letter, path, spaced}
+use Rattle.text.specs.Text.{decimal, largest}
+use Rattle.text.specs.Row.{Field, nothing, shows, letter, path, spaced}
 
 -- every byte of a text is above b: above 32, it has no space and no newline
 unfoldable pub Above : ℕ → List ℕ → Type 0

@@ -1,9 +1,6 @@
 // The printed list: from the bytes of an input to the bytes of its list.
 mod call;
 mod line;
-mod number;
-mod put;
-mod row;
 mod whole;
 
 pub use whole::INPUT_LIMIT;

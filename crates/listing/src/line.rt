@@ -1,29 +1,18 @@
-// Reading a line: its letter and its numbers.
+// Reading a line: the call that it asks for.
 ghost use mathlib.Core.Path.{_≡_};
-ghost use mathlib.Core.Logic.{_≢_};
-ghost use Prim.Native.Nat.{_+_, _≤_};
+ghost use mathlib.Core.Bool.{cond};
+ghost use mathlib.Core.Option.{none};
+ghost use Prim.Native.Nat.{_≤_};
+ghost use lib.Dec.{eqb};
 ghost use lib.ListN.{length, drop};
-ghost use Rattle.listing.specs.Lines.{fields};
+ghost use Rattle.text.specs.Lines.{fields};
 ghost use Rattle.listing.specs.Line.{numbersOf, asked, asks};
-ghost use Rattle.listing.specs.Printed.{before, ReadNumbers};
-use crate::number;
+ghost use Rattle.listing.specs.Printed.{callOf, ReadNumbers};
+use cube::Node;
+use cube::Port;
+use text::number;
 
 const LONGEST: usize = 40;
-
-// The first place of a byte from a place on; the length where there is none.
-pub fn find(text: &[u8], from: usize, x: u8) -> usize
-    requires { ⌜ from ≤ length (now text) ⌝ }
-    ensures { λ r. ⌜ (r ≡ from + length (before x (drop from (now (text .entry))))) × (r ≤ length (now (text .entry))) ⌝ }
-{
-    let mut i = from;
-    while i < text.len() {
-        if text[i] == x {
-            return i;
-        }
-        i += 1;
-    }
-    i
-}
 
 // The numbers of a line from a place on, one space between: how many, or 0 where they cannot be read or are more than five.
 fn numbers(line: &[u8], from: usize, values: &mut [u16; 5]) -> usize
@@ -33,7 +22,7 @@ fn numbers(line: &[u8], from: usize, values: &mut [u16; 5]) -> usize
     let mut at = from;
     let mut count: usize = 0;
     while count < 5 {
-        let end = find(line, at, b' ');
+        let end = text::find(line, at, b' ');
         let n = number::read(&line[at..end]);
         if n == number::NONE {
             return 0;
@@ -48,79 +37,62 @@ fn numbers(line: &[u8], from: usize, values: &mut [u16; 5]) -> usize
     0
 }
 
-// How many numbers stand behind a call letter.
-fn wanted(letter: u8) -> usize
-    ensures { λ r. ⌜ r ≡ numbersOf letter ⌝ }
+// What a line asks.
+pub enum Asked {
+    Make(u16),
+    Block(Node, Port),
+    Unblock(Node, Port),
+    Open(Node, u16, Node, u16, u16),
+    Close(Node, u16),
+    Unreadable,
+}
+
+// What is asked with a count of numbers, where that is the letter's own.
+fn counted(count: usize, own: usize, what: Asked) -> Asked
+    ensures { λ r. ⌜ callOf r ≡ cond (eqb count own) (callOf what) none ⌝ }
 {
-    if letter == b'F' {
-        return 1;
+    if count == own {
+        what
+    } else {
+        Asked::Unreadable
     }
-    if letter == b'B' {
-        return 2;
-    }
-    if letter == b'E' {
-        return 2;
-    }
-    if letter == b'S' {
-        return 5;
-    }
-    if letter == b'C' {
-        return 2;
-    }
-    0
 }
 
-// A line that was read: its letter and its numbers. A letter 0 is a line that cannot be read.
-pub struct Line {
-    pub letter: u8,
-    pub a: u16,
-    pub b: u16,
-    pub c: u16,
-    pub d: u16,
-    pub e: u16,
-}
-
-fn unreadable() -> Line
-    ensures { λ r. ⌜ r .letter ≡ 0 ⌝ }
+// What a letter and the numbers behind it ask.
+fn by_letter(letter: u8, count: usize, a: u16, b: u16, c: u16, d: u16, e: u16) -> Asked
+    ensures { λ r. ⌜ callOf r ≡ cond (eqb count (numbersOf letter)) (asked letter a b c d e) none ⌝ }
 {
-    Line {
-        letter: 0,
-        a: 0,
-        b: 0,
-        c: 0,
-        d: 0,
-        e: 0,
+    match letter {
+        b'F' => counted(count, 1, Asked::Make(a)),
+        b'B' => counted(count, 2, Asked::Block(Node(a), Port(b))),
+        b'E' => counted(count, 2, Asked::Unblock(Node(a), Port(b))),
+        b'S' => counted(count, 5, Asked::Open(Node(a), b, Node(c), d, e)),
+        b'C' => counted(count, 2, Asked::Close(Node(a), b)),
+        _ => Asked::Unreadable,
     }
 }
 
-pub fn read(line: &[u8]) -> Line
-    ensures { λ r. ⌜ asked (r .letter) (r .a) (r .b) (r .c) (r .d) (r .e) ≡ asks (now (line .entry)) ⌝ }
-    ensures { λ r. ⌜ (r .letter ≢ 0 → 2 ≤ length (now (line .entry))) ⌝ }
+pub fn read(line: &[u8]) -> Asked
+    ensures { λ r. ⌜ callOf r ≡ asks (now (line .entry)) ⌝ }
 {
     if LONGEST < line.len() {
-        return unreadable();
+        return Asked::Unreadable;
     }
     if line.len() < 2 {
-        return unreadable();
+        return Asked::Unreadable;
     }
     if line[1] != b' ' {
-        return unreadable();
+        return Asked::Unreadable;
     }
-    let letter = line[0];
     let mut values = [0u16; 5];
     let count = numbers(line, 2, &mut values);
-    if count == 0 {
-        return unreadable();
-    }
-    if count != wanted(letter) {
-        return unreadable();
-    }
-    Line {
-        letter,
-        a: values[0],
-        b: values[1],
-        c: values[2],
-        d: values[3],
-        e: values[4],
-    }
+    by_letter(
+        line[0],
+        count,
+        values[0],
+        values[1],
+        values[2],
+        values[3],
+        values[4],
+    )
 }

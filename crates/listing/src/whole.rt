@@ -1,15 +1,15 @@
 // The whole list.
 ghost use mathlib.Core.Path.{_≡_};
-ghost use Prim.Native.Nat.{_+_, _*_, _≤_};
+ghost use Prim.Native.Nat.{_+_, _≤_};
 ghost use lib.ListN.{length};
-ghost use Rattle.listing.specs.Lines.{lines};
-ghost use Rattle.listing.specs.Row.{rowsText};
+ghost use Rattle.text.specs.Lines.{lines};
+ghost use Rattle.text.specs.Row.{rowsText};
 ghost use Rattle.listing.specs.Listing.{rows};
-ghost use Rattle.listing.specs.Printed.{Wrote, lists};
+ghost use Rattle.text.specs.Written.{Wrote};
+ghost use Rattle.listing.specs.Printed.{lists};
 ghost use Rattle.ownership.specs.OnTable.{called};
 use crate::call;
-use crate::line;
-use crate::put;
+use text::put;
 
 // The most bytes of an input that is listed.
 pub const INPUT_LIMIT: usize = 60000;
@@ -19,14 +19,14 @@ pub const OUTPUT_BYTES: usize = 1440075;
 
 // The printed lines of an input, from a place on. Each line of input is found, carried out on the table and printed.
 fn rows(input: &[u8], t: &mut [u8], out: &mut [u8], at: usize) -> usize
-    requires { ⌜ (length (now input) ≤ 60000) × (at + 24 * 60001 ≤ length (now out)) ⌝ }
-    ensures { λ r. ⌜ Wrote (24 * 60001) (now (out .entry)) at (rowsText (rows called (now (t .entry)) 1 (lines (now (input .entry))))) (now (out .exit)) r ⌝ }
+    requires { ⌜ (length (now input) ≤ 60000) × (at + length (rowsText (rows called (now t) 1 (lines (now input)))) ≤ length (now out)) ⌝ }
+    ensures { λ r. ⌜ Wrote (now (out .entry)) at (rowsText (rows called (now (t .entry)) 1 (lines (now (input .entry))))) (now (out .exit)) r ⌝ }
 {
     let mut place = at;
     let mut from: usize = 0;
     let mut line: u16 = 1;
     while from < input.len() {
-        let end = line::find(input, from, b'\n');
+        let end = text::find(input, from, b'\n');
         place = call::answer(t, out, place, line, &input[from..end]);
         line += 1;
         from = end + 1;

@@ -8,15 +8,17 @@ use Rattle.common.specs.Lists.{keep, from, any, lowest}
 use Rattle.common.specs.Tests.{refusal}
 use Rattle.cube.specs.Bits.{has, flip}
 use Rattle.cube.specs.Cube.{uphill}
-use Rattle.cube.specs.Helical.{helical, portsOf}
+use Rattle.cube.specs.Axes.{axis, present}
+use Rattle.cube.specs.Helical.{helical}
 use Rattle.paths.specs.Network.{offered, end, links, hasLink, freePath}
 use Rattle.paths.specs.Pass.{over, ways, beginnings, scan, whole, pass, scouts}
 use Rattle.paths.specs.Send.{received, outcome, goesOn, runs, answered}
-use Rattle.paths.specs.CubeNetwork.{network, otherPorts, maze, alternateMaze, send}
+use Rattle.paths.specs.CubeNetwork.{network, ports, sendPorts, otherPorts, maze, alternateMaze, send}
 use Rattle.command_word.specs.Commands.{commands, valuesIn, values, reserved}
 use Rattle.command_word.specs.Word.{readTests, reading, readWord, writeTests, writing, writeWord}
 use Rattle.table.specs.View.{lowestOf}
-use Rattle.ownership.specs.Calls.{Call, making, blocking, opening, closing, tracing, Given, written, callTests, lent}
+use Rattle.soundness.specs.SoundTest.{written}
+use Rattle.ownership.specs.Calls.{Call, making, blocking, opening, closing, tracing, Given, callTests, lent}
 use Rattle.ownership.specs.History.{History, holdsLink, holdsReceive, belongs, enabledOn, heldOn, freeOn, takenOn, openOn, receiveOn, listed, askedOn, stoppedOn, sendOn, adds, follows, gives, entered}
 use Rattle.ownership.specs.Lists.{historyGives, answers}
 
@@ -81,5 +83,5 @@ results =
     ∷ []
 
 pub examples : map result inputs ≡ results
-unfolding answers entered stoppedOn callTests refusal askedOn openOn heldOn takenOn any holdsLink holdsReceive belongs enabledOn freeOn receiveOn lowestOf lowest listed sendOn adds follows gives written lent send maze alternateMaze network portsOf otherPorts keep from has flip uphill helical offered end links hasLink freePath over ways beginnings scan whole pass scouts received outcome goesOn runs answered commands valuesIn values reserved readTests reading readWord writeTests writing writeWord
+unfolding answers entered stoppedOn callTests refusal askedOn openOn heldOn takenOn any holdsLink holdsReceive belongs enabledOn freeOn receiveOn lowestOf lowest listed sendOn adds follows gives written lent send maze alternateMaze network ports sendPorts otherPorts present axis keep from has flip uphill helical offered end links hasLink freePath over ways beginnings scan whole pass scouts received outcome goesOn runs answered commands valuesIn values reserved readTests reading readWord writeTests writing writeWord
 examples = refl

@@ -3,18 +3,17 @@
 use mathlib.Core.Path.{_≡_, refl, _∙_, ap, subst}
 use mathlib.Core.Bool.{Bool, true, false}
 use mathlib.Core.List.{List, _∷_}
-use Prim.Native.Nat.{ℕ, _<_}
+use Prim.Native.Nat.{ℕ, _≤_, _<_}
 use lib.Dec.{eqb}
 use native.Mathlib.Omega.{arith}
 use borrow.Author.Tests.{not-true}
-use Rattle.common.specs.Lists.{_∈_, from}
-use Rattle.common.proofs.Lists.{below-from}
+use Rattle.common.specs.Lists.{_∈_}
 use Rattle.paths.specs.Network.{Network, Path, Link, links}
 use Rattle.paths.specs.Permitted.{Permitted}
 use Rattle.paths.specs.Pass.{Pass, none, found, pass}
 use Rattle.paths.specs.Send.{Receive, channel, all-held, acknowledged, received, outcome, goesOn}
 use Rattle.paths.specs.Sentences.{Says}
-use Rattle.paths.specs.CubeNetwork.{Shape, Node, network, sendPorts, otherPorts, alternateMaze, send}
+use Rattle.paths.specs.CubeNetwork.{Shape, Node, ports, network, sendPorts, otherPorts, alternateMaze, send}
 use Rattle.paths.proofs.CubeNetwork.{send-port, other-port, cube-says, cube-says-other}
 use Rattle.paths.proofs.Send.{maze-answers, alternate-stops, alternate-goes-on}
 use Rattle.paths.proofs.Words.{free-links}
@@ -29,12 +28,12 @@ wider N s ps qs t (p ∷ w) h o = (h p (o .0), o .1)
 module _ (S : Shape) (free : ℕ → ℕ → Bool) (r : Receive) (s t : ℕ) where
   -- what an acknowledgement with path w and receive channel k says
   pub record Taken (w : Path) (k : ℕ) : Type 0 where
-    pub permitted : Permitted (network S) s (from 0 (S .dimension)) t w
+    pub permitted : Permitted (network S) s (ports S) t w
     pub is-free : (l : Link) → l ∈ links (network S) s w → free (l .0) (l .1) ≡ true
     pub receives : r ≡ channel k
 
-  -- what a pass over ports below D comes to
-  pass-taken : (ps : List ℕ) → ((p : ℕ) → p ∈ ps → p ∈ from 0 (S .dimension)) → (x : Pass) → Says (network S) free s ps t x
+  -- what a pass over ports of the cube comes to
+  pass-taken : (ps : List ℕ) → ((p : ℕ) → p ∈ ps → p ∈ ports S) → (x : Pass) → Says (network S) free s ps t x
       → (w : Path) (k : ℕ) → outcome r x ≡ acknowledged w k → Taken w k
   unfolding outcome received
   pass-taken ps below (none c) says w k e = let z : _≡_ {A = ℕ} 0 1 = cc in absurd (omega arith)
@@ -46,18 +45,18 @@ module _ (S : Shape) (free : ℕ → ℕ → Bool) (r : Receive) (s t : ℕ) whe
           let at : j ≡ k = cc in
           subst (λ (u : Path). Taken u k) same
           (record {
-            permitted = wider (network S) s ps (from 0 (S .dimension)) t v below (says .permitted);
+            permitted = wider (network S) s ps (ports S) t v below (says .permitted);
             is-free = free-links (network S) free s v .0 (says .is-free);
             receives = q ∙ ap channel at;
           })
       go all-held q f = let z : _≡_ {A = ℕ} 0 1 = cc in absurd (omega arith)
 
-  module _ (vector : ℕ) (i : Node S s) (l : Node S t) (w : Path) (k : ℕ) where
+  module _ (vector : ℕ) (fits : S .dimension ≤ 8) (i : Node S s) (l : Node S t) (w : Path) (k : ℕ) where
     first-taken : outcome r (pass (network S) free s (sendPorts S vector) t) ≡ acknowledged w k → Taken w k
-    first-taken e = pass-taken (sendPorts S vector) (λ p m. below-from (S .dimension) p (send-port S vector p .0 m .0)) _ (cube-says S free s vector t i l) w k e
+    first-taken e = pass-taken (sendPorts S vector) (λ p m. send-port S vector p .0 m .0) _ (cube-says S fits free s vector t i l) w k e
 
     second-taken : outcome r (pass (network S) free s (otherPorts S vector) t) ≡ acknowledged w k → Taken w k
-    second-taken e = pass-taken (otherPorts S vector) (λ p m. below-from (S .dimension) p (other-port S vector p .0 m .0)) _ (cube-says-other S free s vector t i l) w k e
+    second-taken e = pass-taken (otherPorts S vector) (λ p m. other-port S vector p .0 m .0) _ (cube-says-other S fits free s vector t i l) w k e
 
     -- A send of either routing type that is acknowledged:
     pub send-taken : (type : ℕ) → send type S free r s vector t .outcome ≡ acknowledged w k → Taken w k

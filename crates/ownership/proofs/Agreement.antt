@@ -16,25 +16,34 @@ use Rattle.paths.specs.Send.{Sent, answered}
 use Rattle.table.specs.Layout.{tableLength, dimensionAt}
 use Rattle.table.specs.View.{View, view}
 use Rattle.soundness.specs.Sound.{Sound}
-use Rattle.soundness.specs.SoundTest.{pathOf, tableTests}
+use Rattle.soundness.specs.SoundTest.{pathOf, tableTests, written}
 use Rattle.table.specs.Encode.{encode}
 use Rattle.table.proofs.Encode.{encode-view}
-use Rattle.ownership.specs.Calls.{Call, making, blocking, unblocking, opening, closing, tracing, only, written, callTests, lent, After}
-use Rattle.ownership.specs.OnTable.{askedOf, stoppedAt, sendIn, carriedOut, called}
+use Rattle.table.proofs.Encoded.{encode-bytes, view-encode}
+use Rattle.ownership.specs.Calls.{Call, making, blocking, unblocking, opening, closing, tracing, only, callTests, lent, After}
+use Rattle.ownership.specs.Update.{sendIn, updated}
+use Rattle.ownership.specs.OnTable.{askedOf, stoppedAt, givesIn, carriedOut, called}
 use Rattle.ownership.specs.History.{History, askedOn, stoppedOn, listed, follows, gives, entered}
-use Rattle.ownership.specs.Lists.{tableAfter, tableGives, historyAfter, historyGives, viewOf, bytesOf, Covered, Agrees, Accepted, leaves, answers}
-use Rattle.ownership.proofs.Update.{updated}
-use Rattle.ownership.proofs.Range.{Bytes}
+use Rattle.ownership.specs.Lists.{tableAfter, tableGives, historyAfter, historyGives, viewOf, bytesOf, Valid, Covered, Agrees, Accepted, leaves, answers}
 use Rattle.ownership.specs.Allowed.{Allowed}
 use Rattle.ownership.proofs.Allowed.{allowed}
 use Rattle.ownership.proofs.Stops.{none-stops, making-stopped, tests-pass, stopped-is}
-use Rattle.ownership.proofs.Carried.{called-carried, called-stopped, called-shows, called-bytes, made-shows}
+use Rattle.ownership.proofs.Carried.{called-carried, called-stopped, carried-encoded, made-shows}
+use Rattle.ownership.proofs.Range.{sound-fits}
 use Rattle.ownership.proofs.Refused.{refused-within}
 use Rattle.ownership.proofs.Sameness.{send-same}
 use Rattle.ownership.proofs.Standing.{valid-sound}
 use Rattle.ownership.proofs.Stopped.{path-listed, stopped-same}
 use Rattle.ownership.proofs.Followed.{made-valid, made-view, follows-valid, follows-view}
 use Rattle.ownership.proofs.Entered.{entered-passed, entered-stopped}
+
+-- The bytes of a valid history are covered by it.
+bytes-covered : (h : History) → Valid h → Covered (bytesOf h) h
+unfolding bytesOf
+bytes-covered h valid =
+    let fits = sound-fits (viewOf h) (unfold viewOf in valid .most) (valid-sound h valid) in
+    let bytes = encode-bytes (viewOf h) fits in
+    record { length = bytes .long; bytes = bytes .small; shows = view-encode (viewOf h) fits; valid = valid }
 
 -- what a covered table is
 module _ (b : List ℕ) (h : History) (k : Covered b h) where
@@ -60,7 +69,7 @@ module _ (b : List ℕ) (h : History) (k : Covered b h) where
 
   -- and carried out it gives what the history says
   gives-alike : (a : Call) → stoppedOn h a ≡ 0 → carriedOut b a .given ≡ gives h a
-  unfolding carriedOut gives
+  unfolding carriedOut givesIn gives
   gives-alike (making D) e = refl
   gives-alike (blocking n p) e = refl
   gives-alike (unblocking n p) e = refl
@@ -73,6 +82,13 @@ module _ (b : List ℕ) (h : History) (k : Covered b h) where
           let r : Allowed (askedOn h) (tracing s c buffer) = allowed (askedOn h) (tracing s c buffer) (unfold stoppedOn in e) in
           unfold Allowed askedOn in ap (λ v. pathOf v (circuitOf s c)) (k .shows) ∙ path-listed h (k .valid) s c (r .1) (r .2)
 
+  -- and its bytes are then those of the history
+  bytes-alike : (a : Call) → stoppedOn h a ≡ 0 → stoppedAt b a ≡ 0 → called b a .state ≡ bytesOf (follows h a)
+  unfolding bytesOf
+  bytes-alike a e z =
+      ap (λ (x : After (List ℕ)). x .state) (called-carried b a z) ∙ carried-encoded b record { long = k .length; small = k .bytes } a
+      ∙ ap (λ v. encode (updated v a)) (k .shows) ∙ ap encode (sym (follows-view h (k .valid) a e))
+
   -- What a call gives, on the table and in the history, and that the table stays covered.
   pub record Step (a : Call) : Type 0 where
     pub given : called b a .given ≡ entered h a .given
@@ -81,24 +97,15 @@ module _ (b : List ℕ) (h : History) (k : Covered b h) where
   pub covered-step : (a : Call) → Step a
   covered-step a = ⊎-elim carried stopped (same? (stoppedOn h a) 0)
     where
-      in-range : Bytes b
-      in-range = record { long = k .length; small = k .bytes }
-
       carried : stoppedOn h a ≡ 0 → Step a
       carried e =
           let z = stops-alike a ∙ e in
           let t = entered-passed h a e in
-          let after = called-bytes b in-range most a in
           record {
             given = ap (λ (x : After (List ℕ)). x .given) (called-carried b a z) ∙ gives-alike a e ∙ sym (ap (λ (x : After History). x .given) t);
             covered =
                 subst (λ (x : After History). Covered (called b a .state) (x .state)) (sym t)
-                record {
-                  length = after .long;
-                  bytes = after .small;
-                  shows = called-shows b (k .length) most a z ∙ ap (λ v. updated v a) (k .shows) ∙ sym (follows-view h (k .valid) a e);
-                  valid = follows-valid h (k .valid) a e;
-                };
+                (subst (λ (x : List ℕ). Covered x (follows h a)) (sym (bytes-alike a e z)) (bytes-covered (follows h a) (follows-valid h (k .valid) a e)));
           }
 
       stopped : stoppedOn h a ≢ 0 → Step a
@@ -137,7 +144,7 @@ accepted-passes b a e = ⊎-elim (λ z. z) (λ f. absurd (f (sym (ap (λ (x : Af
 
 -- a making of a dimension from 1 to 8 is accepted on any table of the right length
 pub making-accepted : (b : List ℕ) (D : ℕ) → length b ≡ tableLength → 1 ≤ D → D ≤ 8 → Accepted b (making D)
-unfolding carriedOut callTests
+unfolding carriedOut givesIn callTests
 making-accepted b D long l m =
     let inside : not (leb 1 D && leb D 8) ≡ false = ap not (ap₂ _&&_ (le-leb 1 D l) (le-leb D 8 m)) in
     let z : stoppedAt b (making D) ≡ 0 = making-stopped b long D ∙ passed 2 [] inside ∙ accepted in
@@ -150,7 +157,7 @@ module _ (b : List ℕ) (h : History) (D : ℕ) (e : Accepted b (making D)) wher
   making-passes = none-stops b (making D) (accepted-passes b (making D) e)
 
   pub made-given : called b (making D) .given ≡ entered h (making D) .given
-  unfolding carriedOut gives
+  unfolding carriedOut givesIn gives
   made-given = ap (λ (x : After (List ℕ)). x .given) (called-carried b (making D) (accepted-passes b (making D) e)) ∙ sym (ap (λ (x : After History). x .given) (entered-passed h (making D) making-passes))
 
   pub made-clears : entered h (making D) .state .circuits ≡ []

@@ -1,7 +1,7 @@
--- The number of the first circuit of a list that passes a test, and whether one does.
+-- The number of the first circuit of a list that passes a test.
 -- Assumes nothing.
 use mathlib.Core.Path.{_≡_, refl, sym, _∙_, ap}
-use mathlib.Core.Logic.{⊎-elim, _≢_, _↔_}
+use mathlib.Core.Logic.{_≢_, _↔_}
 use mathlib.Core.Bool.{Bool, true, false, cond, _||_, not}
 use mathlib.Core.List.{List, [], _∷_, List·Memᴰ·head, List·Memᴰ·tail}
 use Prim.Native.Nat.{ℕ, _<_}
@@ -9,24 +9,12 @@ use native.Mathlib.Omega.{arith}
 use lib.Dec.{eqb}
 use borrow.Author.Tests.{eqb-true, eq-eqb, ne-eqb, not-false}
 use Rattle.common.specs.Lists.{_∈_, keep, any, Sorted}
-use Rattle.common.proofs.Tests.{clash, is-false, both, and, either, or-left, or-right}
+use Rattle.common.proofs.Tests.{clash, is-false, both, and}
 use Rattle.common.proofs.Lists.{keep-nil, keep-yes, keep-no}
 use Rattle.cube.specs.Cube.{circuitOf, sourceOf, channelOf}
 use Rattle.cube.proofs.Circuits.{source-of-circuit, channel-of-circuit}
 use Rattle.ownership.specs.History.{Circuit, belongs}
 use Rattle.ownership.specs.Lists.{numberOf}
-
--- some member passes, exactly where the test of the list says so
-module _ {A : Type 0} (f : A → Bool) where
-  pub any-some : (xs : List A) → any f xs ≡ true → (x : A) × (x ∈ xs) × (f x ≡ true)
-  unfolding any
-  any-some [] e = absurd (clash e refl)
-  any-some (x ∷ xs) e = ⊎-elim (λ y. (x, List·Memᴰ·head refl, y)) (λ y. let r = any-some xs y in (r .0, List·Memᴰ·tail (r .1), r .2)) (either (f x) (any f xs) e)
-
-  pub some-any : (xs : List A) {x : A} → x ∈ xs → f x ≡ true → any f xs ≡ true
-  unfolding any
-  some-any (y ∷ xs) {x} (List·Memᴰ·head h) e = or-left (any f xs) (sym (ap f h) ∙ e)
-  some-any (y ∷ xs) {x} (List·Memᴰ·tail m) e = or-right (f y) (some-any xs m e)
 
 -- two members of which neither stands in the relation to the other are one
 pub sorted-one : {A : Type 0} (R : A → A → Type 0) (xs : List A) → Sorted R xs → (x y : A) → x ∈ xs → y ∈ xs → (R x y → ⊥) → (R y x → ⊥) → x ≡ y

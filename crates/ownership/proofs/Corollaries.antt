@@ -5,7 +5,8 @@ use mathlib.Core.Logic.{⊎-elim, _↔_}
 use mathlib.Core.Bool.{true}
 use mathlib.Core.List.{List, _∷_, List·Memᴰ·head, List·Memᴰ·not-nil}
 use Prim.Native.Nat.{ℕ, _<_}
-use Rattle.common.specs.Lists.{_∈_, from}
+use Rattle.common.specs.Lists.{_∈_}
+use Rattle.common.proofs.Lists.{any-some}
 use Rattle.common.specs.Tests.{refusal}
 use Rattle.cube.specs.Cube.{circuitOf}
 use Rattle.paths.specs.Network.{Network, Path, Link, links}
@@ -14,12 +15,13 @@ use Rattle.table.specs.Layout.{ownerAt, receiverAt}
 use Rattle.table.specs.View.{View, view}
 use Rattle.soundness.specs.Sound.{Sound}
 use Rattle.soundness.specs.SoundTest.{tableTests}
+use Rattle.paths.specs.CubeNetwork.{ports}
 use Rattle.ownership.specs.Calls.{Call, making}
 use Rattle.ownership.specs.OnTable.{called}
-use Rattle.ownership.specs.History.{Circuit, History, netOn, linksOf, belongs, openOn, entered}
+use Rattle.ownership.specs.History.{Circuit, History, shapeOn, netOn, linksOf, belongs, openOn, entered}
 use Rattle.ownership.specs.Lists.{tableAfter, tableGives, historyAfter, Separate, Covered, Accepted, leaves}
 use Rattle.ownership.specs.StillOpen.{numbered, StillOpen, OpenedBy}
-use Rattle.ownership.proofs.Circuits.{sorted-one, any-some, belongs-parts}
+use Rattle.ownership.proofs.Circuits.{sorted-one, belongs-parts}
 use Rattle.ownership.proofs.Followed.{open-send}
 use Rattle.ownership.proofs.OpenedBy.{opened-later, listed-by}
 use Rattle.ownership.proofs.Standing.{owner-exactly, receiver-exactly}
@@ -85,7 +87,7 @@ module _ (b : List ℕ) (h : History) (D : ℕ) (e : Accepted b (making D)) (cal
     where
       shows : Listed s c (λ x. x ∈ history .circuits) → (n : ℕ) × ((p : ℕ) × (ownerAt table n p ≡ circuitOf s c))
       shows r =
-          let first = first-link (netOn history) (r .0 .source) (from 0 (history .dimension)) (r .0 .target) (r .0 .ports) (reached-covered .valid .stands (r .0) (r .1) .permitted) in
+          let first = first-link (netOn history) (r .0 .source) (ports (shapeOn history)) (r .0 .target) (r .0 .ports) (reached-covered .valid .stands (r .0) (r .1) .permitted) in
           (r .0 .source, (first .0, table-holds-link s c l (r .0 .source) (first .0) .1 (r .0, r .1, r .2, first .1)))
 
   pub receive-shown-exactly : (s c : ℕ) → c < 8 → ((n : ℕ) × ((k : ℕ) × (receiverAt table n k ≡ circuitOf s c))) ↔ StillOpen s c (numbered (making D ∷ calls) (tableGives b (making D ∷ calls)))

@@ -9,7 +9,7 @@ use lib.Dec.{eqb, ltb}
 use borrow.Author.Tests.{eqb-true, not-true}
 use Rattle.common.specs.Lists.{_∈_, keep, Sorted}
 use Rattle.common.proofs.Tests.{clash, both}
-use Rattle.common.proofs.Lists.{keep-mem, keep-sorted}
+use Rattle.common.proofs.Lists.{keep-mem, keep-sorted, some-any}
 use Rattle.cube.specs.Cube.{next, circuitOf}
 use Rattle.paths.specs.Network.{Path, Link, links, hasLink}
 use Rattle.paths.specs.Send.{Outcome, acknowledged, route-rejected, receive-rejected, Sent}
@@ -18,8 +18,8 @@ use Rattle.table.specs.View.{View, setAt, setOwner, setReceiver, setEnabled, fr
 use Rattle.ownership.specs.Calls.{Call, making, blocking, unblocking, opening, closing, tracing}
 use Rattle.ownership.specs.History.{Circuit, History, shapeOn, netOn, linksOf, holdsLink, holdsReceive, belongs, enabledOn, heldOn, freeOn, takenOn, openOn, receiveOn, askedOn, stoppedOn, sendOn, withBlocked, withCircuits, adds, follows}
 use Rattle.ownership.specs.Lists.{numberOf, viewOf, Standing, Separate, Valid}
-use Rattle.ownership.proofs.Update.{holdLinks, marking, updated}
-use Rattle.ownership.proofs.Circuits.{some-any, parts-belong, number-drop}
+use Rattle.ownership.specs.Update.{holdLinks, marking, updated}
+use Rattle.ownership.proofs.Circuits.{parts-belong, number-drop}
 use Rattle.ownership.proofs.Sameness.{send-same}
 use Rattle.ownership.proofs.Standing.{link-holds, receive-holds, links-once, receives-once}
 use Rattle.ownership.proofs.Acknowledged.{Taken, send-taken, receive-free}
@@ -132,7 +132,7 @@ module _ (h : History) (valid : Valid h) where
 
   opened-valid : (s c t y v : ℕ) → Allowed (askedOn h) (opening s c t y v) → (o : Outcome) → sendOn h s t y v .outcome ≡ o → Valid (adds h s c t o)
   unfolding adds sendOn Allowed askedOn
-  opened-valid s c t y v r (acknowledged w k) e = added-valid s c t (r .0) (r .2) (r .5) w k (send-taken (shapeOn h) (freeOn h) (receiveOn h t) s t v (r .0) (r .1) w k y e)
+  opened-valid s c t y v r (acknowledged w k) e = added-valid s c t (r .0) (r .2) (r .5) w k (send-taken (shapeOn h) (freeOn h) (receiveOn h t) s t v (valid .most) (r .0) (r .1) w k y e)
   opened-valid s c t y v r route-rejected e = valid
   opened-valid s c t y v r receive-rejected e = valid
 

@@ -23,16 +23,20 @@ use Rattle.table.specs.View.{View, view}
 use Rattle.soundness.specs.Sound.{endFor, Stands, Sound}
 use Rattle.soundness.specs.SoundTest.{pathOf, isEmpty, tableTests}
 use Rattle.soundness.proofs.Soundness.{path-is, link-stands, receive-stands}
-use Rattle.ownership.specs.Calls.{Call}
-use Rattle.ownership.specs.OnTable.{called}
-use Rattle.ownership.specs.History.{Circuit, History, netOn, linksOf, holdsLink, holdsReceive, enabledOn}
+use Rattle.paths.specs.CubeNetwork.{ports}
+use Rattle.ownership.specs.Calls.{Call, After}
+use Rattle.ownership.specs.Update.{updated}
+use Rattle.ownership.specs.OnTable.{stoppedAt, called}
+use Rattle.ownership.specs.History.{Circuit, History, shapeOn, netOn, linksOf, holdsLink, holdsReceive, enabledOn, stoppedOn}
 use Rattle.ownership.specs.Lists.{numberOf, viewOf, Standing, Separate, Valid, Covered, Agrees}
 use Rattle.ownership.specs.FromTable.{linksOut, circuitAt, openNumbers, historyOf}
 use Rattle.ownership.proofs.Circuits.{numberFor, number-none, Once, number-at}
 use Rattle.ownership.proofs.Standing.{holds-link, link-holds, holds-receive, receive-holds, links-once, receives-once}
 use Rattle.ownership.proofs.Stops.{pass-tests}
 use Rattle.ownership.proofs.OnSound.{path-stands, stands-path}
-use Rattle.ownership.proofs.Agreement.{covered-passes, covered-step, covered-agrees}
+use Rattle.ownership.proofs.Followed.{follows-view}
+use Rattle.ownership.proofs.Entered.{entered-passed}
+use Rattle.ownership.proofs.Agreement.{covered-passes, stops-alike, covered-step, covered-agrees}
 
 -- the links out of some ports of some nodes
 out-mem : (ns ps : List ℕ) (n p : ℕ) → (n, p) ∈ linksOut ns ps → (n ∈ ns) × (p ∈ ps)
@@ -82,7 +86,7 @@ module _ (v : View) (sound : Sound v) where
     unfolding circuitAt
     number-is = circuit-of-parts c (o .positive)
 
-    permitted-is : Permitted (netOn h) (circuitAt v c .source) (from 0 (h .dimension)) (circuitAt v c .target) (circuitAt v c .ports)
+    permitted-is : Permitted (netOn h) (circuitAt v c .source) (ports (shapeOn h)) (circuitAt v c .target) (circuitAt v c .ports)
     unfolding circuitAt historyOf
     permitted-is = rw (path-is v c (o .stands)) (o .stands .permitted)
 
@@ -216,3 +220,11 @@ sound-agrees b small e calls = covered-agrees calls b (historyOf (view b)) (soun
 -- and no call, accepted or refused, leaves a table that the next would refuse as a whole.
 pub keeps-sound : (b : List ℕ) → ((i : ℕ) → getD b i 0 < 256) → refusal (tableTests b) ≡ 0 → (a : Call) → refusal (tableTests (called b a .state)) ≡ 0
 keeps-sound b small e a = covered-passes (called b a .state) _ (covered-step b (historyOf (view b)) (sound-covered b small e) a .covered)
+
+-- What a table shows after a call that no test stops is the update of what it showed: the definition of the bytes says what it seems to say.
+pub shows-update : (b : List ℕ) → ((i : ℕ) → getD b i 0 < 256) → refusal (tableTests b) ≡ 0 → (a : Call) → stoppedAt b a ≡ 0 → view (called b a .state) ≡ updated (view b) a
+shows-update b small e a z =
+    let k = sound-covered b small e in
+    let h = historyOf (view b) in
+    let s : stoppedOn h a ≡ 0 = sym (stops-alike b h k a) ∙ z in
+    covered-step b h k a .covered .shows ∙ ap (λ (x : After History). viewOf (x .state)) (entered-passed h a s) ∙ follows-view h (k .valid) a s ∙ ap (λ v. updated v a) (sym (k .shows))

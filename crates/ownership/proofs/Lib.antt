@@ -1,5 +1,4 @@
 -- The laws of the calls and of the ownership history.
-pub mod Update
 pub mod Circuits
 pub mod Sameness
 pub mod Standing
@@ -12,10 +11,11 @@ pub mod Followed
 pub mod Entered
 pub mod StillOpen
 pub mod OpenedBy
-pub mod Range
 pub mod Shows
+pub mod Range
 pub mod Stops
 pub mod Carried
+pub mod Written
 pub mod Refused
 pub mod Agreement
 pub mod OnSound

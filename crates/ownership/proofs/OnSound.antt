@@ -7,7 +7,7 @@ use mathlib.Core.List.{List, [], _∷_}
 use Prim.Native.Nat.{ℕ, _^_, _<_}
 use native.Mathlib.Omega.{arith}
 use lib.Dec.{eqb, ltb}
-use lib.ListN.{length}
+use lib.ListN.{length, getD}
 use borrow.Author.Tests.{eqb-true, eq-eqb, lt-ltb}
 use Rattle.common.specs.Tests.{test, refusal}
 use Rattle.common.proofs.Tests.{clash, same?, passed, accepted, refusal-before, refusal-behind, Avoids, avoids, avoiding, never-answered}
@@ -15,9 +15,10 @@ use Rattle.cube.specs.Cube.{circuitOf, sourceOf}
 use Rattle.cube.proofs.Bits.{no-bit-above}
 use Rattle.paths.specs.Network.{Path}
 use Rattle.paths.proofs.Links.{on-first}
-use Rattle.paths.proofs.Trail.{trail-owned}
+use Rattle.paths.proofs.Recover.{path-owned}
 use Rattle.table.specs.Layout.{tableLength, dimensionAt, enabledAt, ownerAt}
 use Rattle.table.specs.View.{View, view}
+use Rattle.table.specs.Encode.{Bytes}
 use Rattle.soundness.specs.Sound.{shapeOf, net, heldBy, Stands, Sound}
 use Rattle.soundness.specs.SoundTest.{pathOf, isEmpty, tableTests}
 use Rattle.soundness.proofs.Soundness.{path-is, some-hop}
@@ -26,11 +27,14 @@ use Rattle.search.specs.Sent.{sentOn, sends, MaySend}
 use Rattle.search.specs.SendSays.{SendSays}
 use Rattle.search.proofs.SendSays.{demand-2}
 use Rattle.ownership.specs.Calls.{Call, making, blocking, unblocking, opening, closing, tracing, only, callTests, After}
-use Rattle.ownership.specs.OnTable.{heldIn, openIn, askedOf, lentTests, stoppedAt, done, sendIn, carriedOut, called}
+use Rattle.ownership.specs.Update.{sendIn}
+use Rattle.ownership.specs.OnTable.{heldIn, openIn, askedOf, lentTests, stoppedAt, done, givesIn, carriedOut, called}
 use Rattle.ownership.specs.Allowed.{Allowed}
 use Rattle.ownership.proofs.Allowed.{allowed}
 use Rattle.ownership.proofs.Stops.{lent-is, lent-numbered, none-stops, none-stops-lent, pass-tests, stopped-is}
-use Rattle.ownership.proofs.Carried.{circuit-small, called-carried, blocking-again, unblocking-again}
+use Rattle.cube.proofs.Ports.{most-nodes}
+use Rattle.ownership.proofs.Carried.{called-carried, blocking-again, unblocking-again}
+use Rattle.ownership.proofs.Written.{writtenBy, written-bytes}
 
 -- what the tests that have passed say of an open
 may-open : (b : List ℕ) (s c t y v : ℕ) → stoppedAt b (opening s c t y v) ≡ 0 → MaySend b s t (circuitOf s c) v
@@ -45,25 +49,32 @@ may-open b s c t y v e =
       target = r .1;
       ports = no-bit-above _ v (r .4);
       circuit = λ z. omega arith;
-      small = circuit-small b (p .0) (p .2) s c (r .0) (r .2);
+      small = omega (arith, most-nodes (p .2), r .0, r .2);
     }
 
--- The users' second demand of the open call: one that no test stops before the search says what a send says.
-pub open-says : (b : List ℕ) (s c t y v : ℕ) → stoppedAt b (opening s c t y v) ≡ 0
-    → SendSays b s t (circuitOf s c) y v (called b (opening s c t y v) .given .answer .number) (called b (opening s c t y v) .given .answer .receive)
-    (called b (opening s c t y v) .given .answer .hops) (called b (opening s c t y v) .given .answer .scouts) (called b (opening s c t y v) .state)
-unfolding carriedOut sendIn sends sentOn
-open-says b s c t y v e =
-    subst (λ (d : After (List ℕ)). SendSays b s t (circuitOf s c) y v (d .given .answer .number) (d .given .answer .receive) (d .given .answer .hops) (d .given .answer .scouts) (d .state))
-    (sym (called-carried b (opening s c t y v) e))
-    (demand-2 b s t (circuitOf s c) y v (may-open b s c t y v e) (carriedOut b (opening s c t y v) .given .answer .number) (carriedOut b (opening s c t y v) .given .answer .receive)
-    (carriedOut b (opening s c t y v) .given .answer .hops) (carriedOut b (opening s c t y v) .given .answer .scouts) (carriedOut b (opening s c t y v) .state) refl)
+module _ (b : List ℕ) (s c t y v : ℕ) (e : stoppedAt b (opening s c t y v) ≡ 0) where
+  abbrev opened : After (List ℕ)
+  opened = called b (opening s c t y v)
+
+  -- What an open that no test stops before the search answers is what a send answers, whatever the bytes are.
+  pub open-answers : SendSays b s t (circuitOf s c) y v (opened .given .answer .number) (opened .given .answer .receive) (opened .given .answer .hops) (opened .given .answer .scouts)
+      (writtenBy b (opening s c t y v))
+  unfolding carriedOut givesIn writtenBy sendIn sends sentOn
+  open-answers =
+      subst
+      (λ (d : After (List ℕ)). SendSays b s t (circuitOf s c) y v (d .given .answer .number) (d .given .answer .receive) (d .given .answer .hops) (d .given .answer .scouts) (writtenBy b (opening s c t y v)))
+      (sym (called-carried b (opening s c t y v) e)) (demand-2 b s t (circuitOf s c) y v (may-open b s c t y v e) _ _ _ _ _ refl)
+
+  -- The users' second demand of the open call: it says what a send says, in its answer and in every byte.
+  pub open-says : ((i : ℕ) → getD b i 0 < 256)
+      → SendSays b s t (circuitOf s c) y v (opened .given .answer .number) (opened .given .answer .receive) (opened .given .answer .hops) (opened .given .answer .scouts) (opened .state)
+  open-says small = rw (sym (written-bytes b small (opening s c t y v) e)) at open-answers
 
 -- On a sound table a number whose links make a path stands.
 module _ (w : View) (sound : Sound w) (c : ℕ) (some : c ≢ 0) where
   first-held : (p : ℕ) (u : Path) → pathOf w c ≡ p ∷ u → heldBy w c (sourceOf c) p ≡ true
   unfolding pathOf
-  first-held p u q = trail-owned (shapeOf w) (heldBy w c) (sourceOf c) (sourceOf c) p (rw q (on-first (net w) (sourceOf c) p u))
+  first-held p u q = path-owned (shapeOf w) (heldBy w c) (sourceOf c) (sourceOf c) p (rw q (on-first (net w) (sourceOf c) p u))
 
   pub path-stands : not (isEmpty (pathOf w c)) ≡ true → Stands w c
   path-stands e = go (pathOf w c) refl
@@ -106,7 +117,7 @@ stopped-three b a e sound =
         made D = unfold lentTests avoids in never-answered 3 (test (not (eqb (length b) tableLength)) 1 ∷ []) (avoiding 3 _ refl) (λ z. omega arith)
 
 -- Blocking a blocked link, or unblocking an enabled one, succeeds and changes nothing, on any table that passes its tests.
-module _ (b : List ℕ) (pass : refusal (tableTests b) ≡ 0) (n p : ℕ) (i : n < 2 ^ dimensionAt b) (l : p < dimensionAt b) where
+module _ (b : List ℕ) (small : (i : ℕ) → getD b i 0 < 256) (pass : refusal (tableTests b) ≡ 0) (n p : ℕ) (i : n < 2 ^ dimensionAt b) (l : p < dimensionAt b) where
   node-there : not (ltb n (2 ^ dimensionAt b)) ≡ false
   node-there = ap not (lt-ltb n (2 ^ dimensionAt b) i)
 
@@ -116,20 +127,23 @@ module _ (b : List ℕ) (pass : refusal (tableTests b) ≡ 0) (n p : ℕ) (i : n
   stops-as : (a : Call) → stoppedAt b a ≡ refusal (callTests (askedOf (view b)) a)
   stops-as a = let r = pass-tests b pass in stopped-is b (r .0) (r .1) (r .2) (r .3) a
 
+  bytes : Bytes b
+  bytes = record { long = pass-tests b pass .0; small = small }
+
   idle : enabledAt b n p ≡ false → heldIn (view b) n p ≡ false
   unfolding heldIn view
   idle e = ⊎-elim (λ z. ap not (eq-eqb (ownerAt b n p) 0 z)) (λ f. absurd (clash (unfold view in pass-tests b pass .3 .held-enabled n p f) e)) (same? (ownerAt b n p) 0)
 
   pub blocked-again : enabledAt b n p ≡ false → called b (blocking n p) ≡ done b (only 0) []
-  unfolding callTests askedOf view carriedOut
+  unfolding callTests askedOf view carriedOut givesIn
   blocked-again e =
       let z : stoppedAt b (blocking n p) ≡ 0 = stops-as (blocking n p) ∙ passed 4 _ node-there ∙ passed 6 _ port-there ∙ passed 13 [] (idle e) ∙ accepted in
       let c = called-carried b (blocking n p) z in
-      c ∙ ap (λ x. done x (only 0) []) (sym (ap (λ (d : After (List ℕ)). d .state) c) ∙ blocking-again b n p e)
+      c ∙ ap (λ x. done x (only 0) []) (sym (ap (λ (d : After (List ℕ)). d .state) c) ∙ blocking-again b bytes n p e)
 
   pub enabled-again : enabledAt b n p ≡ true → called b (unblocking n p) ≡ done b (only 0) []
-  unfolding callTests askedOf view carriedOut
+  unfolding callTests askedOf view carriedOut givesIn
   enabled-again e =
       let z : stoppedAt b (unblocking n p) ≡ 0 = stops-as (unblocking n p) ∙ passed 4 _ node-there ∙ passed 6 [] port-there ∙ accepted in
       let c = called-carried b (unblocking n p) z in
-      c ∙ ap (λ x. done x (only 0) []) (sym (ap (λ (d : After (List ℕ)). d .state) c) ∙ unblocking-again b n p e)
+      c ∙ ap (λ x. done x (only 0) []) (sym (ap (λ (d : After (List ℕ)). d .state) c) ∙ unblocking-again b bytes n p e)

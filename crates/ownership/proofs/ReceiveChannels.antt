@@ -11,20 +11,20 @@ use lib.Dec.{eqb}
 use lib.ListN.{length}
 use borrow.Author.Tests.{eqb-true, eqb-false, eq-eqb, ne-eqb}
 use Rattle.common.specs.Lists.{_∈_, keep, from, Sorted}
-use Rattle.common.proofs.Lists.{mem-keep, keep-shorter, mem-from, from-sorted, length-from, below-from, from-below}
+use Rattle.common.proofs.Lists.{mem-keep, keep-shorter, mem-from, from-sorted, length-from, from-below}
 use Rattle.common.proofs.Tests.{same?, avoids, avoiding, never-answered}
-use Rattle.cube.specs.Bits.{flip}
-use Rattle.cube.specs.Cube.{sourceOf}
+use Rattle.cube.specs.Cube.{next, sourceOf}
+use Rattle.cube.specs.Axes.{axis}
 use Rattle.cube.proofs.Bits.{flip-back}
 use Rattle.paths.specs.Network.{Path, end, links}
 use Rattle.paths.specs.Permitted.{Permitted}
 use Rattle.paths.specs.Send.{all-held, Outcome, acknowledged, route-rejected, receive-rejected, Acknowledged, answered}
 use Rattle.paths.specs.Sentences.{Free, AnswerSays, says-acknowledged, says-receive-rejected, says-route-rejected}
-use Rattle.paths.specs.CubeNetwork.{Shape, network, sendPorts, otherPorts}
+use Rattle.paths.specs.CubeNetwork.{Shape, ports, network, sendPorts, otherPorts}
 use Rattle.paths.proofs.Links.{On, on-first, on-later}
 use Rattle.paths.proofs.Apart.{permitted-inside}
 use Rattle.paths.proofs.Sentences.{permitted-end}
-use Rattle.paths.proofs.CubeNetwork.{send-port, other-port}
+use Rattle.paths.proofs.CubeNetwork.{unfolded-port, send-port, other-port}
 use Rattle.paths.proofs.Words.{free-links, free-link}
 use Rattle.table.specs.View.{View, view, available, receive}
 use Rattle.table.proofs.Receives.{none-chosen}
@@ -35,13 +35,13 @@ use Rattle.search.specs.Settle.{freeIn, Settled, settled}
 use Rattle.search.specs.Sent.{sentOn}
 use Rattle.search.specs.SendSays.{PassesSay, one-acknowledged, only-one, two}
 use Rattle.ownership.specs.Calls.{Call, making, blocking, unblocking, opening, closing, tracing, callTests, After}
-use Rattle.ownership.specs.OnTable.{askedOf, lentTests, stoppedAt, carriedOut, called}
+use Rattle.ownership.specs.OnTable.{askedOf, lentTests, stoppedAt, givesIn, carriedOut, called}
 use Rattle.ownership.proofs.Carried.{called-carried, called-stopped}
 use Rattle.ownership.specs.Allowed.{Allowed}
 use Rattle.ownership.proofs.Acknowledged.{wider}
 use Rattle.ownership.proofs.Allowed.{allowed}
 use Rattle.ownership.proofs.Stops.{none-stops, none-stops-lent, pass-tests}
-use Rattle.ownership.proofs.OnSound.{open-says}
+use Rattle.ownership.proofs.OnSound.{open-answers}
 
 -- a list without repetition is no longer than one that has all its members
 fits : (xs ys : List ℕ) → Sorted _≢_ xs → ((x : ℕ) → x ∈ xs → x ∈ ys) → length xs ≤ length ys
@@ -88,21 +88,21 @@ arrival [] = 0
 arrival (p ∷ []) = p
 arrival (p ∷ r ∷ w) = arrival (r ∷ w)
 
-arrives : (S : Shape) (n p : ℕ) (w : Path) → On (network S) n (p ∷ w) (flip (end (network S) n (p ∷ w)) (arrival (p ∷ w))) (arrival (p ∷ w))
+arrives : (S : Shape) (n p : ℕ) (w : Path) → On (network S) n (p ∷ w) (next (end (network S) n (p ∷ w)) (arrival (p ∷ w))) (arrival (p ∷ w))
 unfolding arrival end network
-arrives S n p [] = rw (flip-back n p) (on-first (network S) n p [])
-arrives S n p (r ∷ w) = on-later (network S) n p (r ∷ w) _ _ (arrives S (flip n p) r w)
+arrives S n p [] = rw (flip-back n (axis p)) (on-first (network S) n p [])
+arrives S n p (r ∷ w) = on-later (network S) n p (r ∷ w) _ _ (arrives S (next n p) r w)
 
 module _ (v : View) (sound : Sound v) (most : v .dimension ≤ 8) (t : ℕ) where
   -- a permitted path to t comes in over a link of t's ports
-  comes-in : (s : ℕ) (w : Path) → s < 2 ^ v .dimension → Permitted (net v) s (from 0 (v .dimension)) t w → ((flip t (arrival w), arrival w) ∈ links (net v) s w) × (arrival w < 8)
+  comes-in : (s : ℕ) (w : Path) → s < 2 ^ v .dimension → Permitted (net v) s (ports (shapeOf v)) t w → ((next t (arrival w), arrival w) ∈ links (net v) s w) × (arrival w < 8)
   unfolding On
   comes-in s [] i o = unfold Permitted in absurd o
   comes-in s (p ∷ w) i o =
-      let e = permitted-end (net v) s (from 0 (v .dimension)) t (p ∷ w) o in
-      let on = subst (λ (x : ℕ). (flip x (arrival (p ∷ w)), arrival (p ∷ w)) ∈ links (net v) s (p ∷ w)) e (arrives (shapeOf v) s p w) in
-      let q = permitted-inside (shapeOf v) s t (p ∷ w) i o .0 (flip t (arrival (p ∷ w))) (arrival (p ∷ w)) on .1 in
-      (on, omega (arith, q, most))
+      let e = permitted-end (net v) s (ports (shapeOf v)) t (p ∷ w) o in
+      let on = subst (λ (x : ℕ). (next x (arrival (p ∷ w)), arrival (p ∷ w)) ∈ links (net v) s (p ∷ w)) e (arrives (shapeOf v) s p w) in
+      let q = permitted-inside (shapeOf v) s t (p ∷ w) i o .0 (next t (arrival (p ∷ w))) (arrival (p ∷ w)) on .1 in
+      (on, omega (arith, unfolded-port (shapeOf v) most refl (arrival (p ∷ w)) .0 q, most))
 
   -- the circuit of a receive channel that is held, and the port by which its path comes in
   module _ (full : (j : ℕ) → j < 8 → v .receiver t j ≢ 0) where
@@ -115,11 +115,11 @@ module _ (v : View) (sound : Sound v) (most : v .dimension ≤ 8) (t : ℕ) wher
     inside : (j : ℕ) → j < 8 → sourceOf (circuit j) < 2 ^ v .dimension
     inside j h = omega (arith, sound .receive-number t j, full j h)
 
-    into : (j : ℕ) (h : j < 8) → ((flip t (arrival (stands j h .path)), arrival (stands j h .path)) ∈ links (net v) (sourceOf (circuit j)) (stands j h .path)) × (arrival (stands j h .path) < 8)
+    into : (j : ℕ) (h : j < 8) → ((next t (arrival (stands j h .path)), arrival (stands j h .path)) ∈ links (net v) (sourceOf (circuit j)) (stands j h .path)) × (arrival (stands j h .path) < 8)
     into j h =
         let s = stands j h in
         let e = s .once t j refl .0 in
-        comes-in (sourceOf (circuit j)) (s .path) (inside j h) (subst (λ (x : ℕ). Permitted (net v) (sourceOf (circuit j)) (from 0 (v .dimension)) x (s .path)) (sym e) (s .permitted))
+        comes-in (sourceOf (circuit j)) (s .path) (inside j h) (subst (λ (x : ℕ). Permitted (net v) (sourceOf (circuit j)) (ports (shapeOf v)) x (s .path)) (sym e) (s .permitted))
 
     abbrev port : ℕ → ℕ
     port j = arrival (pathOf v (circuit j))
@@ -127,33 +127,33 @@ module _ (v : View) (sound : Sound v) (most : v .dimension ≤ 8) (t : ℕ) wher
     port-is : (j : ℕ) (h : j < 8) → arrival (stands j h .path) ≡ port j
     port-is j h = ap arrival (sym (path-is v (circuit j) (stands j h)))
 
-    holds : (j : ℕ) → j < 8 → v .owner (flip t (port j)) (port j) ≡ circuit j
-    holds j h = eqb-true _ (circuit j) (subst (λ (q : ℕ). heldBy v (circuit j) (flip t q) q ≡ true) (port-is j h) (stands j h .exactly .all _ _ (into j h .0)))
+    holds : (j : ℕ) → j < 8 → v .owner (next t (port j)) (port j) ≡ circuit j
+    holds j h = eqb-true _ (circuit j) (subst (λ (q : ℕ). heldBy v (circuit j) (next t q) q ≡ true) (port-is j h) (stands j h .exactly .all _ _ (into j h .0)))
 
     same-channel : (i j : ℕ) → i < 8 → j < 8 → port i ≡ port j → i ≡ j
     same-channel i j h l e =
-        let c : circuit j ≡ circuit i = sym (holds j l) ∙ ap (λ q. v .owner (flip t q) q) (sym e) ∙ holds i h in
+        let c : circuit j ≡ circuit i = sym (holds j l) ∙ ap (λ q. v .owner (next t q) q) (sym e) ∙ holds i h in
         stands i h .once t i refl .1 ∙ sym (stands i h .once t j c .1)
 
     -- so every link into t is held
-    pub no-way-in : (q : ℕ) → q < 8 → v .owner (flip t q) q ≢ 0
+    pub no-way-in : (q : ℕ) → q < 8 → v .owner (next t q) q ≢ 0
     no-way-in q h z =
         all-taken port (λ j l. subst (_< 8) (port-is j l) (into j l .1)) same-channel q h
-        (λ j l e. full j l (sym (holds j l) ∙ ap (λ p. v .owner (flip t p) p) e ∙ z))
+        (λ j l e. full j l (sym (holds j l) ∙ ap (λ p. v .owner (next t p) p) e ∙ z))
 
   -- Where a free permitted path leads to t, a receive channel of t is free.
-  pub receives : (s : ℕ) (ports : List ℕ) (w : Path) → s < 2 ^ v .dimension → ((p : ℕ) → p ∈ ports → p < v .dimension) → Permitted (net v) s ports t w → Free (net v) (freeIn v) s w → receive v t ≢ all-held
+  pub receives : (s : ℕ) (ps : List ℕ) (w : Path) → s < 2 ^ v .dimension → ((p : ℕ) → p ∈ ps → p ∈ ports (shapeOf v)) → Permitted (net v) s ps t w → Free (net v) (freeIn v) s w → receive v t ≢ all-held
   unfolding receive available freeIn
-  receives s ports w i below o free e =
-      let c = comes-in s w i (wider (net v) s ports (from 0 (v .dimension)) t w (λ p m. below-from (v .dimension) p (below p m)) o) in
+  receives s ps w i below o free e =
+      let c = comes-in s w i (wider (net v) s ps (ports (shapeOf v)) t w below o) in
       let z = free-link _ _ .0 (free-links (net v) (freeIn v) s w .0 free _ (c .0)) .1 in
       no-way-in (λ j h. eqb-false _ 0 (none-chosen _ e j h)) (arrival w) (c .1) z
 
   -- So no pass over ports of the cube, and no send, is receive rejected.
-  pass-receives : (s : ℕ) → s < 2 ^ v .dimension → (ports : List ℕ) → ((p : ℕ) → p ∈ ports → p < v .dimension) → (o : Outcome) (n : ℕ) → AnswerSays (net v) (freeIn v) s ports t (receive v t) o n → o ≢ receive-rejected
-  pass-receives s i ports below o n (says-acknowledged e f) q = let z : _≡_ {A = ℕ} 0 1 = cc in omega arith
-  pass-receives s i ports below o n (says-receive-rejected {w} e f) q = receives s ports w i below (f .permitted) (f .is-free) e
-  pass-receives s i ports below o n (says-route-rejected f) q = let z : _≡_ {A = ℕ} 0 1 = cc in omega arith
+  pass-receives : (s : ℕ) → s < 2 ^ v .dimension → (ps : List ℕ) → ((p : ℕ) → p ∈ ps → p ∈ ports (shapeOf v)) → (o : Outcome) (n : ℕ) → AnswerSays (net v) (freeIn v) s ps t (receive v t) o n → o ≢ receive-rejected
+  pass-receives s i ps below o n (says-acknowledged e f) q = let z : _≡_ {A = ℕ} 0 1 = cc in omega arith
+  pass-receives s i ps below o n (says-receive-rejected {w} e f) q = receives s ps w i below (f .permitted) (f .is-free) e
+  pass-receives s i ps below o n (says-route-rejected f) q = let z : _≡_ {A = ℕ} 0 1 = cc in omega arith
 
   send-receives : (s : ℕ) → s < 2 ^ v .dimension → (type vector : ℕ) (o : Outcome) (n : ℕ)
       → PassesSay (net v) (freeIn v) s t (receive v t) type (sendPorts (shapeOf v) vector) (otherPorts (shapeOf v) vector) o n → o ≢ receive-rejected
@@ -187,11 +187,11 @@ unfolding Allowed askedOf view sentOn settledNumber
 open-otherwise b s c t y v z e =
     let p = pass-tests b (none-stops-lent b (opening s c t y v) (λ D q. let x : _≡_ {A = ℕ} 0 1 = cc in omega arith) z) in
     let r = allowed (askedOf (view b)) (opening s c t y v) (none-stops b (opening s c t y v) z) in
-    let x = open-says b s c t y v z in
+    let x = open-answers b s c t y v z in
     send-receives (view b) (p .3) (p .2) t s (r .0) y v (x .outcome) _ (x .says) (rejected (x .outcome) _ (sym (ap settledNumber (x .answer)) ∙ e))
 
 carried-otherwise : (b : List ℕ) (a : Call) → stoppedAt b a ≡ 0 → called b a .given .answer .number ≢ 11
-unfolding carriedOut
+unfolding carriedOut givesIn
 carried-otherwise b (making D) z e = let q = called-carried b (making D) z in omega (arith, ap (λ (d : After (List ℕ)). d .given .answer .number) q, e)
 carried-otherwise b (blocking n p) z e = let q = called-carried b (blocking n p) z in omega (arith, ap (λ (d : After (List ℕ)). d .given .answer .number) q, e)
 carried-otherwise b (unblocking n p) z e = let q = called-carried b (unblocking n p) z in omega (arith, ap (λ (d : After (List ℕ)). d .given .answer .number) q, e)

@@ -4,13 +4,13 @@ use mathlib.Core.Path.{_≡_, refl, _∙_}
 use mathlib.Core.Logic.{⊎-elim, _≢_}
 use mathlib.Core.List.{List, [], _∷_, _++_}
 use Prim.Native.Nat.{ℕ}
+use borrow.Author.Tests.{ne-eqb}
 use Rattle.common.proofs.Tests.{same?}
-use Rattle.cube.specs.Cube.{circuitOf}
 use Rattle.paths.specs.Send.{Outcome, acknowledged, route-rejected, receive-rejected, Answer, answered}
-use Rattle.table.specs.View.{view}
-use Rattle.search.specs.Sent.{marked}
+use Rattle.table.specs.View.{View, view}
 use Rattle.ownership.specs.Calls.{Call, making, blocking, unblocking, opening, closing, tracing, lent, After}
-use Rattle.ownership.specs.OnTable.{stoppedAt, sendIn, carriedOut, called}
+use Rattle.ownership.specs.Update.{sendIn}
+use Rattle.ownership.specs.OnTable.{stoppedAt, givesIn, carriedOut, called}
 use Rattle.ownership.specs.Lists.{tableAfter, leaves}
 use Rattle.ownership.proofs.Carried.{called-carried, called-stopped}
 
@@ -22,23 +22,26 @@ Zero x = (x .hops ≡ 0) × (x .receive ≡ 0) × (x .number ≢ 10 → x .numbe
 Refused : List ℕ → Call → After (List ℕ) → Type 0
 Refused b a x = (x .state ≡ b) × (x .given .buffer ≡ lent a) × Zero (x .given .answer)
 
-module _ (b : List ℕ) where
-  -- a rejected search leaves each byte of the table as it was
-  send-refused : (o : Outcome) (n c s t : ℕ) → answered o n .number ≢ 0 → (marked b c s t o ≡ b) × Zero (answered o n)
-  unfolding answered marked
-  send-refused (acknowledged w k) n c s t f = absurd (f refl)
-  send-refused route-rejected n c s t f = (refl, (refl, refl, λ g h. absurd (g refl)))
-  send-refused receive-rejected n c s t f = (refl, (refl, refl, λ g h. absurd (h refl)))
+-- what a call that no test stops gives where it is refused
+send-zero : (o : Outcome) (n : ℕ) → answered o n .number ≢ 0 → Zero (answered o n)
+unfolding answered
+send-zero (acknowledged w k) n f = absurd (f refl)
+send-zero route-rejected n f = (refl, refl, λ g h. absurd (g refl))
+send-zero receive-rejected n f = (refl, refl, λ g h. absurd (h refl))
 
+given-refused : (v : View) (a : Call) → givesIn v a .answer .number ≢ 0 → (givesIn v a .buffer ≡ lent a) × Zero (givesIn v a .answer)
+unfolding givesIn lent
+given-refused v (making D) f = absurd (f refl)
+given-refused v (blocking n p) f = absurd (f refl)
+given-refused v (unblocking n p) f = absurd (f refl)
+given-refused v (opening s c t y x) f = (refl, send-zero (sendIn v s t y x .outcome) (sendIn v s t y x .scouts) f)
+given-refused v (closing s c) f = absurd (f refl)
+given-refused v (tracing s c buffer) f = absurd (f refl)
+
+module _ (b : List ℕ) where
   carried-refused : (a : Call) → carriedOut b a .given .answer .number ≢ 0 → Refused b a (carriedOut b a)
-  unfolding carriedOut lent Refused
-  carried-refused (making D) f = absurd (f refl)
-  carried-refused (blocking n p) f = absurd (f refl)
-  carried-refused (unblocking n p) f = absurd (f refl)
-  carried-refused (opening s c t y v) f =
-      let r = send-refused (sendIn (view b) s t y v .outcome) (sendIn (view b) s t y v .scouts) (circuitOf s c) s t f in (r .0, refl, r .1)
-  carried-refused (closing s c) f = absurd (f refl)
-  carried-refused (tracing s c buffer) f = absurd (f refl)
+  unfolding carriedOut Refused
+  carried-refused a f = let r = given-refused (view b) a f in (rw (ne-eqb (givesIn (view b) a .answer .number) 0 f), r .0, r .1)
 
   refused-call : (a : Call) → called b a .given .answer .number ≢ 0 → Refused b a (called b a)
   refused-call a f =

@@ -8,7 +8,8 @@ use Rattle.paths.specs.Network.{link-free, link-held, isFree, linkState}
 use Rattle.paths.specs.CubeNetwork.{send}
 use Rattle.table.specs.View.{available, receive, lowestOf}
 use Rattle.search.specs.Settle.{freeIn}
-use Rattle.ownership.specs.OnTable.{heldIn, sendIn}
+use Rattle.ownership.specs.Update.{sendIn}
+use Rattle.ownership.specs.OnTable.{heldIn}
 use Rattle.ownership.specs.History.{History, shapeOn, netOn, holdsLink, holdsReceive, enabledOn, heldOn, freeOn, takenOn, receiveOn, sendOn}
 use Rattle.ownership.specs.Lists.{viewOf}
 use Rattle.ownership.proofs.Circuits.{number-any}

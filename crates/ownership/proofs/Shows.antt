@@ -8,7 +8,7 @@ use native.Mathlib.Omega.{arith}
 use lib.ListN.{length}
 use Rattle.common.specs.Lists.{_∈_}
 use Rattle.cube.specs.Cube.{next}
-use Rattle.cube.proofs.Bits.{flip-inside}
+use Rattle.cube.proofs.Axes.{next-inside}
 use Rattle.cube.proofs.Ports.{below-256}
 use Rattle.paths.specs.Network.{Path}
 use Rattle.paths.specs.Send.{Outcome, acknowledged, route-rejected, receive-rejected}
@@ -21,8 +21,7 @@ use Rattle.search.specs.Settle.{freeIn, hold}
 use Rattle.search.specs.Sent.{marked}
 use Rattle.search.proofs.Sends.{receive-small}
 use Rattle.search.proofs.Turns.{owner-length}
-use Rattle.ownership.specs.OnTable.{sendIn}
-use Rattle.ownership.proofs.Update.{holdLinks, marking}
+use Rattle.ownership.specs.Update.{sendIn, holdLinks, marking}
 use Rattle.ownership.proofs.Acknowledged.{send-taken}
 
 -- the ports of a path are below D
@@ -47,7 +46,7 @@ module _ (c : ℕ) (small : c < 65536) (D : ℕ) (fits : D ≤ 8) where
   view-hold b l s [] i h = refl
   view-hold b l s (p ∷ w) i h =
       let here : p < D = h p (List·Memᴰ·head refl) in
-      view-hold (putOwner b s p c) (owner-length b s p c ∙ l) (next s p) w (flip-inside D s p i here) (λ q m. h q (List·Memᴰ·tail m))
+      view-hold (putOwner b s p c) (owner-length b s p c ∙ l) (next s p) w (next-inside D s p (omega arith) i here) (λ q m. h q (List·Memᴰ·tail m))
       ∙ ap (λ v. holdLinks v c (next s p) w) (view-put-owner b s p c record { bytes = l; node = below-256 fits i; port = omega arith } small)
 
   -- What it shows after a send.
@@ -60,12 +59,12 @@ module _ (c : ℕ) (small : c < 65536) (D : ℕ) (fits : D ≤ 8) where
   view-marked b l s t i j receive-rejected h = refl
 
 -- An acknowledged send's ports are below the dimension, and its receive channel is one of eight.
-pub sent-fits : (v : View) (s t y vector : ℕ) → s < 2 ^ v .dimension → t < 2 ^ v .dimension → Fits (v .dimension) (sendIn v s t y vector .outcome)
-sent-fits v s t y vector i j = go (sendIn v s t y vector .outcome) refl
+pub sent-fits : (v : View) (s t y vector : ℕ) → v .dimension ≤ 8 → s < 2 ^ v .dimension → t < 2 ^ v .dimension → Fits (v .dimension) (sendIn v s t y vector .outcome)
+sent-fits v s t y vector h i j = go (sendIn v s t y vector .outcome) refl
   where
     go : (o : Outcome) → sendIn v s t y vector .outcome ≡ o → Fits (v .dimension) o
     go (acknowledged w k) e =
-        let r = send-taken (shapeOf v) (freeIn v) (receive v t) s t vector i j w k y (unfold sendIn in e) in
-        unfold Fits PortsBelow in (permitted-below (shapeOf v) s t w (r .permitted), receive-small v t k (r .receives))
+        let r = send-taken (shapeOf v) (freeIn v) (receive v t) s t vector h i j w k y (unfold sendIn in e) in
+        unfold Fits PortsBelow in (permitted-below (shapeOf v) h refl s t w (r .permitted), receive-small v t k (r .receives))
     go route-rejected e = unfold Fits in tt
     go receive-rejected e = unfold Fits in tt

@@ -8,19 +8,21 @@ use Prim.Native.Nat.{ℕ, _*_, _^_, _≤_, _<_}
 use native.Mathlib.Omega.{arith}
 use lib.Dec.{eqb, ltb}
 use borrow.Author.Tests.{eqb-true, eq-eqb}
-use Rattle.common.specs.Lists.{_∈_, any, from, Sorted}
+use Rattle.common.specs.Lists.{_∈_, any, Sorted}
 use Rattle.common.proofs.Tests.{same?, clash, is-false, both-below, both, and}
-use Rattle.common.proofs.Lists.{sorted-imp}
+use Rattle.common.proofs.Lists.{sorted-imp, any-some, some-any}
 use Rattle.cube.specs.Cube.{circuitOf, sourceOf}
 use Rattle.cube.proofs.Circuits.{source-of-circuit}
 use Rattle.paths.specs.Network.{Network, end}
 use Rattle.paths.proofs.Sentences.{permitted-end}
 use Rattle.paths.proofs.Links.{On, link-true, true-link}
+use Rattle.paths.specs.CubeNetwork.{ports}
+use Rattle.paths.proofs.CubeNetwork.{unfolded-port}
 use Rattle.paths.proofs.Apart.{permitted-inside}
 use Rattle.soundness.specs.Sound.{Stands, Nowhere, Sound}
 use Rattle.ownership.specs.History.{Circuit, History, shapeOn, netOn, linksOf, holdsLink, holdsReceive, enabledOn}
 use Rattle.ownership.specs.Lists.{viewOf, Separate, Valid}
-use Rattle.ownership.proofs.Circuits.{any-some, some-any, sorted-one, numberFor, circuit-parts, Once, number-some, number-circuit, number-at}
+use Rattle.ownership.proofs.Circuits.{sorted-one, numberFor, circuit-parts, Once, number-some, number-circuit, number-at}
 
 -- what it is for a circuit to hold a link, or a receive channel
 pub holds-link : (N : Network) (n p : ℕ) (x : Circuit) → holdsLink N n p x ≡ true → (n, p) ∈ linksOf N x
@@ -101,14 +103,14 @@ module _ (h : History) (valid : Valid h) where
   inside x m =
       let s = valid .stands x m in
       let r = permitted-inside (shapeOn h) (x .source) (x .target) (x .ports) (s .source) (s .permitted) in
-      (r .0, subst (λ (n : ℕ). n < 2 ^ h .dimension) (permitted-end N (x .source) (from 0 (h .dimension)) (x .target) (x .ports) (s .permitted)) (r .1))
+      ((λ n p i. (r .0 n p i .0, unfolded-port (shapeOn h) (valid .most) refl p .0 (r .0 n p i .1))), subst (λ (n : ℕ). n < 2 ^ h .dimension) (permitted-end N (x .source) (ports (shapeOn h)) (x .target) (x .ports) (s .permitted)) (r .1))
 
   -- its number gives its source back
   from-number : (x : Circuit) → x ∈ h .circuits → sourceOf (numberFor x) ≡ x .source
   from-number x m = source-of-circuit (x .source) (x .channel) (valid .stands x m .channel)
 
   ends : (x : Circuit) → x ∈ h .circuits → end N (sourceOf (numberFor x)) (x .ports) ≡ x .target
-  ends x m = rw (from-number x m) (permitted-end N (x .source) (from 0 (h .dimension)) (x .target) (x .ports) (valid .stands x m .permitted))
+  ends x m = rw (from-number x m) (permitted-end N (x .source) (ports (shapeOn h)) (x .target) (x .ports) (valid .stands x m .permitted))
 
   some-number : (x : Circuit) → numberFor x ≢ 0
   some-number x z = omega arith

@@ -11,13 +11,13 @@ use lib.Dec.{eqb}
 use borrow.Author.Tests.{eqb-true, eq-eqb, not-true}
 use Rattle.common.specs.Lists.{any, keep}
 use Rattle.common.proofs.Tests.{same?, clash, is-false, both, and, either, or-left, or-right}
-use Rattle.common.proofs.Lists.{keep-mem, mem-keep}
+use Rattle.common.proofs.Lists.{keep-mem, mem-keep, any-some, some-any}
 use Rattle.paths.specs.Send.{Outcome, acknowledged, route-rejected, receive-rejected, answered}
 use Rattle.ownership.specs.Calls.{Call, making, blocking, unblocking, opening, closing, tracing, After}
 use Rattle.ownership.specs.History.{Circuit, History, belongs, openOn, stoppedOn, sendOn, withCircuits, adds, follows, gives, entered}
 use Rattle.ownership.specs.Lists.{historyAfter, historyGives, leaves, answers}
 use Rattle.ownership.specs.StillOpen.{numbered, Ends, Lasts, StillOpen}
-use Rattle.ownership.proofs.Circuits.{any-some, some-any, belongs-parts, parts-belong}
+use Rattle.ownership.proofs.Circuits.{belongs-parts, parts-belong}
 use Rattle.ownership.proofs.Entered.{entered-passed, entered-stopped}
 
 module _ (s c : ℕ) where

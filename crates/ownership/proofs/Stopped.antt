@@ -8,22 +8,24 @@ use native.Mathlib.Omega.{arith}
 use lib.Dec.{ltb}
 use lib.ListN.{length}
 use borrow.Author.Tests.{eqb-true}
-use Rattle.common.specs.Lists.{_∈_, any, from}
+use Rattle.common.specs.Lists.{_∈_, any}
+use Rattle.common.proofs.Lists.{any-some, some-any}
 use Rattle.common.specs.Tests.{Test, test, refusal}
 use Rattle.common.proofs.Tests.{clash, refused, passed}
 use Rattle.cube.specs.Cube.{circuitOf, sourceOf}
 use Rattle.paths.specs.Network.{Path}
 use Rattle.paths.proofs.Links.{on-first}
-use Rattle.paths.proofs.Trail.{trail-owned}
+use Rattle.paths.specs.CubeNetwork.{ports}
+use Rattle.paths.proofs.Recover.{path-owned}
 use Rattle.soundness.specs.Sound.{shapeOf, net, heldBy}
 use Rattle.soundness.specs.SoundTest.{pathOf, isEmpty}
 use Rattle.soundness.proofs.Soundness.{path-is, some-hop}
 use Rattle.ownership.specs.Calls.{Call, making, blocking, unblocking, opening, closing, tracing, channel, callTests}
 use Rattle.ownership.specs.OnTable.{openIn, askedOf}
-use Rattle.ownership.specs.History.{Circuit, History, netOn, belongs, openOn, listed, askedOn, stoppedOn}
+use Rattle.ownership.specs.History.{Circuit, History, shapeOn, netOn, belongs, openOn, listed, askedOn, stoppedOn}
 use Rattle.ownership.specs.Lists.{viewOf, Valid}
 use Rattle.ownership.proofs.Allowed.{channel-small}
-use Rattle.ownership.proofs.Circuits.{any-some, some-any, numberFor, circuit-parts, belongs-parts, parts-belong}
+use Rattle.ownership.proofs.Circuits.{numberFor, circuit-parts, belongs-parts, parts-belong}
 use Rattle.ownership.proofs.Sameness.{held-same}
 use Rattle.ownership.proofs.Standing.{link-held, valid-stands, stands-path}
 
@@ -39,7 +41,7 @@ listed-some s c (x ∷ xs) e = go (belongs s c x) refl (listed-some s c xs)
     go false f ih = let r = ih (rw f at e) in (r .0, List·Memᴰ·tail (r .1), r .2, rw f (r .3))
 
 module _ (h : History) (valid : Valid h) (s c : ℕ) (small : c < 8) where
-  -- a listed circuit of the send channel has its number, and the trail finds its path
+  -- a listed circuit of the send channel has its number, and its path is the one recovered
   found : (x : Circuit) → x ∈ h .circuits → belongs s c x ≡ true → pathOf (viewOf h) (circuitOf s c) ≡ x .ports
   found x m e =
       let r = belongs-parts s c x e in
@@ -56,7 +58,7 @@ module _ (h : History) (valid : Valid h) (s c : ℕ) (small : c < 8) where
   unfolding isEmpty openOn pathOf
   shut e [] q = refl
   shut e (p ∷ w) q =
-      let k : numberFor′ ≡ circuitOf s c = eqb-true _ _ (trail-owned (shapeOf (viewOf h)) (heldBy (viewOf h) (circuitOf s c)) (sourceOf (circuitOf s c)) _ p (rw q (on-first (net (viewOf h)) (sourceOf (circuitOf s c)) p w))) in
+      let k : numberFor′ ≡ circuitOf s c = eqb-true _ _ (path-owned (shapeOf (viewOf h)) (heldBy (viewOf h) (circuitOf s c)) (sourceOf (circuitOf s c)) _ p (rw q (on-first (net (viewOf h)) (sourceOf (circuitOf s c)) p w))) in
       let r = link-held h valid (sourceOf (circuitOf s c)) p (λ z. omega (arith, k, z)) in
       let b = circuit-parts (r .0 .source) (r .0 .channel) s c (valid .stands (r .0) (r .1) .channel) small (sym (r .3) ∙ k) in
       absurd (clash (some-any (belongs s c) (h .circuits) (r .1) (parts-belong s c (r .0) (b .0) (b .1))) e)
@@ -71,7 +73,7 @@ module _ (h : History) (valid : Valid h) (s c : ℕ) (small : c < 8) where
       go : (b : Bool) → openOn h s c ≡ b → not (isEmpty (pathOf (viewOf h) (circuitOf s c))) ≡ b
       go true e =
           let r = any-some (belongs s c) (h .circuits) (unfold openOn in e) in
-          ap (λ (w : Path). not (isEmpty w)) (found (r .0) (r .1) (r .2)) ∙ some-hop (netOn h) (r .0 .source) (from 0 (h .dimension)) (r .0 .target) (r .0 .ports) (valid .stands (r .0) (r .1) .permitted)
+          ap (λ (w : Path). not (isEmpty w)) (found (r .0) (r .1) (r .2)) ∙ some-hop (netOn h) (r .0 .source) (ports (shapeOn h)) (r .0 .target) (r .0 .ports) (valid .stands (r .0) (r .1) .permitted)
       go false e = ap not (shut e (pathOf (viewOf h) (circuitOf s c)) refl)
 
 -- a list of tests, by what comes behind its first; behind the test of the channel that is below 8

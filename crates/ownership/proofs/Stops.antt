@@ -60,6 +60,16 @@ pass-tests b e =
     let d = both (leb 1 (dimensionAt b)) (leb (dimensionAt b) 8) (not-false _ (y .0)) in
     (eqb-true (length b) tableLength (not-false _ (x .0)), leb-true 1 (dimensionAt b) (d .0), leb-true (dimensionAt b) 8 (d .1), answers b .sound e)
 
+-- So whatever the call, the table has the right length.
+pub none-stops-length : (b : List ℕ) (a : Call) → stoppedAt b a ≡ 0 → length b ≡ tableLength
+unfolding stoppedAt
+none-stops-length b a e =
+    let r : refusal (lentTests b a) ≡ 0 = refusal-both (lentTests b a) _ (lent-numbered b a) e .0 in
+    ⊎-elim (λ q. made (q .0) (rw (q .1) at r)) (λ q. pass-tests b (rw q at r) .0) (lent-is b a)
+  where
+    made : (D : ℕ) → refusal (lentTests b (making D)) ≡ 0 → length b ≡ tableLength
+    made D q = unfold lentTests in eqb-true (length b) tableLength (not-false _ (first-passed _ 1 _ (λ z. omega arith) q .0))
+
 module _ (b : List ℕ) (long : length b ≡ tableLength) where
   making-passes : (D : ℕ) → refusal (lentTests b (making D)) ≡ 0
   unfolding lentTests

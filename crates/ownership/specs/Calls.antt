@@ -1,12 +1,11 @@
 -- The six calls of document 01 and what they answer.
 -- Assumes nothing.
 use mathlib.Core.Bool.{Bool, not, _&&_, _||_}
-use mathlib.Core.List.{List, [], _∷_, _++_}
+use mathlib.Core.List.{List, [], _∷_}
 use Prim.Native.Nat.{ℕ, _^_}
 use lib.Dec.{eqb, ltb, leb}
-use lib.ListN.{length, drop}
+use lib.ListN.{length}
 use Rattle.common.specs.Tests.{Test, test}
-use Rattle.paths.specs.Network.{Path}
 use Rattle.paths.specs.Send.{Answer}
 
 -- A call with its arguments. A trace is lent a buffer, which comes with its bytes; the table is not an argument.
@@ -31,10 +30,6 @@ pub record After (S : Type 0) : Type 0 where
 -- "Success is 0." "Other refused calls return zero beside the number."
 abbrev pub only : ℕ → Answer
 only n = record { number = n; hops = 0; receive = 0; scouts = 0 }
-
--- "Tracing writes the ports of a circuit, one byte per hop in path order, from the start of a lent buffer; later bytes keep their content."
-unfoldable pub written : Path → List ℕ → List ℕ
-written w buffer = w ++ drop (length w) buffer
 
 -- What the tests of a call ask of whatever the call is made on, in document 01's words. Each is read off a table, and off the history.
 pub record Asked : Type 0 where

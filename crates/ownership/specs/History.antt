@@ -11,7 +11,8 @@ use Rattle.paths.specs.Network.{Network, Path, Link, links, hasLink}
 use Rattle.paths.specs.Send.{Receive, channel, Outcome, acknowledged, route-rejected, receive-rejected, Sent, answered}
 use Rattle.paths.specs.CubeNetwork.{Shape, network, send}
 use Rattle.table.specs.View.{lowestOf}
-use Rattle.ownership.specs.Calls.{Call, making, blocking, unblocking, opening, closing, tracing, Given, Asked, only, written, callTests, lent, After}
+use Rattle.soundness.specs.SoundTest.{written}
+use Rattle.ownership.specs.Calls.{Call, making, blocking, unblocking, opening, closing, tracing, Given, Asked, only, callTests, lent, After}
 
 -- "each open circuit with the links and receive channel it holds": its source and send channel, its path, and the receive channel at the path's end
 pub record Circuit : Type 0 where
@@ -28,7 +29,7 @@ pub record History : Type 0 where
   pub circuits : List Circuit
 
 abbrev pub shapeOn : History → Shape
-shapeOn h = record { dimension = h .dimension }
+shapeOn h = record { dimension = h .dimension; fold = 0 }
 
 abbrev pub netOn : History → Network
 netOn h = network (shapeOn h)

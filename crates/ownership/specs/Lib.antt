@@ -2,6 +2,7 @@
 pub mod Calls
 pub mod Allowed
 pub mod Reasons
+pub mod Update
 pub mod OnTable
 pub mod History
 pub mod Lists

@@ -6,7 +6,8 @@ use mathlib.Core.Logic.{_≢_}
 use mathlib.Core.List.{List, [], _∷_, _++_}
 use Prim.Native.Nat.{ℕ, _^_, _≤_, _<_}
 use lib.ListN.{length, getD}
-use Rattle.common.specs.Lists.{_∈_, from, Sorted}
+use Rattle.common.specs.Lists.{_∈_, Sorted}
+use Rattle.paths.specs.CubeNetwork.{ports}
 use Rattle.cube.specs.Cube.{circuitOf}
 use Rattle.paths.specs.Network.{Network, Link}
 use Rattle.paths.specs.Permitted.{Permitted}
@@ -15,7 +16,7 @@ use Rattle.table.specs.View.{View, view}
 use Rattle.table.specs.Encode.{encode}
 use Rattle.ownership.specs.Calls.{Call, Given, lent, After}
 use Rattle.ownership.specs.OnTable.{called}
-use Rattle.ownership.specs.History.{Circuit, History, netOn, linksOf, holdsLink, holdsReceive, enabledOn, entered}
+use Rattle.ownership.specs.History.{Circuit, History, shapeOn, netOn, linksOf, holdsLink, holdsReceive, enabledOn, entered}
 
 -- a list of calls made one after another: what they leave, and what each of them gives
 module _ {S : Type 0} (makes : S → Call → After S) where
@@ -64,7 +65,7 @@ bytesOf h = encode (viewOf h)
 pub record Standing (h : History) (x : Circuit) : Type 0 where
   pub source : x .source < 2 ^ h .dimension
   pub channel : x .channel < 8
-  pub permitted : Permitted (netOn h) (x .source) (from 0 (h .dimension)) (x .target) (x .ports)
+  pub permitted : Permitted (netOn h) (x .source) (ports (shapeOn h)) (x .target) (x .ports)
   pub enabled : (l : Link) → l ∈ linksOf (netOn h) x → enabledOn h (l .0) (l .1) ≡ true
   pub receive : x .receive < 8
 

@@ -1,21 +1,19 @@
 -- What each call does to the bytes of a lent table. The contracts of the calls say exactly this, and the theorem about lists of calls is about this.
 -- Assumes nothing.
-use mathlib.Core.Bool.{Bool, true, false, cond, not}
+use mathlib.Core.Bool.{Bool, cond, not}
 use mathlib.Core.List.{List, [], _∷_, _++_}
 use Prim.Native.Nat.{ℕ}
 use lib.Dec.{eqb}
 use lib.ListN.{length}
 use Rattle.common.specs.Tests.{Test, test, refusal}
 use Rattle.cube.specs.Cube.{circuitOf}
-use Rattle.paths.specs.Send.{Sent, Answer, answered}
-use Rattle.paths.specs.CubeNetwork.{send}
-use Rattle.table.specs.Layout.{tableLength, made, putEnabled, freed}
-use Rattle.table.specs.View.{View, view, receive}
-use Rattle.soundness.specs.Sound.{shapeOf}
-use Rattle.soundness.specs.SoundTest.{pathOf, isEmpty, tableTests}
-use Rattle.search.specs.Settle.{freeIn}
-use Rattle.search.specs.Sent.{marked}
-use Rattle.ownership.specs.Calls.{Call, making, blocking, unblocking, opening, closing, tracing, Asked, only, written, callTests, lent, After}
+use Rattle.paths.specs.Send.{Answer, answered}
+use Rattle.table.specs.Layout.{tableLength}
+use Rattle.table.specs.View.{View, view}
+use Rattle.table.specs.Encode.{encode}
+use Rattle.soundness.specs.SoundTest.{pathOf, isEmpty, tableTests, written}
+use Rattle.ownership.specs.Calls.{Call, making, blocking, unblocking, opening, closing, tracing, Given, Asked, only, callTests, lent, After}
+use Rattle.ownership.specs.Update.{sendIn, updated}
 
 -- "this send channel has an open circuit": the links that its circuit holds make a path
 unfoldable pub openIn : View → ℕ → ℕ → Bool
@@ -45,19 +43,20 @@ stoppedAt b a = refusal (lentTests b a ++ callTests (askedOf (view b)) a)
 abbrev pub done : List ℕ → Answer → List ℕ → After (List ℕ)
 done b answer buffer = record { state = b; given = record { answer = answer; buffer = buffer } }
 
--- the send of an open, read on what the table shows
-unfoldable pub sendIn : View → ℕ → ℕ → ℕ → ℕ → Sent
-sendIn v s t y vector = send y (shapeOf v) (freeIn v) (receive v t) s vector t
+-- what a call gives where no test applies, read on what the table shows
+unfoldable pub givesIn : View → Call → Given
+givesIn v (making D) = record { answer = only 0; buffer = [] }
+givesIn v (blocking n p) = record { answer = only 0; buffer = [] }
+givesIn v (unblocking n p) = record { answer = only 0; buffer = [] }
+givesIn v (opening s c t y x) = let r = sendIn v s t y x in record { answer = answered (r .outcome) (r .scouts); buffer = [] }
+givesIn v (closing s c) = record { answer = only 0; buffer = [] }
+givesIn v (tracing s c buffer) =
+    let w = pathOf v (circuitOf s c) in record { answer = record { number = 0; hops = length w; receive = 0; scouts = 0 }; buffer = written w buffer }
 
--- what a call does where no test applies,
+-- What a call does where no test applies. "Success is 0": its bytes are then those that show the update of what the table showed. A rejected search is a
+-- refusal like any other.
 unfoldable pub carriedOut : List ℕ → Call → After (List ℕ)
-carriedOut b (making D) = done (made D) (only 0) []
-carriedOut b (blocking n p) = done (putEnabled b n p false) (only 0) []
-carriedOut b (unblocking n p) = done (putEnabled b n p true) (only 0) []
-carriedOut b (opening s c t y v) = let x = sendIn (view b) s t y v in done (marked b (circuitOf s c) s t (x .outcome)) (answered (x .outcome) (x .scouts)) []
-carriedOut b (closing s c) = done (freed b (circuitOf s c)) (only 0) []
-carriedOut b (tracing s c buffer) =
-    let w = pathOf (view b) (circuitOf s c) in done b (record { number = 0; hops = length w; receive = 0; scouts = 0 }) (written w buffer)
+carriedOut b a = let g = givesIn (view b) a in record { state = cond (eqb (g .answer .number) 0) (encode (updated (view b) a)) b; given = g }
 
 -- and where one does: "No refusal alters any lent byte."
 unfoldable pub called : List ℕ → Call → After (List ℕ)

@@ -11,4 +11,4 @@ pub mod Bound
 pub mod CubeNetwork
 pub mod Send
 pub mod Apart
-pub mod Trail
+pub mod Recover

@@ -1,6 +1,6 @@
 -- The links of a path, in its list and by the test; of a permitted path, how many there are, and that none is used twice.
 -- Assumes nothing.
-use mathlib.Core.Path.{_≡_, refl, ap, sym, _∙_, subst}
+use mathlib.Core.Path.{_≡_, refl, ap, sym, subst}
 use mathlib.Core.Logic.{_⊎_, inl, inr, ⊎-elim, _≢_}
 use mathlib.Core.Bool.{Bool, true, false, _&&_, _||_, or-true, false≢true}
 use mathlib.Core.List.{List, [], _∷_, List·Memᴰ·head, List·Memᴰ·tail, List·Memᴰ·not-nil, List·Memᴰ·cases-cons}
@@ -72,18 +72,6 @@ module _ {N : Network} {t : ℕ} (near : Nearing N t) where
   pub onward-past : (n p : ℕ) (w : Path) → Onward N t n (p ∷ w) → (q : ℕ) → On N (N .next n p) w n q → ⊥
   unfolding Onward
   onward-past n p w o q i = omega (arith, near .nearer n p (o .1), onward-near (N .next n p) w (o .2) n q i .0)
-
-  -- it leaves a node by one port only
-  pub onward-once : (n : ℕ) (w : Path) → Onward N t n w → (m q r : ℕ) → On N n w m q → On N n w m r → q ≡ r
-  unfolding Onward
-  onward-once n [] o m q r i j = absurd (on-none N n m q i)
-  onward-once n (p ∷ w) o m q r i j = go (on-cases N n p w m q i) (on-cases N n p w m r j) (onward-once (N .next n p) w (o .2) m q r)
-    where
-      go : ((m ≡ n) × (q ≡ p)) ⊎ On N (N .next n p) w m q → ((m ≡ n) × (r ≡ p)) ⊎ On N (N .next n p) w m r → (On N (N .next n p) w m q → On N (N .next n p) w m r → q ≡ r) → q ≡ r
-      go (inl a) (inl b) ih = a .1 ∙ sym (b .1)
-      go (inl a) (inr k) ih = absurd (onward-past n p w o r (rw (a .0) at k))
-      go (inr k) (inl b) ih = absurd (onward-past n p w o q (rw (b .0) at k))
-      go (inr k) (inr l) ih = ih k l
 
   -- a way on behind a hop does not take that hop
   pub hop-fresh : (s p : ℕ) (w : Path) → Onward N t (N .next s p) w → On N (N .next s p) w s p → ⊥

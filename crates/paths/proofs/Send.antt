@@ -61,12 +61,12 @@ module _ (S : Shape) (free : ℕ → ℕ → Bool) (r : Receive) (s vector t : �
   unfolding alternateMaze
   alternate-goes-on e = rw (runs-on r first second [] e, runs-last r second)
 
-  -- No send reports more than 123,300 scouts.
-  pub sends-bounded : S .dimension ≤ 8 → (maze S free r s vector t .scouts ≤ 123300) × (alternateMaze S free r s vector t .scouts ≤ 123300)
-  sends-bounded h = (rw maze-answers (omega (arith, both)), go (goesOn (outcome r first)) refl)
+  -- No send reports more than 123,300 scouts, where nothing is folded.
+  pub sends-bounded : S .dimension ≤ 8 → S .fold ≡ 0 → (maze S free r s vector t .scouts ≤ 123300) × (alternateMaze S free r s vector t .scouts ≤ 123300)
+  sends-bounded h z = (rw maze-answers (omega (arith, both)), go (goesOn (outcome r first)) refl)
     where
       both : scouts first + scouts second ≤ 123300
-      both = scouts-bound S h s t vector free free
+      both = scouts-bound S h z s t vector free free
 
       go : (b : Bool) → goesOn (outcome r first) ≡ b → alternateMaze S free r s vector t .scouts ≤ 123300
       go true e = rw (alternate-goes-on e) both

@@ -1,6 +1,6 @@
--- The cube as a network, the ports of a send vector, and the routing types of document 01.
+-- The cube as a network by axis, the ports of a send vector, and the routing types of document 01.
 -- Assumes nothing.
-use mathlib.Core.Bool.{Bool, cond, not}
+use mathlib.Core.Bool.{Bool, cond, not, _&&_}
 use mathlib.Core.List.{List, [], _∷_}
 use Prim.Native.Nat.{ℕ, _^_, _<_}
 use lib.Dec.{eqb}
@@ -8,36 +8,42 @@ use lib.ListN.{length}
 use Rattle.common.specs.Lists.{keep, from}
 use Rattle.cube.specs.Bits.{has}
 use Rattle.cube.specs.Cube.{next, uphill}
-use Rattle.cube.specs.Helical.{portsOf}
+use Rattle.cube.specs.Axes.{axis, present}
 use Rattle.paths.specs.Network.{Network}
 use Rattle.paths.specs.Pass.{pass}
 use Rattle.paths.specs.Send.{Receive, Sent, runs}
 
--- what a network is read from: the dimension of the cube
+-- what a network is read from: the dimension of the cube and its fold mask. Document 01's cube has fold mask 0.
 pub record Shape : Type 0 where
   pub dimension : ℕ
+  pub fold : ℕ
 
 -- "A cube of dimension D has nodes 0 to 2^D - 1."
 abbrev pub Node : Shape → ℕ → Type 0
 Node S n = n < 2 ^ S .dimension
 
--- Its ports are those below D, each leading to the node that differs in its bit; uphill ports are offered, and the target is
--- as many hops away as there are uphill ports
+-- the ports that every node has, rising
+unfoldable pub ports : Shape → List ℕ
+ports S = keep (present (S .dimension) (S .fold)) (from 0 18)
+
+-- a port leads to the node that differs in the bit of its axis; ports whose axis is uphill are offered, and the target is as many hops away
+-- as there are uphill axes
 unfoldable pub network : Shape → Network
 network S =
     record {
-      width = S .dimension;
+      width = 18;
       next = next;
-      offers = uphill;
+      offers = λ t n q. present (S .dimension) (S .fold) q && uphill t n (axis q);
       far = λ t n. length (keep (uphill t n) (from 0 (S .dimension)));
     }
 
--- the ports of a send vector, and "every port below D that was not in the given vector (perhaps none)", both rising
-abbrev pub sendPorts : Shape → ℕ → List ℕ
-sendPorts S vector = portsOf (S .dimension) vector
+-- The ports of a send vector, and "every port below D that was not in the given vector (perhaps none)", both rising. Document 02, (h): a vector
+-- "gains the partners of its folded ports", so a port is in it by its axis.
+unfoldable pub sendPorts : Shape → ℕ → List ℕ
+sendPorts S vector = keep (λ q. has vector (axis q)) (ports S)
 
 unfoldable pub otherPorts : Shape → ℕ → List ℕ
-otherPorts S vector = keep (λ p. not (has vector p)) (from 0 (S .dimension))
+otherPorts S vector = keep (λ q. not (has vector (axis q))) (ports S)
 
 -- "Routing type 0, maze: one pass, with the send vector given."
 unfoldable pub maze : Shape → (ℕ → ℕ → Bool) → Receive → ℕ → ℕ → ℕ → Sent

@@ -7,5 +7,5 @@ pub mod Sentences
 pub mod CubeNetwork
 pub mod Search
 pub mod Bound
-pub mod Trail
+pub mod Recover
 pub mod Examples

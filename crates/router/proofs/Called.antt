@@ -1,31 +1,29 @@
--- What the portions of tests are, and what a call answers where they stop it and where they do not.
+-- What a call answers where a test stops it and where none does.
 -- Assumes nothing.
 use mathlib.Core.Path.{_≡_, refl, ap, ap₂, sym, _∙_}
 use mathlib.Core.Logic.{_≢_}
-use mathlib.Core.Bool.{true, false, not, _&&_, and-false, or-self}
-use mathlib.Core.List.{List, [], _∷_, _++_}
-use Prim.Native.Nat.{ℕ, _^_, _≤_, _<_}
+use mathlib.Core.Bool.{true, false, not, _&&_, and-false}
+use mathlib.Core.List.{List, []}
+use Prim.Native.Nat.{ℕ, _≤_, _<_}
 use native.Mathlib.Omega.{arith}
-use lib.Dec.{ltb, leb}
-use lib.ListN.{length}
+use lib.Dec.{leb}
+use lib.ListN.{length, getD}
 use borrow.Author.Tests.{ne-eqb, le-leb, lt-leb}
-use Rattle.common.specs.Tests.{Test, test, refusal}
+use Rattle.common.specs.Tests.{test, refusal}
 use Rattle.common.proofs.Tests.{refused, passed, accepted}
 use Rattle.cube.specs.Cube.{circuitOf}
-use Rattle.table.specs.Layout.{tableLength, made, putEnabled, freed}
-use Rattle.table.specs.View.{view}
-use Rattle.soundness.specs.SoundTest.{tableTests, pathOf, isEmpty}
-use Rattle.ownership.specs.Calls.{Call, making, blocking, unblocking, opening, closing, tracing, Asked, only, written, node, nodes, channel, port, noCircuit, linkHeld, shortBuffer, callTests, lent, After}
+use Rattle.table.specs.Layout.{tableLength, made, putEnabled}
+use Rattle.table.specs.View.{view, freeing}
+use Rattle.table.specs.Encode.{encode}
+use Rattle.soundness.specs.SoundTest.{pathOf, isEmpty, written}
+use Rattle.ownership.specs.Calls.{Call, making, blocking, unblocking, opening, closing, tracing, only, channel, callTests, lent, After}
 use Rattle.search.specs.Settle.{Settled, settled}
 use Rattle.search.specs.Sent.{sentOn, sends}
-use Rattle.ownership.specs.OnTable.{openIn, sendIn, askedOf, lentTests, stoppedAt, done, carriedOut, called}
+use Rattle.ownership.specs.Update.{sendIn}
+use Rattle.ownership.specs.OnTable.{openIn, askedOf, lentTests, stoppedAt, done, givesIn, carriedOut, called}
 use Rattle.ownership.proofs.Stops.{making-stopped}
 use Rattle.ownership.proofs.Carried.{called-carried, called-stopped}
-use Rattle.router.specs.Portions.{askedAt, nodeTests, channelTests, linkTests, blockTests, closeTests, traceTests, typeTests, vectorTests, openTests}
-
--- the test of one node is that of two which are the same
-one-node : (a : Asked) (n : ℕ) → nodes a n n ≡ node a n
-one-node a n = ap (λ w. test w 4) (or-self (not (ltb n (2 ^ a .dimension))))
+use Rattle.ownership.proofs.Written.{writtenBy, written-bytes}
 
 -- the answer of a search as that of a call
 shown : Settled → After (List ℕ)
@@ -41,38 +39,17 @@ dimension-large {D} h = ap (leb 1 D &&_) (lt-leb D 8 h) ∙ and-false (leb 1 D)
 pub dimension-is : {D : ℕ} → D ≢ 0 → D ≤ 8 → (leb 1 D && leb D 8) ≡ true
 dimension-is {D} f h = ap₂ _&&_ (le-leb 1 D (omega (arith, f))) (le-leb D 8 h)
 
--- The portions are the tests of the calls.
 module _ (b : List ℕ) where
-  as-one : (n : ℕ) (ts : List Test) → refusal (tableTests b ++ nodes (askedOf (view b)) n n ∷ ts) ≡ refusal (tableTests b ++ node (askedOf (view b)) n ∷ ts)
-  as-one n ts = ap (λ x. refusal (tableTests b ++ x ∷ ts)) (one-node (askedOf (view b)) n)
-
-  pub unblock-tests : (n p : ℕ) → refusal (linkTests b n p) ≡ stoppedAt b (unblocking n p)
-  unfolding linkTests nodeTests tableTests askedAt stoppedAt lentTests callTests
-  unblock-tests n p = as-one n (port (askedOf (view b)) p ∷ [])
-
-  pub block-tests : (n p : ℕ) → refusal (blockTests b n p) ≡ stoppedAt b (blocking n p)
-  unfolding blockTests linkTests nodeTests tableTests askedAt stoppedAt lentTests callTests
-  block-tests n p = as-one n (port (askedOf (view b)) p ∷ linkHeld (askedOf (view b)) n p ∷ [])
-
-  pub close-tests : (s c : ℕ) → refusal (closeTests b s c) ≡ stoppedAt b (closing s c)
-  unfolding closeTests channelTests nodeTests tableTests askedAt stoppedAt lentTests callTests
-  close-tests s c = as-one s (channel c ∷ noCircuit (askedOf (view b)) s c ∷ [])
-
-  pub trace-tests : (s c : ℕ) (buffer : List ℕ) → refusal (traceTests b s c buffer) ≡ stoppedAt b (tracing s c buffer)
-  unfolding traceTests closeTests channelTests nodeTests tableTests askedAt stoppedAt lentTests callTests
-  trace-tests s c buffer = as-one s (channel c ∷ noCircuit (askedOf (view b)) s c ∷ shortBuffer buffer ∷ [])
-
-  pub open-tests : (s c t y v : ℕ) → refusal (openTests b s c t y v) ≡ stoppedAt b (opening s c t y v)
-  unfolding openTests vectorTests typeTests channelTests nodeTests tableTests askedAt stoppedAt lentTests callTests
-  open-tests s c t y v = refl
-
   -- a call that is stopped changes nothing; one that is not is carried out
   module _ (a : Call) {n : ℕ} (e : n ≡ stoppedAt b a) where
     pub call-stopped : n ≢ 0 → done b (only n) (lent a) ≡ called b a
     call-stopped f = sym (called-stopped b a (λ z. f (e ∙ z)) ∙ ap (λ i. done b (only i) (lent a)) (sym e))
 
-    pub call-carried : n ≡ 0 → carriedOut b a ≡ called b a
-    call-carried z = sym (called-carried b a (sym e ∙ z))
+    pub call-carried : n ≡ 0 → ((i : ℕ) → getD b i 0 < 256) → {b₁ : List ℕ} → b₁ ≡ writtenBy b a → record { state = b₁; given = givesIn (view b) a } ≡ called b a
+    unfolding carriedOut
+    call-carried z small q =
+        let s = sym e ∙ z in
+        ap (λ x. record { state = x; given = givesIn (view b) a }) (q ∙ sym (written-bytes b small a s)) ∙ ap (λ (x : After (List ℕ)). record { state = called b a .state; given = x .given }) (sym (called-carried b a s))
 
   -- making
   module _ (D : ℕ) where
@@ -91,57 +68,57 @@ module _ (b : List ℕ) where
     unfolding lent
     make-dimension e f = call-stopped (making D) {n = 2} (sym (outside f) ∙ sym (making-stopped b e D)) (λ z. omega arith)
 
-    pub make-made : length b ≡ tableLength → (leb 1 D && leb D 8) ≡ true → {b₁ : List ℕ} → b₁ ≡ made D → done b₁ (only 0) [] ≡ called b (making D)
-    unfolding carriedOut
-    make-made e f q = ap (λ x. done x (only 0) []) q ∙ call-carried (making D) {n = 0} (sym (within f) ∙ sym (making-stopped b e D)) refl
+    pub make-made : length b ≡ tableLength → ((i : ℕ) → getD b i 0 < 256) → (leb 1 D && leb D 8) ≡ true → {b₁ : List ℕ} → b₁ ≡ made D → done b₁ (only 0) [] ≡ called b (making D)
+    unfolding writtenBy givesIn
+    make-made e small f q = call-carried (making D) {n = 0} (sym (within f) ∙ sym (making-stopped b e D)) refl small q
 
   -- blocking and unblocking
-  pub call-blocks : (n p : ℕ) {m : ℕ} → m ≡ refusal (blockTests b n p) → m ≡ 0 → {b₁ : List ℕ} → b₁ ≡ putEnabled b n p false → done b₁ (only 0) [] ≡ called b (blocking n p)
-  unfolding carriedOut
-  call-blocks n p e z q = ap (λ x. done x (only 0) []) q ∙ call-carried (blocking n p) (e ∙ block-tests n p) z
+  pub call-blocks : (n p : ℕ) {m : ℕ} → m ≡ stoppedAt b (blocking n p) → m ≡ 0 → ((i : ℕ) → getD b i 0 < 256) → {b₁ : List ℕ} → b₁ ≡ putEnabled b n p false → done b₁ (only 0) [] ≡ called b (blocking n p)
+  unfolding writtenBy givesIn
+  call-blocks n p e = call-carried (blocking n p) e
 
-  pub call-unblocks : (n p : ℕ) {m : ℕ} → m ≡ refusal (linkTests b n p) → m ≡ 0 → {b₁ : List ℕ} → b₁ ≡ putEnabled b n p true → done b₁ (only 0) [] ≡ called b (unblocking n p)
-  unfolding carriedOut
-  call-unblocks n p e z q = ap (λ x. done x (only 0) []) q ∙ call-carried (unblocking n p) (e ∙ unblock-tests n p) z
+  pub call-unblocks : (n p : ℕ) {m : ℕ} → m ≡ stoppedAt b (unblocking n p) → m ≡ 0 → ((i : ℕ) → getD b i 0 < 256) → {b₁ : List ℕ} → b₁ ≡ putEnabled b n p true → done b₁ (only 0) [] ≡ called b (unblocking n p)
+  unfolding writtenBy givesIn
+  call-unblocks n p e = call-carried (unblocking n p) e
 
-  pub block-refused : (n p : ℕ) {m : ℕ} → m ≡ refusal (blockTests b n p) → m ≢ 0 → done b (only m) [] ≡ called b (blocking n p)
+  pub block-refused : (n p : ℕ) {m : ℕ} → m ≡ stoppedAt b (blocking n p) → m ≢ 0 → done b (only m) [] ≡ called b (blocking n p)
   unfolding lent
-  block-refused n p e f = call-stopped (blocking n p) (e ∙ block-tests n p) f
+  block-refused n p e f = call-stopped (blocking n p) e f
 
-  pub unblock-refused : (n p : ℕ) {m : ℕ} → m ≡ refusal (linkTests b n p) → m ≢ 0 → done b (only m) [] ≡ called b (unblocking n p)
+  pub unblock-refused : (n p : ℕ) {m : ℕ} → m ≡ stoppedAt b (unblocking n p) → m ≢ 0 → done b (only m) [] ≡ called b (unblocking n p)
   unfolding lent
-  unblock-refused n p e f = call-stopped (unblocking n p) (e ∙ unblock-tests n p) f
+  unblock-refused n p e f = call-stopped (unblocking n p) e f
 
   -- closing
-  pub close-refused : (s c : ℕ) {m : ℕ} → m ≡ refusal (closeTests b s c) → m ≢ 0 → done b (only m) [] ≡ called b (closing s c)
+  pub close-refused : (s c : ℕ) {m : ℕ} → m ≡ stoppedAt b (closing s c) → m ≢ 0 → done b (only m) [] ≡ called b (closing s c)
   unfolding lent
-  close-refused s c e f = call-stopped (closing s c) (e ∙ close-tests s c) f
+  close-refused s c e f = call-stopped (closing s c) e f
 
-  pub call-closes : (s c : ℕ) {m : ℕ} → m ≡ refusal (closeTests b s c) → m ≡ 0 → {k : ℕ} → k ≡ circuitOf s c → {b₁ : List ℕ} → b₁ ≡ freed b k → done b₁ (only 0) [] ≡ called b (closing s c)
-  unfolding carriedOut
-  call-closes s c e z q r = ap (λ x. done x (only 0) []) (r ∙ ap (freed b) q) ∙ call-carried (closing s c) (e ∙ close-tests s c) z
+  pub call-closes : (s c : ℕ) {m : ℕ} → m ≡ stoppedAt b (closing s c) → m ≡ 0 → ((i : ℕ) → getD b i 0 < 256) → {k : ℕ} → k ≡ circuitOf s c → {b₁ : List ℕ} → b₁ ≡ encode (freeing (view b) k) → done b₁ (only 0) [] ≡ called b (closing s c)
+  unfolding writtenBy givesIn
+  call-closes s c e z small q r = call-carried (closing s c) e z small (r ∙ ap (λ i. encode (freeing (view b) i)) q)
 
   -- opening: what the search comes to is the answer
-  pub open-refused : (s c t y v : ℕ) {m : ℕ} → m ≡ refusal (openTests b s c t y v) → m ≢ 0 → done b (only m) [] ≡ called b (opening s c t y v)
+  pub open-refused : (s c t y v : ℕ) {m : ℕ} → m ≡ stoppedAt b (opening s c t y v) → m ≢ 0 → done b (only m) [] ≡ called b (opening s c t y v)
   unfolding lent
-  open-refused s c t y v e f = call-stopped (opening s c t y v) (e ∙ open-tests s c t y v) f
+  open-refused s c t y v e f = call-stopped (opening s c t y v) e f
 
-  pub call-opens : (s c t y v : ℕ) {m : ℕ} → m ≡ refusal (openTests b s c t y v) → m ≡ 0 → {k : ℕ} → k ≡ circuitOf s c → {x r h n : ℕ} {b₁ : List ℕ} → settled x r h n b₁ ≡ sends b s t k y v
+  pub call-opens : (s c t y v : ℕ) {m : ℕ} → m ≡ stoppedAt b (opening s c t y v) → m ≡ 0 → ((i : ℕ) → getD b i 0 < 256) → {k : ℕ} → k ≡ circuitOf s c → {x r h n : ℕ} {b₁ : List ℕ} → settled x r h n b₁ ≡ sends b s t k y v
       → done b₁ (record { number = x; hops = h; receive = r; scouts = n }) [] ≡ called b (opening s c t y v)
-  unfolding carriedOut sends sentOn sendIn shown
-  call-opens s c t y v e z q g = ap shown (g ∙ ap (λ i. sends b s t i y v) q) ∙ call-carried (opening s c t y v) (e ∙ open-tests s c t y v) z
+  unfolding writtenBy givesIn sends sentOn sendIn shown
+  call-opens s c t y v e z small q g = ap shown (g ∙ ap (λ i. sends b s t i y v) q) ∙ call-carried (opening s c t y v) e z small refl
 
   -- tracing
-  pub trace-refused : (s c : ℕ) (buffer : List ℕ) {m : ℕ} → m ≡ refusal (traceTests b s c buffer) → m ≢ 0 → done b (only m) buffer ≡ called b (tracing s c buffer)
+  pub trace-refused : (s c : ℕ) (buffer : List ℕ) {m : ℕ} → m ≡ stoppedAt b (tracing s c buffer) → m ≢ 0 → done b (only m) buffer ≡ called b (tracing s c buffer)
   unfolding lent
-  trace-refused s c buffer e f = call-stopped (tracing s c buffer) (e ∙ trace-tests s c buffer) f
+  trace-refused s c buffer e f = call-stopped (tracing s c buffer) e f
 
-  pub call-traces : (s c : ℕ) (buffer : List ℕ) {m : ℕ} → m ≡ refusal (traceTests b s c buffer) → m ≡ 0 → {k : ℕ} → k ≡ circuitOf s c → {h : ℕ} {after : List ℕ}
+  pub call-traces : (s c : ℕ) (buffer : List ℕ) {m : ℕ} → m ≡ stoppedAt b (tracing s c buffer) → m ≡ 0 → ((i : ℕ) → getD b i 0 < 256) → {k : ℕ} → k ≡ circuitOf s c → {h : ℕ} {after : List ℕ}
       → h ≡ length (pathOf (view b) k) → after ≡ written (pathOf (view b) k) buffer → done b (record { number = 0; hops = h; receive = 0; scouts = 0 }) after ≡ called b (tracing s c buffer)
-  unfolding carriedOut
-  call-traces s c buffer e z q l w =
+  unfolding writtenBy givesIn
+  call-traces s c buffer e z small q l w =
       ap₂ (λ i x. done b (record { number = 0; hops = i; receive = 0; scouts = 0 }) x) (l ∙ ap (λ i. length (pathOf (view b) i)) q) (w ∙ ap (λ i. written (pathOf (view b) i) buffer) q)
-      ∙ call-carried (tracing s c buffer) (e ∙ trace-tests s c buffer) z
+      ∙ call-carried (tracing s c buffer) e z small refl
 
   -- the circuit of a channel that is open has a path
   pub open-path : (s c : ℕ) → openIn (view b) s c ≡ true → {k : ℕ} → k ≡ circuitOf s c → not (isEmpty (pathOf (view b) k)) ≡ true

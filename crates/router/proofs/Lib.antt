@@ -1,6 +1,4 @@
 -- The laws of the calls' tests.
 pub mod Stopping
-pub mod Returns
 pub mod Called
-pub mod Tracing
 pub mod Releasing

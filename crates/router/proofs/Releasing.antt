@@ -16,29 +16,26 @@ use Rattle.common.specs.Lists.{_∈_, lowest}
 use Rattle.common.proofs.Tests.{below-or, clash, is-false, both, and}
 use Rattle.common.proofs.Lowest.{lowest-passes, lowest-before}
 use Rattle.cube.specs.Cube.{next, sourceOf}
-use Rattle.cube.proofs.Bits.{flip-inside}
+use Rattle.cube.proofs.Axes.{next-inside}
 use Rattle.cube.proofs.Ports.{below-256}
 use Rattle.paths.specs.Network.{Network, Path, end, links, hasLink}
 use Rattle.paths.specs.Send.{acknowledged}
 use Rattle.paths.specs.CubeNetwork.{Shape, network}
 use Rattle.paths.proofs.Links.{link-true, true-link}
 use Rattle.paths.proofs.Apart.{permitted-below, permitted-inside}
-use Rattle.table.specs.Layout.{Within, dimensionAt, receiverAt, putOwner, putReceiver, freed}
+use Rattle.table.specs.Layout.{Within, dimensionAt, receiverAt, putOwner, putReceiver}
 use Rattle.table.specs.View.{View, view, setReceiver, setAt, freeing}
-use Rattle.table.specs.Encode.{encode}
+use Rattle.table.specs.Encode.{encode, Bytes}
 use Rattle.soundness.specs.Sound.{shapeOf, net, heldBy, endFor, Stands, Sound}
-use Rattle.soundness.specs.SoundTest.{pathOf, isEmpty}
+use Rattle.soundness.specs.SoundTest.{pathOf, isEmpty, written}
 use Rattle.soundness.specs.Follow.{HasSource}
-use Rattle.table.proofs.Encode.{encode-view}
-use Rattle.table.proofs.Freed.{view-freed}
 use Rattle.soundness.proofs.Soundness.{path-is}
 use Rattle.search.specs.Settle.{hold}
 use Rattle.search.specs.Sent.{marked}
 use Rattle.search.proofs.Turns.{owner-length}
-use Rattle.ownership.specs.Calls.{written}
-use Rattle.ownership.proofs.Range.{Bytes, marked-bytes, freed-bytes}
-use Rattle.ownership.proofs.Update.{holdLinks, marking}
-use Rattle.ownership.proofs.Shows.{PortsBelow, Fits, hold-length, view-hold, view-marked}
+use Rattle.ownership.specs.Update.{holdLinks, marking}
+use Rattle.ownership.proofs.Shows.{PortsBelow, Fits, hold-length, view-hold}
+use Rattle.ownership.proofs.Written.{marked-encoded}
 use Rattle.ownership.proofs.Followed.{held-path}
 use Rattle.ownership.proofs.OnSound.{path-stands}
 use Rattle.router.specs.Release.{MayFree}
@@ -60,7 +57,7 @@ module _ (S : Shape) {b ports : List ℕ} {s hops : ℕ} where
   freeing-on {now} {after} {at} {to} {i} {p} f h room e l q t =
       record {
         most = omega arith;
-        node = rw t (flip-inside 8 at p (f .node) l);
+        node = rw t (next-inside 8 at p (omega arith) (f .node) l);
         long = ap length q ∙ owner-length now at p 0 ∙ f .long;
         ends = rw (t, add-one i) (sym (ap (end (network S) at) split ∙ (unfold end network in refl)) ∙ f .ends);
         holds = rw (q, t, add-one i) (sym (ap (hold now 0 at) split ∙ (unfold hold in refl)) ∙ f .holds);
@@ -106,7 +103,7 @@ module _ {b : List ℕ} {c : ℕ} (known : HasSource b c) (some : not (isEmpty (
   unfolding view
   ports-below =
       subst (PortsBelow (dimensionAt b)) same
-      (unfold PortsBelow in permitted-below (shapeOf (view b)) (sourceOf c) (endFor (view b) c (stands .path)) (stands .path) (stands .permitted))
+      (unfold PortsBelow in permitted-below (shapeOf (view b)) (known .fits) refl (sourceOf c) (endFor (view b) c (stands .path)) (stands .path) (stands .permitted))
 
   target-inside : target < 2 ^ dimensionAt b
   unfolding view
@@ -144,16 +141,11 @@ module _ {b : List ℕ} {c : ℕ} (known : HasSource b c) (some : not (isEmpty (
         receiver = λ m k. cond (channel-held m k i) 0 (view b .receiver m k);
       }
 
-  bytes-freed : Bytes b → putReceiver (hold b 0 (sourceOf c) path) target (stands .channel) 0 ≡ freed b c
+  bytes-freed : Bytes b → putReceiver (hold b 0 (sourceOf c) path) target (stands .channel) 0 ≡ encode (freeing (view b) c)
   unfolding marked
   bytes-freed bytes =
-      let o = acknowledged path (stands .channel) in
-      let after = marked-bytes b 0 (sourceOf c) target o bytes (lit< tt) in
-      let free = freed-bytes b c bytes in
-      let fits : Fits (dimensionAt b) o = unfold Fits in (ports-below, stands .small) in
-      sym (encode-view _ (after .long) (after .small))
-      ∙ ap encode (view-marked 0 (lit< tt) (dimensionAt b) (known .fits) b (bytes .long) (sourceOf c) target (known .source) target-inside o fits ∙ shown-freed ∙ sym (view-freed b c (bytes .long)))
-      ∙ encode-view _ (free .long) (free .small)
+      let fits : Fits (dimensionAt b) (acknowledged path (stands .channel)) = unfold Fits in (ports-below, stands .small) in
+      marked-encoded b bytes 0 (sourceOf c) target (acknowledged path (stands .channel)) (known .fits) (lit< tt) (known .source) target-inside fits ∙ ap encode shown-freed
 
   -- Of what the code has: the ports of the path in a buffer of nine, how many they are, and the source.
   module _ (buffer : List ℕ) {ports : List ℕ} {hops s : ℕ} (room : 9 ≤ length buffer) (count : hops ≡ length path) (e : ports ≡ written path buffer) (q : s ≡ sourceOf c) where
@@ -205,5 +197,5 @@ module _ {b : List ℕ} {c : ℕ} (known : HasSource b c) (some : not (isEmpty (
         pub channel-within : Within b₁ t k
         channel-within = record { bytes = target-within .bytes; node = target-within .node; port = omega (arith, the-channel, stands .small) }
 
-        pub all-freed : Bytes b → putReceiver b₁ t k 0 ≡ freed b c
+        pub all-freed : Bytes b → putReceiver b₁ t k 0 ≡ encode (freeing (view b) c)
         all-freed bytes = rw (held, at-target, the-channel) (bytes-freed bytes)

@@ -1,70 +1,77 @@
--- The tests of a call, one after another: where an earlier one stops it, where the next does, and where none does.
+-- The tests of a call, one after another: what each return of the functions that make them answers, and what is known where none applies.
 -- Assumes nothing.
-use mathlib.Core.Path.{_≡_, refl, sym, _∙_}
+use mathlib.Core.Path.{_≡_, refl, ap, sym, _∙_}
 use mathlib.Core.Logic.{_≢_}
-use mathlib.Core.Bool.{Bool, true, false, not}
+use mathlib.Core.Bool.{Bool, true, false, not, _||_}
 use mathlib.Core.List.{List, [], _∷_, _++_}
 use Prim.Native.Nat.{ℕ, _^_, _≤_, _<_}
 use native.Mathlib.Omega.{arith}
-use lib.Dec.{eqb, ltb}
 use lib.ListN.{length}
 use lib.Pow.{pow-mono}
-use borrow.Author.Tests.{not-false, ltb-false}
 use Rattle.common.specs.Tests.{Test, test, refusal}
-use Rattle.common.proofs.Tests.{neither, refused, passed, accepted, first-passed, Avoids, numbered-behind, refusal-behind, refusal-both, refusal-before}
+use Rattle.common.proofs.Tests.{neither, refused, passed, accepted, refusal-behind, refusal-both, refusal-before}
 use Rattle.table.specs.Layout.{tableLength, dimensionAt, Within}
 use Rattle.table.specs.View.{view}
 use Rattle.cube.specs.Cube.{circuitOf}
+use Rattle.cube.proofs.Bits.{no-bit-above}
 use Rattle.cube.proofs.Circuits.{source-of-circuit}
 use Rattle.cube.proofs.Ports.{most-nodes, below-256}
 use Rattle.soundness.specs.Sound.{Sound}
-use Rattle.soundness.specs.SoundTest.{tableTests}
+use Rattle.soundness.specs.SoundTest.{pathOf, isEmpty, tableTests}
 use Rattle.soundness.specs.Follow.{HasSource}
-use Rattle.ownership.specs.Calls.{nodes, channel, port, sendVector, noCircuit, shortBuffer}
-use Rattle.ownership.specs.OnTable.{openIn, askedOf}
-use Rattle.ownership.proofs.Allowed.{below, channel-small}
-use Rattle.ownership.proofs.Stops.{pass-tests, table-numbered}
-use Rattle.router.specs.Portions.{askedAt, nodeTests, channelTests, linkTests, blockTests, closeTests, traceTests, typeTests, vectorTests, openTests}
+use Rattle.ownership.specs.Calls.{Call, absent, blocking, unblocking, opening, closing, tracing}
+use Rattle.ownership.specs.Allowed.{Allowed}
+use Rattle.ownership.specs.OnTable.{openIn, askedOf, lentTests, stoppedAt}
+use Rattle.ownership.proofs.Allowed.{below, allowed}
+use Rattle.ownership.proofs.Stops.{pass-tests, lent-numbered, table-numbered}
 
--- an earlier test stops the call; the next one does; none does
-module _ (xs : List Test) where
-  pub stopped-before : (x : Test) {n : ℕ} → n ≡ refusal xs → n ≢ 0 → n ≡ refusal (xs ++ x ∷ [])
-  stopped-before x e f = e ∙ sym (refusal-before xs (x ∷ []) (λ z. f (e ∙ z)))
+-- What a call answers at each return of its tests: a test of the lent table stops it;
+pub by-table : (b : List ℕ) (ts : List Test) {n : ℕ} → n ≡ refusal (tableTests b) → n ≢ 0 → n ≡ refusal (tableTests b ++ ts)
+by-table b ts e f = e ∙ sym (refusal-before (tableTests b) ts (λ z. f (e ∙ z)))
 
-  module _ {w : Bool} (m : ℕ) (numbered : Avoids 0 xs) {n : ℕ} (e : n ≡ refusal xs) (z : n ≡ 0) where
-    pub stopped-here : w ≡ true → m ≡ refusal (xs ++ test w m ∷ [])
-    stopped-here q = sym (refusal-behind xs (test w m ∷ []) numbered (sym e ∙ z) ∙ refused m [] q)
+-- or none does, and those of the call decide:
+pub by-call : (b : List ℕ) (ts : List Test) {n m : ℕ} → n ≡ refusal (tableTests b) → n ≡ 0 → m ≡ refusal ts → m ≡ refusal (tableTests b ++ ts)
+by-call b ts e z q = q ∙ sym (refusal-behind (tableTests b) ts (table-numbered b) (sym e ∙ z))
 
-    pub not-stopped : w ≡ false → 0 ≡ refusal (xs ++ test w m ∷ [])
-    not-stopped q = sym (refusal-behind xs (test w m ∷ []) numbered (sym e ∙ z) ∙ passed m [] q ∙ accepted)
+-- the first of them applies, as the code found; or it does not, and those behind it decide;
+module _ {w found : Bool} (m : ℕ) (ts : List Test) (e : found ≡ w) where
+  pub here : found ≡ true → m ≡ refusal (test w m ∷ ts)
+  here f = sym (refused m ts (sym e ∙ f))
 
--- The numbers of the portions are not 0, so that an answer of 0 says that none of their tests applies.
-module _ (b : List ℕ) where
-  pub node-numbered : (s t : ℕ) → Avoids 0 (nodeTests b s t)
-  unfolding nodeTests
-  node-numbered s t = numbered-behind _ _ (table-numbered b) (λ z. omega arith)
+  pub past : {n : ℕ} → found ≡ false → n ≡ refusal ts → n ≡ refusal (test w m ∷ ts)
+  past f q = q ∙ sym (passed m ts (sym e ∙ f))
 
-  pub channel-numbered : (s t c : ℕ) → Avoids 0 (channelTests b s t c)
-  unfolding channelTests
-  channel-numbered s t c = numbered-behind _ _ (node-numbered s t) (λ z. omega arith)
+  -- the same of a test that applies where the code found that something does not hold
+  pub here-not : not found ≡ true → m ≡ refusal (test (not w) m ∷ ts)
+  here-not f = sym (refused m ts (ap not (sym e) ∙ f))
 
-  pub link-numbered : (n p : ℕ) → Avoids 0 (linkTests b n p)
-  unfolding linkTests
-  link-numbered n p = numbered-behind _ _ (node-numbered n n) (λ z. omega arith)
+  pub past-not : {n : ℕ} → not found ≡ false → n ≡ refusal ts → n ≡ refusal (test (not w) m ∷ ts)
+  past-not f q = q ∙ sym (passed m ts (ap not (sym e) ∙ f))
 
-  pub close-numbered : (s c : ℕ) → Avoids 0 (closeTests b s c)
-  unfolding closeTests
-  close-numbered s c = numbered-behind _ _ (channel-numbered s s c) (λ z. omega arith)
+-- and no test is left.
+pub none : 0 ≡ refusal []
+none = sym accepted
 
-  pub type-numbered : (s c t y : ℕ) → Avoids 0 (typeTests b s c t y)
-  unfolding typeTests
-  type-numbered s c t y = numbered-behind _ _ (channel-numbered s t c) (λ z. omega arith)
+-- What was found not to apply: the tests of the lent table; a test; of two joined, the first.
+pub table-passed : (b : List ℕ) {n : ℕ} → n ≡ refusal (tableTests b) → n ≡ 0 → refusal (tableTests b) ≡ 0
+table-passed b e z = sym e ∙ z
 
-  pub vector-numbered : (s c t y v : ℕ) → Avoids 0 (vectorTests b s c t y v)
-  unfolding vectorTests
-  vector-numbered s c t y v = numbered-behind _ _ (type-numbered s c t y) (λ z. omega arith)
+pub not-found : {w found : Bool} → found ≡ w → found ≡ false → w ≡ false
+not-found e f = sym e ∙ f
 
--- What is known of a table and its nodes once the tests of the nodes have passed, of a channel, of a port.
+pub first-not-found : {u found : Bool} (w : Bool) → found ≡ (u || w) → found ≡ false → u ≡ false
+first-not-found {u} w e f = neither u w (sym e ∙ f) .0
+
+-- two joined of which the first does not apply
+pub or-second : {u w found : Bool} → u ≡ false → found ≡ w → found ≡ (u || w)
+or-second {u} {w} e f = f ∙ sym (ap (_|| w) e)
+
+-- With these `search` proves what each return of a call's tests answers, in whatever order they stand, and what a test asks of those before it.
+pub ruleset stops = (by-table, by-call, here, past, here-not, past-not, none)
+
+pub ruleset passes = (table-passed, not-found)
+
+-- What is known of a table and the nodes of a call that no test stops.
 pub record Inside (b : List ℕ) (s t : ℕ) : Type 0 where
   pub long : length b ≡ tableLength
   pub least : 1 ≤ dimensionAt b
@@ -73,29 +80,44 @@ pub record Inside (b : List ℕ) (s t : ℕ) : Type 0 where
   pub source : s < 2 ^ dimensionAt b
   pub target : t < 2 ^ dimensionAt b
 
-pub table-passed : (b : List ℕ) {n : ℕ} → n ≡ refusal (tableTests b) → n ≡ 0 → (length b ≡ tableLength) × (dimensionAt b ≤ 8)
-table-passed b e z = let r = pass-tests b (sym e ∙ z) in (r .0, r .2)
+inside : (b : List ℕ) → refusal (tableTests b) ≡ 0 → {s t : ℕ} → s < 2 ^ dimensionAt b → t < 2 ^ dimensionAt b → Inside b s t
+inside b e h l = let r = pass-tests b e in record { long = r .0; least = r .1; most = r .2; sound = r .3; source = h; target = l }
 
-module _ {b : List ℕ} {s t : ℕ} where
-  pub node-passed : {n : ℕ} → n ≡ refusal (nodeTests b s t) → n ≡ 0 → Inside b s t
-  unfolding nodeTests askedAt askedOf view
-  node-passed e z =
-      let r = refusal-both (tableTests b) (nodes (askedAt b) s t ∷ []) (table-numbered b) (sym e ∙ z) in
-      let p = pass-tests b (r .0) in
-      let q = neither (not (ltb s (2 ^ dimensionAt b))) (not (ltb t (2 ^ dimensionAt b))) (first-passed _ 4 [] (λ z. omega arith) (r .1) .0) in
-      record { long = p .0; least = p .1; most = p .2; sound = p .3; source = below s _ (q .0); target = below t _ (q .1) }
+-- a node that the code found not to be absent
+pub node-passed : (b : List ℕ) (s : ℕ) → refusal (tableTests b) ≡ 0 → absent (askedOf (view b)) s ≡ false → Inside b s s
+unfolding askedOf view
+node-passed b s e f = let h = below s (2 ^ dimensionAt b) f in inside b e h h
 
-  pub channel-passed : {c n : ℕ} → n ≡ refusal (channelTests b s t c) → n ≡ 0 → Inside b s t × (c < 8)
-  unfolding channelTests
-  channel-passed {c} e z =
-      let r = refusal-both (nodeTests b s t) (channel c ∷ []) (node-numbered b s t) (sym e ∙ z) in
-      (node-passed refl (r .0), channel-small c (first-passed (ltb 7 c) 5 [] (λ z. omega arith) (r .1) .0))
+-- a call that no test stops: the table passes its tests, and the arguments are allowed
+none-applies : (b : List ℕ) (a : Call) → lentTests b a ≡ tableTests b → {n : ℕ} → n ≡ stoppedAt b a → n ≡ 0 → (refusal (tableTests b) ≡ 0) × Allowed (askedOf (view b)) a
+unfolding stoppedAt
+none-applies b a q e z =
+    let r = refusal-both (lentTests b a) _ (lent-numbered b a) (sym e ∙ z) in
+    (rw q at (r .0), allowed (askedOf (view b)) a (r .1))
 
-pub link-passed : {b : List ℕ} {m p n : ℕ} → n ≡ refusal (linkTests b m p) → n ≡ 0 → Inside b m m × (p < dimensionAt b)
-unfolding linkTests askedAt askedOf view
-link-passed {b} {m} {p} e z =
-    let r = refusal-both (nodeTests b m m) (port (askedAt b) p ∷ []) (node-numbered b m m) (sym e ∙ z) in
-    (node-passed refl (r .0), below p _ (first-passed (not (ltb p (dimensionAt b))) 6 [] (λ z. omega arith) (r .1) .0))
+module _ {b : List ℕ} {m p n : ℕ} where
+  pub link-passed : n ≡ stoppedAt b (unblocking m p) → n ≡ 0 → Inside b m m × (p < dimensionAt b)
+  unfolding lentTests Allowed askedOf view
+  link-passed e z = let r = none-applies b (unblocking m p) refl e z in (inside b (r .0) (r .1 .0) (r .1 .0), r .1 .1)
+
+  pub block-passed : n ≡ stoppedAt b (blocking m p) → n ≡ 0 → Inside b m m × (p < dimensionAt b)
+  unfolding lentTests Allowed askedOf view
+  block-passed e z = let r = none-applies b (blocking m p) refl e z in (inside b (r .0) (r .1 .0) (r .1 .0), r .1 .1)
+
+pub open-passed : {b : List ℕ} {s c t : ℕ} (y : ℕ) {v n : ℕ} → n ≡ stoppedAt b (opening s c t y v) → n ≡ 0 → Inside b s t × (c < 8) × (v < 2 ^ dimensionAt b)
+unfolding lentTests Allowed askedOf view
+open-passed {b} {s} {c} {t} y {v} e z =
+    let r = none-applies b (opening s c t y v) refl e z in
+    (inside b (r .0) (r .1 .0) (r .1 .1), r .1 .2, no-bit-above (dimensionAt b) v (r .1 .4))
+
+module _ {b : List ℕ} {s c : ℕ} where
+  pub close-passed : {n : ℕ} → n ≡ stoppedAt b (closing s c) → n ≡ 0 → Inside b s s × (c < 8) × (openIn (view b) s c ≡ true)
+  unfolding lentTests Allowed askedOf view
+  close-passed e z = let r = none-applies b (closing s c) refl e z in (inside b (r .0) (r .1 .0) (r .1 .0), r .1 .1, r .1 .2)
+
+  pub trace-passed : (buffer : List ℕ) {n : ℕ} → n ≡ stoppedAt b (tracing s c buffer) → n ≡ 0 → (Inside b s s × (c < 8) × (openIn (view b) s c ≡ true)) × (9 ≤ length buffer)
+  unfolding lentTests Allowed askedOf view
+  trace-passed buffer e z = let r = none-applies b (tracing s c buffer) refl e z in ((inside b (r .0) (r .1 .0) (r .1 .0), r .1 .1, r .1 .2), r .1 .3)
 
 -- A cube has 2 to 256 nodes.
 pub node-room : {b : List ℕ} {s t : ℕ} → Inside b s t → (2 ≤ 2 ^ dimensionAt b) × (2 ^ dimensionAt b ≤ 256)
@@ -105,45 +127,15 @@ node-room {b} h = (pow-mono {i = 1} {j = dimensionAt b} (h .least), most-nodes (
 pub link-within : {b : List ℕ} {m p : ℕ} → Inside b m m × (p < dimensionAt b) → Within b m p
 link-within h = record { bytes = h .0 .long; node = below-256 (h .0 .most) (h .0 .source); port = omega (arith, h .0 .most, h .1) }
 
-pub block-passed : {b : List ℕ} {m p n : ℕ} → n ≡ refusal (blockTests b m p) → n ≡ 0 → Inside b m m × (p < dimensionAt b)
-unfolding blockTests
-block-passed {b} {m} {p} e z = link-passed refl (refusal-both (linkTests b m p) _ (link-numbered b m p) (sym e ∙ z) .0)
-
--- Opening, closing and tracing: the channel has a circuit number, whose source is a node of the cube.
-module _ {b : List ℕ} {s c t : ℕ} (y : ℕ) where
-  pub type-passed : {n : ℕ} → n ≡ refusal (typeTests b s c t y) → n ≡ 0 → Inside b s t × (c < 8)
-  unfolding typeTests
-  type-passed e z = channel-passed refl (refusal-both (channelTests b s t c) _ (channel-numbered b s t c) (sym e ∙ z) .0)
-
-  pub vector-passed : {v n : ℕ} → n ≡ refusal (vectorTests b s c t y v) → n ≡ 0 → Inside b s t × (c < 8) × (v < 2 ^ dimensionAt b)
-  unfolding vectorTests askedAt askedOf view
-  vector-passed {v} e z =
-      let r = refusal-both (typeTests b s c t y) (sendVector (askedAt b) v ∷ []) (type-numbered b s c t y) (sym e ∙ z) in
-      let p = type-passed refl (r .0) in
-      let q = neither (eqb v 0) (not (ltb v (2 ^ dimensionAt b))) (first-passed _ 8 [] (λ z. omega arith) (r .1) .0) in
-      (p .0, p .1, below v _ (q .1))
-
-  pub open-passed : {v n : ℕ} → n ≡ refusal (openTests b s c t y v) → n ≡ 0 → Inside b s t × (c < 8) × (v < 2 ^ dimensionAt b)
-  unfolding openTests
-  open-passed {v} e z = vector-passed refl (refusal-both (vectorTests b s c t y v) _ (vector-numbered b s c t y v) (sym e ∙ z) .0)
-
-module _ {b : List ℕ} {s c : ℕ} where
-  pub close-passed : {n : ℕ} → n ≡ refusal (closeTests b s c) → n ≡ 0 → Inside b s s × (c < 8) × (openIn (view b) s c ≡ true)
-  unfolding closeTests askedAt askedOf
-  close-passed e z =
-      let r = refusal-both (channelTests b s s c) (noCircuit (askedAt b) s c ∷ []) (channel-numbered b s s c) (sym e ∙ z) in
-      let p = channel-passed refl (r .0) in
-      (p .0, p .1, not-false _ (first-passed (not (openIn (view b) s c)) 12 [] (λ z. omega arith) (r .1) .0))
-
-  pub trace-passed : (buffer : List ℕ) {n : ℕ} → n ≡ refusal (traceTests b s c buffer) → n ≡ 0 → (Inside b s s × (c < 8) × (openIn (view b) s c ≡ true)) × (9 ≤ length buffer)
-  unfolding traceTests
-  trace-passed buffer e z =
-      let r = refusal-both (closeTests b s c) (shortBuffer buffer ∷ []) (close-numbered b s c) (sym e ∙ z) in
-      (close-passed refl (r .0), ltb-false (length buffer) 9 (first-passed (ltb (length buffer) 9) 14 [] (λ z. omega arith) (r .1) .0))
-
+-- The channel has a circuit number, whose source is a node of the cube.
 module _ {b : List ℕ} {s t c : ℕ} (h : Inside b s t) (l : c < 8) where
   pub small-source : (s < 256) × (c < 8)
   small-source = (below-256 (h .most) (h .source), l)
 
   pub has-source : {k : ℕ} → k ≡ circuitOf s c → HasSource b k
   has-source e = rw e record { bytes = h .long; fits = h .most; circuit = omega arith; source = rw (source-of-circuit s c l) (h .source) }
+
+-- That circuit has a path where the channel has an open circuit.
+pub circuit-open : (b : List ℕ) (s c : ℕ) {k : ℕ} {o : Bool} → k ≡ circuitOf s c → o ≡ not (isEmpty (pathOf (view b) k)) → o ≡ openIn (view b) s c
+unfolding openIn
+circuit-open b s c q r = r ∙ ap (λ i. not (isEmpty (pathOf (view b) i))) q

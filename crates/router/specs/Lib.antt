@@ -1,3 +1,2 @@
--- The tests of the calls in the portions in which the code makes them, and what closing frees.
-pub mod Portions
+-- What closing frees.
 pub mod Release

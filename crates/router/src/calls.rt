@@ -5,7 +5,6 @@ ghost use Rattle.ownership.specs.Calls.{only, making, blocking, unblocking, ope
 ghost use Rattle.ownership.specs.OnTable.{called, done};
 use crate::release;
 use crate::stopped;
-use crate::tracer;
 use common::refusal;
 use cube::Node;
 use cube::Port;
@@ -43,7 +42,7 @@ pub fn block(t: &mut [u8], node: Node, port: Port) -> u16
 pub fn unblock(t: &mut [u8], node: Node, port: Port) -> u16
     ensures { λ r. ⌜ done (now (t .exit)) (only r) [] ≡ called (now (t .entry)) (unblocking (node .0) (port .0)) ⌝ }
 {
-    let refused = stopped::link(t, node, port);
+    let refused = stopped::unblock(t, node, port);
     if refused != refusal::ACCEPTED {
         return refused;
     }
@@ -120,7 +119,7 @@ pub fn trace(t: &[u8], source: Node, channel: u16, buffer: &mut [u8]) -> Traced
             hops: 0,
         };
     }
-    let hops = tracer::write_path(t, cube::circuit_of(source, channel), buffer);
+    let hops = soundness::write_path(t, cube::circuit_of(source, channel), buffer);
     Traced {
         number: refusal::ACCEPTED,
         hops,

@@ -2,7 +2,6 @@
 mod calls;
 mod release;
 mod stopped;
-mod tracer;
 
 pub use calls::Opened;
 pub use calls::Traced;

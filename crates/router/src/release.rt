@@ -3,14 +3,13 @@ ghost use mathlib.Core.Path.{_≡_};
 ghost use mathlib.Core.Bool.{true, not};
 ghost use lib.ListN.{take};
 ghost use Rattle.paths.specs.Network.{end};
-ghost use Rattle.table.specs.Layout.{freed};
-ghost use Rattle.table.specs.View.{view};
+ghost use Rattle.table.specs.View.{view, freeing};
+ghost use Rattle.table.specs.Encode.{encode};
 ghost use Rattle.soundness.specs.Sound.{net, Sound};
 ghost use Rattle.soundness.specs.SoundTest.{pathOf, isEmpty};
 ghost use Rattle.soundness.specs.Follow.{HasSource};
 ghost use Rattle.search.specs.Settle.{hold};
 ghost use Rattle.router.specs.Release.{MayFree};
-use crate::tracer;
 use cube::Circuit;
 use cube::Node;
 use cube::Port;
@@ -38,10 +37,10 @@ pub fn release(t: &mut [u8], c: Circuit)
     requires { ⌜ HasSource (now t) (c .0) ⌝ }
     requires { ⌜ not (isEmpty (pathOf (view (now t)) (c .0))) ≡ true ⌝ }
     requires { ⌜ Sound (view (now t)) ⌝ }
-    ensures { λ _. ⌜ now (t .exit) ≡ freed (now (t .entry)) (c .0) ⌝ }
+    ensures { λ _. ⌜ now (t .exit) ≡ encode (freeing (view (now (t .entry))) (c .0)) ⌝ }
 {
     let mut ports = [0u8; 9];
-    let hops = tracer::write_path(t, c, &mut ports);
+    let hops = soundness::write_path(t, c, &mut ports);
     let target = free_links(t, cube::source_of(c), &ports, hops);
     let channel = table::held_channel(t, c, target);
     table::set_receiver(t, target, channel, Circuit(0));

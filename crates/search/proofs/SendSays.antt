@@ -49,7 +49,7 @@ module _ (b : List ℕ) (c s t : ℕ) where
   number-channel (acknowledged w j) m x k h n b′ q z = let y : j ≡ k = cc in (w, ap (acknowledged w) y)
 
 -- What the passes of a send say.
-module _ (S : Shape) (free : ℕ → ℕ → Bool) (r : Receive) (s vector t : ℕ) (i : s < 2 ^ S .dimension) (l : t < 2 ^ S .dimension) where
+module _ (S : Shape) (free : ℕ → ℕ → Bool) (r : Receive) (s vector t : ℕ) (fits : S .dimension ≤ 8) (i : s < 2 ^ S .dimension) (l : t < 2 ^ S .dimension) where
   first : Pass
   first = pass (network S) free s (sendPorts S vector) t
 
@@ -58,11 +58,11 @@ module _ (S : Shape) (free : ℕ → ℕ → Bool) (r : Receive) (s vector t : �
 
   first-says : AnswerSays (network S) free s (sendPorts S vector) t r (outcome r first) (scouts first)
   unfolding first
-  first-says = answer-says (network S) free s (sendPorts S vector) t r first (cube-says S free s vector t i l)
+  first-says = answer-says (network S) free s (sendPorts S vector) t r first (cube-says S fits free s vector t i l)
 
   second-says : AnswerSays (network S) free s (otherPorts S vector) t r (outcome r second) (scouts second)
   unfolding second
-  second-says = answer-says (network S) free s (otherPorts S vector) t r second (cube-says-other S free s vector t i l)
+  second-says = answer-says (network S) free s (otherPorts S vector) t r second (cube-says-other S fits free s vector t i l)
 
   pub send-says : (type : ℕ) → PassesSay (network S) free s t r type (sendPorts S vector) (otherPorts S vector) (send type S free r s vector t .outcome) (send type S free r s vector t .scouts)
   unfolding send
@@ -149,13 +149,13 @@ module _ (v : View) (s t type vector : ℕ) where
       (decided o)
 
 -- no send sends more
-send-bounded : (S : Shape) (free : ℕ → ℕ → Bool) (r : Receive) (s vector t type : ℕ) → S .dimension ≤ 8 → send type S free r s vector t .scouts ≤ 123300
+send-bounded : (S : Shape) (free : ℕ → ℕ → Bool) (r : Receive) (s vector t type : ℕ) → S .dimension ≤ 8 → S .fold ≡ 0 → send type S free r s vector t .scouts ≤ 123300
 unfolding send
-send-bounded S free r s vector t type h = go (eqb type 4)
+send-bounded S free r s vector t type h z = go (eqb type 4)
   where
     go : (x : Bool) → cond x (alternateMaze S free r s vector t) (maze S free r s vector t) .scouts ≤ 123300
-    go true = sends-bounded S free r s vector t h .1
-    go false = sends-bounded S free r s vector t h .0
+    go true = sends-bounded S free r s vector t h z .1
+    go false = sends-bounded S free r s vector t h z .0
 
 -- The users' second demand: of any answer that the contract of `search::send` allows.
 pub demand-2 : (b : List ℕ) (s t c type vector : ℕ) → MaySend b s t c vector → (x k h n : ℕ) (b′ : List ℕ) → settled x k h n b′ ≡ sends b s t c type vector → SendSays b s t c type vector x k h n b′
@@ -169,10 +169,10 @@ demand-2 b s t c type vector may x k h n b′ q = answers (send type (shapeOf (v
     inside m l = unfold view in l
 
     said : PassesSay (net (view b)) (freeIn (view b)) s t (receive (view b) t) type (sendPorts (shapeOf (view b)) vector) (otherPorts (shapeOf (view b)) vector) (send type (shapeOf (view b)) (freeIn (view b)) (receive (view b) t) s vector t .outcome) n
-    said = rw counted (send-says (shapeOf (view b)) (freeIn (view b)) (receive (view b) t) s vector t (inside s (may .source)) (inside t (may .target)) type)
+    said = rw counted (send-says (shapeOf (view b)) (freeIn (view b)) (receive (view b) t) s vector t (unfold view in may .fits) (inside s (may .source)) (inside t (may .target)) type)
 
     few : n ≤ 123300
-    few = rw counted (send-bounded (shapeOf (view b)) (freeIn (view b)) (receive (view b) t) s vector t type (unfold view in may .fits))
+    few = rw counted (send-bounded (shapeOf (view b)) (freeIn (view b)) (receive (view b) t) s vector t type (unfold view in may .fits) refl)
 
     answers : (o : Outcome) → PassesSay (net (view b)) (freeIn (view b)) s t (receive (view b) t) type (sendPorts (shapeOf (view b)) vector) (otherPorts (shapeOf (view b)) vector) o n
         → settled x k h n b′ ≡ sentOn b c s t (record { outcome = o; scouts = send type (shapeOf (view b)) (freeIn (view b)) (receive (view b) t) s vector t .scouts }) → n ≤ 123300 → SendSays b s t c type vector x k h n b′

@@ -12,8 +12,6 @@ use lib.ListN.{length}
 use lib.Pow.{pow-pos}
 use lib.Bits.{bitXor, xor-lt}
 use borrow.Author.Tests.{eq-eqb, ne-eqb, lt-ltb}
-use Rattle.common.specs.Lists.{keep, from}
-use Rattle.common.proofs.Lists.{keep-same, from-below}
 use Rattle.cube.specs.Bits.{bitAt, has}
 use Rattle.cube.specs.Cube.{NodeCount}
 use Rattle.cube.proofs.Bits.{one-bit, bit-lt, bit-xor, has-bit}
@@ -24,10 +22,10 @@ use Rattle.paths.specs.Search.{trying, sending}
 use Rattle.paths.specs.Send.{Receive, channel, all-held, Outcome, acknowledged, route-rejected, receive-rejected, Sent, received, outcome, goesOn, answered}
 use Rattle.paths.specs.CubeNetwork.{Shape, network, sendPorts, otherPorts, maze, send}
 use Rattle.paths.proofs.Depth.{search-is-pass}
-use Rattle.paths.proofs.CubeNetwork.{cube-nearing, cube-cubical, scouts-bound}
+use Rattle.paths.proofs.CubeNetwork.{far-within, unfolded-send, scouts-bound, other-vector}
 use Rattle.paths.proofs.Send.{maze-answers, alternate-stops, alternate-goes-on}
 use Rattle.paths.specs.Bound.{waysFrom}
-use Rattle.paths.proofs.Bound.{far-width, ways-more}
+use Rattle.paths.proofs.Bound.{ways-more}
 use Rattle.table.specs.Layout.{dimensionAt, putReceiver}
 use Rattle.table.specs.View.{View, view, receive, available}
 use Rattle.soundness.specs.Sound.{net, shapeOf}
@@ -49,7 +47,7 @@ passOf b s t vector = pass (net (view b)) (freeIn (view b)) s (sendPorts (shapeO
 
 module _ {b : List ℕ} {s t c vector : ℕ} (may : MaySend b s t c vector) where
   ports-listed : portsOf 8 vector ≡ sendPorts (shapeOf (view b)) vector
-  ports-listed = unfold view in ports-wider (dimensionAt b) 8 vector (may .fits) (may .ports)
+  ports-listed = (unfold view in ports-wider (dimensionAt b) 8 vector (may .fits) (may .ports) ∙ sym (unfolded-send (shapeOf (view b)) (may .fits) refl vector))
 
   -- ports after arrival port 7 are tried from 0 upward: the search is the pass
   pub tries-pass : tries b t c s vector 7 0 0 ≡ settle b c s 0 (receive (view b) t) (passOf b s t vector)
@@ -61,14 +59,14 @@ module _ {b : List ℕ} {s t c vector : ℕ} (may : MaySend b s t c vector) wher
 
   near : reach b t s vector ≤ 8
   unfolding reach
-  near = farthest-most (net (view b)) t s 8 (portsOf 8 vector) (λ p m. let w = far-width (cube-nearing (shapeOf (view b)) t) (cube-cubical (shapeOf (view b)) t) (net (view b) .next s p) in let f : net (view b) .width ≤ 8 = unfold network view in may .fits in omega (arith, w, f))
+  near = farthest-most (net (view b)) t s 8 (portsOf 8 vector) (λ p m. let f : shapeOf (view b) .dimension ≤ 8 = unfold view in may .fits in omega (arith, f, far-within (shapeOf (view b)) t (net (view b) .next s p)))
 
   -- there is room for the hops and the scouts of a pass
   pub may-try : MayTry b t c s vector 7 0 0
   may-try =
-      let more : waysFrom (reach b t s vector) ≤ waysFrom 8 = ways-more (reach b t s vector) 8 near in
-      let most : waysFrom 8 ≡ 109600 = unfold waysFrom in refl in
-      let all = mul-le-mul-right (1 + waysFrom (reach b t s vector)) (length-ports 8 vector) in
+      let more : waysFrom 1 (reach b t s vector) ≤ waysFrom 1 8 = ways-more 1 (reach b t s vector) 8 near in
+      let most : waysFrom 1 8 ≡ 109600 = unfold waysFrom in refl in
+      let all = mul-le-mul-right (1 + waysFrom 1 (reach b t s vector)) (length-ports 8 vector) in
       record {
         here = record { bytes = may .bytes; fits = may .fits; node = may .source; target = may .target; port = lit< tt; circuit = may .circuit; small = may .small };
         ports = may .ports;
@@ -149,9 +147,6 @@ module _ (D vector : ℕ) (h : D ≤ 8) where
   unfolding has
   other-has p i = rw (bit-xor (2 ^ D - 1) vector p, has-bit (2 ^ D - 1) p (ones D p (omega arith) (omega arith) ∙ lt-ltb p D i)) (one-bit (λ x. eqb (bitXor 1 x) 1 ≡ not (eqb x 1)) refl refl (bitAt vector p) (bit-lt vector p))
 
-  other-ports : keep (has (bitXor (2 ^ D - 1) vector)) (from 0 D) ≡ keep (λ p. not (has vector p)) (from 0 D)
-  other-ports = keep-same _ _ (from 0 D) (λ p m. other-has p (from-below D p m))
-
 -- A send of routing type 0, from the ports that are left of its vector.
 module _ {b : List ℕ} {s t c vector left : ℕ} (may : MaySend b s t c vector) (narrow : Narrowed (view b) s vector left) {x k h n : ℕ} {b₁ : List ℕ}
     (got : settled x k h n b₁ ≡ tries b t c s left 7 0 0) where
@@ -227,8 +222,8 @@ module _ {b : List ℕ} {s t c vector : ℕ} (may : MaySend b s t c vector) {x k
         }
 
     ports-other : sendPorts S others ≡ otherPorts S vector
-    unfolding portsOf otherPorts S view
-    ports-other = rw others-are (other-ports (dimensionAt b) vector (may .fits))
+    unfolding S view
+    ports-other = rw others-are (other-vector S vector _ (other-has (dimensionAt b) vector (may .fits)))
 
     module _ {x₂ k₂ h₂ n₂ : ℕ} {b₂ : List ℕ} (again : settled x₂ k₂ h₂ n₂ b₂ ≡ sendsMaze b₁ s t c others) where
       second-is : settled x₂ k₂ h₂ n₂ b₂ ≡ sentOn b c s t (oneOf r second)
@@ -240,7 +235,7 @@ module _ {b : List ℕ} {s t c vector : ℕ} (may : MaySend b s t c vector) {x k
       pub few-scouts : n + n₂ ≤ 123300
       unfolding S first second view
       few-scouts =
-          omega (arith, sent-scouts b c s t (outcome r first) (scouts first) first-is, sent-scouts b c s t (outcome r second) (scouts second) second-is, scouts-bound S (may .fits) s t vector free free)
+          omega (arith, sent-scouts b c s t (outcome r first) (scouts first) first-is, sent-scouts b c s t (outcome r second) (scouts second) second-is, scouts-bound S (may .fits) refl s t vector free free)
 
       pub alternate-again : settled x₂ k₂ h₂ (n + n₂) b₂ ≡ sendsAlternate b s t c vector
       unfolding sendsAlternate S free r first second

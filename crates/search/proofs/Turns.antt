@@ -17,14 +17,15 @@ use Rattle.common.specs.Lists.{_∈_}
 use Rattle.common.proofs.Tests.{clash}
 use Rattle.cube.specs.Bits.{has}
 use Rattle.cube.specs.Cube.{next, UphillVector, Without}
-use Rattle.cube.proofs.Bits.{high-has, flip-inside}
+use Rattle.cube.proofs.Bits.{high-has}
 use Rattle.cube.specs.Helical.{helical, portsOf, firstPort, FirstTried}
 use Rattle.cube.proofs.Order.{first-tried, mem-ports, ports-mem, length-helical, helical-mem, mem-helical, helical-zero}
+use Rattle.cube.proofs.Axes.{next-inside}
 use Rattle.paths.specs.Network.{Network, offered}
 use Rattle.paths.specs.CubeNetwork.{network}
 use Rattle.paths.specs.Search.{trying, arriving}
 use Rattle.paths.specs.Pass.{Pass, found, scouts}
-use Rattle.paths.proofs.CubeNetwork.{cube-nearing, cube-cubical, cube-leading, offered-vector}
+use Rattle.paths.proofs.CubeNetwork.{cube-nearing, one-link, cube-cubical, cube-leading, unfolded-vector}
 use Rattle.paths.specs.Bound.{waysFrom}
 use Rattle.paths.proofs.Bound.{arriving-sends, ways-more}
 use Rattle.table.specs.Layout.{Within, dimensionAt, putOwner, putEntry, entryPlace, linkPart}
@@ -62,10 +63,10 @@ farthest-most N t n m (q ∷ ps) h = go (leb (farthest N t n ps) (N .far t (N .n
     go false k = k
 
 -- the ports of a node that is k hops away, each with the ways on from one hop nearer
-one-further : (m j k : ℕ) → suc j ≤ k → m ≤ k → m * (1 + waysFrom j) ≤ waysFrom k
+one-further : (m j k : ℕ) → suc j ≤ k → m ≤ 1 * k → m * (1 + waysFrom 1 j) ≤ waysFrom 1 k
 unfolding waysFrom
 one-further m j zero h l = absurd (omega arith)
-one-further m j (suc k) h l = mul-le-mul l (let r = ways-more j k (omega arith) in omega arith)
+one-further m j (suc k) h l = mul-le-mul l (let r = ways-more 1 j k (omega arith) in omega arith)
 
 -- a hop held: as many bytes, the same cube
 pub owner-length : (b : List ℕ) (n p c : ℕ) → length (putOwner b n p c) ≡ length b
@@ -77,7 +78,7 @@ module _ (b : List ℕ) (n p c : ℕ) (w : Within b n p) (small : c < 65536) whe
   held-dimension = unfold view setOwner in ap (λ v. v .dimension) (view-put-owner b n p c w small)
 
   pub held-net : net (view (putOwner b n p c)) ≡ net (view b)
-  held-net = ap (λ D. network record { dimension = D }) (unfold view in held-dimension)
+  held-net = ap (λ D. network record { dimension = D; fold = 0 }) (unfold view in held-dimension)
 
 -- an arrival on the table with the hop held, read on the table before it
 pub handed-on : (b : List ℕ) (t c n p h s : ℕ) → Within b n p → c < 65536 → c ≢ 0 → {b₁ : List ℕ} {n₁ : ℕ} → b₁ ≡ putOwner b n p c → n₁ ≡ next n p
@@ -114,7 +115,7 @@ pub record Turn (b : List ℕ) (t c n vector a h s : ℕ) (now : List ℕ) (left
   pub same : now ≡ b
   pub ports : left < 2 ^ dimensionAt b
   pub sub : (p : ℕ) → p ∈ portsOf 8 left → p ∈ portsOf 8 vector
-  pub room : sent + length (portsOf 8 left) * (1 + waysFrom (reach b t n vector)) < 2 ^ 32
+  pub room : sent + length (portsOf 8 left) * (1 + waysFrom 1 (reach b t n vector)) < 2 ^ 32
   pub rest : tries b t c n left a h sent ≡ tries b t c n vector a h s
 
 pub first-turn : {b : List ℕ} {t c n v a h s : ℕ} → MayTry b t c n v a h s → Turn b t c n v a h s b v s
@@ -152,7 +153,7 @@ module _ {b now : List ℕ} {t c n a h v left p sent s : ℕ} (may : MayTry b t 
   here-fewer : length (portsOf 8 left) ≡ suc (length (portsOf 8 (left - 2 ^ p)))
   here-fewer = sym (length-helical a (portsOf 8 left)) ∙ ap length (here-tried .rest) ∙ ap suc (length-helical a (portsOf 8 (left - 2 ^ p)))
 
-  pub here-room : sent + (1 + waysFrom (reach b t n v)) + length (portsOf 8 (left - 2 ^ p)) * (1 + waysFrom (reach b t n v)) < 2 ^ 32
+  pub here-room : sent + (1 + waysFrom 1 (reach b t n v)) + length (portsOf 8 (left - 2 ^ p)) * (1 + waysFrom 1 (reach b t n v)) < 2 ^ 32
   here-room = let e = rw here-fewer at (inv .room) in omega (arith, e)
 
   now-held : {b₁ : List ℕ} → b₁ ≡ putOwner now n p c → b₁ ≡ putOwner b n p c
@@ -170,7 +171,7 @@ module _ {b now : List ℕ} {t c n a h v left p sent s : ℕ} (may : MayTry b t 
         record {
           bytes = rw (now-held held) (owner-length b n p c ∙ may .here .bytes);
           fits = rw D (may .here .fits);
-          node = rw (D, to) (flip-inside (dimensionAt b) n p (may .here .node) here-port);
+          node = rw (D, to) (next-inside (dimensionAt b) n p (may .here .fits) (may .here .node) here-port);
           target = rw D (may .here .target);
           port = here-tried .small;
           circuit = may .here .circuit;
@@ -181,7 +182,7 @@ module _ {b now : List ℕ} {t c n a h v left p sent s : ℕ} (may : MayTry b t 
     here-arrives =
         let far = held-distance in
         let less = here-reach in
-        let more = ways-more (distance b t (next n p)) (reach b t n v) here-reach in
+        let more = ways-more 1 (distance b t (next n p)) (reach b t n v) here-reach in
         record { here = held-here; hops = rw far (omega (arith, may .hops)); room = rw far (omega (arith, here-room)) }
 
     pub here-falls : distance b₁ t n₁ ≤ reach b t n v
@@ -241,11 +242,11 @@ module _ {b now : List ℕ} {t c n a h v left p sent s : ℕ} (may : MayTry b t 
         let r = port-receive-rejected (freeIn (view b) n) on b c n h (receive (view b) t) p others sent free k g d b₂ (ap (λ y. settled y k g d b₂) (sym z) ∙ answer) in
         ap₂ (λ y u. settled y k g d u) z (restored (r .0) q) ∙ r .1 ∙ all-tries
 
-    few-scouts : d ≤ suc sent + waysFrom (reach b t n v)
+    few-scouts : d ≤ suc sent + waysFrom 1 (reach b t n v)
     unfolding behindPort distance network
     few-scouts =
-        let m = ways-more (distance b t (next n p)) (reach b t n v) here-reach in
-        let all = arriving-sends (cube-nearing (shapeOf (view b)) t) (cube-cubical (shapeOf (view b)) t) (freeIn (view b)) (next n p) p (suc sent) in
+        let m = ways-more 1 (distance b t (next n p)) (reach b t n v) here-reach in
+        let all = arriving-sends (cube-nearing (shapeOf (view b)) t) (cube-cubical (shapeOf (view b)) (one-link (shapeOf (view b)) (unfold view in may .here .fits) refl) t) (freeIn (view b)) (next n p) p (suc sent) in
         let same : d ≡ scouts (on p (suc sent)) = settled-scouts (putOwner b n p c) c (next n p) (h + 1) (receive (view b) t) (on p (suc sent)) x k g d b₂ answer in
         omega (arith, all, m, same)
 
@@ -279,8 +280,8 @@ narrow-reach b t {n} {v} {left} narrow =
 pub narrow-may : {b : List ℕ} {t c n v left a h s : ℕ} → MayTry b t c n v a h s → Narrowed (view b) n v left → MayTry b t c n left a h s
 narrow-may {b} {t} {c} {n} {v} {left} may narrow =
     let near = narrow-reach b t narrow in
-    let ways = ways-more (reach b t n left) (reach b t n v) near in
-    let all : length (portsOf 8 left) * (1 + waysFrom (reach b t n left)) ≤ length (portsOf 8 v) * (1 + waysFrom (reach b t n v)) = mul-le-mul (narrow-fewer narrow) (let w = ways in omega arith) in
+    let ways = ways-more 1 (reach b t n left) (reach b t n v) near in
+    let all : length (portsOf 8 left) * (1 + waysFrom 1 (reach b t n left)) ≤ length (portsOf 8 v) * (1 + waysFrom 1 (reach b t n v)) = mul-le-mul (narrow-fewer narrow) (let w = ways in omega arith) in
     record {
       here = may .here;
       ports = (let l = narrow .most in omega (arith, may .ports));
@@ -303,7 +304,7 @@ module _ {b : List ℕ} {t c n a h s : ℕ} (may : MayArrive b t c n a h s) wher
   module _ (away : n ≢ t) {v : ℕ} (uphill : UphillVector n t v) where
     offers : offered (net (view b)) t n ≡ portsOf 8 v
     unfolding view
-    offers = offered-vector (shapeOf (view b)) 8 n t (may .here .fits) (may .here .node) (may .here .target) ∙ ap (portsOf 8) (sym (uphill .value))
+    offers = unfolded-vector (shapeOf (view b)) (may .here .fits) refl 8 n t (may .here .fits) (may .here .node) (may .here .target) ∙ ap (portsOf 8) (sym (uphill .value))
 
     all-tried : tries b t c n v a h s ≡ arrived b t c n a h s
     unfolding tries arrived distance
@@ -319,7 +320,7 @@ module _ {b : List ℕ} {t c n a h s : ℕ} (may : MayArrive b t c n a h s) wher
     arrive-reach =
         let goal : t < 2 ^ shapeOf (view b) .dimension = unfold view in may .here .target in
         let start : n < 2 ^ shapeOf (view b) .dimension = unfold view in may .here .node in
-        let some = cube-leading (shapeOf (view b)) t goal .leads n start away in
+        let some = cube-leading (shapeOf (view b)) (unfold view in may .here .fits) t goal .leads n start away in
         let e = nearer (some .0) (rw offers at (some .1)) in
         let most : reach b t n v ≤ net (view b) .far t (net (view b) .next n (some .0)) = unfold reach in
         farthest-most (net (view b)) t n _ (portsOf 8 v) (λ p m. let z = nearer p m in omega (arith, e)) in
@@ -328,7 +329,7 @@ module _ {b : List ℕ} {t c n a h s : ℕ} (may : MayArrive b t c n a h s) wher
     all-may : MayTry b t c n v a h s
     unfolding distance network
     all-may =
-        let degree : length (portsOf 8 v) ≡ distance b t n = ap length (sym offers) ∙ cube-cubical (shapeOf (view b)) t .degree n in
+        let degree : length (portsOf 8 v) ≤ 1 * distance b t n = rw (← offers) (cube-cubical (shapeOf (view b)) (one-link (shapeOf (view b)) (unfold view in may .here .fits) refl) t .degree n) in
         let ports = one-further (length (portsOf 8 v)) (reach b t n v) (distance b t n) arrive-reach (omega (arith, degree)) in
         record {
           here = may .here;

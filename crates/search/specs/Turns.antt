@@ -61,9 +61,9 @@ pub record MayTry (b : List ℕ) (t c n vector a h s : ℕ) : Type 0 where
   pub here : Here b t c n a
   pub ports : vector < 2 ^ dimensionAt b
   pub hops : h + 1 + reach b t n vector < 65536
-  pub room : s + length (portsOf 8 vector) * (1 + waysFrom (reach b t n vector)) < 2 ^ 32
+  pub room : s + length (portsOf 8 vector) * (1 + waysFrom 1 (reach b t n vector)) < 2 ^ 32
 
 pub record MayArrive (b : List ℕ) (t c n a h s : ℕ) : Type 0 where
   pub here : Here b t c n a
   pub hops : h + distance b t n < 65536
-  pub room : s + waysFrom (distance b t n) < 2 ^ 32
+  pub room : s + waysFrom 1 (distance b t n) < 2 ^ 32

@@ -19,13 +19,14 @@ use Rattle.cube.specs.Cube.{NodeCount, next, sourceOf}
 use Rattle.cube.specs.Helical.{portsOf}
 use Rattle.cube.proofs.Bits.{has-and, zero-has, no-ports}
 use Rattle.cube.proofs.Ports.{count-of}
-use Rattle.paths.specs.Network.{Path, end, links, hasLink}
+use Rattle.paths.specs.Network.{end, links, hasLink}
 use Rattle.paths.specs.CubeNetwork.{network}
-use Rattle.paths.specs.Trail.{hop, course, firstHops, trail}
-use Rattle.paths.proofs.Trail.{course-fuel}
+use Rattle.paths.specs.Recover.{takeFirst, walkFrom, firstHopChoices, pathOfLinks}
+use Rattle.paths.proofs.CubeNetwork.{unfolded-ports}
+use Rattle.paths.proofs.Recover.{walk-fuel}
 use Rattle.table.specs.Layout.{Within, dimensionAt, HeldBy}
 use Rattle.table.specs.View.{View, view, linksHeld, channelsHeld}
-use Rattle.soundness.specs.Sound.{net, heldBy, endFor}
+use Rattle.soundness.specs.Sound.{shapeOf, net, heldBy, endFor}
 use Rattle.soundness.specs.SoundTest.{pathOf, isEmpty, reaches, passes, Reached, linkTest, receiveTest, ReceivesPass, Receives, PathsMarked}
 use Rattle.soundness.specs.Marks.{marked, marking, Adds}
 use Rattle.soundness.specs.Follow.{takes, followed, firstHop, Follows, HasSource}
@@ -49,26 +50,26 @@ allPorts v = 2 ^ v .dimension - 1
 
 module _ (v : View) (h : v .dimension < 9) (c : ℕ) where
   hops : List ℕ
-  hops = firstHops (net v) (portsOf 8 (allPorts v)) (heldBy v c) (sourceOf c)
+  hops = firstHopChoices (net v) (portsOf 8 (allPorts v)) (heldBy v c) (sourceOf c)
 
-  path-over : pathOf v c ≡ hop hops (λ a. course (v .dimension) (net v) (portsOf 8 (allPorts v)) (heldBy v c) (net v .next (sourceOf c) a))
-  unfolding pathOf trail hops
+  path-over : pathOf v c ≡ takeFirst hops (λ a. walkFrom 18 (net v) (portsOf 8 (allPorts v)) (heldBy v c) (net v .next (sourceOf c) a))
+  unfolding pathOf pathOfLinks hops
   path-over =
-      ap (λ ps. hop (firstHops (net v) ps (heldBy v c) (sourceOf c)) (λ a. course (v .dimension) (net v) ps (heldBy v c) (net v .next (sourceOf c) a))) (sym (ports-of-cube (v .dimension) h))
+      ap (λ ps. takeFirst (firstHopChoices (net v) ps (heldBy v c) (sourceOf c)) (λ a. walkFrom 18 (net v) ps (heldBy v c) (net v .next (sourceOf c) a))) (unfolded-ports (shapeOf v) (omega arith) refl ∙ sym (ports-of-cube (v .dimension) h))
 
   -- the path that the code follows: its first hop, and what is followed behind it
   pub path-first : {a : ℕ} → a ≡ firstHop v c (sourceOf c) (allPorts v) → a < 8 → pathOf v c ≡ a ∷ followed v c (next (sourceOf c) a) (allPorts v)
-  unfolding firstHop followed hop hops network
+  unfolding firstHop followed takeFirst hops network
   path-first {a} e l =
       let r = first-is hops a (sym e) l in
       let short : length (portsOf 8 (allPorts v)) ≡ v .dimension = ap length (ports-of-cube (v .dimension) h) ∙ length-from 0 (v .dimension) in
-      path-over ∙ ap (λ ps. hop ps (λ a. course (v .dimension) (net v) (portsOf 8 (allPorts v)) (heldBy v c) (net v .next (sourceOf c) a))) (r .1)
-      ∙ ap (a ∷_) (course-fuel (net v) (heldBy v c) (v .dimension) 8 (portsOf 8 (allPorts v)) (next (sourceOf c) a) (omega arith) (omega arith))
+      path-over ∙ ap (λ ps. takeFirst ps (λ a. walkFrom 18 (net v) (portsOf 8 (allPorts v)) (heldBy v c) (net v .next (sourceOf c) a))) (r .1)
+      ∙ ap (a ∷_) (walk-fuel (net v) (heldBy v c) 18 8 (portsOf 8 (allPorts v)) (next (sourceOf c) a) (omega arith) (omega arith))
 
   pub path-none : {a : ℕ} → a ≡ firstHop v c (sourceOf c) (allPorts v) → 8 ≤ a → pathOf v c ≡ []
-  unfolding firstHop hop hops
+  unfolding firstHop takeFirst hops
   path-none e l =
-      path-over ∙ ap (λ ps. hop ps (λ a. course (v .dimension) (net v) (portsOf 8 (allPorts v)) (heldBy v c) (net v .next (sourceOf c) a))) (first-none hops (λ p m. hop-port v c (sourceOf c) (allPorts v) p m) (omega arith))
+      path-over ∙ ap (λ ps. takeFirst ps (λ a. walkFrom 18 (net v) (portsOf 8 (allPorts v)) (heldBy v c) (net v .next (sourceOf c) a))) (first-none hops (λ p m. hop-port v c (sourceOf c) (allPorts v) p m) (omega arith))
 
   -- the ends of looking at it
   pub reached-large : {n : ℕ} {m after : List ℕ} → 8 * 2 ^ v .dimension < c → Reached v c n m after false

@@ -11,15 +11,15 @@ use lib.Dec.{eqb}
 use lib.ListN.{length}
 use borrow.Author.Tests.{eq-eqb, ne-eqb}
 use Rattle.common.specs.Lists.{_∈_, keep, from, lowest}
-use Rattle.common.proofs.Lists.{mem-keep, mem-from, keep-none, keep-yes, keep-no, keep-nil, keep-mem, keep-keep, from-below}
+use Rattle.common.proofs.Lists.{mem-keep, mem-from, keep-none, keep-yes, keep-no, keep-nil, keep-mem, keep-keep, keep-same, from-below}
 use Rattle.cube.specs.Bits.{bitAt, has}
 use Rattle.cube.specs.Cube.{next, Without}
 use Rattle.cube.specs.Helical.{portsOf, firstOr}
-use Rattle.cube.proofs.Order.{ports-mem, mem-ports, ports-without, length-ports}
+use Rattle.cube.proofs.Order.{ports-mem, length-ports}
 use Rattle.paths.specs.Network.{end, links, hasLink}
 use Rattle.paths.specs.CubeNetwork.{network}
-use Rattle.paths.specs.Trail.{dropPort, course, firstHops}
-use Rattle.paths.proofs.Trail.{course-fuel, course-none, course-some, drop-shorter}
+use Rattle.paths.specs.Recover.{dropAxis, walkFrom, wayBack, firstHopChoices}
+use Rattle.paths.proofs.Recover.{first-choice, walk-none, walk-some, drop-port, way-back-one}
 use Rattle.table.specs.View.{View}
 use Rattle.soundness.specs.Sound.{net, heldBy}
 use Rattle.soundness.specs.Marks.{marked, marking}
@@ -100,9 +100,13 @@ module _ (v : View) (c n vector : ℕ) where
   lowest-back : lowest (comesBack v c n vector) 8 0 ≡ firstOr 8 back
   lowest-back = lowest-from (comesBack v c n vector) 8 0 ∙ ap (firstOr 8) back-kept
 
+  back-is : keep (wayBack (net v) (portsOf 8 vector) (heldBy v c) n) taken ≡ back
+  unfolding back taken network
+  back-is = keep-same _ _ taken (λ a m. way-back-one (net v) 8 vector (heldBy v c) n a (omega arith) (keep-mem (heldBy v c n) (portsOf 8 vector) m .0))
+
   hop-is : firstHop v c n vector ≡ firstOr 8 (back ++ taken)
-  unfolding firstHop firstHops network back taken
-  hop-is = refl
+  unfolding firstHop firstHopChoices taken
+  hop-is = ap (λ xs. firstOr 8 (xs ++ taken)) back-is
 
   -- where at most one link of the source is held, it is the lowest
   pub first-single : ((p q : ℕ) → p < 8 → q < 8 → heldBy v c n p ≡ true → heldBy v c n q ≡ true → p ≡ q) → lowest (takes v c n vector) 8 0 ≡ firstHop v c n vector
@@ -160,17 +164,14 @@ module _ (v : View) (c n vector : ℕ) where
   unfolding followed taken network
   follow-on q rest e h w =
       let r = first-is taken q (sym (e ∙ lowest-taken)) h in
-      let drop : dropPort q (portsOf 8 vector) ≡ portsOf 8 rest = unfold dropPort in sym (ports-without 8 vector q rest w) in
-      let m : q ∈ portsOf 8 vector = mem-ports 8 vector q h (follow-port q e h) in
-      let short : length (portsOf 8 rest) ≤ 7 = omega (arith, ap length drop, drop-shorter q (portsOf 8 vector) m, length-ports 8 vector) in
-      course-some (net v) (heldBy v c) 7 (portsOf 8 vector) n q (r .0) (r .1)
-      ∙ ap (q ∷_) (ap (λ l. course 7 (net v) l (heldBy v c) (next n q)) drop ∙ course-fuel (net v) (heldBy v c) 7 8 (portsOf 8 rest) (next n q) short (omega arith))
+      let drop : dropAxis q (portsOf 8 vector) ≡ portsOf 8 rest = drop-port 8 vector q rest (omega arith) (omega arith) w in
+      walk-some (net v) (heldBy v c) 8 (portsOf 8 vector) n q (r .0) (length-ports 8 vector) (r .1) ∙ ap (λ l. q ∷ walkFrom 8 (net v) l (heldBy v c) (next n q)) drop
 
   pub follow-end : (q : ℕ) → q ≡ lowest (takes v c n vector) 8 0 → 8 ≤ q → followed v c n vector ≡ []
   unfolding followed taken
   follow-end q e h =
       let z : q ≡ firstOr 8 taken = e ∙ lowest-taken in
-      course-none (net v) (heldBy v c) 7 (portsOf 8 vector) n (first-none taken (λ p m. taken-port p m .0) (omega arith))
+      walk-none (net v) (heldBy v c) 8 (portsOf 8 vector) n (first-none taken (λ p m. taken-port p m .0) (omega arith))
 
 -- one hop of the walk: what is left ends where all of it ends, and the link passed is counted
 module _ (v : View) (c n vector q rest m : ℕ) (e : q ≡ lowest (takes v c n vector) 8 0) (h : q < 8) (w : Without vector q rest) (to : m ≡ next n q) where
@@ -196,6 +197,5 @@ pub walk-links : (v : View) (c n vector q a b : ℕ) (passes : Bool) → q ≡ l
 unfolding links hasLink
 walk-links v c n vector q a b passes e h = rw (follow-end v c n vector q e h) (sym (or-false passes))
 
-pub hop-port : (v : View) (c n vector p : ℕ) → p ∈ firstHops (net v) (portsOf 8 vector) (heldBy v c) n → p < 8
-unfolding firstHops network back taken
-hop-port v c n vector p m = ⊎-elim (λ k. back-port v c n vector p k) (λ k. taken-port v c n vector p k .0) (List·Memᴰ·append-cases (back v c n vector) m)
+pub hop-port : (v : View) (c n vector p : ℕ) → p ∈ firstHopChoices (net v) (portsOf 8 vector) (heldBy v c) n → p < 8
+hop-port v c n vector p m = ports-mem 8 vector (first-choice (net v) (portsOf 8 vector) (heldBy v c) n p m .0) .0

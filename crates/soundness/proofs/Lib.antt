@@ -5,3 +5,4 @@ pub mod Follow
 pub mod Examine
 pub mod Passing
 pub mod NodeLinks
+pub mod Tracing

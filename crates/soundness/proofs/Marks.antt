@@ -19,7 +19,7 @@ use Rattle.cube.proofs.Bits.{with-bit-same, with-bit-other, with-bit-or, with-b
 use Rattle.cube.proofs.Ports.{port-bit}
 use Rattle.paths.specs.Network.{links}
 use Rattle.paths.proofs.Links.{On, true-link}
-use Rattle.paths.proofs.Trail.{trail-owned}
+use Rattle.paths.proofs.Recover.{path-owned}
 use Rattle.table.specs.View.{View}
 use Rattle.soundness.specs.Sound.{shapeOf, net, heldBy, endFor}
 use Rattle.soundness.specs.Marks.{marked, marking, Adds}
@@ -140,7 +140,7 @@ module _ (v : View) (m : List ℕ) (framed : Framed v) (marks : PathsMarked v m)
 
   owned : (c : ℕ) → passes v c n p ≡ true → c ≡ v .owner n p
   unfolding passes pathOf On
-  owned c t = sym (eqb-true _ c (trail-owned (shapeOf v) (heldBy v c) (sourceOf c) n p (true-link (links (net v) (sourceOf c) (pathOf v c)) n p t)))
+  owned c t = sym (eqb-true _ c (path-owned (shapeOf v) (heldBy v c) (sourceOf c) n p (true-link (links (net v) (sourceOf c) (pathOf v c)) n p t)))
 
   pub marked-is : marked m n p ≡ (reaches v (v .owner n p) && passes v (v .owner n p) n p)
   unfolding Fair

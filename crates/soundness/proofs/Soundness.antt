@@ -19,9 +19,10 @@ use Rattle.paths.specs.Network.{Network, Path, links}
 use Rattle.paths.specs.Permitted.{Permitted}
 use Rattle.paths.proofs.Links.{On, link-true, true-link}
 use Rattle.paths.proofs.Apart.{apart-permitted}
-use Rattle.paths.proofs.Trail.{trail-finds, trail-owned, trail-apart}
+use Rattle.paths.proofs.Recover.{path-found, path-owned, path-apart}
 use Rattle.table.specs.Layout.{inTable}
 use Rattle.table.specs.View.{View, fresh, channelsHeld}
+use Rattle.paths.specs.CubeNetwork.{ports}
 use Rattle.soundness.specs.Sound.{shapeOf, net, heldBy, endFor, Stands, Nowhere, Sound}
 use Rattle.soundness.specs.SoundTest.{pathOf, isEmpty, reaches, linkTest, receiveTest, passes}
 
@@ -82,17 +83,17 @@ passing true e = e
 passing false e = absurd (false≢true e)
 
 module _ (v : View) where
-  -- the trail finds the path on which a circuit stands
+  -- the path recovered is the one on which a circuit stands
   pub path-is : (c : ℕ) (s : Stands v c) → pathOf v c ≡ s .path
   unfolding pathOf
-  path-is c s = trail-finds (shapeOf v) (heldBy v c) (sourceOf c) (endFor v c (s .path)) (s .path) (s .permitted) (s .exactly)
+  path-is c s = path-found (shapeOf v) (heldBy v c) (sourceOf c) (endFor v c (s .path)) (s .path) (s .permitted) (s .exactly)
 
   reaches-passes : (c : ℕ) → c ≤ 8 * 2 ^ v .dimension → Stands v c → reaches v c ≡ true
   unfolding reaches channelsHeld
   reaches-passes c h s =
       and (le-leb c _ h)
       (rw (path-is c s)
-      (and (some-hop (net v) (sourceOf c) (from 0 (v .dimension)) (endFor v c (s .path)) (s .path) (s .permitted))
+      (and (some-hop (net v) (sourceOf c) (ports (shapeOf v)) (endFor v c (s .path)) (s .path) (s .permitted))
       (eq-eqb _ 1 (one-kept (λ k. eqb (v .receiver (endFor v c (s .path)) k) c) (s .channel) (s .small) (eq-eqb _ c (s .receives)) (λ j l e. s .once (endFor v c (s .path)) j (eqb-true _ c e) .1)))))
 
   -- a number that occurs stands
@@ -198,10 +199,10 @@ module _ (v : View) where
         let r = reach-facts c e in
         record {
           path = pathOf v c;
-          permitted = apart-permitted (shapeOf v) (sourceOf c) (pathOf v c) (unfold pathOf in trail-apart (shapeOf v) (heldBy v c) (sourceOf c) (not-empty (pathOf v c) (r .some)));
+          permitted = apart-permitted (shapeOf v) (sourceOf c) (pathOf v c) (unfold pathOf in path-apart (shapeOf v) (heldBy v c) (sourceOf c) (not-empty (pathOf v c) (r .some)));
           exactly =
               record {
-                all = λ m q o. unfold pathOf On in trail-owned (shapeOf v) (heldBy v c) (sourceOf c) m q o;
+                all = λ m q o. unfold pathOf On in path-owned (shapeOf v) (heldBy v c) (sourceOf c) m q o;
                 only = λ m q o. held-link m q (eqb-true _ c o) .passed;
               };
           channel = r .channel;

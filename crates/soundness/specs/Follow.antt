@@ -9,7 +9,7 @@ use Rattle.cube.specs.Bits.{has}
 use Rattle.cube.specs.Cube.{next, sourceOf}
 use Rattle.cube.specs.Helical.{portsOf, firstOr}
 use Rattle.paths.specs.Network.{Path, end, links, hasLink}
-use Rattle.paths.specs.Trail.{course, firstHops}
+use Rattle.paths.specs.Recover.{walkFrom, firstHopChoices}
 use Rattle.table.specs.Layout.{tableLength, dimensionAt}
 use Rattle.table.specs.View.{View}
 use Rattle.soundness.specs.Sound.{net, heldBy}
@@ -25,11 +25,11 @@ comesBack v c n vector p = takes v c n vector p && heldBy v c (next n p) p
 
 -- the way that the code follows from a node, over the ports of a vector
 unfoldable pub followed : View → ℕ → ℕ → ℕ → Path
-followed v c n vector = course 8 (net v) (portsOf 8 vector) (heldBy v c) n
+followed v c n vector = walkFrom 8 (net v) (portsOf 8 vector) (heldBy v c) n
 
 -- the first hop from the source, 8 where there is none
 unfoldable pub firstHop : View → ℕ → ℕ → ℕ → ℕ
-firstHop v c s vector = firstOr 8 (firstHops (net v) (portsOf 8 vector) (heldBy v c) s)
+firstHop v c s vector = firstOr 8 (firstHopChoices (net v) (portsOf 8 vector) (heldBy v c) s)
 
 -- what following gives: where it ends, and the marks of the links that it passes
 pub record Follows (v : View) (c start vector : ℕ) (before after : List ℕ) (at : ℕ) : Type 0 where

@@ -5,16 +5,15 @@ use mathlib.Core.Logic.{_⊎_, _≢_}
 use mathlib.Core.Bool.{Bool, true, false}
 use Prim.Native.Nat.{ℕ, _*_, _^_, _≤_, _<_}
 use lib.Dec.{eqb}
-use Rattle.common.specs.Lists.{from}
 use Rattle.cube.specs.Cube.{sourceOf}
 use Rattle.paths.specs.Network.{Network, Path, Exactly, end}
 use Rattle.paths.specs.Permitted.{Permitted}
-use Rattle.paths.specs.CubeNetwork.{Shape, network}
+use Rattle.paths.specs.CubeNetwork.{Shape, ports, network}
 use Rattle.table.specs.View.{View}
 
 -- what the network of a table is read from
 abbrev pub shapeOf : View → Shape
-shapeOf v = record { dimension = v .dimension }
+shapeOf v = record { dimension = v .dimension; fold = 0 }
 
 abbrev pub net : View → Network
 net v = network (shapeOf v)
@@ -28,10 +27,10 @@ abbrev pub endFor : View → ℕ → Path → ℕ
 endFor v c w = end (net v) (sourceOf c) w
 
 -- circuit number c "stands on exactly the links of one permitted path from its source, and on exactly one receive channel, at that path's end".
--- The path is permitted for some send vector, so its first hop is any port below D, and its target is its end.
+-- The path is permitted for some send vector, so its first hop is any port of the cube, and its target is its end.
 pub record Stands (v : View) (c : ℕ) : Type 0 where
   pub path : Path
-  pub permitted : Permitted (net v) (sourceOf c) (from 0 (v .dimension)) (endFor v c path) path
+  pub permitted : Permitted (net v) (sourceOf c) (ports (shapeOf v)) (endFor v c path) path
   pub exactly : Exactly (net v) (sourceOf c) path (heldBy v c)
   pub channel : ℕ
   pub small : channel < 8

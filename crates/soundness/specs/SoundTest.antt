@@ -3,16 +3,16 @@
 -- Assumes nothing.
 use mathlib.Core.Path.{_≡_}
 use mathlib.Core.Bool.{Bool, true, false, cond, _&&_, _||_, not}
-use mathlib.Core.List.{List, [], _∷_}
+use mathlib.Core.List.{List, [], _∷_, _++_}
 use Prim.Native.Nat.{ℕ, _*_, _^_, _≤_, _<_}
 use mathlib.Core.Logic.{_≢_}
 use lib.Dec.{eqb, ltb, leb}
-use lib.ListN.{length}
+use lib.ListN.{length, drop}
 use Rattle.common.specs.Lists.{every}
 use Rattle.common.specs.Tests.{Test, test, refusal}
 use Rattle.cube.specs.Cube.{sourceOf}
 use Rattle.paths.specs.Network.{Path, links, hasLink}
-use Rattle.paths.specs.Trail.{trail}
+use Rattle.paths.specs.Recover.{pathOfLinks}
 use Rattle.table.specs.Layout.{tableLength, dimensionAt, EnablesFit}
 use Rattle.table.specs.View.{View, view, channelsHeld}
 use Rattle.soundness.specs.Sound.{shapeOf, net, heldBy, endFor, Sound}
@@ -20,11 +20,15 @@ use Rattle.soundness.specs.Marks.{markCount, marked, Adds}
 
 -- the path that the links held by circuit c make
 unfoldable pub pathOf : View → ℕ → Path
-pathOf v c = trail (shapeOf v) (heldBy v c) (sourceOf c)
+pathOf v c = pathOfLinks (shapeOf v) (heldBy v c) (sourceOf c)
 
 unfoldable pub isEmpty : Path → Bool
 isEmpty [] = true
 isEmpty (p ∷ w) = false
+
+-- "Tracing writes the ports of a circuit, one byte per hop in path order, from the start of a lent buffer; later bytes keep their content."
+unfoldable pub written : Path → List ℕ → List ℕ
+written w buffer = w ++ drop (length w) buffer
 
 -- The number is in range, its path is not empty, and it holds one channel where that ends. This is weaker than `Stands`: a link off the path, or a
 -- channel elsewhere, fails at its own entry.

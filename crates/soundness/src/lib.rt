@@ -3,6 +3,5 @@ mod sound;
 mod trail;
 
 pub use sound::check;
-pub use trail::first_hop;
-pub use trail::held_port;
 pub use trail::is_open;
+pub use trail::write_path;

@@ -1,15 +1,15 @@
 // The path of a circuit, recovered from the links that it holds.
 ghost use mathlib.Core.Path.{_≡_};
-ghost use mathlib.Core.Bool.{cond, not};
+ghost use mathlib.Core.Bool.{true, cond, not};
 ghost use lib.Dec.{ltb};
-ghost use Prim.Native.Nat.{_<_};
+ghost use Prim.Native.Nat.{_≤_, _<_};
 ghost use lib.ListN.{length};
 ghost use Rattle.table.specs.Layout.{Within};
 ghost use Rattle.common.specs.Lists.{lowest};
 ghost use Rattle.table.specs.View.{view, linksHeld};
 ghost use Rattle.soundness.specs.Sound.{heldBy};
 ghost use Rattle.soundness.specs.Marks.{marking};
-ghost use Rattle.soundness.specs.SoundTest.{pathOf, isEmpty};
+ghost use Rattle.soundness.specs.SoundTest.{pathOf, isEmpty, written};
 ghost use Rattle.soundness.specs.Follow.{takes, comesBack, firstHop, Follows, HasSource};
 use cube::Circuit;
 use cube::Node;
@@ -49,7 +49,7 @@ fn comes_back(t: &[u8], c: Circuit, n: Node, vector: u16, p: Port) -> bool
 }
 
 // The lowest port of a vector whose link a circuit holds at a node: 8 where there is none. No port below the lowest of the vector is looked at.
-pub fn held_port(t: &[u8], c: Circuit, n: Node, vector: u16) -> Port
+fn held_port(t: &[u8], c: Circuit, n: Node, vector: u16) -> Port
     requires { ⌜ Within (now t) (n .0) 0 × (vector < 256) ⌝ }
     ensures { λ r. ⌜ r .0 ≡ lowest (takes (view (now (t .entry))) (c .0) (n .0) vector) 8 0 ⌝ }
 {
@@ -151,4 +151,31 @@ pub fn follow(t: &[u8], c: Circuit, start: Node, vector: u16, end: Node, marks: 
         q = port_on(t, c, at, left, end);
     }
     at
+}
+
+// Writes the ports of an open circuit from the start of a buffer, one byte a hop in path order, and answers how many hops it has.
+pub fn write_path(t: &[u8], c: Circuit, buffer: &mut [u8]) -> u16
+    requires { ⌜ HasSource (now t) (c .0) ⌝ }
+    requires { ⌜ not (isEmpty (pathOf (view (now t)) (c .0))) ≡ true ⌝ }
+    requires { ⌜ 9 ≤ length (now buffer) ⌝ }
+    ensures { λ r. ⌜ r ≡ length (pathOf (view (now (t .entry))) (c .0)) ⌝ }
+    ensures { λ _. ⌜ now (buffer .exit) ≡ written (pathOf (view (now (t .entry))) (c .0)) (now (buffer .entry)) ⌝ }
+{
+    let mut left = cube::node_count(table::dimension(t)) - 1;
+    let source = cube::source_of(c);
+    let first = first_hop(t, c, source, left);
+    buffer[0] = first.0 as u8;
+    // The port of the first hop may be taken again; behind it each port is taken once.
+    let mut at = cube::neighbour(source, first);
+    let mut hops: u16 = 1;
+    loop {
+        let p = held_port(t, c, at, left);
+        if p.0 >= 8 {
+            return hops;
+        }
+        buffer[hops as usize] = p.0 as u8;
+        hops += 1;
+        at = cube::neighbour(at, p);
+        left = cube::without(left, p);
+    }
 }

@@ -3,8 +3,8 @@ pub mod Entries
 pub mod Views
 pub mod Gathered
 pub mod Rows
-pub mod Freed
 pub mod Fills
 pub mod Made
 pub mod Encode
+pub mod Encoded
 pub mod Receives

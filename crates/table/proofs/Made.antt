@@ -1,20 +1,21 @@
 -- What a made table shows.
 -- Assumes nothing.
-use mathlib.Core.Path.{_≡_, refl, sym, _∙_}
+use mathlib.Core.Path.{_≡_, refl, ap, ap₂, sym, _∙_}
 use mathlib.Core.Bool.{Bool, true, false, cond, _&&_, Bool·beq, true≢false}
 use mathlib.Core.List.{_++_}
 use Prim.Native.Nat.{ℕ, zero, suc, _+_, _-_, _^_, _≤_, _<_}
 use native.Mathlib.Omega.{arith}
 use native.Mathlib.Numerals.{one-add}
 use lib.Dec.{ltb, lit≤}
-use lib.ListN.{getD, replicate, length-replicate, getD-replicate, List·getD-append}
+use lib.ListN.{length, getD, replicate, length-append, length-replicate, getD-replicate, List·getD-append}
 use borrow.Author.Tests.{ltb-true, ltb-false, le-ltb}
 use Rattle.common.proofs.Every.{at₂}
 use Rattle.cube.specs.Bits.{has}
 use Rattle.cube.proofs.Bits.{zero-has}
 use Rattle.cube.proofs.Ports.{most-nodes, below-256}
-use Rattle.table.specs.Layout.{inTable, dimensionAt, entryPlace, linkPart, receivePart, wordAt, enabledAt, entryAt, ownerAt, receiverAt, made}
+use Rattle.table.specs.Layout.{tableLength, inTable, dimensionAt, entryPlace, linkPart, receivePart, wordAt, enabledAt, entryAt, ownerAt, receiverAt, made}
 use Rattle.table.specs.View.{view, fresh}
+use Rattle.table.specs.Encode.{Bytes}
 use Rattle.table.proofs.Entries.{within}
 use Rattle.table.proofs.Views.{inside}
 
@@ -81,7 +82,27 @@ module _ (D : ℕ) (h : D < 9) where
       go true = word
       go false = refl
 
--- A made table shows its dimension, every link of its cube enabled, and nothing held.
+-- A made table is one of bytes,
+pub made-bytes : (D : ℕ) → D < 9 → Bytes (made D)
+made-bytes D h = record { long = long; small = small }
+  where
+    nodes : 2 ^ D ≤ 256
+    nodes = most-nodes {D = D} (omega arith)
+
+    long : length (made D) ≡ tableLength
+    long =
+        unfold made in
+        ap suc (length-append (replicate (2 ^ D) (2 ^ D - 1)) (replicate (8448 - 2 ^ D) 0) ∙ ap₂ _+_ (length-replicate (2 ^ D) (2 ^ D - 1)) (length-replicate (8448 - 2 ^ D) 0) ∙ omega (arith, nodes))
+
+    either : (x : Bool) → cond x (2 ^ D - 1) 0 < 256
+    either true = omega (arith, nodes)
+    either false = omega arith
+
+    small : (i : ℕ) → getD (made D) i 0 < 256
+    small zero = unfold made in omega arith
+    small (suc j) = rw (byte-of D h j) (either (ltb j (2 ^ D)))
+
+-- and shows its dimension, every link of its cube enabled, and nothing held.
 pub view-made : (D : ℕ) → D < 9 → view (made D) ≡ fresh D
 unfolding view fresh ownerAt receiverAt dimensionAt made
 view-made D h = λ i.

@@ -1,9 +1,12 @@
 -- The bytes of a table that shows a given view: the parts of document 01's layout, one after another.
 -- Assumes nothing.
-use mathlib.Core.Bool.{Bool, cond}
+use mathlib.Core.Bool.{Bool, false, cond}
 use mathlib.Core.List.{List, [], _∷_, _++_, map}
-use Prim.Native.Nat.{ℕ, zero, suc, _+_, _/_, _%_, _^_}
+use mathlib.Core.Path.{_≡_}
+use Prim.Native.Nat.{ℕ, zero, suc, _+_, _/_, _%_, _^_, _<_}
+use lib.ListN.{length, getD}
 use Rattle.common.specs.Lists.{from}
+use Rattle.table.specs.Layout.{tableLength, inTable}
 use Rattle.table.specs.View.{View}
 
 -- a byte with bit p set where a test passes, for the w bits from p on
@@ -23,3 +26,19 @@ entryBytes f i (suc k) = f (i / 8) (i % 8) % 256 ∷ f (i / 8) (i % 8) / 256 ∷
 -- 1 byte, 256 bytes, 4,096 bytes and 4,096 bytes
 unfoldable pub encode : View → List ℕ
 encode v = v .dimension ∷ map (enableByte v) (from 0 256) ++ entryBytes (v .owner) 0 2048 ++ entryBytes (v .receiver) 0 2048
+
+-- Where `view` and `encode` are inverse to each other: on the bytes of a table, and on the views that have room in them, with a dimension of one byte, circuit
+-- numbers of two, and nothing outside 256 nodes and 8 ports or channels.
+pub record Bytes (b : List ℕ) : Type 0 where
+  pub long : length b ≡ tableLength
+  pub small : (i : ℕ) → getD b i 0 < 256
+
+pub record EntriesFit (f : ℕ → ℕ → ℕ) : Type 0 where
+  pub small : (n k : ℕ) → f n k < 65536
+  pub outside : (n k : ℕ) → inTable n k ≡ false → f n k ≡ 0
+
+pub record ViewFits (v : View) : Type 0 where
+  pub dimension : v .dimension < 256
+  pub enabled : (n p : ℕ) → inTable n p ≡ false → v .enabled n p ≡ false
+  pub owner : EntriesFit (v .owner)
+  pub receiver : EntriesFit (v .receiver)

@@ -3,7 +3,7 @@
 use mathlib.Core.Bool.{Bool, cond, _&&_}
 use mathlib.Core.Path.{_≡_}
 use mathlib.Core.List.{List, _∷_, _++_}
-use Prim.Native.Nat.{ℕ, zero, suc, _+_, _-_, _*_, _/_, _%_, _^_, _<_, _≤_}
+use Prim.Native.Nat.{ℕ, _+_, _-_, _*_, _/_, _%_, _^_, _<_, _≤_}
 use lib.Dec.{eqb, ltb}
 use lib.ListN.{length, take, drop, getD, set, replicate}
 use Rattle.common.specs.Lists.{keep, from}
@@ -91,19 +91,6 @@ filled b i j x = take i b ++ replicate (j - i) x ++ drop j b
 -- "Making a table gives dimension D, all its links enabled, nothing held": D, the D bits of each of its 2^D nodes, and nothing else
 unfoldable pub made : ℕ → List ℕ
 made D = D ∷ replicate (2 ^ D) (2 ^ D - 1) ++ replicate (8448 - 2 ^ D) 0
-
--- An entry freed where a circuit holds it; and so for k entries from place i on. Links and receive channels lie one after the other, 4,096
--- entries from the first link on.
-unfoldable pub freeWord : ℕ → List ℕ → ℕ → List ℕ
-freeWord c b i = cond (eqb (wordAt b i) c) (putWord b i 0) b
-
-unfoldable pub freeFrom : ℕ → List ℕ → ℕ → ℕ → List ℕ
-freeFrom c b i zero = b
-freeFrom c b i (suc k) = freeFrom c (freeWord c b i) (i + 2) k
-
--- the bytes after all entries of a circuit are freed
-unfoldable pub freed : List ℕ → ℕ → List ℕ
-freed b c = freeFrom c b linkPart 4096
 
 -- a number that no byte of a run is above
 pub record Gathered (b : List ℕ) (i count : ℕ) (all : ℕ) : Type 0 where

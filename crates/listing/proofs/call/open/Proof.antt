@@ -1,8 +1,7 @@
--- `listing::call::open` meets its contract: the line of each answer.
+-- `listing::call::open` meets its contract.
 -- Assumes nothing.
-use mathlib.Core.Path.{sym, _∙_}
-use lib.Dec.{lit≤}
-use Rattle.listing.proofs.Answers.{answered, acknowledged-row, rejected-row, refused-row}
+use mathlib.Core.Path.{_∙_}
+use Rattle.listing.proofs.Answers.{answered, refused-row, acknowledged-row, ports-are}
 use borrow.Author.Needs.{needs}
 use Rattle.listing.proofs.call.open.Statement.{statement}
 use Rattle.listing.proofs.call.open.Tie as tie
@@ -10,71 +9,61 @@ use Rattle.listing.proofs.call.open.Tie as tie
 open-requires : tie.Need-open-requires
 open-requires c κs = search needs
 
-acknowledged-requires : tie.Need-acknowledged-requires
-acknowledged-requires c κs = search needs
+scouts-of-requires : tie.Need-scouts-of-requires
+scouts-of-requires c κs = search needs
+
+cast-t19 : tie.Need-cast-t19
+cast-t19 c = search needs
+
+of-call-requires : tie.Need-of-call-requires
+of-call-requires c κs = search needs
 
 same-length : tie.Need-same-length
 same-length c = search needs
 
-same-length-2 : tie.Need-same-length-2
-same-length-2 c = search needs
-
 returns : tie.Need-returns
 returns c =
-    let w = c .before .before in
-    let o = w .before .before .before .before .before .before in
-    answered (o .«open» .ensures) (acknowledged-row _ _ _ _ _ _ _ _ (w .before .before .before .if1 .taken)) (lit≤ tt) (w .acknowledged .ensures)
+    let o = c .before .before .before .before .before .before in
+    let w = o .before .before .before .before .args .ports .now in
+    answered (o .«open» .ensures) (c .of-call .ensures w ∙ refused-row _ _ _ _ _ _ _ _ (c .before .before .before .scouts-of .ensures w) (c .before .if1 .taken))
 
-was-rejected-requires : tie.Need-was-rejected-requires
-was-rejected-requires c κs = search needs
+cast-t19-2 : tie.Need-cast-t19-2
+cast-t19-2 c = search needs
 
-rejected-requires : tie.Need-rejected-requires
-rejected-requires c κs = search needs
+trace-requires : tie.Need-trace-requires
+trace-requires c κs = search needs
+
+of-call-requires-2 : tie.Need-of-call-requires-2
+of-call-requires-2 c κs = search needs
+
+same-length-2 : tie.Need-same-length-2
+same-length-2 c = search needs
 
 same-length-3 : tie.Need-same-length-3
 same-length-3 c = search needs
 
-same-length-4 : tie.Need-same-length-4
-same-length-4 c = search needs
-
 returns-2 : tie.Need-returns-2
 returns-2 c =
-    let w = c .before .before in
-    let i = w .before .before in
-    let o = i .before .before .before .before .before in
-    answered (o .«open» .ensures) (rejected-row _ _ _ _ _ _ _ _ (sym (i .before .was-rejected .ensures) ∙ i .if2 .taken)) (lit≤ tt) (w .rejected .ensures)
-
-channel-requires : tie.Need-channel-requires
-channel-requires c κs = search needs
-
-same-length-5 : tie.Need-same-length-5
-same-length-5 c = search needs
-
-same-length-6 : tie.Need-same-length-6
-same-length-6 c = search needs
-
-returns-3 : tie.Need-returns-3
-returns-3 c =
-    let w = c .before .before in
-    let i = w .before .before in
-    let o = i .before .before .before .before .before in
-    answered (o .«open» .ensures) (refused-row _ _ _ _ _ _ _ _ (i .before .before .if1 .left) (sym (i .before .was-rejected .ensures) ∙ i .if2 .left)) (lit≤ tt) (w .channel .ensures)
+    let m = c .before .before .before in
+    let e = m .before .before .before .before in
+    let o = e .before .before .before .before .before in
+    let s = o .before .before .before .before in
+    let w = m .trace .last .1 .1 .1 .0 in
+    answered (o .«open» .ensures) (c .of-call2 .ensures w ∙ acknowledged-row _ _ _ _ _ _ _ _ (e .before .before .scouts-of .ensures w) (e .if1 .left) (ports-are _ _ (s .pre) (m .trace .ensures)))
 
 pub open-spec : {M : Type 1} → statement M
 open-spec =
     tie.close
     (tie.spec
     open-requires
-    acknowledged-requires
+    scouts-of-requires
+    cast-t19
+    of-call-requires
     same-length
-    same-length-2
     returns
-    was-rejected-requires
-    rejected-requires
+    cast-t19-2
+    trace-requires
+    of-call-requires-2
+    same-length-2
     same-length-3
-    same-length-4
-    returns-2
-    channel-requires
-    same-length-5
-    same-length-6
-    returns-3)
+    returns-2)

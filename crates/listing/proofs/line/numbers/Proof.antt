@@ -7,13 +7,13 @@ use Prim.Native.Nat.{ℕ, _+_, _-_, _≤_, _<_}
 use native.Mathlib.Omega.{arith}
 use borrow.Author.Needs.{needs}
 use lib.ListN.{length, take, drop, set, length-set}
-use Rattle.listing.specs.Text.{number}
-use Rattle.listing.specs.Lines.{fields}
+use Rattle.text.specs.Text.{number}
+use Rattle.text.specs.Lines.{fields}
 use Rattle.listing.specs.Line.{numbers, withNumbers}
 use Rattle.listing.specs.Printed.{ReadNumbers}
 use Rattle.listing.proofs.Asking.{joined, joined-none, numbers-none, numbers-more, numbers-last, unread, many}
-use Rattle.listing.proofs.Reading.{read-most, read-not}
-use Rattle.listing.proofs.Cuts.{fields-more, fields-end, fields-first, fields-some}
+use Rattle.text.proofs.Reading.{read-most, read-not}
+use Rattle.text.proofs.Cuts.{fields-more, fields-end, fields-first, fields-some}
 use Rattle.listing.proofs.line.numbers.Statement.{statement}
 use Rattle.listing.proofs.line.numbers.Tie as tie
 

@@ -2,11 +2,10 @@
 -- Assumes nothing.
 use mathlib.Core.Path.{refl}
 use native.Mathlib.Omega.{arith}
-use lib.Dec.{lit≤}
-use Rattle.listing.specs.Row.{spaced, ended}
+use Rattle.text.specs.Row.{spaced, ended}
 use Rattle.listing.specs.Listing.{header, tooLong}
-use Rattle.listing.proofs.Writing.{_then_}
-use Rattle.listing.proofs.Remaining.{printed-long, printed-rows, lists-short, lists-all}
+use Rattle.text.proofs.Writing.{_then_}
+use Rattle.listing.proofs.Remaining.{printed-long, printed-rows, rows-fit, lists-short, lists-all}
 use borrow.Author.Needs.{needs}
 use Rattle.listing.proofs.whole.list.Statement.{statement}
 use Rattle.listing.proofs.whole.list.Tie as tie
@@ -29,7 +28,7 @@ returns-2 c =
     let w = c .before .before in
     let i = w .before .before .before in
     let s = i .before .before .before .before in
-    (lists-all (s .args .input .now) (omega (arith, i .before .if1 .left)) (lit≤ tt) (printed-long (s .args .input .now) (i .if2 .taken)) (w .text .ensures), refl)
+    (lists-all (s .args .input .now) (omega (arith, i .before .if1 .left)) (printed-long (s .args .input .now) (i .if2 .taken)) (w .text .ensures), refl)
 
 slice-aggregate-make : tie.Need-slice-aggregate-make
 slice-aggregate-make c = search needs
@@ -47,7 +46,13 @@ slice-aggregate-rows : tie.Need-slice-aggregate-rows
 slice-aggregate-rows c = search needs
 
 rows-requires : tie.Need-rows-requires
-rows-requires c κs = search needs
+unfolding header ended spaced
+rows-requires c κs =
+    let h = c .before .before .before .before in
+    let m = h .before .before .before .before in
+    let i = m .before .before in
+    let s = i .before .before .before .before in
+    omega (arith, rows-fit (s .args .input .now) (m .make .last .0) (omega (arith, i .if2 .left)) (m .make .ensures), h .text2 .ensures .place, h .text2 .kept .0, i .before .if1 .left)
 
 same-length-2 : tie.Need-same-length-2
 same-length-2 c = search needs
@@ -61,7 +66,7 @@ returns-3 c =
     let i = m .before .before in
     let s = i .before .before .before .before in
     let input = s .args .input .now in
-    (lists-all input (omega (arith, i .before .if1 .left)) (lit≤ tt) (printed-rows input (m .make .last .0) (omega (arith, i .if2 .left)) (m .make .ensures)) (h .text2 .ensures then w .rows .ensures), refl)
+    (lists-all input (omega (arith, i .before .if1 .left)) (printed-rows input (m .make .last .0) (omega (arith, i .if2 .left)) (m .make .ensures)) (h .text2 .ensures then w .rows .ensures), refl)
 
 pub list-spec : {M : Type 1} → statement M
 list-spec =

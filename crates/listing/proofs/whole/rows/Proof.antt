@@ -2,22 +2,22 @@
 -- Assumes nothing.
 use mathlib.Core.Path.{_≡_, refl, sym, _∙_, ap}
 use mathlib.Core.List.{List}
-use Prim.Native.Nat.{ℕ, _+_, _-_, _*_, _≤_}
+use Prim.Native.Nat.{ℕ, _+_, _-_, _≤_}
 use native.Mathlib.Omega.{arith}
 use borrow.Author.Needs.{needs}
 use lib.ListN.{length, drop}
 use lib.Seq.{sets}
-use Rattle.listing.specs.Lines.{lines}
-use Rattle.listing.specs.Row.{rowsText}
+use Rattle.text.specs.Lines.{lines}
+use Rattle.text.specs.Row.{rowsText}
 use Rattle.listing.specs.Listing.{rows}
-use Rattle.listing.proofs.Remaining.{line-length, left-bytes, left-place, left-none}
+use Rattle.listing.proofs.Remaining.{line-fits, left-bytes, left-place, left-none}
 use Rattle.listing.proofs.whole.rows.Statement.{statement}
 use Rattle.listing.proofs.whole.rows.Tie as tie
 use Rattle.ownership.specs.OnTable.{called}
 
 abbrev Inv-loop : tie.InvT-loop
 Inv-loop input t₀ out₀ at place₀ from₀ line₀ t out place from line =
-    (from ≤ length input + 1) × (line ≤ from + 1) × (place ≤ at + 24 * from) × (length t ≡ length t₀) × (length out ≡ length out₀)
+    (from ≤ length input + 1) × (line ≤ from + 1) × (length t ≡ length t₀) × (length out ≡ length out₀)
     × (sets out place (rowsText (rows called t line (lines (drop from input)))) ≡ sets out₀ at (rowsText (rows called t₀ 1 (lines input))))
     × (place + length (rowsText (rows called t line (lines (drop from input)))) ≡ at + length (rowsText (rows called t₀ 1 (lines input))))
 
@@ -25,7 +25,7 @@ abbrev μ-loop : tie.MeasureT-loop
 μ-loop input t₀ out₀ at place₀ from₀ line₀ t out place from line = length input + 1 - from
 
 loop-holds : tie.Need-loop-holds Inv-loop μ-loop
-loop-holds c = (omega arith, omega arith, omega arith, refl, refl, refl, refl)
+loop-holds c = (omega arith, omega arith, refl, refl, refl, refl)
 
 find-requires : tie.Need-find-requires Inv-loop μ-loop
 find-requires c κs = omega arith
@@ -44,8 +44,8 @@ answer-requires c κs =
     let f = c .before .before .before in
     let l = f .before .before in
     let s = l .before .before .before .before in
-    let part = line-length (s .args .input .now) (l .loop .from) (f .find .result) (f .before .loop-test .taken) (f .find .ensures .0) (f .find .ensures .1) in
-    omega (arith, part, s .pre .0, s .pre .1, l .loop .inv .2, l .loop .inv .4, f .find .ensures .0, f .find .ensures .1)
+    let fits = line-fits (s .args .input .now) (l .loop .from) (f .find .result) (f .before .loop-test .taken) (f .find .ensures .0) (f .find .ensures .1) (l .loop .t) (l .loop .line) in
+    omega (arith, fits, s .pre .1, l .loop .inv .3, l .loop .inv .5)
 
 add-line : tie.Need-add-line Inv-loop μ-loop
 add-line c = omega arith
@@ -67,22 +67,20 @@ loop-again c =
     let j = f .find .result in
     let inside = f .before .loop-test .taken in
     let found = f .find .ensures .0 in
-    let ends = f .find .ensures .1 in
-    let part = line-length input i j inside found ends in (
+    let ends = f .find .ensures .1 in (
       omega (arith, ends),
       omega (arith, l .loop .inv .1, found),
-      omega (arith, l .loop .inv .2, part, w .answer .ensures .text .most, found),
-      w .answer .kept .0 ∙ l .loop .inv .3,
-      w .answer .kept .1 .0 ∙ l .loop .inv .4,
-      left-bytes input i j inside found ends (w .answer .ensures) ∙ l .loop .inv .5,
-      left-place input i j inside found ends (w .answer .ensures) ∙ l .loop .inv .6,
+      w .answer .kept .0 ∙ l .loop .inv .2,
+      w .answer .kept .1 .0 ∙ l .loop .inv .3,
+      left-bytes input i j inside found ends (w .answer .ensures) ∙ l .loop .inv .4,
+      left-place input i j inside found ends (w .answer .ensures) ∙ l .loop .inv .5,
     )
 
 same-length : tie.Need-same-length Inv-loop μ-loop
-same-length c = c .before .loop .inv .3
+same-length c = c .before .loop .inv .2
 
 same-length-2 : tie.Need-same-length-2 Inv-loop μ-loop
-same-length-2 c = c .before .loop .inv .4
+same-length-2 c = c .before .loop .inv .3
 
 returns : tie.Need-returns Inv-loop μ-loop
 returns c =
@@ -90,9 +88,8 @@ returns c =
     let s = l .before .before .before .before in
     let none = left-none (s .args .input .now) (l .loop .t) (l .loop .line) (l .loop .from) (omega (arith, c .loop-test .left)) in
     record {
-      bytes = sym (ap (λ (xs : List ℕ). sets (l .loop .out) (l .loop .place) xs) none) ∙ l .loop .inv .5;
-      place = omega (arith, ap length none, l .loop .inv .6);
-      most = omega (arith, l .loop .inv .2, l .loop .inv .0, s .pre .0);
+      bytes = sym (ap (λ (xs : List ℕ). sets (l .loop .out) (l .loop .place) xs) none) ∙ l .loop .inv .4;
+      place = omega (arith, ap length none, l .loop .inv .5);
     }
 
 pub rows-spec : {M : Type 1} → statement M

@@ -2,6 +2,7 @@
 -- Assumes nothing.
 use Rattle.router.proofs.Stopping.{block-passed, link-within}
 use Rattle.router.proofs.Called.{call-blocks, block-refused}
+use native.Mathlib.Omega.{arith}
 use borrow.Author.Needs.{needs}
 use Rattle.router.proofs.calls.block.Statement.{statement}
 use Rattle.router.proofs.calls.block.Tie as tie
@@ -24,7 +25,8 @@ same-length-2 c = search needs
 returns-2 : tie.Need-returns-2
 returns-2 c =
     let d = c .before .before in
-    call-blocks _ _ _ (d .before .before .before .block .ensures) (d .before .before .if1 .left) (d .disable .ensures)
+    let e = d .before .before in
+    call-blocks _ _ _ (e .before .block .ensures) (e .if1 .left) (λ i. omega (arith, e .before .before .before .slice-known .given i)) (d .disable .ensures)
 
 pub block-spec : {M : Type 1} → statement M
 block-spec = tie.close (tie.spec block-requires same-length returns disable-requires same-length-2 returns-2)

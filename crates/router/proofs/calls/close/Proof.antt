@@ -2,6 +2,7 @@
 -- Assumes nothing.
 use Rattle.router.proofs.Stopping.{close-passed, small-source, has-source}
 use Rattle.router.proofs.Called.{close-refused, call-closes, open-path}
+use native.Mathlib.Omega.{arith}
 use borrow.Author.Needs.{needs}
 use Rattle.router.proofs.calls.close.Statement.{statement}
 use Rattle.router.proofs.calls.close.Tie as tie
@@ -36,7 +37,7 @@ returns-2 c =
     let g = c .before .before in
     let m = g .before in
     let e = m .before .before in
-    call-closes _ _ _ (e .before .close .ensures) (e .if1 .left) (m .circuit-of .ensures) (g .release .ensures)
+    call-closes _ _ _ (e .before .close .ensures) (e .if1 .left) (λ i. omega (arith, e .before .before .before .slice-known .given i)) (m .circuit-of .ensures) (g .release .ensures)
 
 pub close-spec : {M : Type 1} → statement M
 close-spec = tie.close (tie.spec close-requires same-length returns circuit-of-requires release-requires same-length-2 returns-2)

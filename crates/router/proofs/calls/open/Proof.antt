@@ -43,7 +43,8 @@ returns-2 : tie.Need-returns-2
 returns-2 c =
     let g = c .before .before in
     let m = g .before .before in
-    call-opens _ _ _ _ _ _ (m .before .before .«open» .ensures) (m .before .if1 .left) (m .circuit-of .ensures) (g .send .ensures)
+    let o = m .before .before in
+    call-opens _ _ _ _ _ _ (o .«open» .ensures) (m .before .if1 .left) (λ i. omega (arith, o .before .before .slice-known .given i)) (m .circuit-of .ensures) (g .send .ensures)
 
 pub open-spec : {M : Type 1} → statement M
 open-spec = tie.close (tie.spec open-requires same-length returns circuit-of-requires send-requires same-length-2 returns-2)

@@ -2,6 +2,7 @@
 -- Assumes nothing.
 use Rattle.router.proofs.Stopping.{trace-passed, small-source, has-source}
 use Rattle.router.proofs.Called.{trace-refused, call-traces, open-path}
+use native.Mathlib.Omega.{arith}
 use borrow.Author.Needs.{needs}
 use Rattle.router.proofs.calls.trace.Statement.{statement}
 use Rattle.router.proofs.calls.trace.Tie as tie
@@ -35,7 +36,8 @@ returns-2 : tie.Need-returns-2
 returns-2 c =
     let g = c .before .before in
     let m = g .before .before in
-    call-traces _ _ _ _ (m .before .before .trace .ensures) (m .before .if1 .left) (m .circuit-of .ensures) (g .write-path .ensures .0) (g .write-path .ensures .1)
+    let o = m .before .before in
+    call-traces _ _ _ _ (o .trace .ensures) (m .before .if1 .left) (λ i. omega (arith, o .before .before .before .shared-slice-known .given i)) (m .circuit-of .ensures) (g .write-path .ensures .0) (g .write-path .ensures .1)
 
 pub trace-spec : {M : Type 1} → statement M
 trace-spec = tie.close (tie.spec trace-requires same-length returns circuit-of-requires write-path-requires same-length-2 returns-2)

@@ -2,21 +2,22 @@
 -- Assumes nothing.
 use Rattle.router.proofs.Stopping.{link-passed, link-within}
 use Rattle.router.proofs.Called.{call-unblocks, unblock-refused}
+use native.Mathlib.Omega.{arith}
 use borrow.Author.Needs.{needs}
 use Rattle.router.proofs.calls.unblock.Statement.{statement}
 use Rattle.router.proofs.calls.unblock.Tie as tie
 
-link-requires : tie.Need-link-requires
-link-requires c κs = search needs
+unblock-requires : tie.Need-unblock-requires
+unblock-requires c κs = search needs
 
 same-length : tie.Need-same-length
 same-length c = search needs
 
 returns : tie.Need-returns
-returns c = unblock-refused _ _ _ (c .before .link .ensures) (c .if1 .taken)
+returns c = unblock-refused _ _ _ (c .before .unblock .ensures) (c .if1 .taken)
 
 enable-requires : tie.Need-enable-requires
-enable-requires c κs = link-within (link-passed (c .before .before .link .ensures) (c .before .if1 .left))
+enable-requires c κs = link-within (link-passed (c .before .before .unblock .ensures) (c .before .if1 .left))
 
 same-length-2 : tie.Need-same-length-2
 same-length-2 c = search needs
@@ -24,7 +25,8 @@ same-length-2 c = search needs
 returns-2 : tie.Need-returns-2
 returns-2 c =
     let d = c .before .before in
-    call-unblocks _ _ _ (d .before .before .before .link .ensures) (d .before .before .if1 .left) (d .enable .ensures)
+    let e = d .before .before in
+    call-unblocks _ _ _ (e .before .unblock .ensures) (e .if1 .left) (λ i. omega (arith, e .before .before .before .slice-known .given i)) (d .enable .ensures)
 
 pub unblock-spec : {M : Type 1} → statement M
-unblock-spec = tie.close (tie.spec link-requires same-length returns enable-requires same-length-2 returns-2)
+unblock-spec = tie.close (tie.spec unblock-requires same-length returns enable-requires same-length-2 returns-2)

@@ -1,30 +1,43 @@
--- `router::stopped::block` meets its contract: the tests of the link, then whether it is held.
+-- `router::stopped::block` meets its contract: the table, the node, the port, the link.
 -- Assumes nothing.
-use Rattle.router.specs.Portions.{blockTests}
-use Rattle.router.proofs.Stopping.{stopped-before, link-passed, link-within}
-use Rattle.router.proofs.Returns.{link-unheld, link-is-held}
 use borrow.Author.Needs.{needs}
+use Rattle.ownership.specs.Calls.{callTests}
+use Rattle.ownership.specs.OnTable.{askedOf, lentTests, stoppedAt}
+use Rattle.router.proofs.Stopping.{stops, passes}
 use Rattle.router.proofs.stopped.block.Statement.{statement}
 use Rattle.router.proofs.stopped.block.Tie as tie
 
-link-requires : tie.Need-link-requires
-link-requires c κs = search needs
+check-requires : tie.Need-check-requires
+check-requires c κs = search needs
 
 returns : tie.Need-returns
-returns c = unfold blockTests in stopped-before _ _ (c .before .link .ensures) (c .if1 .taken)
+unfolding stoppedAt lentTests
+returns c = search stops
 
-owner-requires : tie.Need-owner-requires
-owner-requires c κs = link-within (link-passed (c .before .link .ensures) (c .if1 .left))
+is-absent-requires : tie.Need-is-absent-requires
+is-absent-requires c κs = search needs
 
 returns-2 : tie.Need-returns-2
-returns-2 c =
-    let d = c .before .before in
-    link-unheld _ _ _ (d .before .before .link .ensures) (d .before .if1 .left) (d .owner .ensures) (c .if2 .taken)
+unfolding stoppedAt lentTests callTests askedOf
+returns-2 c = search stops depth 12
+
+no-port-requires : tie.Need-no-port-requires
+no-port-requires c κs = search needs
 
 returns-3 : tie.Need-returns-3
-returns-3 c =
-    let d = c .before .before in
-    link-is-held _ _ _ (d .before .before .link .ensures) (d .before .if1 .left) (d .owner .ensures) (c .if2 .left)
+unfolding stoppedAt lentTests callTests askedOf
+returns-3 c = search stops depth 12
+
+is-held-requires : tie.Need-is-held-requires
+is-held-requires c κs = (search passes, (search passes, search passes))
+
+returns-4 : tie.Need-returns-4
+unfolding stoppedAt lentTests callTests askedOf
+returns-4 c = search stops depth 12
+
+returns-5 : tie.Need-returns-5
+unfolding stoppedAt lentTests callTests askedOf
+returns-5 c = search stops depth 12
 
 pub block-spec : {M : Type 1} → statement M
-block-spec = tie.close (tie.spec link-requires returns owner-requires returns-2 returns-3)
+block-spec = tie.close (tie.spec check-requires returns is-absent-requires returns-2 no-port-requires returns-3 is-held-requires returns-4 returns-5)

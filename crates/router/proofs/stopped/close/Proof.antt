@@ -1,40 +1,43 @@
--- `router::stopped::close` meets its contract: the tests of node and channel, then whether a circuit is open.
+-- `router::stopped::close` meets its contract: the table, the node, the channel, the circuit.
 -- Assumes nothing.
-use Rattle.router.specs.Portions.{closeTests}
-use Rattle.router.proofs.Stopping.{stopped-before, channel-passed, small-source, has-source}
-use Rattle.router.proofs.Returns.{close-open, close-shut}
 use borrow.Author.Needs.{needs}
+use Rattle.ownership.specs.Calls.{callTests}
+use Rattle.ownership.specs.OnTable.{askedOf, lentTests, stoppedAt}
+use Rattle.router.proofs.Stopping.{stops, passes}
 use Rattle.router.proofs.stopped.close.Statement.{statement}
 use Rattle.router.proofs.stopped.close.Tie as tie
 
-channel-requires : tie.Need-channel-requires
-channel-requires c κs = search needs
+check-requires : tie.Need-check-requires
+check-requires c κs = search needs
 
 returns : tie.Need-returns
-returns c = unfold closeTests in stopped-before _ _ (c .before .channel .ensures) (c .if1 .taken)
+unfolding stoppedAt lentTests
+returns c = search stops
 
-circuit-of-requires : tie.Need-circuit-of-requires
-circuit-of-requires c κs =
-    let r = channel-passed (c .before .channel .ensures) (c .if1 .left) in
-    small-source (r .0) (r .1)
-
-is-open-requires : tie.Need-is-open-requires
-is-open-requires c κs =
-    let e = c .before in
-    let r = channel-passed (e .before .channel .ensures) (e .if1 .left) in
-    has-source (r .0) (r .1) (c .circuit-of .ensures)
+is-absent-requires : tie.Need-is-absent-requires
+is-absent-requires c κs = search needs
 
 returns-2 : tie.Need-returns-2
-returns-2 c =
-    let o = c .before in
-    let g = o .before in
-    close-open _ _ _ (g .circuit-of .ensures) (o .is-open .ensures) (g .before .if1 .left) (g .before .before .channel .ensures) (c .if2 .taken)
+unfolding stoppedAt lentTests callTests askedOf
+returns-2 c = search stops depth 12
+
+no-channel-requires : tie.Need-no-channel-requires
+no-channel-requires c κs = search needs
 
 returns-3 : tie.Need-returns-3
-returns-3 c =
-    let o = c .before in
-    let g = o .before in
-    close-shut _ _ _ (g .circuit-of .ensures) (o .is-open .ensures) (g .before .if1 .left) (g .before .before .channel .ensures) (c .if2 .left)
+unfolding stoppedAt lentTests callTests askedOf
+returns-3 c = search stops depth 12
+
+has-circuit-requires : tie.Need-has-circuit-requires
+has-circuit-requires c κs = search passes
+
+returns-4 : tie.Need-returns-4
+unfolding stoppedAt lentTests callTests askedOf
+returns-4 c = search stops depth 12
+
+returns-5 : tie.Need-returns-5
+unfolding stoppedAt lentTests callTests askedOf
+returns-5 c = search stops depth 12
 
 pub close-spec : {M : Type 1} → statement M
-close-spec = tie.close (tie.spec channel-requires returns circuit-of-requires is-open-requires returns-2 returns-3)
+close-spec = tie.close (tie.spec check-requires returns is-absent-requires returns-2 no-channel-requires returns-3 has-circuit-requires returns-4 returns-5)

@@ -1,40 +1,57 @@
--- `router::stopped::open` meets its contract: the tests up to the send vector, then whether the send channel is in use.
+-- `router::stopped::open` meets its contract: the table, both nodes, the channel, the type, the vector, the circuit.
 -- Assumes nothing.
-use Rattle.router.specs.Portions.{openTests}
-use Rattle.router.proofs.Stopping.{stopped-before, vector-passed, small-source, has-source}
-use Rattle.router.proofs.Returns.{open-used, open-unused}
 use borrow.Author.Needs.{needs}
+use Rattle.ownership.specs.Calls.{callTests}
+use Rattle.ownership.specs.OnTable.{askedOf, lentTests, stoppedAt}
+use Rattle.router.proofs.Stopping.{stops, passes, first-not-found}
 use Rattle.router.proofs.stopped.open.Statement.{statement}
 use Rattle.router.proofs.stopped.open.Tie as tie
 
-send-vector-requires : tie.Need-send-vector-requires
-send-vector-requires c κs = search needs
+check-requires : tie.Need-check-requires
+check-requires c κs = search needs
 
 returns : tie.Need-returns
-returns c = unfold openTests in stopped-before _ _ (c .before .send-vector .ensures) (c .if1 .taken)
+unfolding stoppedAt lentTests
+returns c = search stops
 
-circuit-of-requires : tie.Need-circuit-of-requires
-circuit-of-requires c κs =
-    let r = vector-passed _ (c .before .send-vector .ensures) (c .if1 .left) in
-    small-source (r .0) (r .1)
-
-is-open-requires : tie.Need-is-open-requires
-is-open-requires c κs =
-    let e = c .before in
-    let r = vector-passed _ (e .before .send-vector .ensures) (e .if1 .left) in
-    has-source (r .0) (r .1) (c .circuit-of .ensures)
+one-is-absent-requires : tie.Need-one-is-absent-requires
+one-is-absent-requires c κs = search needs
 
 returns-2 : tie.Need-returns-2
-returns-2 c =
-    let o = c .before in
-    let g = o .before in
-    open-used _ _ _ (g .circuit-of .ensures) (o .is-open .ensures) (g .before .if1 .left) _ _ _ (g .before .before .send-vector .ensures) (c .if2 .taken)
+unfolding stoppedAt lentTests callTests askedOf
+returns-2 c = search stops depth 12
+
+no-channel-requires : tie.Need-no-channel-requires
+no-channel-requires c κs = search needs
 
 returns-3 : tie.Need-returns-3
-returns-3 c =
-    let o = c .before in
-    let g = o .before in
-    open-unused _ _ _ (g .circuit-of .ensures) (o .is-open .ensures) (g .before .if1 .left) _ _ _ (g .before .before .send-vector .ensures) (c .if2 .left)
+unfolding stoppedAt lentTests callTests askedOf
+returns-3 c = search stops depth 12
+
+no-type-requires : tie.Need-no-type-requires
+no-type-requires c κs = search needs
+
+returns-4 : tie.Need-returns-4
+unfolding stoppedAt lentTests callTests askedOf
+returns-4 c = search stops depth 12
+
+no-vector-requires : tie.Need-no-vector-requires
+no-vector-requires c κs = search needs
+
+returns-5 : tie.Need-returns-5
+unfolding stoppedAt lentTests callTests askedOf
+returns-5 c = search stops depth 12
+
+has-circuit-requires : tie.Need-has-circuit-requires
+has-circuit-requires c κs = search (passes, first-not-found)
+
+returns-6 : tie.Need-returns-6
+unfolding stoppedAt lentTests callTests askedOf
+returns-6 c = search stops depth 12
+
+returns-7 : tie.Need-returns-7
+unfolding stoppedAt lentTests callTests askedOf
+returns-7 c = search stops depth 12
 
 pub open-spec : {M : Type 1} → statement M
-open-spec = tie.close (tie.spec send-vector-requires returns circuit-of-requires is-open-requires returns-2 returns-3)
+open-spec = tie.close (tie.spec check-requires returns one-is-absent-requires returns-2 no-channel-requires returns-3 no-type-requires returns-4 no-vector-requires returns-5 has-circuit-requires returns-6 returns-7)

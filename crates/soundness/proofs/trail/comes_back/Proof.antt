@@ -2,7 +2,7 @@
 -- Assumes nothing.
 use mathlib.Core.Path.{sym, _∙_}
 use native.Mathlib.Omega.{arith}
-use Rattle.cube.proofs.Bits.{flip-inside}
+use Rattle.cube.proofs.Axes.{next-inside}
 use Rattle.table.specs.View.{view}
 use Rattle.soundness.proofs.Follow.{back-on, back-off}
 use borrow.Author.Needs.{needs}
@@ -18,7 +18,7 @@ neighbour-requires c κs = search needs
 holds-requires : tie.Need-holds-requires
 holds-requires c κs =
     let s = c .before .before .before .before in
-    record { bytes = s .pre .bytes; node = rw (c .neighbour .ensures) (flip-inside 8 (s .args .n .0) _ (s .pre .node) (omega (arith, s .pre .port))); port = s .pre .port }
+    record { bytes = s .pre .bytes; node = rw (c .neighbour .ensures) (next-inside 8 (s .args .n .0) _ (omega arith) (s .pre .node) (omega (arith, s .pre .port))); port = s .pre .port }
 
 returns : tie.Need-returns
 returns c =

@@ -8,7 +8,7 @@ use lib.Dec.{lit<}
 use lib.ListN.{length}
 use lib.Pow.{pow-pos}
 use Rattle.paths.specs.Network.{end, links, hasLink}
-use Rattle.cube.proofs.Bits.{flip-inside}
+use Rattle.cube.proofs.Axes.{next-inside}
 use Rattle.common.specs.Lists.{lowest}
 use Rattle.table.specs.View.{view}
 use Rattle.soundness.specs.Sound.{net}
@@ -53,7 +53,7 @@ port-on-requires-2 c κs =
     let i = c .before .before .before .before .before .before in
     let l = i .before .before in
     let s = l .before .before .before .before in (
-      record { bytes = s .pre .1 .bytes; node = rw (c .neighbour .ensures) (flip-inside 8 (l .loop .at .0) (l .loop .q .0) (l .loop .inv .0) (i .if1 .taken)); port = lit< tt },
+      record { bytes = s .pre .1 .bytes; node = rw (c .neighbour .ensures) (next-inside 8 (l .loop .at .0) (l .loop .q .0) (omega arith) (l .loop .inv .0) (i .if1 .taken)); port = lit< tt },
       omega (arith, c .before .without .ensures .value, l .loop .inv .1),
     )
 
@@ -72,7 +72,7 @@ loop-again c =
     let q = l .loop .q .0 in
     let small : q < 8 = i .if1 .taken in
     let on = f .mark .ensures in (
-      rw to (flip-inside 8 (l .loop .at .0) q (l .loop .inv .0) small),
+      rw to (next-inside 8 (l .loop .at .0) q (omega arith) (l .loop .inv .0) small),
       omega (arith, w .without .ensures .value),
       c .port-on2 .ensures,
       hop-ends v (s .args .c .0) (l .loop .at .0) (l .loop .left) q (w .without .result) _ (l .loop .inv .2) small (w .without .ensures) to ∙ l .loop .inv .3,

@@ -1,0 +1,20 @@
+-- `listing::call::scouts_of` meets its contract.
+-- Assumes nothing.
+use borrow.Author.Tests.{ne-eqb}
+use Rattle.listing.proofs.call.scouts_of.Statement.{statement}
+use Rattle.listing.proofs.call.scouts_of.Tie as tie
+
+returns : tie.Need-returns
+returns c = λ w. rw (c .if1 .taken)
+
+returns-2 : tie.Need-returns-2
+returns-2 c = λ w. rw (c .if2 .taken)
+
+returns-3 : tie.Need-returns-3
+returns-3 c = λ w. rw (c .if3 .taken)
+
+returns-4 : tie.Need-returns-4
+returns-4 c = λ w. rw (ne-eqb _ 0 (c .before .before .if1 .left), ne-eqb _ 10 (c .before .if2 .left), ne-eqb _ 11 (c .if3 .left))
+
+pub scouts-of-spec : {M : Type 1} → statement M
+scouts-of-spec = tie.close (tie.spec returns returns-2 returns-3 returns-4)

@@ -1,0 +1,14 @@
+-- `listing::line::counted` meets its contract.
+-- Assumes nothing.
+use borrow.Author.Tests.{eq-eqb, ne-eqb}
+use Rattle.listing.proofs.line.counted.Statement.{statement}
+use Rattle.listing.proofs.line.counted.Tie as tie
+
+returns : tie.Need-returns
+returns c = rw (eq-eqb _ _ (c .if1 .taken))
+
+returns-2 : tie.Need-returns-2
+returns-2 c = rw (ne-eqb _ _ (c .if1 .left))
+
+pub counted-spec : {M : Type 1} → statement M
+counted-spec = tie.close (tie.spec returns returns-2)
