@@ -9,29 +9,29 @@ use lib.ListN.{length, take}
 use borrow.Author.Tests.{ne-eqb}
 use Rattle.paths.specs.Send.{Answer}
 use Rattle.ownership.specs.Calls.{Call, opening, tracing, After}
-use Rattle.ownership.specs.OnTable.{done, called}
+use Rattle.ownership.specs.OnTable.{done, tableStep}
 use Rattle.text.specs.Row.{Field, nothing, shows, path, Row as PrintedRow, row, rowText}
 use Rattle.text.specs.Written.{Wrote, rowOf, rowWidth}
 use Rattle.text.specs.declared.row.Row.{Row}
 use Rattle.text.proofs.Writing.{retext}
 use Rattle.text.proofs.Rows.{row-length}
 use Rattle.listing.specs.Line.{letterS}
-use Rattle.listing.specs.Listing.{sent, showsIf, callRow, unreadable, empty, traced, rowFor, behind}
+use Rattle.listing.specs.Listing.{sent, showsIf, callRow, unreadable, empty, traced, rowFor, stateAfter}
 use Rattle.listing.specs.Printed.{Answered, WroteLine}
 
 -- a call on a table gave an answer, and the fields are those of that answer
-pub answered : {b b′ w : List ℕ} {a : Call} {x : Answer} {buffer : List ℕ} {n : ℕ} {r : Row} → done b′ x buffer ≡ called b a
-    → rowOf w r ≡ callRow n a x (traced called b′) → Answered b n (some a) w r b′
-unfolding rowFor behind
+pub answered : {b b′ w : List ℕ} {a : Call} {x : Answer} {buffer : List ℕ} {n : ℕ} {r : Row} → done b′ x buffer ≡ tableStep b a
+    → rowOf w r ≡ callRow n a x (traced tableStep b′) → Answered b n (some a) w r b′
+unfolding rowFor stateAfter
 answered {a = a} {n = n} e same =
     record {
-      row = same ∙ ap (λ (d : After (List ℕ)). callRow n a (d .given .answer) (traced called (d .state))) e;
+      row = same ∙ ap (λ (d : After (List ℕ)). callRow n a (d .result .answer) (traced tableStep (d .state))) e;
       table = ap (λ (d : After (List ℕ)). d .state) e;
     }
 
 -- a line that cannot be read
 pub unread-line : {b w : List ℕ} {n : ℕ} {r : Row} → rowOf w r ≡ unreadable n → Answered b n none w r b
-unfolding rowFor behind
+unfolding rowFor stateAfter
 unread-line e = record { row = e; table = refl }
 
 -- the line of an open, by its answer
@@ -47,17 +47,17 @@ module _ (n : ℕ) (way : ℕ → ℕ → List ℕ) (s c t y v : ℕ) (x : Answe
 
 -- the ports that a trace wrote into the buffer it was lent
 pub ports-are : (s c : ℕ) {r h : ℕ} {b lent buffer : List ℕ} → lent ≡ empty
-    → done b (record { number = r; hops = h; receive = 0; scouts = 0 }) buffer ≡ called b (tracing s c lent) → take h buffer ≡ traced called b s c
+    → done b (record { number = r; hops = h; receive = 0; scouts = 0 }) buffer ≡ tableStep b (tracing s c lent) → take h buffer ≡ traced tableStep b s c
 unfolding traced
-ports-are s c {b = b} l t = ap (λ (d : After (List ℕ)). take (d .given .answer .hops) (d .given .buffer)) (t ∙ ap (λ (m : List ℕ). called b (tracing s c m)) l)
+ports-are s c {b = b} l t = ap (λ (d : After (List ℕ)). take (d .result .answer .hops) (d .result .buffer)) (t ∙ ap (λ (m : List ℕ). tableStep b (tracing s c m)) l)
 
 -- The line of what was carried out, of which it is known what it asks: how many bytes it takes, and that it was written.
 module _ {b b′ w : List ℕ} {n : ℕ} {a a′ : Option Call} {r : Row} (e : a ≡ a′) (x : Answered b n a w r b′) where
-  row-is : rowOf w r ≡ rowFor called b n a′
-  row-is = x .row ∙ ap (rowFor called b n) e
+  row-is : rowOf w r ≡ rowFor tableStep b n a′
+  row-is = x .row ∙ ap (rowFor tableStep b n) e
 
-  pub line-width : rowWidth (rowOf w r) ≡ length (rowText (rowFor called b n a′))
+  pub line-width : rowWidth (rowOf w r) ≡ length (rowText (rowFor tableStep b n a′))
   line-width = sym (row-length (rowOf w r)) ∙ ap (λ (q : PrintedRow). length (rowText q)) row-is
 
   pub line-written : {out out′ : List ℕ} {i j : ℕ} → Wrote out i (rowText (rowOf w r)) out′ j → WroteLine b n a′ out i b′ out′ j
-  line-written t = record { text = retext (ap rowText row-is) t; table = x .table ∙ ap (behind called b) e }
+  line-written t = record { text = retext (ap rowText row-is) t; table = x .table ∙ ap (stateAfter tableStep b) e }

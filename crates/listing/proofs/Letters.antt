@@ -79,7 +79,7 @@ module _ {S : Type 0} (makes : S → Call → After S) (state : S) (n : ℕ) whe
 
   -- what the call answers
   abbrev answer : Call → Answer
-  answer a = makes state a .given .answer
+  answer a = makes state a .result .answer
 
   -- F: the number alone
   pub make-shows : (D : ℕ)

@@ -10,8 +10,8 @@ use lib.ListN.{length, take, replicate}
 use Rattle.paths.specs.Send.{Answer}
 use Rattle.table.specs.Layout.{made}
 use Rattle.ownership.specs.Calls.{Call, making, blocking, unblocking, opening, closing, tracing, After}
-use Rattle.ownership.specs.OnTable.{called}
-use Rattle.ownership.specs.History.{entered}
+use Rattle.ownership.specs.OnTable.{tableStep}
+use Rattle.ownership.specs.History.{historyStep}
 use Rattle.text.specs.Lines.{lines}
 use Rattle.listing.specs.Line.{letterB, letterC, letterE, letterF, letterS, asks}
 use Rattle.text.specs.Row.{Field, nothing, shows, path, Row, row, lone, ended, rowsText}
@@ -50,22 +50,22 @@ empty = replicate 9 0
 module _ {S : Type 0} (makes : S → Call → After S) where
   -- the ports that a trace of a send channel writes
   unfoldable pub traced : S → ℕ → ℕ → List ℕ
-  traced s n c = take (makes s (tracing n c empty) .given .answer .hops) (makes s (tracing n c empty) .given .buffer)
+  traced s n c = take (makes s (tracing n c empty) .result .answer .hops) (makes s (tracing n c empty) .result .buffer)
 
   -- the line printed for what an input line asks
   unfoldable pub rowFor : S → ℕ → Option Call → Row
   rowFor s n none = unreadable n
-  rowFor s n (some a) = callRow n a (makes s a .given .answer) (traced (makes s a .state))
+  rowFor s n (some a) = callRow n a (makes s a .result .answer) (traced (makes s a .state))
 
   -- the state behind it; a line that cannot be read changes nothing
-  unfoldable pub behind : S → Option Call → S
-  behind s none = s
-  behind s (some a) = makes s a .state
+  unfoldable pub stateAfter : S → Option Call → S
+  stateAfter s none = s
+  stateAfter s (some a) = makes s a .state
 
   -- "one line per input line", counted from n
   unfoldable pub rows : S → ℕ → List (List ℕ) → List Row
   rows s n [] = []
-  rows s n (l ∷ ls) = rowFor s n (asks l) ∷ rows (behind s (asks l)) (suc n) ls
+  rows s n (l ∷ ls) = rowFor s n (asks l) ∷ rows (stateAfter s (asks l)) (suc n) ls
 
 -- "line", "call", "answer", "node", "channel", "receive", "scouts", "ports"
 abbrev pub headerWords : List (List ℕ)
@@ -96,7 +96,7 @@ listing makes s input = cond (ltb inputLimit (length input)) tooLong (header ++ 
 
 -- "It starts from a made table of dimension 1.": on the bytes of a table, by the definition that the contracts of the calls cite, and in the ownership history
 unfoldable pub printed : List ℕ → List ℕ
-printed input = listing called (made 1) input
+printed input = listing tableStep (made 1) input
 
 unfoldable pub recorded : List ℕ → List ℕ
-recorded input = listing entered (record { dimension = 1; blocked = []; circuits = [] }) input
+recorded input = listing historyStep (record { dimension = 1; blocked = []; circuits = [] }) input

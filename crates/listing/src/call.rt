@@ -7,7 +7,7 @@ ghost use Prim.Native.Nat.{ℕ, _+_, _≤_};
 ghost use lib.Dec.{eqb};
 ghost use lib.ListN.{length};
 ghost use Rattle.ownership.specs.Calls.{opening};
-ghost use Rattle.ownership.specs.OnTable.{called};
+ghost use Rattle.ownership.specs.OnTable.{tableStep};
 ghost use Rattle.text.specs.Row.{shows, rowText};
 ghost use Rattle.text.specs.Written.{fieldOf};
 ghost use Rattle.listing.specs.Line.{asks};
@@ -109,7 +109,7 @@ fn carry_out(t: &mut [u8], line: u16, asked: Asked, ports: &mut [u8]) -> row::Ro
 
 // Reads an input line, carries it out, and writes its printed line from a place on; the answer is the place behind it.
 pub fn answer(t: &mut [u8], out: &mut [u8], at: usize, line: u16, text: &[u8]) -> usize
-    requires { ⌜ at + length (rowText (rowFor called (now t) line (asks (now text)))) ≤ length (now out) ⌝ }
+    requires { ⌜ at + length (rowText (rowFor tableStep (now t) line (asks (now text)))) ≤ length (now out) ⌝ }
     ensures { λ r. ⌜ WroteLine (now (t .entry)) line (asks (now (text .entry))) (now (out .entry)) at (now (t .exit)) (now (out .exit)) r ⌝ }
 {
     let mut ports = [0u8; 9];

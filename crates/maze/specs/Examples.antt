@@ -12,15 +12,14 @@ use Rattle.cube.specs.Axes.{axis, present}
 use Rattle.cube.specs.Helical.{helical}
 use Rattle.paths.specs.Network.{offered, end, links, hasLink, freePath}
 use Rattle.paths.specs.Pass.{over, ways, beginnings, scan, whole, pass, scouts}
-use Rattle.paths.specs.Send.{received, outcome, goesOn, runs, answered}
+use Rattle.paths.specs.Send.{received, outcome, goesOn, runs, answered, lowestOf}
 use Rattle.paths.specs.CubeNetwork.{network, ports, sendPorts, otherPorts, maze, alternateMaze, send}
 use Rattle.command_word.specs.Commands.{commands, valuesIn, values, reserved}
 use Rattle.command_word.specs.Word.{readTests, reading, readWord, writeTests, writing, writeWord}
-use Rattle.table.specs.View.{lowestOf}
-use Rattle.soundness.specs.SoundTest.{written}
-use Rattle.ownership.specs.Calls.{Call, making, blocking, opening, closing, tracing, Given, callTests, lent}
-use Rattle.ownership.specs.History.{History, holdsLink, holdsReceive, belongs, enabledOn, heldOn, freeOn, takenOn, openOn, receiveOn, listed, askedOn, stoppedOn, sendOn, adds, follows, gives, entered}
-use Rattle.ownership.specs.Lists.{historyGives, answers}
+use Rattle.soundness.specs.SoundTest.{tracedInto}
+use Rattle.ownership.specs.Calls.{Call, making, blocking, opening, closing, tracing, CallResult, callTests, lent}
+use Rattle.ownership.specs.History.{History, holdsLink, holdsReceive, belongs, enabledOn, heldOn, freeOn, takenOn, openOn, receiveOn, listed, factsOn, stoppedOn, sendOn, withOpened, applied, resultOf, historyStep}
+use Rattle.ownership.specs.Agrees.{historyResults, answers}
 
 -- an input: a list of calls, a word to read, a command and a carried number to write
 pub data Input : Type 0 where
@@ -33,11 +32,11 @@ abbrev pub before : History
 before = record { dimension = 0; blocked = []; circuits = [] }
 
 -- what a call gave: number, hops, receive channel, scouts, and the buffer
-abbrev pub shown : Given → List ℕ
+abbrev pub shown : CallResult → List ℕ
 shown g = g .answer .number ∷ g .answer .hops ∷ g .answer .receive ∷ g .answer .scouts ∷ g .buffer
 
 abbrev pub result : Input → List (List ℕ)
-result (calls cs) = map shown (historyGives before cs)
+result (calls cs) = map shown (historyResults before cs)
 result (read w) = (readWord w .number ∷ readWord w .command ∷ readWord w .carried ∷ []) ∷ []
 result (write c k) = (writeWord c k .number ∷ writeWord c k .word ∷ []) ∷ []
 
@@ -83,5 +82,5 @@ results =
     ∷ []
 
 pub examples : map result inputs ≡ results
-unfolding answers entered stoppedOn callTests refusal askedOn openOn heldOn takenOn any holdsLink holdsReceive belongs enabledOn freeOn receiveOn lowestOf lowest listed sendOn adds follows gives written lent send maze alternateMaze network ports sendPorts otherPorts present axis keep from has flip uphill helical offered end links hasLink freePath over ways beginnings scan whole pass scouts received outcome goesOn runs answered commands valuesIn values reserved readTests reading readWord writeTests writing writeWord
+unfolding answers historyStep stoppedOn callTests refusal factsOn openOn heldOn takenOn any holdsLink holdsReceive belongs enabledOn freeOn receiveOn lowestOf lowest listed sendOn withOpened applied resultOf tracedInto lent send maze alternateMaze network ports sendPorts otherPorts present axis keep from has flip uphill helical offered end links hasLink freePath over ways beginnings scan whole pass scouts received outcome goesOn runs answered commands valuesIn values reserved readTests reading readWord writeTests writing writeWord
 examples = refl

@@ -10,7 +10,7 @@ use borrow.Author.Tests.{not-true}
 use Rattle.common.specs.Lists.{_∈_}
 use Rattle.paths.specs.Network.{Network, Path, Link, links}
 use Rattle.paths.specs.Permitted.{Permitted}
-use Rattle.paths.specs.Pass.{Pass, none, found, pass}
+use Rattle.paths.specs.Pass.{PassResult, none, found, pass}
 use Rattle.paths.specs.Send.{Receive, channel, all-held, acknowledged, received, outcome, goesOn}
 use Rattle.paths.specs.Sentences.{Says}
 use Rattle.paths.specs.CubeNetwork.{Shape, Node, ports, network, sendPorts, otherPorts, alternateMaze, send}
@@ -33,7 +33,7 @@ module _ (S : Shape) (free : ℕ → ℕ → Bool) (r : Receive) (s t : ℕ) whe
     pub receives : r ≡ channel k
 
   -- what a pass over ports of the cube comes to
-  pass-taken : (ps : List ℕ) → ((p : ℕ) → p ∈ ps → p ∈ ports S) → (x : Pass) → Says (network S) free s ps t x
+  pass-taken : (ps : List ℕ) → ((p : ℕ) → p ∈ ps → p ∈ ports S) → (x : PassResult) → Says (network S) free s ps t x
       → (w : Path) (k : ℕ) → outcome r x ≡ acknowledged w k → Taken w k
   unfolding outcome received
   pass-taken ps below (none c) says w k e = let z : _≡_ {A = ℕ} 0 1 = cc in absurd (omega arith)

@@ -10,8 +10,8 @@ use native.Mathlib.Omega.{arith}
 use lib.Dec.{eqb}
 use lib.ListN.{length}
 use borrow.Author.Tests.{eqb-true, eqb-false, eq-eqb, ne-eqb}
-use Rattle.common.specs.Lists.{_∈_, keep, from, Sorted}
-use Rattle.common.proofs.Lists.{mem-keep, keep-shorter, mem-from, from-sorted, length-from, from-below}
+use Rattle.common.specs.Lists.{_∈_, keep, from, Pairwise}
+use Rattle.common.proofs.Lists.{mem-keep, keep-shorter, mem-from, from-pairwise, length-from, from-below}
 use Rattle.common.proofs.Tests.{same?, avoids, avoiding, never-answered}
 use Rattle.cube.specs.Cube.{next, sourceOf}
 use Rattle.cube.specs.Axes.{axis}
@@ -26,17 +26,17 @@ use Rattle.paths.proofs.Apart.{permitted-inside}
 use Rattle.paths.proofs.Sentences.{permitted-end}
 use Rattle.paths.proofs.CubeNetwork.{unfolded-port, send-port, other-port}
 use Rattle.paths.proofs.Words.{free-links, free-link}
-use Rattle.table.specs.View.{View, view, available, receive}
+use Rattle.table.specs.View.{View, view, available, receive, shapeOf, net, heldBy}
 use Rattle.table.proofs.Receives.{none-chosen}
-use Rattle.soundness.specs.Sound.{shapeOf, net, heldBy, Stands, Sound}
+use Rattle.soundness.specs.Sound.{CircuitSound, Sound}
 use Rattle.soundness.specs.SoundTest.{pathOf, tableTests}
 use Rattle.soundness.proofs.Soundness.{path-is, receive-stands}
-use Rattle.search.specs.Settle.{freeIn, Settled, settled}
-use Rattle.search.specs.Sent.{sentOn}
+use Rattle.search.specs.PassAnswer.{freeIn, PassAnswer, pass-answer}
+use Rattle.search.specs.SendAnswer.{sendAnswer}
 use Rattle.search.specs.SendSays.{PassesSay, one-acknowledged, only-one, two}
 use Rattle.ownership.specs.Calls.{Call, making, blocking, unblocking, opening, closing, tracing, callTests, After}
-use Rattle.ownership.specs.OnTable.{askedOf, lentTests, stoppedAt, givesIn, carriedOut, called}
-use Rattle.ownership.proofs.Carried.{called-carried, called-stopped}
+use Rattle.ownership.specs.OnTable.{factsOf, lentTests, stoppedAt, resultIn, tableEffect, tableStep}
+use Rattle.ownership.proofs.TableEffect.{step-effect, step-stopped}
 use Rattle.ownership.specs.Allowed.{Allowed}
 use Rattle.ownership.proofs.Acknowledged.{wider}
 use Rattle.ownership.proofs.Allowed.{allowed}
@@ -44,8 +44,8 @@ use Rattle.ownership.proofs.Stops.{none-stops, none-stops-lent, pass-te
 use Rattle.ownership.proofs.OnSound.{open-answers}
 
 -- a list without repetition is no longer than one that has all its members
-fits : (xs ys : List ℕ) → Sorted _≢_ xs → ((x : ℕ) → x ∈ xs → x ∈ ys) → length xs ≤ length ys
-unfolding Sorted
+fits : (xs ys : List ℕ) → Pairwise _≢_ xs → ((x : ℕ) → x ∈ xs → x ∈ ys) → length xs ≤ length ys
+unfolding Pairwise
 fits [] ys s h = omega arith
 fits (x ∷ xs) ys s h =
     let others : ℕ → Bool = λ y. not (eqb y x) in
@@ -55,10 +55,10 @@ fits (x ∷ xs) ys s h =
 
 -- eight numbers below eight, no two the same, leave none out
 pub all-taken : (g : ℕ → ℕ) → ((j : ℕ) → j < 8 → g j < 8) → ((i j : ℕ) → i < 8 → j < 8 → g i ≡ g j → i ≡ j) → (q : ℕ) → q < 8 → ((j : ℕ) → j < 8 → g j ≢ q) → ⊥
-unfolding Sorted from
+unfolding Pairwise from
 all-taken g small once q h none =
     let long : length (q ∷ map g (from 0 8)) ≡ 9 = refl in
-    omega (arith, long, length-from 0 8, fits (q ∷ map g (from 0 8)) (from 0 8) ((λ x m. away x m), distinct (from 0 8) (from-sorted 0 8) (λ j m. m)) members)
+    omega (arith, long, length-from 0 8, fits (q ∷ map g (from 0 8)) (from 0 8) ((λ x m. away x m), distinct (from 0 8) (from-pairwise 0 8) (λ j m. m)) members)
   where
     below : (j : ℕ) → j ∈ from 0 8 → j < 8
     below j m = from-below 8 j m
@@ -66,14 +66,14 @@ all-taken g small once q h none =
     away : (x : ℕ) → x ∈ map g (from 0 8) → q ≢ x
     away x m e = let r = Memᴰ·of-map g (from 0 8) m in none (r .0) (below (r .0) (r .1)) (r .2 ∙ sym e)
 
-    apart : (x : ℕ) (xs : List ℕ) → Sorted _<_ (x ∷ xs) → ((j : ℕ) → j ∈ (x ∷ xs) → j ∈ from 0 8) → (y : ℕ) → y ∈ map g xs → g x ≢ y
+    apart : (x : ℕ) (xs : List ℕ) → Pairwise _<_ (x ∷ xs) → ((j : ℕ) → j ∈ (x ∷ xs) → j ∈ from 0 8) → (y : ℕ) → y ∈ map g xs → g x ≢ y
     apart x xs s sub y m e =
         let r = Memᴰ·of-map g xs m in
         let l : x < r .0 = s .0 (r .0) (r .1) in
         let same = once x (r .0) (below x (sub x (List·Memᴰ·head refl))) (below (r .0) (sub (r .0) (List·Memᴰ·tail (r .1)))) (e ∙ sym (r .2)) in
         omega (arith, l, same)
 
-    distinct : (xs : List ℕ) → Sorted _<_ xs → ((j : ℕ) → j ∈ xs → j ∈ from 0 8) → Sorted _≢_ (map g xs)
+    distinct : (xs : List ℕ) → Pairwise _<_ xs → ((j : ℕ) → j ∈ xs → j ∈ from 0 8) → Pairwise _≢_ (map g xs)
     distinct [] s sub = tt
     distinct (x ∷ xs) s sub = (apart x xs s sub, distinct xs (s .1) (λ j m. sub j (List·Memᴰ·tail m)))
 
@@ -109,7 +109,7 @@ module _ (v : View) (sound : Sound v) (most : v .dimension ≤ 8) (t : ℕ) wher
     abbrev circuit : ℕ → ℕ
     circuit j = v .receiver t j
 
-    stands : (j : ℕ) → j < 8 → Stands v (circuit j)
+    stands : (j : ℕ) → j < 8 → CircuitSound v (circuit j)
     stands j h = receive-stands v sound t j (full j h)
 
     inside : (j : ℕ) → j < 8 → sourceOf (circuit j) < 2 ^ v .dimension
@@ -179,27 +179,27 @@ rejected route-rejected n e = absurd (omega (arith, e))
 rejected receive-rejected n e = refl
 
 -- the number that a pass or a send settles on
-settledNumber : Settled → ℕ
-settledNumber (settled x k h n b) = x
+answerNumber : PassAnswer → ℕ
+answerNumber (pass-answer x k h n b) = x
 
-open-otherwise : (b : List ℕ) (s c t y v : ℕ) → stoppedAt b (opening s c t y v) ≡ 0 → called b (opening s c t y v) .given .answer .number ≢ 11
-unfolding Allowed askedOf view sentOn settledNumber
+open-otherwise : (b : List ℕ) (s c t y v : ℕ) → stoppedAt b (opening s c t y v) ≡ 0 → tableStep b (opening s c t y v) .result .answer .number ≢ 11
+unfolding Allowed factsOf view sendAnswer answerNumber
 open-otherwise b s c t y v z e =
     let p = pass-tests b (none-stops-lent b (opening s c t y v) (λ D q. let x : _≡_ {A = ℕ} 0 1 = cc in omega arith) z) in
-    let r = allowed (askedOf (view b)) (opening s c t y v) (none-stops b (opening s c t y v) z) in
+    let r = allowed (factsOf (view b)) (opening s c t y v) (none-stops b (opening s c t y v) z) in
     let x = open-answers b s c t y v z in
-    send-receives (view b) (p .3) (p .2) t s (r .0) y v (x .outcome) _ (x .says) (rejected (x .outcome) _ (sym (ap settledNumber (x .answer)) ∙ e))
+    send-receives (view b) (p .3) (p .2) t s (r .0) y v (x .outcome) _ (x .says) (rejected (x .outcome) _ (sym (ap answerNumber (x .answer)) ∙ e))
 
-carried-otherwise : (b : List ℕ) (a : Call) → stoppedAt b a ≡ 0 → called b a .given .answer .number ≢ 11
-unfolding carriedOut givesIn
-carried-otherwise b (making D) z e = let q = called-carried b (making D) z in omega (arith, ap (λ (d : After (List ℕ)). d .given .answer .number) q, e)
-carried-otherwise b (blocking n p) z e = let q = called-carried b (blocking n p) z in omega (arith, ap (λ (d : After (List ℕ)). d .given .answer .number) q, e)
-carried-otherwise b (unblocking n p) z e = let q = called-carried b (unblocking n p) z in omega (arith, ap (λ (d : After (List ℕ)). d .given .answer .number) q, e)
-carried-otherwise b (opening s c t y v) z e = open-otherwise b s c t y v z e
-carried-otherwise b (closing s c) z e = let q = called-carried b (closing s c) z in omega (arith, ap (λ (d : After (List ℕ)). d .given .answer .number) q, e)
-carried-otherwise b (tracing s c buffer) z e = let q = called-carried b (tracing s c buffer) z in omega (arith, ap (λ (d : After (List ℕ)). d .given .answer .number) q, e)
+effect-otherwise : (b : List ℕ) (a : Call) → stoppedAt b a ≡ 0 → tableStep b a .result .answer .number ≢ 11
+unfolding tableEffect resultIn
+effect-otherwise b (making D) z e = let q = step-effect b (making D) z in omega (arith, ap (λ (d : After (List ℕ)). d .result .answer .number) q, e)
+effect-otherwise b (blocking n p) z e = let q = step-effect b (blocking n p) z in omega (arith, ap (λ (d : After (List ℕ)). d .result .answer .number) q, e)
+effect-otherwise b (unblocking n p) z e = let q = step-effect b (unblocking n p) z in omega (arith, ap (λ (d : After (List ℕ)). d .result .answer .number) q, e)
+effect-otherwise b (opening s c t y v) z e = open-otherwise b s c t y v z e
+effect-otherwise b (closing s c) z e = let q = step-effect b (closing s c) z in omega (arith, ap (λ (d : After (List ℕ)). d .result .answer .number) q, e)
+effect-otherwise b (tracing s c buffer) z e = let q = step-effect b (tracing s c buffer) z in omega (arith, ap (λ (d : After (List ℕ)). d .result .answer .number) q, e)
 
 -- No call answers 11, whatever the bytes of the table are.
-pub never-full : (b : List ℕ) (a : Call) → called b a .given .answer .number ≢ 11
+pub never-full : (b : List ℕ) (a : Call) → tableStep b a .result .answer .number ≢ 11
 never-full b a e =
-    ⊎-elim (λ z. carried-otherwise b a z e) (λ z. stopped-otherwise b a (sym (ap (λ (d : After (List ℕ)). d .given .answer .number) (called-stopped b a z)) ∙ e)) (same? (stoppedAt b a) 0)
+    ⊎-elim (λ z. effect-otherwise b a z e) (λ z. stopped-otherwise b a (sym (ap (λ (d : After (List ℕ)). d .result .answer .number) (step-stopped b a z)) ∙ e)) (same? (stoppedAt b a) 0)

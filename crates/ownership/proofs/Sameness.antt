@@ -6,12 +6,13 @@ use Prim.Native.Nat.{ℕ}
 use lib.Dec.{eqb}
 use Rattle.paths.specs.Network.{link-free, link-held, isFree, linkState}
 use Rattle.paths.specs.CubeNetwork.{send}
-use Rattle.table.specs.View.{available, receive, lowestOf}
-use Rattle.search.specs.Settle.{freeIn}
+use Rattle.table.specs.View.{available, receive}
+use Rattle.paths.specs.Send.{lowestOf}
+use Rattle.search.specs.PassAnswer.{freeIn}
 use Rattle.ownership.specs.Update.{sendIn}
 use Rattle.ownership.specs.OnTable.{heldIn}
 use Rattle.ownership.specs.History.{History, shapeOn, netOn, holdsLink, holdsReceive, enabledOn, heldOn, freeOn, takenOn, receiveOn, sendOn}
-use Rattle.ownership.specs.Lists.{viewOf}
+use Rattle.ownership.specs.HistoryView.{viewOf}
 use Rattle.ownership.proofs.Circuits.{number-any}
 
 -- "A link is free if enabled and held by nobody", as one test

@@ -14,11 +14,11 @@ use Rattle.common.proofs.Tests.{same?, clash, is-false, both, and, either, or-l
 use Rattle.common.proofs.Lists.{keep-mem, mem-keep, any-some, some-any}
 use Rattle.paths.specs.Send.{Outcome, acknowledged, route-rejected, receive-rejected, answered}
 use Rattle.ownership.specs.Calls.{Call, making, blocking, unblocking, opening, closing, tracing, After}
-use Rattle.ownership.specs.History.{Circuit, History, belongs, openOn, stoppedOn, sendOn, withCircuits, adds, follows, gives, entered}
-use Rattle.ownership.specs.Lists.{historyAfter, historyGives, leaves, answers}
+use Rattle.ownership.specs.History.{Circuit, History, belongs, openOn, stoppedOn, sendOn, withCircuits, withOpened, applied, resultOf, historyStep}
+use Rattle.ownership.specs.Agrees.{historyAfter, historyResults, leaves, answers}
 use Rattle.ownership.specs.StillOpen.{numbered, Ends, Lasts, StillOpen}
 use Rattle.ownership.proofs.Circuits.{belongs-parts, parts-belong}
-use Rattle.ownership.proofs.Entered.{entered-passed, entered-stopped}
+use Rattle.ownership.proofs.HistoryStep.{history-step-passed, history-step-stopped}
 
 module _ (s c : ℕ) where
   -- a call that answered n is an acknowledged open of the channel
@@ -50,8 +50,8 @@ module _ (s c : ℕ) where
       }
 
   -- an open, by its outcome
-  step-opening : (h : History) (m d t y v k : ℕ) (o : Outcome) → Step h (adds h m d t o) (opening m d t y v) (answered o k .number)
-  unfolding adds openOn any belongs answered
+  step-opening : (h : History) (m d t y v k : ℕ) (o : Outcome) → Step h (withOpened h m d t o) (opening m d t y v) (answered o k .number)
+  unfolding withOpened openOn any belongs answered
   step-opening h m d t y v k (acknowledged w j) =
       record {
         from-next = λ o. ⊎-elim (λ e. inl (new (both (eqb m s) (eqb d c) e))) (λ e. inr (e, λ z ends. unfold Ends in absurd ends)) (either (eqb m s && eqb d c) (any (belongs s c) (h .circuits)) o);
@@ -92,8 +92,8 @@ module _ (s c : ℕ) where
       owned x e f = let r = belongs-parts s c x e in let q = belongs-parts m d x f in (sym (q .0) ∙ r .0, sym (q .1) ∙ r .1)
 
   -- any call that no test stops, then any call
-  step-passed : (h : History) (a : Call) → Step h (follows h a) a (gives h a .answer .number)
-  unfolding follows gives Ends openOn
+  step-passed : (h : History) (a : Call) → Step h (applied h a) a (resultOf h a .answer .number)
+  unfolding applied resultOf Ends openOn
   step-passed h (making D) = step-making h D 0 refl
   step-passed h (blocking m p) = step-same h _ (blocking m p) 0 refl (λ o. let u : _≡_ {A = ℕ} 0 1 = cc (o .3) in absurd (omega arith)) (λ z ends. absurd ends)
   step-passed h (unblocking m p) = step-same h _ (unblocking m p) 0 refl (λ o. let u : _≡_ {A = ℕ} 0 1 = cc (o .3) in absurd (omega arith)) (λ z ends. absurd ends)
@@ -101,10 +101,10 @@ module _ (s c : ℕ) where
   step-passed h (closing m d) = step-closing h m d 0 refl
   step-passed h (tracing m d buffer) = step-same h h (tracing m d buffer) 0 refl (λ o. let u : _≡_ {A = ℕ} 0 1 = cc (o .3) in absurd (omega arith)) (λ z ends. absurd ends)
 
-  step-told : (h : History) (a : Call) → Step h (entered h a .state) a (entered h a .given .answer .number)
+  step-told : (h : History) (a : Call) → Step h (historyStep h a .state) a (historyStep h a .result .answer .number)
   step-told h a =
-      ⊎-elim (λ e. subst (λ (x : After History). Step h (x .state) a (x .given .answer .number)) (sym (entered-passed h a e)) (step-passed h a))
-      (λ e. subst (λ (x : After History). Step h (x .state) a (x .given .answer .number)) (sym (entered-stopped h a e))
+      ⊎-elim (λ e. subst (λ (x : After History). Step h (x .state) a (x .result .answer .number)) (sym (history-step-passed h a e)) (step-passed h a))
+      (λ e. subst (λ (x : After History). Step h (x .state) a (x .result .answer .number)) (sym (history-step-stopped h a e))
       (step-same h h a (stoppedOn h a) refl (λ o. e (o .4)) (λ z ends. e z)))
       (same? (stoppedOn h a) 0)
 
@@ -166,25 +166,25 @@ module _ (s c : ℕ) where
 
   -- From any history on:
   pub open-after : (h : History) (calls : List Call)
-      → (openOn (historyAfter h calls) s c ≡ true) ↔ (StillOpen s c (numbered calls (historyGives h calls)) ⊎ ((openOn h s c ≡ true) × Lasts s c (numbered calls (historyGives h calls))))
+      → (openOn (historyAfter h calls) s c ≡ true) ↔ (StillOpen s c (numbered calls (historyResults h calls)) ⊎ ((openOn h s c ≡ true) × Lasts s c (numbered calls (historyResults h calls))))
   unfolding leaves answers numbered Lasts
   open-after h [] = ((λ o. inr (o, λ a m. absurd (List·Memᴰ·not-nil m))), ⊎-elim (λ o. absurd (still-none o)) (λ r. r .0))
   open-after h (a ∷ more) =
-      let ih = open-after (entered h a .state) more in
-      let one = by-one h (entered h a .state) a (entered h a .given .answer .number) (step-told h a) (numbered more (historyGives (entered h a .state) more)) in
+      let ih = open-after (historyStep h a .state) more in
+      let one = by-one h (historyStep h a .state) a (historyStep h a .result .answer .number) (step-told h a) (numbered more (historyResults (historyStep h a .state) more)) in
       ((λ o. one .0 (ih .0 o)), λ r. ih .1 (one .1 r))
 
   -- From an accepted making on: the list has an acknowledged open of the channel, and no accepted making and no accepted close of it afterwards.
   pub open-exactly : (h : History) (D : ℕ) → stoppedOn h (making D) ≡ 0 → (calls : List Call)
-      → (openOn (historyAfter h (making D ∷ calls)) s c ≡ true) ↔ StillOpen s c (numbered (making D ∷ calls) (historyGives h (making D ∷ calls)))
+      → (openOn (historyAfter h (making D ∷ calls)) s c ≡ true) ↔ StillOpen s c (numbered (making D ∷ calls) (historyResults h (making D ∷ calls)))
   open-exactly h D e calls =
       let r = open-after h (making D ∷ calls) in
       ((λ o. ⊎-elim (λ x. x) (λ x. absurd (ended (x .1))) (r .0 o)), λ x. r .1 (inl x))
     where
-      accepted : entered h (making D) .given .answer .number ≡ 0
-      accepted = unfold gives in ap (λ (x : After History). x .given .answer .number) (entered-passed h (making D) e)
+      accepted : historyStep h (making D) .result .answer .number ≡ 0
+      accepted = unfold resultOf in ap (λ (x : After History). x .result .answer .number) (history-step-passed h (making D) e)
 
-      ended : Lasts s c (numbered (making D ∷ calls) (historyGives h (making D ∷ calls))) → ⊥
+      ended : Lasts s c (numbered (making D ∷ calls) (historyResults h (making D ∷ calls))) → ⊥
       ended l =
           unfold answers numbered Ends in
-          lasts-first (making D) (entered h (making D) .given .answer .number) (numbered calls (historyGives (entered h (making D) .state) calls)) l .0 accepted tt
+          lasts-first (making D) (historyStep h (making D) .result .answer .number) (numbered calls (historyResults (historyStep h (making D) .state) calls)) l .0 accepted tt

@@ -17,17 +17,18 @@ use Rattle.paths.specs.Network.{Path}
 use Rattle.paths.proofs.Links.{on-first}
 use Rattle.paths.specs.CubeNetwork.{ports}
 use Rattle.paths.proofs.Recover.{path-owned}
-use Rattle.soundness.specs.Sound.{shapeOf, net, heldBy}
+use Rattle.table.specs.View.{shapeOf, net, heldBy}
 use Rattle.soundness.specs.SoundTest.{pathOf, isEmpty}
 use Rattle.soundness.proofs.Soundness.{path-is, some-hop}
 use Rattle.ownership.specs.Calls.{Call, making, blocking, unblocking, opening, closing, tracing, channel, callTests}
-use Rattle.ownership.specs.OnTable.{openIn, askedOf}
-use Rattle.ownership.specs.History.{Circuit, History, shapeOn, netOn, belongs, openOn, listed, askedOn, stoppedOn}
-use Rattle.ownership.specs.Lists.{viewOf, Valid}
+use Rattle.ownership.specs.OnTable.{openIn, factsOf}
+use Rattle.ownership.specs.History.{Circuit, History, shapeOn, netOn, belongs, openOn, listed, factsOn, stoppedOn}
+use Rattle.ownership.specs.Invariant.{Valid}
+use Rattle.ownership.specs.HistoryView.{viewOf}
 use Rattle.ownership.proofs.Allowed.{channel-small}
 use Rattle.ownership.proofs.Circuits.{numberFor, circuit-parts, belongs-parts, parts-belong}
 use Rattle.ownership.proofs.Sameness.{held-same}
-use Rattle.ownership.proofs.Standing.{link-held, valid-stands, stands-path}
+use Rattle.ownership.proofs.CircuitValid.{link-held, valid-stands, stands-path}
 
 -- the listed path is that of a circuit that belongs to the send channel
 listed-some : (s c : ℕ) (xs : List Circuit) → any (belongs s c) xs ≡ true → (x : Circuit) × (x ∈ xs) × (belongs s c x ≡ true) × (listed xs s c ≡ x .ports)
@@ -89,8 +90,8 @@ past-channel c ts us h = go (ltb 7 c) refl
     go false e = passed 5 ts refl ∙ h (channel-small c e) ∙ sym (passed 5 us refl)
 
 -- The tests of a call answer the same on both.
-pub stopped-same : (h : History) → Valid h → (a : Call) → refusal (callTests (askedOf (viewOf h)) a) ≡ stoppedOn h a
-unfolding stoppedOn callTests askedOf askedOn viewOf
+pub stopped-same : (h : History) → Valid h → (a : Call) → refusal (callTests (factsOf (viewOf h)) a) ≡ stoppedOn h a
+unfolding stoppedOn callTests factsOf factsOn viewOf
 stopped-same h valid (making D) = refl
 stopped-same h valid (blocking n p) = past _ _ _ (past _ _ _ (ap (λ (held : ℕ → ℕ → Bool). refusal (test (held n p) 13 ∷ [])) (held-same h)))
 stopped-same h valid (unblocking n p) = refl

@@ -10,14 +10,14 @@ use lib.Dec.{leb}
 use lib.ListN.{length}
 use borrow.Author.Tests.{eq-eqb, eqb-true, leb-true, not-false}
 use Rattle.common.specs.Tests.{refusal}
-use Rattle.common.proofs.Tests.{passed, accepted, first-passed, Avoids, avoids, avoiding, refusal-behind, refusal-both, both}
+use Rattle.common.proofs.Tests.{passed, accepted, first-passed, Avoids, avoids, avoiding, refusal-after, refusal-both, both}
 use Rattle.table.specs.Layout.{tableLength, dimensionAt}
 use Rattle.table.specs.View.{view}
 use Rattle.soundness.specs.Sound.{Sound}
 use Rattle.soundness.specs.SoundTest.{soundTest, tableTests}
 use Rattle.soundness.proofs.Passing.{answers, usable, decided}
 use Rattle.ownership.specs.Calls.{Call, making, blocking, unblocking, opening, closing, tracing, callTests}
-use Rattle.ownership.specs.OnTable.{askedOf, lentTests, stoppedAt}
+use Rattle.ownership.specs.OnTable.{factsOf, lentTests, stoppedAt}
 
 -- the tests of the lent table are all three, but for a making, which is stopped by the length alone
 pub lent-is : (b : List ℕ) (a : Call) → ((D : ℕ) × (a ≡ making D)) ⊎ (lentTests b a ≡ tableTests b)
@@ -40,7 +40,7 @@ lent-numbered b a = ⊎-elim (λ r. rw (r .1) (alone (r .0))) (λ e. rw e (table
     alone D = unfold avoids lentTests in avoiding 0 _ refl
 
 -- A call that no test stops, whatever the table: no test of the call applies;
-pub none-stops : (b : List ℕ) (a : Call) → stoppedAt b a ≡ 0 → refusal (callTests (askedOf (view b)) a) ≡ 0
+pub none-stops : (b : List ℕ) (a : Call) → stoppedAt b a ≡ 0 → refusal (callTests (factsOf (view b)) a) ≡ 0
 unfolding stoppedAt
 none-stops b a e = refusal-both (lentTests b a) _ (lent-numbered b a) e .1
 
@@ -75,12 +75,12 @@ module _ (b : List ℕ) (long : length b ≡ tableLength) where
   unfolding lentTests
   making-passes D = passed 1 [] (ap not (eq-eqb (length b) tableLength long)) ∙ accepted
 
-  behind : (a : Call) → refusal (lentTests b a) ≡ 0 → stoppedAt b a ≡ refusal (callTests (askedOf (view b)) a)
+  behind : (a : Call) → refusal (lentTests b a) ≡ 0 → stoppedAt b a ≡ refusal (callTests (factsOf (view b)) a)
   unfolding stoppedAt
-  behind a e = refusal-behind (lentTests b a) (callTests (askedOf (view b)) a) (lent-numbered b a) e
+  behind a e = refusal-after (lentTests b a) (callTests (factsOf (view b)) a) (lent-numbered b a) e
 
   -- On a table of the right length a making is stopped by its dimension alone.
-  pub making-stopped : (D : ℕ) → stoppedAt b (making D) ≡ refusal (callTests (askedOf (view b)) (making D))
+  pub making-stopped : (D : ℕ) → stoppedAt b (making D) ≡ refusal (callTests (factsOf (view b)) (making D))
   making-stopped D = behind (making D) (making-passes D)
 
   module _ (least : 1 ≤ dimensionAt b) (most : dimensionAt b ≤ 8) (sound : Sound (view b)) where
@@ -93,5 +93,5 @@ module _ (b : List ℕ) (long : length b ≡ tableLength) where
         go false e = absurd (decided b most .fails e sound)
 
     -- so that a call on it is stopped by the tests of the call alone.
-    pub stopped-is : (a : Call) → stoppedAt b a ≡ refusal (callTests (askedOf (view b)) a)
+    pub stopped-is : (a : Call) → stoppedAt b a ≡ refusal (callTests (factsOf (view b)) a)
     stopped-is a = behind a (⊎-elim (λ r. rw (r .1) (making-passes (r .0))) (λ e. rw e tests-pass) (lent-is b a))

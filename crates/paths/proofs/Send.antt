@@ -7,14 +7,14 @@ use mathlib.Core.List.{List, [], _∷_}
 use Prim.Native.Nat.{ℕ, _+_, _≤_}
 use native.Mathlib.Omega.{arith}
 use Rattle.paths.specs.Network.{Network}
-use Rattle.paths.specs.Pass.{Pass, none, found, pass, scouts}
+use Rattle.paths.specs.Pass.{PassResult, none, found, pass, scouts}
 use Rattle.paths.specs.Send.{Receive, channel, all-held, Outcome, acknowledged, route-rejected, receive-rejected, Acknowledged, received, outcome, goesOn, runs}
 use Rattle.paths.specs.Sentences.{Says, AnswerSays, says-acknowledged, says-receive-rejected, says-route-rejected}
 use Rattle.paths.specs.CubeNetwork.{Shape, network, sendPorts, otherPorts, maze, alternateMaze}
 use Rattle.paths.proofs.CubeNetwork.{scouts-bound}
 
 -- What a pass and the target's receive channels come to says what document 01 says of it.
-pub answer-says : (N : Network) (free : ℕ → ℕ → Bool) (s : ℕ) (vector : List ℕ) (t : ℕ) (r : Receive) (x : Pass) → Says N free s vector t x → AnswerSays N free s vector t r (outcome r x) (scouts x)
+pub answer-says : (N : Network) (free : ℕ → ℕ → Bool) (s : ℕ) (vector : List ℕ) (t : ℕ) (r : Receive) (x : PassResult) → Says N free s vector t x → AnswerSays N free s vector t r (outcome r x) (scouts x)
 unfolding outcome scouts received
 answer-says N free s vector t r (none c) h = says-route-rejected h
 answer-says N free s vector t (channel k) (found w c) h = says-acknowledged refl h
@@ -27,23 +27,23 @@ goes-on-unless (acknowledged w c) = ((λ e. tt), (λ h. refl))
 goes-on-unless route-rejected = ((λ e. true≢false e), (λ h. absurd h))
 goes-on-unless receive-rejected = ((λ e. true≢false e), (λ h. absurd h))
 
-pub runs-last : (r : Receive) (a : Pass) → runs r a [] ≡ record { outcome = outcome r a; scouts = scouts a }
+pub runs-last : (r : Receive) (a : PassResult) → runs r a [] ≡ record { outcome = outcome r a; scouts = scouts a }
 unfolding runs
 runs-last r a = refl
 
-pub runs-stop : (r : Receive) (a b : Pass) (bs : List Pass) → goesOn (outcome r a) ≡ false → runs r a (b ∷ bs) ≡ record { outcome = outcome r a; scouts = scouts a }
+pub runs-stop : (r : Receive) (a b : PassResult) (bs : List PassResult) → goesOn (outcome r a) ≡ false → runs r a (b ∷ bs) ≡ record { outcome = outcome r a; scouts = scouts a }
 unfolding runs
 runs-stop r a b bs e = rw e
 
-pub runs-on : (r : Receive) (a b : Pass) (bs : List Pass) → goesOn (outcome r a) ≡ true → runs r a (b ∷ bs) ≡ record { outcome = runs r b bs .outcome; scouts = scouts a + runs r b bs .scouts }
+pub runs-on : (r : Receive) (a b : PassResult) (bs : List PassResult) → goesOn (outcome r a) ≡ true → runs r a (b ∷ bs) ≡ record { outcome = runs r b bs .outcome; scouts = scouts a + runs r b bs .scouts }
 runs-on r a b bs e = unfold runs in rw e
 
 module _ (S : Shape) (free : ℕ → ℕ → Bool) (r : Receive) (s vector t : ℕ) where
   -- the pass with the given vector, and the one with the ports that are not in it
-  abbrev first : Pass
+  abbrev first : PassResult
   first = pass (network S) free s (sendPorts S vector) t
 
-  abbrev second : Pass
+  abbrev second : PassResult
   second = pass (network S) free s (otherPorts S vector) t
 
   -- Routing type 0 answers what its one pass comes to.

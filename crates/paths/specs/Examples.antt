@@ -13,7 +13,7 @@ use Rattle.cube.specs.Cube.{uphill}
 use Rattle.cube.specs.Helical.{helical}
 use Rattle.paths.specs.Network.{Path, Link, offered, end, links, hasLink, freePath}
 use Rattle.paths.specs.Pass.{over, ways, beginnings, scan, whole, pass, scouts}
-use Rattle.paths.specs.Send.{channel, all-held, Outcome, acknowledged, route-rejected, receive-rejected, received, outcome, Sent, goesOn, runs}
+use Rattle.paths.specs.Send.{channel, all-held, Outcome, acknowledged, route-rejected, receive-rejected, received, outcome, SendResult, goesOn, runs}
 use Rattle.paths.specs.CubeNetwork.{Shape, ports, network, sendPorts, otherPorts, maze, alternateMaze}
 use Rattle.paths.specs.Bound.{waysFrom, sendsFrom}
 use Rattle.paths.specs.Recover.{takeFirst, dropAxis, walkFrom, wayBack, firstHopChoices, pathOfLinks}
@@ -29,11 +29,11 @@ folded D mask = record { dimension = D; fold = mask }
 abbrev cube : ℕ → Shape
 cube D = folded D 0
 
-abbrev answer : Outcome → ℕ → Sent
+abbrev answer : Outcome → ℕ → SendResult
 answer o c = record { outcome = o; scouts = c }
 
 -- the sends of the examples, with receive channel 0 the lowest at each target
-abbrev sends : List Sent
+abbrev sends : List SendResult
 sends =
     -- 1: D 3, 0 to 7, vector 7, nothing blocked
     maze (cube 3) (freeBut []) (channel 0) 0 7 7
@@ -50,7 +50,7 @@ sends =
     ∷ alternateMaze (cube 2) (freeBut ((0, 0) ∷ [])) (channel 0) 0 1 1
     ∷ []
 
-abbrev answers : List Sent
+abbrev answers : List SendResult
 answers =
     answer (acknowledged (0 ∷ 1 ∷ 2 ∷ []) 0) 3
     ∷ answer (acknowledged (1 ∷ 2 ∷ 0 ∷ []) 0) 5
@@ -66,9 +66,9 @@ unfolding maze alternateMaze network ports sendPorts otherPorts present axis kee
 examples-1-to-6 = refl
 
 -- Two passes that both send scouts: D 2, 0 to 3, vector 1, link 1 to 3 blocked. The first sends one, over port 0; the second two.
-two-passes : alternateMaze (cube 2) (freeBut ((1, 1) ∷ [])) (channel 4) 0 1 3 ≡ answer (acknowledged (1 ∷ 0 ∷ []) 4) 3
+acknowledged-second : alternateMaze (cube 2) (freeBut ((1, 1) ∷ [])) (channel 4) 0 1 3 ≡ answer (acknowledged (1 ∷ 0 ∷ []) 4) 3
 unfolding alternateMaze network ports sendPorts otherPorts present axis keep from has flip uphill helical offered end freePath over ways beginnings scan whole pass scouts received outcome goesOn runs
-two-passes = refl
+acknowledged-second = refl
 
 -- With all receive channels held: type 0 is receive rejected; type 4 goes on, and its second pass, with no port left, is route rejected.
 receive-rejected-once : maze (cube 1) (freeBut []) all-held 0 1 1 ≡ answer receive-rejected 1
@@ -85,7 +85,7 @@ unfolding alternateMaze network ports sendPorts otherPorts present axis keep fro
 acknowledged-at-once = refl
 
 -- Document 02, (h): "Bit p of the fold mask doubles dimension p".
-abbrev foldedSends : List Sent
+abbrev foldedSends : List SendResult
 foldedSends =
     -- D 1, mask 1, 0 to 1, vector 1, so ports 0 and 17
     maze (folded 1 1) (freeBut []) (channel 0) 0 1 1
@@ -100,7 +100,7 @@ foldedSends =
     ∷ maze (folded 2 1) (freeBut ((1, 1) ∷ [])) (channel 0) 0 1 2
     ∷ []
 
-abbrev foldedAnswers : List Sent
+abbrev foldedAnswers : List SendResult
 foldedAnswers =
     answer (acknowledged (0 ∷ []) 0) 1
     ∷ answer (acknowledged (17 ∷ []) 0) 1
@@ -115,9 +115,9 @@ unfolding maze alternateMaze network ports sendPorts otherPorts present axis kee
 folded-sends = refl
 
 -- "The helical order then runs over 18 positions": with D 8 and mask 255, behind port 7 come 10 to 17 and then 0 to 7.
-behind-seven : helical 7 (ports (folded 8 255)) ≡ 10 ∷ 11 ∷ 12 ∷ 13 ∷ 14 ∷ 15 ∷ 16 ∷ 17 ∷ 0 ∷ 1 ∷ 2 ∷ 3 ∷ 4 ∷ 5 ∷ 6 ∷ 7 ∷ []
+after-seven : helical 7 (ports (folded 8 255)) ≡ 10 ∷ 11 ∷ 12 ∷ 13 ∷ 14 ∷ 15 ∷ 16 ∷ 17 ∷ 0 ∷ 1 ∷ 2 ∷ 3 ∷ 4 ∷ 5 ∷ 6 ∷ 7 ∷ []
 unfolding helical ports present axis keep from has
-behind-seven = refl
+after-seven = refl
 
 -- "A vector .. gains the partners of its folded ports": of vector 5 with mask 6, port 15 beside port 2.
 with-fifteen : sendPorts (folded 3 6) 5 ≡ 0 ∷ 2 ∷ 15 ∷ []

@@ -3,14 +3,20 @@
 use mathlib.Core.Bool.{Bool, true, false, cond}
 use mathlib.Core.List.{List, [], _∷_}
 use Prim.Native.Nat.{ℕ, _+_}
+use lib.Dec.{eqb}
 use lib.ListN.{length}
+use Rattle.common.specs.Lists.{lowest}
 use Rattle.paths.specs.Network.{Path}
-use Rattle.paths.specs.Pass.{Pass, none, found, scouts}
+use Rattle.paths.specs.Pass.{PassResult, none, found, scouts}
 
 -- "the target takes its lowest receive channel that no circuit holds": that channel, or none where all are held
 pub data Receive : Type 0 where
   channel : ℕ → Receive
   all-held : Receive
+
+-- the lowest of eight channels that passes a test, if any does
+unfoldable pub lowestOf : (ℕ → Bool) → Receive
+lowestOf f = cond (eqb (lowest f 8 0) 8) all-held (channel (lowest f 8 0))
 
 -- "With none, route rejected. With one, the target takes its lowest receive channel ..; if all are held, receive rejected."
 pub data Outcome : Type 0 where
@@ -28,12 +34,12 @@ unfoldable pub received : Path → Receive → Outcome
 received w (channel c) = acknowledged w c
 received w all-held = receive-rejected
 
-unfoldable pub outcome : Receive → Pass → Outcome
+unfoldable pub outcome : Receive → PassResult → Outcome
 outcome r (none c) = route-rejected
 outcome r (found w c) = received w r
 
 -- what a send answers: its outcome and the scouts of all its passes
-pub record Sent : Type 0 where
+pub record SendResult : Type 0 where
   pub outcome : Outcome
   pub scouts : ℕ
 
@@ -44,7 +50,7 @@ goesOn route-rejected = true
 goesOn receive-rejected = true
 
 -- A routing type is a list of attempts, made in turn. "The answer is that of the last pass run; scouts of both are added."
-unfoldable pub runs : Receive → Pass → List Pass → Sent
+unfoldable pub runs : Receive → PassResult → List PassResult → SendResult
 runs r a [] = record { outcome = outcome r a; scouts = scouts a }
 runs r a (b ∷ bs) =
     cond (goesOn (outcome r a)) (record { outcome = runs r b bs .outcome; scouts = scouts a + runs r b bs .scouts })

@@ -6,17 +6,17 @@ use mathlib.Core.Bool.{Bool, true}
 use mathlib.Core.List.{List, _++_}
 use Prim.Native.Nat.{ℕ}
 use lib.ListN.{length}
-use Rattle.common.specs.Lists.{_∈_, Sorted}
+use Rattle.common.specs.Lists.{_∈_, Pairwise}
 use Rattle.paths.specs.Network.{Network, Path, freePath}
 use Rattle.paths.specs.Permitted.{Permitted, Beginning, ComesBefore}
-use Rattle.paths.specs.Pass.{Pass, none, found}
+use Rattle.paths.specs.Pass.{PassResult, none, found}
 use Rattle.paths.specs.Send.{Receive, channel, all-held, Outcome, acknowledged, route-rejected, receive-rejected}
 
 -- c is the number of paths with P: a list holds exactly those, each once, and is c long
 pub record Number (P : Path → Type 0) (c : ℕ) : Type 0 where
   pub list : List Path
   pub holds : (b : Path) → (b ∈ list) ↔ P b
-  pub once : Sorted _≢_ list
+  pub once : Pairwise _≢_ list
   pub long : length list ≡ c
 
 -- "that come before the found path or are a beginning of it (itself counted)"
@@ -39,7 +39,7 @@ module _ (N : Network) (free : ℕ → ℕ → Bool) (s : ℕ) (vector : List �
     pub nothing : (v : Path) → Permitted N s vector t v → Free N free s v → ⊥
     pub scouts : Number (λ b. Beginning N s vector t b × Free N free s b) c
 
-  abbrev pub Says : Pass → Type 0
+  abbrev pub Says : PassResult → Type 0
   Says (none c) = NoneSays c
   Says (found w c) = FoundSays w c
 

@@ -1,7 +1,7 @@
 // The six calls on a lent table.
 mod calls;
 mod release;
-mod stopped;
+mod tests;
 
 pub use calls::Opened;
 pub use calls::Traced;

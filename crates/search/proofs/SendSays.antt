@@ -11,18 +11,17 @@ use borrow.Author.Tests.{eqb-true, eqb-false, eq-eqb}
 use Rattle.common.specs.Lists.{_∈_, lowest}
 use Rattle.common.proofs.Tests.{clash}
 use Rattle.paths.specs.Network.{Path}
-use Rattle.paths.specs.Pass.{Pass, pass, scouts}
+use Rattle.paths.specs.Pass.{PassResult, pass, scouts}
 use Rattle.paths.specs.Send.{Receive, channel, all-held, Outcome, acknowledged, route-rejected, receive-rejected, Acknowledged, outcome, goesOn, answered}
 use Rattle.paths.specs.Sentences.{AnswerSays, says-acknowledged, says-receive-rejected, says-route-rejected}
 use Rattle.paths.specs.CubeNetwork.{Shape, network, sendPorts, otherPorts, maze, alternateMaze, send}
 use Rattle.paths.proofs.Send.{answer-says, maze-answers, alternate-stops, alternate-goes-on, goes-on-unless, sends-bounded}
 use Rattle.paths.proofs.CubeNetwork.{cube-says, cube-says-other}
 use Rattle.table.specs.Layout.{dimensionAt}
-use Rattle.table.specs.View.{View, view, receive, available}
-use Rattle.soundness.specs.Sound.{net, shapeOf}
+use Rattle.table.specs.View.{View, view, receive, available, net, shapeOf}
 use Rattle.table.proofs.Receives.{chosen, none-chosen}
-use Rattle.search.specs.Settle.{freeIn, settled}
-use Rattle.search.specs.Sent.{marked, sentOn, sends, MaySend}
+use Rattle.search.specs.PassAnswer.{freeIn, pass-answer}
+use Rattle.search.specs.SendAnswer.{bytesAfterSend, sendAnswer, sends, MaySend}
 use Rattle.search.specs.SendSays.{FreeRoute, Available, Lowest, passesOf, PassesSay, one-acknowledged, only-one, two, SendSays}
 use Rattle.search.proofs.Sends.{sent-goes-on, sent-scouts}
 
@@ -38,22 +37,22 @@ module _ (v : View) (t : ℕ) where
 
 -- Acknowledged is number 0.
 module _ (b : List ℕ) (c s t : ℕ) where
-  number-acknowledged : (o : Outcome) (m x k h n : ℕ) (b′ : List ℕ) → settled x k h n b′ ≡ sentOn b c s t (record { outcome = o; scouts = m }) → (x ≡ 0) ↔ Acknowledged o
-  unfolding sentOn marked answered Acknowledged
+  number-acknowledged : (o : Outcome) (m x k h n : ℕ) (b′ : List ℕ) → pass-answer x k h n b′ ≡ sendAnswer b c s t (record { outcome = o; scouts = m }) → (x ≡ 0) ↔ Acknowledged o
+  unfolding sendAnswer bytesAfterSend answered Acknowledged
   number-acknowledged (acknowledged w j) m x k h n b′ q = ((λ z. tt), (λ z. cc))
   number-acknowledged route-rejected m x k h n b′ q = ((λ z. let y : x ≡ 10 = cc in omega arith), (λ z. absurd z))
   number-acknowledged receive-rejected m x k h n b′ q = ((λ z. let y : x ≡ 11 = cc in omega arith), (λ z. absurd z))
 
-  number-channel : (o : Outcome) (m x k h n : ℕ) (b′ : List ℕ) → settled x k h n b′ ≡ sentOn b c s t (record { outcome = o; scouts = m }) → Acknowledged o → (w : Path) × (o ≡ acknowledged w k)
-  unfolding sentOn marked answered Acknowledged
+  number-channel : (o : Outcome) (m x k h n : ℕ) (b′ : List ℕ) → pass-answer x k h n b′ ≡ sendAnswer b c s t (record { outcome = o; scouts = m }) → Acknowledged o → (w : Path) × (o ≡ acknowledged w k)
+  unfolding sendAnswer bytesAfterSend answered Acknowledged
   number-channel (acknowledged w j) m x k h n b′ q z = let y : j ≡ k = cc in (w, ap (acknowledged w) y)
 
 -- What the passes of a send say.
 module _ (S : Shape) (free : ℕ → ℕ → Bool) (r : Receive) (s vector t : ℕ) (fits : S .dimension ≤ 8) (i : s < 2 ^ S .dimension) (l : t < 2 ^ S .dimension) where
-  first : Pass
+  first : PassResult
   first = pass (network S) free s (sendPorts S vector) t
 
-  second : Pass
+  second : PassResult
   second = pass (network S) free s (otherPorts S vector) t
 
   first-says : AnswerSays (network S) free s (sendPorts S vector) t r (outcome r first) (scouts first)
@@ -158,7 +157,7 @@ send-bounded S free r s vector t type h z = go (eqb type 4)
     go false = sends-bounded S free r s vector t h z .0
 
 -- The users' second demand: of any answer that the contract of `search::send` allows.
-pub demand-2 : (b : List ℕ) (s t c type vector : ℕ) → MaySend b s t c vector → (x k h n : ℕ) (b′ : List ℕ) → settled x k h n b′ ≡ sends b s t c type vector → SendSays b s t c type vector x k h n b′
+pub demand-2 : (b : List ℕ) (s t c type vector : ℕ) → MaySend b s t c vector → (x k h n : ℕ) (b′ : List ℕ) → pass-answer x k h n b′ ≡ sends b s t c type vector → SendSays b s t c type vector x k h n b′
 unfolding sends Says S Route
 demand-2 b s t c type vector may x k h n b′ q = answers (send type (shapeOf (view b)) (freeIn (view b)) (receive (view b) t) s vector t .outcome) said q few
   where
@@ -175,14 +174,14 @@ demand-2 b s t c type vector may x k h n b′ q = answers (send type (shapeOf (v
     few = rw counted (send-bounded (shapeOf (view b)) (freeIn (view b)) (receive (view b) t) s vector t type (unfold view in may .fits) refl)
 
     answers : (o : Outcome) → PassesSay (net (view b)) (freeIn (view b)) s t (receive (view b) t) type (sendPorts (shapeOf (view b)) vector) (otherPorts (shapeOf (view b)) vector) o n
-        → settled x k h n b′ ≡ sentOn b c s t (record { outcome = o; scouts = send type (shapeOf (view b)) (freeIn (view b)) (receive (view b) t) s vector t .scouts }) → n ≤ 123300 → SendSays b s t c type vector x k h n b′
+        → pass-answer x k h n b′ ≡ sendAnswer b c s t (record { outcome = o; scouts = send type (shapeOf (view b)) (freeIn (view b)) (receive (view b) t) s vector t .scouts }) → n ≤ 123300 → SendSays b s t c type vector x k h n b′
     answers o says e bound =
         let m = send type (shapeOf (view b)) (freeIn (view b)) (receive (view b) t) s vector t .scouts in
         let number = number-acknowledged b c s t o m x k h n b′ e in
         record {
           outcome = o;
           says = says;
-          answer = e ∙ ap (λ i. sentOn b c s t (record { outcome = o; scouts = i })) (sym counted);
+          answer = e ∙ ap (λ i. sendAnswer b c s t (record { outcome = o; scouts = i })) (sym counted);
           exactly = ((λ z. acknowledged-route (view b) s t type vector o n says (number .0 z)), (λ y. number .1 (route-acknowledged (view b) s t type vector o n says y)));
           lowest = λ z. channel-says (view b) s t type vector o n says (number-channel b c s t o m x k h n b′ e (number .0 z));
           unchanged = λ f. sent-goes-on b c s t o m e f .1;

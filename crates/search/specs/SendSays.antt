@@ -12,10 +12,9 @@ use Rattle.paths.specs.Permitted.{Permitted}
 use Rattle.paths.specs.Send.{Receive, Outcome, Acknowledged}
 use Rattle.paths.specs.Sentences.{Free, AnswerSays}
 use Rattle.paths.specs.CubeNetwork.{Shape, sendPorts, otherPorts}
-use Rattle.table.specs.View.{View, view, receive}
-use Rattle.soundness.specs.Sound.{net, shapeOf}
-use Rattle.search.specs.Settle.{freeIn, settled}
-use Rattle.search.specs.Sent.{sentOn}
+use Rattle.table.specs.View.{View, view, receive, net, shapeOf}
+use Rattle.search.specs.PassAnswer.{freeIn, pass-answer}
+use Rattle.search.specs.SendAnswer.{sendAnswer}
 
 -- a path from s to t over the ports of a list, permitted and free in what a table shows
 abbrev pub FreeRoute : View → ℕ → ℕ → List ℕ → Type 0
@@ -49,7 +48,7 @@ pub record SendSays (b : List ℕ) (s t c type vector : ℕ) (number receives ho
   -- the outcome and the scouts are those of the passes: the first free permitted path, and the free beginnings up to it (AnswerSays)
   pub says : PassesSay (net (view b)) (freeIn (view b)) s t (receive (view b) t) type (sendPorts (shapeOf (view b)) vector) (otherPorts (shapeOf (view b)) vector) outcome scouts
   -- the numbers and the bytes are those of that outcome: an acknowledged path's links and its receive channel are held, nothing else changes
-  pub answer : settled number receives hops scouts after ≡ sentOn b c s t (record { outcome = outcome; scouts = scouts })
+  pub answer : pass-answer number receives hops scouts after ≡ sendAnswer b c s t (record { outcome = outcome; scouts = scouts })
   -- it is acknowledged exactly when one of its passes has a free permitted path and the target has a receive channel that nobody holds
   pub exactly : (number ≡ 0) ↔ (((ports : List ℕ) × (ports ∈ passesOf (shapeOf (view b)) type vector) × FreeRoute (view b) s t ports) × Available (view b) t)
   pub lowest : number ≡ 0 → Lowest (view b) t receives

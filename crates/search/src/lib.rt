@@ -1,12 +1,12 @@
 // The search for a free permitted path on a lent table.
 ghost use mathlib.Core.Path.{_≡_};
 ghost use mathlib.Core.Bool.{true};
-ghost use Rattle.table.specs.Layout.{Within};
+ghost use Rattle.table.specs.LayoutContracts.{Within};
 ghost use Rattle.table.specs.View.{view};
 ghost use Rattle.cube.specs.Helical.{FirstPorts};
-ghost use Rattle.search.specs.Settle.{freeIn, settled};
-ghost use Rattle.search.specs.Turns.{Narrowed, Enabled, tries, arrived, MayTry, MayArrive};
-ghost use Rattle.search.specs.Sent.{MaySend, sendsMaze, sendsAlternate, sends};
+ghost use Rattle.search.specs.PassAnswer.{freeIn, pass-answer};
+ghost use Rattle.search.specs.SearchContracts.{Narrowed, Enabled, tryAnswer, arriveAnswer, MayTry, MayArrive};
+ghost use Rattle.search.specs.SendAnswer.{MaySend, sendsMaze, sendsAlternate, sends};
 use common::refusal;
 use cube::Circuit;
 use cube::Node;
@@ -30,7 +30,7 @@ fn is_free(t: &[u8], n: Node, p: Port) -> bool
 }
 
 // What a pass comes to: 0 with the receive channel and the hops, or the refusal; and the scouts sent.
-pub struct Pass {
+pub struct PassResult {
     pub refused: u16,
     pub channel: u16,
     pub hops: u16,
@@ -48,14 +48,14 @@ fn try_ports(
     hops: u16,
     scouts: u32,
     first: &[u8; 2048],
-) -> Pass
+) -> PassResult
     requires { ⌜ FirstPorts (now first) ⌝ }
     requires { ⌜ MayTry (now t) (target .0) (c .0) (at .0) vector (arrival .0) hops scouts ⌝ }
     requires { ⌜ Enabled (view (now t)) (at .0) vector ⌝ }
-    ensures { λ r. ⌜ settled (r .refused) (r .channel) (r .hops) (r .scouts) (now (t .exit)) ≡ tries (now (t .entry)) (target .0) (c .0) (at .0) vector (arrival .0) hops scouts ⌝ }
+    ensures { λ r. ⌜ pass-answer (r .refused) (r .channel) (r .hops) (r .scouts) (now (t .exit)) ≡ tryAnswer (now (t .entry)) (target .0) (c .0) (at .0) vector (arrival .0) hops scouts ⌝ }
 {
     if vector == 0 {
-        return Pass {
+        return PassResult {
             refused: refusal::ROUTE_REJECTED,
             channel: 0,
             hops: 0,
@@ -77,11 +77,11 @@ fn try_in_turn(
     hops: u16,
     scouts: u32,
     first: &[u8; 2048],
-) -> Pass
+) -> PassResult
     requires { ⌜ FirstPorts (now first) ⌝ }
     requires { ⌜ MayTry (now t) (target .0) (c .0) (at .0) vector (arrival .0) hops scouts ⌝ }
     requires { ⌜ Enabled (view (now t)) (at .0) vector ⌝ }
-    ensures { λ r. ⌜ settled (r .refused) (r .channel) (r .hops) (r .scouts) (now (t .exit)) ≡ tries (now (t .entry)) (target .0) (c .0) (at .0) vector (arrival .0) hops scouts ⌝ }
+    ensures { λ r. ⌜ pass-answer (r .refused) (r .channel) (r .hops) (r .scouts) (now (t .exit)) ≡ tryAnswer (now (t .entry)) (target .0) (c .0) (at .0) vector (arrival .0) hops scouts ⌝ }
 {
     let mut left = vector;
     let mut sent = scouts;
@@ -110,7 +110,7 @@ fn try_in_turn(
             sent = got.scouts;
         }
     }
-    Pass {
+    PassResult {
         refused: refusal::ROUTE_REJECTED,
         channel: 0,
         hops: 0,
@@ -129,22 +129,22 @@ fn arrive(
     hops: u16,
     scouts: u32,
     first: &[u8; 2048],
-) -> Pass
+) -> PassResult
     requires { ⌜ FirstPorts (now first) ⌝ }
     requires { ⌜ MayArrive (now t) (target .0) (c .0) (at .0) (arrival .0) hops scouts ⌝ }
-    ensures { λ r. ⌜ settled (r .refused) (r .channel) (r .hops) (r .scouts) (now (t .exit)) ≡ arrived (now (t .entry)) (target .0) (c .0) (at .0) (arrival .0) hops scouts ⌝ }
+    ensures { λ r. ⌜ pass-answer (r .refused) (r .channel) (r .hops) (r .scouts) (now (t .exit)) ≡ arriveAnswer (now (t .entry)) (target .0) (c .0) (at .0) (arrival .0) hops scouts ⌝ }
 {
     if at.0 == target.0 {
         let channel = table::free_channel(t, at);
         if channel == 8 {
-            Pass {
+            PassResult {
                 refused: refusal::RECEIVE_REJECTED,
                 channel: 0,
                 hops: 0,
                 scouts,
             }
         } else {
-            Pass {
+            PassResult {
                 refused: refusal::ACCEPTED,
                 channel,
                 hops,
@@ -166,10 +166,10 @@ fn maze(
     c: Circuit,
     vector: u16,
     first: &[u8; 2048],
-) -> Pass
+) -> PassResult
     requires { ⌜ FirstPorts (now first) ⌝ }
     requires { ⌜ MaySend (now t) (source .0) (target .0) (c .0) vector ⌝ }
-    ensures { λ r. ⌜ settled (r .refused) (r .channel) (r .hops) (r .scouts) (now (t .exit)) ≡ sendsMaze (now (t .entry)) (source .0) (target .0) (c .0) vector ⌝ }
+    ensures { λ r. ⌜ pass-answer (r .refused) (r .channel) (r .hops) (r .scouts) (now (t .exit)) ≡ sendsMaze (now (t .entry)) (source .0) (target .0) (c .0) vector ⌝ }
 {
     let ports = enabled_ports(t, source, vector);
     let got = try_in_turn(t, source, target, c, ports, Port(7), 0, 0, first);
@@ -188,10 +188,10 @@ fn alternate_maze(
     c: Circuit,
     vector: u16,
     first: &[u8; 2048],
-) -> Pass
+) -> PassResult
     requires { ⌜ FirstPorts (now first) ⌝ }
     requires { ⌜ MaySend (now t) (source .0) (target .0) (c .0) vector ⌝ }
-    ensures { λ r. ⌜ settled (r .refused) (r .channel) (r .hops) (r .scouts) (now (t .exit)) ≡ sendsAlternate (now (t .entry)) (source .0) (target .0) (c .0) vector ⌝ }
+    ensures { λ r. ⌜ pass-answer (r .refused) (r .channel) (r .hops) (r .scouts) (now (t .exit)) ≡ sendsAlternate (now (t .entry)) (source .0) (target .0) (c .0) vector ⌝ }
 {
     let others = (cube::node_count(table::dimension(t)) - 1) ^ vector;
     let got = maze(t, source, target, c, vector, first);
@@ -200,7 +200,7 @@ fn alternate_maze(
     }
     let again = maze(t, source, target, c, others, first);
     let scouts = got.scouts + again.scouts;
-    Pass {
+    PassResult {
         refused: again.refused,
         channel: again.channel,
         hops: again.hops,
@@ -209,9 +209,9 @@ fn alternate_maze(
 }
 
 // A send of routing type 0 or 4. The table of first ports is built once for all its hops.
-pub fn send(t: &mut [u8], source: Node, target: Node, c: Circuit, routing: u16, vector: u16) -> Pass
+pub fn send(t: &mut [u8], source: Node, target: Node, c: Circuit, routing: u16, vector: u16) -> PassResult
     requires { ⌜ MaySend (now t) (source .0) (target .0) (c .0) vector ⌝ }
-    ensures { λ r. ⌜ settled (r .refused) (r .channel) (r .hops) (r .scouts) (now (t .exit)) ≡ sends (now (t .entry)) (source .0) (target .0) (c .0) routing vector ⌝ }
+    ensures { λ r. ⌜ pass-answer (r .refused) (r .channel) (r .hops) (r .scouts) (now (t .exit)) ≡ sends (now (t .entry)) (source .0) (target .0) (c .0) routing vector ⌝ }
 {
     let first = cube::first_ports();
     if routing == 4 {

@@ -2,7 +2,7 @@
 -- Assumes nothing.
 use mathlib.Core.Path.{refl}
 use Rattle.table.specs.View.{view}
-use Rattle.search.proofs.Settle.{free-on}
+use Rattle.search.proofs.PassAnswer.{free-on}
 use borrow.Author.Needs.{needs}
 use Rattle.search.proofs.is_free.Statement.{statement}
 use Rattle.search.proofs.is_free.Tie as tie

@@ -1,7 +1,7 @@
 -- `router::calls::block` meets its contract: its tests, then the enable bit.
 -- Assumes nothing.
 use Rattle.router.proofs.Stopping.{block-passed, link-within}
-use Rattle.router.proofs.Called.{call-blocks, block-refused}
+use Rattle.router.proofs.TableStep.{call-blocks, block-refused}
 use native.Mathlib.Omega.{arith}
 use borrow.Author.Needs.{needs}
 use Rattle.router.proofs.calls.block.Statement.{statement}

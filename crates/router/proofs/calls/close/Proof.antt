@@ -1,7 +1,7 @@
 -- `router::calls::close` meets its contract: its tests, then every entry of the circuit freed.
 -- Assumes nothing.
 use Rattle.router.proofs.Stopping.{close-passed, small-source, has-source}
-use Rattle.router.proofs.Called.{close-refused, call-closes, open-path}
+use Rattle.router.proofs.TableStep.{close-refused, call-closes, open-path}
 use native.Mathlib.Omega.{arith}
 use borrow.Author.Needs.{needs}
 use Rattle.router.proofs.calls.close.Statement.{statement}

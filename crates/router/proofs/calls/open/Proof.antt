@@ -2,7 +2,7 @@
 -- Assumes nothing.
 use native.Mathlib.Omega.{arith}
 use Rattle.router.proofs.Stopping.{open-passed, small-source, node-room}
-use Rattle.router.proofs.Called.{open-refused, call-opens}
+use Rattle.router.proofs.TableStep.{open-refused, call-opens}
 use borrow.Author.Needs.{needs}
 use Rattle.router.proofs.calls.open.Statement.{statement}
 use Rattle.router.proofs.calls.open.Tie as tie

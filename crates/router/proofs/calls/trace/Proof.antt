@@ -1,7 +1,7 @@
 -- `router::calls::trace` meets its contract: its tests, then the path of the circuit written.
 -- Assumes nothing.
 use Rattle.router.proofs.Stopping.{trace-passed, small-source, has-source}
-use Rattle.router.proofs.Called.{trace-refused, call-traces, open-path}
+use Rattle.router.proofs.TableStep.{trace-refused, call-traces, open-path}
 use native.Mathlib.Omega.{arith}
 use borrow.Author.Needs.{needs}
 use Rattle.router.proofs.calls.trace.Statement.{statement}

@@ -1,7 +1,7 @@
 -- `router::calls::unblock` meets its contract: its tests, then the enable bit.
 -- Assumes nothing.
 use Rattle.router.proofs.Stopping.{link-passed, link-within}
-use Rattle.router.proofs.Called.{call-unblocks, unblock-refused}
+use Rattle.router.proofs.TableStep.{call-unblocks, unblock-refused}
 use native.Mathlib.Omega.{arith}
 use borrow.Author.Needs.{needs}
 use Rattle.router.proofs.calls.unblock.Statement.{statement}
