@@ -9,7 +9,8 @@ use native.Mathlib.Omega.{arith}
 use lib.ListN.{getD}
 use borrow.Author.Tests.{lt-ltb, le-ltb}
 use Rattle.common.specs.Lists.{_∈_, keep, from, Pairwise}
-use Rattle.common.proofs.Lists.{keep-yes, keep-no, from-mem, mem-from, from-pairwise, pairwise-append, pairwise-imp}
+use Rattle.common.proofs.Lists.{keep-yes, keep-no, pairwise-append, pairwise-imp}
+use Rattle.common.proofs.From.{from-mem, mem-from, from-pairwise}
 use Rattle.common.proofs.Tests.{below-or, clash}
 use Rattle.arbiter.specs.Arbiter.{asks, order, chosen}
 use Rattle.arbiter.specs.Chosen.{steps, Chosen}

@@ -11,7 +11,8 @@ use lib.ListN.{length, getD, length-append}
 use borrow.Author.Tests.{ltb-true, ltb-false, lt-leb, le-leb, le-ltb, leb-true, lt-ltb, ne-eqb, eq-eqb}
 use Rattle.common.specs.Lists.{_∈_, keep, from, Pairwise}
 use Rattle.common.proofs.Tests.{below-or}
-use Rattle.common.proofs.Lists.{all-append, keep-no, keep-mem, mem-keep, keep-append, keep-all, keep-keep, keep-same, keep-swap, keep-pairwise, pairwise-append, pairwise-kept, length-parts, length-keep, length-from, keep-none, keep-wider, from-pairwise, kept-below, below-kept}
+use Rattle.common.proofs.Lists.{all-append, keep-no, keep-mem, mem-keep, keep-append, keep-all, keep-keep, keep-same, keep-swap, keep-pairwise, pairwise-append, pairwise-kept, length-parts, length-keep, keep-none}
+use Rattle.common.proofs.From.{length-from, keep-wider, from-pairwise, kept-below, below-kept}
 use Rattle.common.proofs.Every.{everyEntry, table-rule}
 use Rattle.cube.specs.Bits.{has}
 use Rattle.cube.specs.Cube.{Without}

@@ -12,7 +12,8 @@ use borrow.Author.Tests.{eqb-true, eq-eqb, lt-ltb, not-true}
 use Rattle.common.specs.Lists.{_∈_, keep, from, lowest, Pairwise}
 use Rattle.common.specs.Tests.{refusal}
 use Rattle.common.proofs.Tests.{same?, clash, is-false, both-below, and}
-use Rattle.common.proofs.Lists.{keep-mem, mem-keep, keep-pairwise, from-mem, mem-from, from-pairwise, from-below, below-from, pairwise-imp, pairwise-map}
+use Rattle.common.proofs.Lists.{keep-mem, mem-keep, keep-pairwise, pairwise-imp, pairwise-map}
+use Rattle.common.proofs.From.{from-mem, mem-from, from-pairwise, from-below, below-from}
 use Rattle.common.proofs.Lowest.{lowest-passes, lowest-found}
 use Rattle.cube.specs.Cube.{circuitOf}
 use Rattle.cube.proofs.Circuits.{circuit-of-parts, channel-below}

@@ -15,7 +15,7 @@ use Rattle.cube.specs.Cube.{circuitOf, sourceOf}
 use Rattle.cube.proofs.Bits.{no-bit-above}
 use Rattle.paths.specs.Network.{Path}
 use Rattle.paths.proofs.Links.{on-first}
-use Rattle.paths.proofs.Recover.{path-owned}
+use Rattle.paths.proofs.Walks.{path-owned}
 use Rattle.table.specs.Layout.{tableLength, dimensionAt, enabledAt, ownerAt}
 use Rattle.table.specs.View.{View, view, shapeOf, net, heldBy}
 use Rattle.table.specs.Encode.{Bytes}

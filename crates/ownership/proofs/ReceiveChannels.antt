@@ -11,7 +11,8 @@ use lib.Dec.{eqb}
 use lib.ListN.{length}
 use borrow.Author.Tests.{eqb-true, eqb-false, eq-eqb, ne-eqb}
 use Rattle.common.specs.Lists.{_∈_, keep, from, Pairwise}
-use Rattle.common.proofs.Lists.{mem-keep, keep-shorter, mem-from, from-pairwise, length-from, from-below}
+use Rattle.common.proofs.Lists.{mem-keep, keep-shorter}
+use Rattle.common.proofs.From.{mem-from, from-pairwise, length-from, from-below}
 use Rattle.common.proofs.Tests.{same?, avoids, avoiding, never-answered}
 use Rattle.cube.specs.Cube.{next, sourceOf}
 use Rattle.cube.specs.Axes.{axis}

@@ -16,7 +16,7 @@ use Rattle.cube.specs.Cube.{circuitOf, sourceOf}
 use Rattle.paths.specs.Network.{Path}
 use Rattle.paths.proofs.Links.{on-first}
 use Rattle.paths.specs.CubeNetwork.{ports}
-use Rattle.paths.proofs.Recover.{path-owned}
+use Rattle.paths.proofs.Walks.{path-owned}
 use Rattle.table.specs.View.{shapeOf, net, heldBy}
 use Rattle.soundness.specs.SoundTest.{pathOf, isEmpty}
 use Rattle.soundness.proofs.Soundness.{path-is, some-hop}

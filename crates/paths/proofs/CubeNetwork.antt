@@ -12,7 +12,8 @@ use lib.Bits.{bitXor, xor-lt}
 use borrow.Author.Tests.{eqb-true, eq-eqb, lt-ltb, le-ltb, not-true, not-false}
 use Rattle.common.specs.Lists.{_∈_, keep, from, Pairwise}
 use Rattle.common.proofs.Tests.{is-false}
-use Rattle.common.proofs.Lists.{keep-yes, keep-no, keep-append, keep-same, keep-all, keep-none, keep-keep, keep-mem, mem-keep, keep-pairwise, keep-wider, from-mem, from-pairwise, from-split, from-below, below-from, kept-below, below-kept, length-keep, length-parts, length-from}
+use Rattle.common.proofs.Lists.{keep-yes, keep-no, keep-append, keep-same, keep-all, keep-none, keep-keep, keep-mem, mem-keep, keep-pairwise, length-keep, length-parts}
+use Rattle.common.proofs.From.{keep-wider, from-mem, from-pairwise, from-split, from-below, below-from, kept-below, below-kept, length-from}
 use Rattle.cube.specs.Bits.{bitAt, has, flip}
 use Rattle.cube.specs.Cube.{uphill}
 use Rattle.cube.specs.Axes.{axis, present}

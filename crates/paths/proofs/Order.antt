@@ -8,7 +8,8 @@ use native.Mathlib.Omega.{arith}
 use borrow.Author.Tests.{ltb-true, leb-true}
 use lib.Dec.{ltb, leb}
 use Rattle.common.specs.Lists.{_∈_, keep, from, Pairwise}
-use Rattle.common.proofs.Lists.{all-cons, all-map, keep-mem, keep-pairwise, pairwise-append, pairwise-imp, pairwise-kept, pairwise-map, from-pairwise}
+use Rattle.common.proofs.Lists.{all-cons, all-map, keep-mem, keep-pairwise, pairwise-append, pairwise-imp, pairwise-kept, pairwise-map}
+use Rattle.common.proofs.From.{from-pairwise}
 use Rattle.cube.specs.Helical.{helical}
 use Rattle.paths.specs.Network.{Network, Path, offered}
 use Rattle.paths.specs.Permitted.{Sooner, Before, ComesBefore}

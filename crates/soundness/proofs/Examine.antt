@@ -13,7 +13,8 @@ use borrow.Author.Tests.{ltb-true, ltb-false, lt-ltb, le-ltb, le-leb, lt-leb, eq
 use Rattle.common.specs.Lists.{_∈_, keep, from, lowest}
 use Rattle.common.proofs.Every.{decide}
 use Rattle.common.proofs.Lowest.{lowest-most, lowest-passes, lowest-found}
-use Rattle.common.proofs.Lists.{mem-keep, mem-from, keep-same, keep-wider, keep-all, length-from, from-below}
+use Rattle.common.proofs.Lists.{mem-keep, keep-same, keep-all}
+use Rattle.common.proofs.From.{mem-from, keep-wider, length-from, from-below}
 use Rattle.cube.specs.Bits.{has}
 use Rattle.cube.specs.Cube.{NodeCount, next, sourceOf}
 use Rattle.cube.specs.Helical.{portsOf}
@@ -23,7 +24,7 @@ use Rattle.paths.specs.Network.{end, links, hasLink}
 use Rattle.paths.specs.CubeNetwork.{network}
 use Rattle.paths.specs.Recover.{takeFirst, walkFrom, firstHopChoices, pathOfLinks}
 use Rattle.paths.proofs.CubeNetwork.{unfolded-ports}
-use Rattle.paths.proofs.Recover.{walk-fuel}
+use Rattle.paths.proofs.Walks.{walk-fuel}
 use Rattle.table.specs.Layout.{dimensionAt}
 use Rattle.table.specs.LayoutContracts.{Within, HeldBy}
 use Rattle.table.specs.View.{View, view, linksHeld, channelsHeld, shapeOf, net, heldBy}

@@ -11,7 +11,8 @@ use lib.Dec.{eqb}
 use lib.ListN.{length}
 use borrow.Author.Tests.{eq-eqb, ne-eqb}
 use Rattle.common.specs.Lists.{_∈_, keep, from, lowest}
-use Rattle.common.proofs.Lists.{mem-keep, mem-from, keep-none, keep-yes, keep-no, keep-nil, keep-mem, keep-keep, keep-same, from-below}
+use Rattle.common.proofs.Lists.{mem-keep, keep-none, keep-yes, keep-no, keep-nil, keep-mem, keep-keep, keep-same}
+use Rattle.common.proofs.From.{mem-from, from-below}
 use Rattle.cube.specs.Bits.{bitAt, has}
 use Rattle.cube.specs.Cube.{next, Without}
 use Rattle.cube.specs.Helical.{portsOf, firstOr}
@@ -19,7 +20,8 @@ use Rattle.cube.proofs.Order.{ports-mem, length-ports}
 use Rattle.paths.specs.Network.{end, links, hasLink}
 use Rattle.paths.specs.CubeNetwork.{network}
 use Rattle.paths.specs.Recover.{dropAxis, walkFrom, wayBack, firstHopChoices}
-use Rattle.paths.proofs.Recover.{first-choice, walk-none, walk-some, drop-port, way-back-one}
+use Rattle.paths.proofs.Recover.{first-choice}
+use Rattle.paths.proofs.Walks.{walk-none, walk-some, drop-port, way-back-one}
 use Rattle.table.specs.View.{View, net, heldBy}
 use Rattle.soundness.specs.Marks.{marked, withMark}
 use Rattle.soundness.proofs.Marks.{mark-one}

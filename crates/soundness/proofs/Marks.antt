@@ -19,7 +19,7 @@ use Rattle.cube.proofs.Bits.{with-bit-same, with-bit-other, with-bit-or, with-b
 use Rattle.cube.proofs.Ports.{port-bit}
 use Rattle.paths.specs.Network.{links}
 use Rattle.paths.proofs.Links.{On, true-link}
-use Rattle.paths.proofs.Recover.{path-owned}
+use Rattle.paths.proofs.Walks.{path-owned}
 use Rattle.table.specs.View.{View, shapeOf, net, heldBy}
 use Rattle.soundness.specs.Sound.{endFor}
 use Rattle.soundness.specs.Marks.{marked, withMark, Adds}

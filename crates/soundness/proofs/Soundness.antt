@@ -12,14 +12,16 @@ use borrow.Author.Tests.{eqb-true, eq-eqb, ne-eqb, not-true, ltb-true, lt-ltb, l
 use Rattle.common.specs.Lists.{_∈_, keep, from, Pairwise}
 use Rattle.common.proofs.Tests.{same?, clash, is-false, both-below, both, and, or-left, or-right}
 use Rattle.common.proofs.Every.{decide₂}
-use Rattle.common.proofs.Lists.{keep-mem, mem-keep, keep-pairwise, from-mem, mem-from, from-pairwise, from-below, below-from}
+use Rattle.common.proofs.Lists.{keep-mem, mem-keep, keep-pairwise}
+use Rattle.common.proofs.From.{from-mem, mem-from, from-pairwise, from-below, below-from}
 use Rattle.cube.specs.Cube.{sourceOf}
 use Rattle.cube.proofs.Ports.{most-nodes}
 use Rattle.paths.specs.Network.{Network, Path, links}
 use Rattle.paths.specs.Permitted.{Permitted}
 use Rattle.paths.proofs.Links.{On, link-true, true-link}
 use Rattle.paths.proofs.Apart.{apart-permitted}
-use Rattle.paths.proofs.Recover.{path-found, path-owned, path-apart}
+use Rattle.paths.proofs.Recover.{path-found}
+use Rattle.paths.proofs.Walks.{path-owned, path-apart}
 use Rattle.table.specs.Layout.{inTable}
 use Rattle.table.specs.View.{View, fresh, channelsHeld, shapeOf, net, heldBy}
 use Rattle.paths.specs.CubeNetwork.{ports}
