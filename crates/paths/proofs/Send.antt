@@ -81,15 +81,13 @@ module _ (N : Network) (s t : ℕ) (free : ℕ → ℕ → Bool) (r : Receive) w
   said-by _ o _ (goes-on {later = xs} {n₂ = n} o₁ n₁ h e rest) = let x = said-by xs o n rest in (x .0, List·Memᴰ·tail (x .1), x .2)
 
   -- it is acknowledged exactly where one of them has a free path and a channel is there to take.
-  pub Route : List Attempt → Type 0
+  abbrev pub Route : List Attempt → Type 0
   Route xs = (a : Attempt) × (a ∈ xs) × ((w : Path) × Tries N s t a w × Free N free s w)
 
   pub acknowledged-route : (xs : List Attempt) (w : Path) (k n : ℕ) → AttemptsSay N s t free r xs (acknowledged w k) n → Route xs × (r ≡ channel k)
-  unfolding Route
   acknowledged-route xs w k n h = let x = said-by xs (acknowledged w k) n h in let y = acknowledged-says (x .0) w k (x .2 .0) (x .2 .1) in ((x .0, x .1, (w, y .0, y .1)), y .2)
 
   pub route-acknowledged : (xs : List Attempt) (o : Outcome) (n : ℕ) → AttemptsSay N s t free r xs o n → Route xs → r ≢ all-held → Acknowledged o
-  unfolding Route
   route-acknowledged _ o n (last {a} h) x g =
       let e = ⊎-elim (λ z. z) (λ z. absurd (List·Memᴰ·not-nil z)) (List·Memᴰ·cases-cons (x .1)) in finds a o n h (x .2 .0) (subst (λ b. Tries N s t b (x .2 .0)) e (x .2 .1)) (x .2 .2) g
   route-acknowledged _ o n (ends h e) x g = goes-on-unless o .0 e

@@ -6,7 +6,7 @@ ghost use Rattle.table.specs.View.{view};
 ghost use Rattle.cube.specs.Helical.{FirstPorts};
 ghost use Rattle.search.specs.PassAnswer.{freeIn, pass-answer};
 ghost use Rattle.search.specs.SearchContracts.{Narrowed, Enabled, tryAnswer, arriveAnswer, MayTry, MayArrive};
-ghost use Rattle.search.specs.SendAnswer.{MaySend, sendsMaze, sendsAlternate, sends};
+ghost use Rattle.search.specs.SendAnswer.{MaySend, sends};
 use common::refusal;
 use cube::Circuit;
 use cube::Node;
@@ -169,7 +169,7 @@ fn maze(
 ) -> PassResult
     requires { ⌜ FirstPorts (now first) ⌝ }
     requires { ⌜ MaySend (now t) (source .0) (target .0) (c .0) vector ⌝ }
-    ensures { λ r. ⌜ pass-answer (r .refused) (r .channel) (r .hops) (r .scouts) (now (t .exit)) ≡ sendsMaze (now (t .entry)) (source .0) (target .0) (c .0) vector ⌝ }
+    ensures { λ r. ⌜ pass-answer (r .refused) (r .channel) (r .hops) (r .scouts) (now (t .exit)) ≡ sends (now (t .entry)) (source .0) (target .0) (c .0) 0 vector ⌝ }
 {
     let ports = enabled_ports(t, source, vector);
     let got = try_in_turn(t, source, target, c, ports, Port(7), 0, 0, first);
@@ -191,7 +191,7 @@ fn alternate_maze(
 ) -> PassResult
     requires { ⌜ FirstPorts (now first) ⌝ }
     requires { ⌜ MaySend (now t) (source .0) (target .0) (c .0) vector ⌝ }
-    ensures { λ r. ⌜ pass-answer (r .refused) (r .channel) (r .hops) (r .scouts) (now (t .exit)) ≡ sendsAlternate (now (t .entry)) (source .0) (target .0) (c .0) vector ⌝ }
+    ensures { λ r. ⌜ pass-answer (r .refused) (r .channel) (r .hops) (r .scouts) (now (t .exit)) ≡ sends (now (t .entry)) (source .0) (target .0) (c .0) 4 vector ⌝ }
 {
     let others = (cube::node_count(table::dimension(t)) - 1) ^ vector;
     let got = maze(t, source, target, c, vector, first);
