@@ -17,7 +17,7 @@ use Rattle.paths.specs.Network.{Path}
 use Rattle.paths.proofs.Links.{on-first}
 use Rattle.paths.proofs.Recover.{path-owned}
 use Rattle.table.specs.Layout.{tableLength, dimensionAt, enabledAt, ownerAt}
-use Rattle.table.specs.View.{View, view, shapeOf, net, heldBy}
+use Rattle.table.specs.View.{View, view, shapeOf, net, heldIn, heldBy}
 use Rattle.table.specs.Encode.{Bytes}
 use Rattle.soundness.specs.Sound.{CircuitSound, Sound}
 use Rattle.soundness.specs.SoundTest.{pathOf, isEmpty, tableTests}
@@ -28,7 +28,7 @@ use Rattle.search.specs.SendSays.{SendSays}
 use Rattle.search.proofs.SendSays.{demand-2}
 use Rattle.ownership.specs.Calls.{Call, making, blocking, unblocking, opening, closing, tracing, only, callTests, After}
 use Rattle.ownership.specs.Update.{sendIn}
-use Rattle.ownership.specs.OnTable.{heldIn, openIn, factsOf, lentTests, stoppedAt, done, resultIn, tableEffect, tableStep}
+use Rattle.ownership.specs.OnTable.{openIn, factsOf, lentTests, stoppedAt, done, resultIn, tableEffect, tableStep}
 use Rattle.ownership.specs.Allowed.{Allowed}
 use Rattle.ownership.proofs.Allowed.{allowed}
 use Rattle.ownership.proofs.Stops.{lent-is, lent-numbered, none-stops, none-stops-lent, pass-tests, stopped-is}

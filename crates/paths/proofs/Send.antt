@@ -116,7 +116,7 @@ module _ (N : Network) (s t : ℕ) (free : ℕ → ℕ → Bool) (r : Receive) w
       go false e i rest = rw (runs-stop r x (attempted N free s t b) (map (attempted N free s t) bs) e) (ends i e)
 
 -- more ports for the first hop, more permitted paths
-pub wider : (N : Network) (s : ℕ) (ps qs : List ℕ) (t : ℕ) (w : Path) → ((p : ℕ) → p ∈ ps → p ∈ qs) → Permitted N s ps t w → Permitted N s qs t w
+wider : (N : Network) (s : ℕ) (ps qs : List ℕ) (t : ℕ) (w : Path) → ((p : ℕ) → p ∈ ps → p ∈ qs) → Permitted N s ps t w → Permitted N s qs t w
 unfolding Permitted
 wider N s ps qs t (p ∷ w) h o = (h p (o .0), o .1)
 

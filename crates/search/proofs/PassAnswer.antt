@@ -9,7 +9,7 @@ use native.Mathlib.Omega.{arith}
 use lib.Dec.{eqb}
 use lib.ListN.{length, set, getD}
 use lib.Seq.{set-getD, set-set, set-comm}
-use borrow.Author.Tests.{eq-eqb, ne-eqb, eqb-true}
+use borrow.Author.Tests.{eq-eqb, ne-eqb, eqb-true, not-false}
 use Rattle.common.specs.Lists.{_∈_}
 use Rattle.cube.specs.Cube.{next}
 use Rattle.cube.specs.Helical.{helical}
@@ -18,11 +18,12 @@ use Rattle.paths.specs.Network.{Network, Path, offered, Nearing, isFree, linkSt
 use Rattle.paths.specs.Pass.{PassResult, none, found, scouts}
 use Rattle.paths.specs.Send.{Receive, channel, all-held, lowestOf}
 use Rattle.paths.specs.Search.{hopOr, trying, arriving, holding}
+use Rattle.paths.proofs.Words.{free-link}
 use Rattle.paths.proofs.Depth.{trying-cons}
 use Rattle.paths.proofs.Cone.{trying-same, holding-after}
 use Rattle.table.specs.Layout.{entryPlace, linkPart, wordAt, putWord, putEntry, putOwner, ownerAt, entryAt}
 use Rattle.table.specs.LayoutContracts.{Within}
-use Rattle.table.specs.View.{View, view, setAt, setOwner, receive, lowestChannel, available}
+use Rattle.table.specs.View.{View, view, heldIn, setAt, setOwner, receive, lowestChannel, available}
 use Rattle.table.proofs.Entries.{within}
 use Rattle.table.proofs.Views.{view-put-owner}
 use Rattle.search.specs.PassAnswer.{freeIn, holdPath, PassAnswer, pass-answer, answerOfPass, arrivalAfter}
@@ -44,39 +45,34 @@ given-back b n p c w e = given-word b (entryPlace linkPart n p) c (rw (within n 
 
 -- While a link is held, it alone is no longer free.
 pub free-held : (v : View) (n p c : ℕ) → c ≢ 0 → freeIn (setOwner v n p c) ≡ holding (freeIn v) n p
-unfolding freeIn setOwner setAt holding
+unfolding freeIn heldIn setOwner setAt holding
 free-held v n p c h = fun-ext (λ m. fun-ext (λ q. go (eqb m n && eqb q p) (v .enabled m q) (v .owner m q)))
   where
-    taken : (on : Bool) → isFree (linkState on c) ≡ false
-    taken true = unfold isFree linkState in rw (ne-eqb c 0 h)
+    taken : (on : Bool) → isFree (linkState on true) ≡ false
+    taken true = unfold isFree linkState in refl
     taken false = unfold isFree linkState in refl
 
-    go : (x on : Bool) (o : ℕ) → isFree (linkState on (cond x c o)) ≡ isFree (linkState on o) && not x
-    go true on o = taken on ∙ sym (and-false (isFree (linkState on o)))
-    go false on o = sym (and-true (isFree (linkState on o)))
+    go : (x on : Bool) (o : ℕ) → isFree (linkState on (not (eqb (cond x c o) 0))) ≡ isFree (linkState on (not (eqb o 0))) && not x
+    go true on o = rw (ne-eqb c 0 h) (taken on ∙ sym (and-false (isFree (linkState on (not (eqb o 0))))))
+    go false on o = sym (and-true (isFree (linkState on (not (eqb o 0)))))
 
 -- the two tests of a link
-pub free-on : (v : View) (n p : ℕ) (on : Bool) (o : ℕ) → on ≡ v .enabled n p → on ≡ true → o ≡ v .owner n p → eqb o 0 ≡ freeIn v n p
-unfolding freeIn
-free-on v n p on o a e q = go (eqb o 0) refl ∙ ap₂ (λ x y. isFree (linkState x y)) (sym e ∙ a) q
+pub free-on : (v : View) (n p : ℕ) {o : ℕ} → v .enabled n p ≡ true → o ≡ v .owner n p → eqb o 0 ≡ freeIn v n p
+unfolding freeIn heldIn
+free-on v n p {o} e q = rw (e, ← q) (go (eqb o 0))
   where
-    go : (x : Bool) → eqb o 0 ≡ x → x ≡ isFree (linkState true o)
-    go true f = unfold isFree linkState in rw f
-    go false f = unfold isFree linkState in rw f
+    go : (z : Bool) → z ≡ isFree (linkState true (not z))
+    go true = unfold isFree linkState in refl
+    go false = unfold isFree linkState in refl
 
-pub free-off : (v : View) (n p : ℕ) (on : Bool) → on ≡ v .enabled n p → on ≡ false → false ≡ freeIn v n p
+pub free-off : (v : View) (n p : ℕ) → v .enabled n p ≡ false → freeIn v n p ≡ false
 unfolding freeIn isFree linkState
-free-off v n p on a e = rw (← a, e)
+free-off v n p e = rw e
 
 -- a link that is free is held by nobody
 pub free-owner : (v : View) (n p : ℕ) → freeIn v n p ≡ true → v .owner n p ≡ 0
-unfolding freeIn isFree linkState
-free-owner v n p e = go (v .enabled n p) (eqb (v .owner n p) 0) refl refl e
-  where
-    go : (on z : Bool) → v .enabled n p ≡ on → eqb (v .owner n p) 0 ≡ z → isFree (linkState (v .enabled n p) (v .owner n p)) ≡ true → v .owner n p ≡ 0
-    go on true a f t = eqb-true _ 0 f
-    go true false a f t = absurd (false≢true (rw (a, f) at t))
-    go false false a f t = absurd (false≢true (rw a at t))
+unfolding freeIn heldIn
+free-owner v n p e = eqb-true _ 0 (not-false _ (free-link _ _ .0 e .1))
 
 -- The arrival behind a hop just held finds what it would find on the table before.
 module _ (N : Network) (t : ℕ) (near : Nearing N t) (b : List ℕ) (n p c : ℕ) (w : Within b n p) (small : c < 65536) (h : c ≢ 0) where

@@ -10,11 +10,11 @@ use Rattle.paths.specs.Pass.{PassResult, none, found}
 use Rattle.paths.specs.Search.{arriving}
 use Rattle.paths.specs.Send.{Receive, channel, all-held}
 use Rattle.table.specs.Layout.{putOwner}
-use Rattle.table.specs.View.{View}
+use Rattle.table.specs.View.{View, heldIn}
 
 -- "A link is free if enabled and held by nobody."
 unfoldable pub freeIn : View → ℕ → ℕ → Bool
-freeIn v n p = isFree (linkState (v .enabled n p) (v .owner n p))
+freeIn v n p = isFree (linkState (v .enabled n p) (heldIn v n p))
 
 -- the bytes after the links of a path from node n are given to circuit c, one after another
 unfoldable pub holdPath : List ℕ → ℕ → ℕ → Path → List ℕ
