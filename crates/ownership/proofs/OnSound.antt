@@ -57,17 +57,17 @@ module _ (b : List ℕ) (s c t y v : ℕ) (e : stoppedAt b (opening s c t y v) �
   opened = tableStep b (opening s c t y v)
 
   -- What an open that no test stops before the search answers is what a send answers, whatever the bytes are.
-  pub open-answers : SendSays b s t (circuitOf s c) y v (opened .result .answer .number) (opened .result .answer .receive) (opened .result .answer .hops) (opened .result .answer .scouts)
+  pub open-answers : SendSays b s t (circuitOf s c) y v (opened .result .answer .number) (opened .result .answer .hops) (opened .result .answer .receive) (opened .result .answer .scouts)
       (writtenBy b (opening s c t y v))
   unfolding tableEffect resultIn writtenBy sendIn sends sendAnswer
   open-answers =
       subst
-      (λ (d : After (List ℕ)). SendSays b s t (circuitOf s c) y v (d .result .answer .number) (d .result .answer .receive) (d .result .answer .hops) (d .result .answer .scouts) (writtenBy b (opening s c t y v)))
+      (λ (d : After (List ℕ)). SendSays b s t (circuitOf s c) y v (d .result .answer .number) (d .result .answer .hops) (d .result .answer .receive) (d .result .answer .scouts) (writtenBy b (opening s c t y v)))
       (sym (step-effect b (opening s c t y v) e)) (demand-2 b s t (circuitOf s c) y v (may-open b s c t y v e) _ _ _ _ _ refl)
 
   -- The users' second demand of the open call: it says what a send says, in its answer and in every byte.
   pub open-says : ((i : ℕ) → getD b i 0 < 256)
-      → SendSays b s t (circuitOf s c) y v (opened .result .answer .number) (opened .result .answer .receive) (opened .result .answer .hops) (opened .result .answer .scouts) (opened .state)
+      → SendSays b s t (circuitOf s c) y v (opened .result .answer .number) (opened .result .answer .hops) (opened .result .answer .receive) (opened .result .answer .scouts) (opened .state)
   open-says small = rw (sym (written-bytes b small (opening s c t y v) e)) at open-answers
 
 -- On a sound table a number whose links make a path stands.

@@ -174,7 +174,7 @@ rejected receive-rejected n e = refl
 
 -- the number that a pass or a send settles on
 answerNumber : PassAnswer → ℕ
-answerNumber (pass-answer x k h n b) = x
+answerNumber (pass-answer x h k n b) = x
 
 open-otherwise : (b : List ℕ) (s c t y v : ℕ) → stoppedAt b (opening s c t y v) ≡ 0 → tableStep b (opening s c t y v) .result .answer .number ≢ 11
 unfolding Allowed factsOf view sendAnswer answerNumber

@@ -1,8 +1,8 @@
 -- One hop of the search, as the code makes it: held, handed on, and given back where it is rejected.
 -- Assumes nothing.
-use mathlib.Core.Path.{_≡_, refl, ap, ap₂, sym, _∙_, fun-ext}
+use mathlib.Core.Path.{_≡_, refl, ap, sym, _∙_, fun-ext}
 use mathlib.Core.Logic.{_≢_}
-use mathlib.Core.Bool.{Bool, true, false, cond, _&&_, not, false≢true, and-true, and-false}
+use mathlib.Core.Bool.{Bool, true, false, cond, _&&_, not, and-true, and-false}
 use mathlib.Core.List.{List, [], _∷_, List·Memᴰ·head}
 use Prim.Native.Nat.{ℕ, zero, suc, _+_, _/_, _%_, _<_}
 use native.Mathlib.Omega.{arith}
@@ -86,16 +86,16 @@ module _ (N : Network) (t : ℕ) (near : Nearing N t) (b : List ℕ) (n p c : �
 
 -- the parts of an answer
 refusedOf : PassAnswer → ℕ
-refusedOf (pass-answer r k h s b) = r
+refusedOf (pass-answer r h k s b) = r
 
 scoutsOf : PassAnswer → ℕ
-scoutsOf (pass-answer r k h s b) = s
+scoutsOf (pass-answer r h k s b) = s
 
 bytesOf : PassAnswer → List ℕ
-bytesOf (pass-answer r k h s b) = b
+bytesOf (pass-answer r h k s b) = b
 
 withBytes : List ℕ → PassAnswer → PassAnswer
-withBytes x (pass-answer r k h s b) = pass-answer r k h s x
+withBytes x (pass-answer r h k s b) = pass-answer r h k s x
 
 ten≢zero : (x : _≡_ {A = ℕ} 10 0) → ⊥
 ten≢zero x = omega arith
@@ -121,8 +121,8 @@ module _ (free : ℕ → Bool) (on : ℕ → ℕ → PassResult) (b : List ℕ) 
   tried e = trying-cons free on p ps s ∙ (rw e)
 
   -- acknowledged: the answer stands, with the hop before its path
-  pub port-acknowledged : free p ≡ true → (k hops d : ℕ) (b′ : List ℕ) → pass-answer 0 k hops d b′ ≡ answerOfPass (putOwner b n p c) c (next n p) (h + 1) r (on p (suc s))
-      → pass-answer 0 k hops d b′ ≡ answerOfPass b c n h r (trying free on (p ∷ ps) s)
+  pub port-acknowledged : free p ≡ true → (k hops d : ℕ) (b′ : List ℕ) → pass-answer 0 hops k d b′ ≡ answerOfPass (putOwner b n p c) c (next n p) (h + 1) r (on p (suc s))
+      → pass-answer 0 hops k d b′ ≡ answerOfPass b c n h r (trying free on (p ∷ ps) s)
   unfolding refusedOf
   port-acknowledged e k hops d b′ q = q ∙ go r (on p (suc s)) (ap refusedOf (sym q)) ∙ ap (answerOfPass b c n h r) (sym (tried e))
     where
@@ -131,41 +131,41 @@ module _ (free : ℕ → Bool) (on : ℕ → ℕ → PassResult) (b : List ℕ) 
       go r (none d) z = absurd (ten≢zero (unfold answerOfPass refusedOf in z))
       go all-held (found w d) z = absurd (eleven≢zero (unfold answerOfPass refusedOf in z))
       go (channel k) (found w d) z =
-          unfold answerOfPass hopOr holdPath in ap (λ x. pass-answer 0 k x d (holdPath (putOwner b n p c) c (next n p) w)) (one-longer h p w)
+          unfold answerOfPass hopOr holdPath in ap (λ x. pass-answer 0 x k d (holdPath (putOwner b n p c) c (next n p) w)) (one-longer h p w)
 
   -- receive rejected: the hop is given back, and no other port is tried
-  pub port-receive-rejected : free p ≡ true → (k hops d : ℕ) (b′ : List ℕ) → pass-answer 11 k hops d b′ ≡ answerOfPass (putOwner b n p c) c (next n p) (h + 1) r (on p (suc s))
-      → (b′ ≡ putOwner b n p c) × (pass-answer 11 k hops d b ≡ answerOfPass b c n h r (trying free on (p ∷ ps) s))
+  pub port-receive-rejected : free p ≡ true → (k hops d : ℕ) (b′ : List ℕ) → pass-answer 11 hops k d b′ ≡ answerOfPass (putOwner b n p c) c (next n p) (h + 1) r (on p (suc s))
+      → (b′ ≡ putOwner b n p c) × (pass-answer 11 hops k d b ≡ answerOfPass b c n h r (trying free on (p ∷ ps) s))
   port-receive-rejected e k hops d b′ q =
       let g = go r (on p (suc s)) q in (g .0, g .1 ∙ ap (answerOfPass b c n h r) (sym (tried e)))
     where
-      go : (r : Receive) (a : PassResult) → pass-answer 11 k hops d b′ ≡ answerOfPass (putOwner b n p c) c (next n p) (h + 1) r a
-          → (b′ ≡ putOwner b n p c) × (pass-answer 11 k hops d b ≡ answerOfPass b c n h r (hopOr p a (trying free on ps)))
+      go : (r : Receive) (a : PassResult) → pass-answer 11 hops k d b′ ≡ answerOfPass (putOwner b n p c) c (next n p) (h + 1) r a
+          → (b′ ≡ putOwner b n p c) × (pass-answer 11 hops k d b ≡ answerOfPass b c n h r (hopOr p a (trying free on ps)))
       go r (none d) z = absurd (ten≢eleven (sym (unfold answerOfPass refusedOf in ap refusedOf z)))
       go (channel k) (found w d) z = absurd (eleven≢zero (unfold answerOfPass refusedOf in ap refusedOf z))
       go all-held (found w d) z = (unfold answerOfPass bytesOf in ap bytesOf z, unfold answerOfPass hopOr withBytes in ap (withBytes b) z)
 
   -- route rejected: the hop is given back, and the next port is tried with the scouts sent by then
-  pub port-route-rejected : free p ≡ true → (k hops d : ℕ) (b′ : List ℕ) → pass-answer 10 k hops d b′ ≡ answerOfPass (putOwner b n p c) c (next n p) (h + 1) r (on p (suc s))
+  pub port-route-rejected : free p ≡ true → (k hops d : ℕ) (b′ : List ℕ) → pass-answer 10 hops k d b′ ≡ answerOfPass (putOwner b n p c) c (next n p) (h + 1) r (on p (suc s))
       → (b′ ≡ putOwner b n p c) × (answerOfPass b c n h r (trying free on ps d) ≡ answerOfPass b c n h r (trying free on (p ∷ ps) s))
   port-route-rejected e k hops d b′ q =
       let g = go r (on p (suc s)) q in (g .0, ap (answerOfPass b c n h r) (g .1 ∙ sym (tried e)))
     where
-      go : (r : Receive) (a : PassResult) → pass-answer 10 k hops d b′ ≡ answerOfPass (putOwner b n p c) c (next n p) (h + 1) r a
+      go : (r : Receive) (a : PassResult) → pass-answer 10 hops k d b′ ≡ answerOfPass (putOwner b n p c) c (next n p) (h + 1) r a
           → (b′ ≡ putOwner b n p c) × (trying free on ps d ≡ hopOr p a (trying free on ps))
       go r (none d) z = (unfold answerOfPass bytesOf in ap bytesOf z, unfold answerOfPass hopOr scoutsOf in ap (λ x. trying free on ps (scoutsOf x)) z)
       go (channel k) (found w d) z = absurd (ten≢zero (unfold answerOfPass refusedOf in ap refusedOf z))
       go all-held (found w d) z = absurd (ten≢eleven (unfold answerOfPass refusedOf in ap refusedOf z))
 
 -- an answer is an acknowledgement or one of the two rejections
-pub three-answers : (b : List ℕ) (c n h : ℕ) (r : Receive) (a : PassResult) (x k hops s : ℕ) (b′ : List ℕ) → pass-answer x k hops s b′ ≡ answerOfPass b c n h r a → x ≢ 0 → x ≢ 11 → x ≡ 10
+pub three-answers : (b : List ℕ) (c n h : ℕ) (r : Receive) (a : PassResult) (x k hops s : ℕ) (b′ : List ℕ) → pass-answer x hops k s b′ ≡ answerOfPass b c n h r a → x ≢ 0 → x ≢ 11 → x ≡ 10
 unfolding answerOfPass refusedOf
 three-answers b c n h r (none d) x k hops s b′ e f g = ap refusedOf e
 three-answers b c n h (channel j) (found w d) x k hops s b′ e f g = absurd (f (ap refusedOf e))
 three-answers b c n h all-held (found w d) x k hops s b′ e f g = absurd (g (ap refusedOf e))
 
 -- its scouts are those of the pass
-pub answer-scouts : (b : List ℕ) (c n h : ℕ) (r : Receive) (a : PassResult) (x k hops s : ℕ) (b′ : List ℕ) → pass-answer x k hops s b′ ≡ answerOfPass b c n h r a → s ≡ scouts a
+pub answer-scouts : (b : List ℕ) (c n h : ℕ) (r : Receive) (a : PassResult) (x k hops s : ℕ) (b′ : List ℕ) → pass-answer x hops k s b′ ≡ answerOfPass b c n h r a → s ≡ scouts a
 unfolding answerOfPass scoutsOf scouts
 answer-scouts b c n h r (none d) x k hops s b′ e = ap scoutsOf e
 answer-scouts b c n h (channel j) (found w d) x k hops s b′ e = ap scoutsOf e
@@ -201,8 +201,8 @@ module _ (N : Network) (free : ℕ → ℕ → Bool) (t n a s : ℕ) where
           (λ p m d. let q : N .distance t (N .next n p) ≡ k = omega (arith, near .nearer n p (helical-mem a _ m)) in ap (λ j. arriving j N free t (N .next n p) p d) q) s)
 
 module _ (v : View) (b : List ℕ) (c n h s : ℕ) {k : ℕ} (low : k ≡ lowestChannel v n) where
-  pub target-receives : k ≢ 8 → pass-answer 0 k h s b ≡ answerOfPass b c n h (receive v n) (found [] s)
-  target-receives g = unfold receive lowestOf lowestChannel in rw (← low, ne-eqb k 8 g) (unfold answerOfPass holdPath in ap (λ x. pass-answer 0 k x s b) (no-longer h))
+  pub target-receives : k ≢ 8 → pass-answer 0 h k s b ≡ answerOfPass b c n h (receive v n) (found [] s)
+  target-receives g = unfold receive lowestOf lowestChannel in rw (← low, ne-eqb k 8 g) (unfold answerOfPass holdPath in ap (λ x. pass-answer 0 x k s b) (no-longer h))
 
   pub target-full : k ≡ 8 → pass-answer 11 0 0 s b ≡ answerOfPass b c n h (receive v n) (found [] s)
   target-full g = unfold receive lowestOf lowestChannel in rw (← low, eq-eqb k 8 g) (unfold answerOfPass in refl)

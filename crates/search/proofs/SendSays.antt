@@ -1,9 +1,9 @@
 -- A send says what the users' second demand asks: for both routing types, on any table of a cube up to dimension 8.
 -- Assumes nothing.
 use mathlib.Core.Path.{_≡_, refl, ap, sym, _∙_, subst}
-use mathlib.Core.Logic.{_↔_, _≢_}
+use mathlib.Core.Logic.{_≢_}
 use mathlib.Core.List.{List}
-use Prim.Native.Nat.{ℕ, _^_, _≤_, _<_}
+use Prim.Native.Nat.{ℕ, _≤_}
 use native.Mathlib.Omega.{arith}
 use Rattle.common.proofs.Tests.{clash}
 use Rattle.paths.specs.Network.{Path}
@@ -11,7 +11,6 @@ use Rattle.paths.specs.Send.{channel, all-held, Outcome, acknowledged, route-re
 use Rattle.paths.specs.Sentences.{AttemptsSay}
 use Rattle.paths.specs.CubeNetwork.{attempts, send}
 use Rattle.paths.proofs.Send.{Route, acknowledged-route, route-acknowledged, send-says, send-bounded}
-use Rattle.table.specs.Layout.{dimensionAt}
 use Rattle.table.specs.View.{View, view, receive, available, net, shapeOf}
 use Rattle.table.proofs.Receives.{chosen, none-chosen}
 use Rattle.search.specs.PassAnswer.{freeIn, pass-answer}
@@ -31,27 +30,27 @@ module _ (v : View) (t : ℕ) where
 
 -- Acknowledged is number 0.
 module _ (b : List ℕ) (c s t : ℕ) where
-  acknowledged-number : (o : Outcome) (m x k h n : ℕ) (b′ : List ℕ) → pass-answer x k h n b′ ≡ sendAnswer b c s t (record { outcome = o; scouts = m }) → Acknowledged o → x ≡ 0
+  acknowledged-number : (o : Outcome) (m x h k n : ℕ) (b′ : List ℕ) → pass-answer x h k n b′ ≡ sendAnswer b c s t (record { outcome = o; scouts = m }) → Acknowledged o → x ≡ 0
   unfolding sendAnswer bytesAfterSend answered Acknowledged
-  acknowledged-number (acknowledged w j) m x k h n b′ q z = cc
+  acknowledged-number (acknowledged w j) m x h k n b′ q z = cc
 
-  number-acknowledged : (o : Outcome) (m x k h n : ℕ) (b′ : List ℕ) → pass-answer x k h n b′ ≡ sendAnswer b c s t (record { outcome = o; scouts = m }) → x ≡ 0 → (w : Path) × (o ≡ acknowledged w k)
+  number-acknowledged : (o : Outcome) (m x h k n : ℕ) (b′ : List ℕ) → pass-answer x h k n b′ ≡ sendAnswer b c s t (record { outcome = o; scouts = m }) → x ≡ 0 → (w : Path) × (o ≡ acknowledged w k)
   unfolding sendAnswer bytesAfterSend answered
-  number-acknowledged (acknowledged w j) m x k h n b′ q z = let y : j ≡ k = cc in (w, ap (acknowledged w) y)
-  number-acknowledged route-rejected m x k h n b′ q z = let y : x ≡ 10 = cc in absurd (omega arith)
-  number-acknowledged receive-rejected m x k h n b′ q z = let y : x ≡ 11 = cc in absurd (omega arith)
+  number-acknowledged (acknowledged w j) m x h k n b′ q z = let y : j ≡ k = cc in (w, ap (acknowledged w) y)
+  number-acknowledged route-rejected m x h k n b′ q z = let y : x ≡ 10 = cc in absurd (omega arith)
+  number-acknowledged receive-rejected m x h k n b′ q z = let y : x ≡ 11 = cc in absurd (omega arith)
 
 -- The users' second demand: of any answer that the contract of `search::send` allows.
-pub demand-2 : (b : List ℕ) (s t c type vector : ℕ) → MaySend b s t c vector → (x k h n : ℕ) (b′ : List ℕ) → pass-answer x k h n b′ ≡ sends b s t c type vector → SendSays b s t c type vector x k h n b′
+pub demand-2 : (b : List ℕ) (s t c type vector : ℕ) → MaySend b s t c vector → (x h k n : ℕ) (b′ : List ℕ) → pass-answer x h k n b′ ≡ sends b s t c type vector → SendSays b s t c type vector x h k n b′
 unfolding sends
-demand-2 b s t c type vector may x k h n b′ q =
+demand-2 b s t c type vector may x h k n b′ q =
     record {
       outcome = o;
       says = rw counted said;
       answer = q ∙ ap (λ i. sendAnswer b c s t (record { outcome = o; scouts = i })) (sym counted);
       exactly = (
         (λ z. let r = route z in (r .0, let l = channel-lowest (view b) t k (r .1) in (k, l .small, l .is-available))),
-        (λ y. acknowledged-number b c s t o m x k h n b′ q (route-acknowledged (net (view b)) s t (freeIn (view b)) (receive (view b) t) tried o m said (y .0) (some-available (view b) t (y .1)))),
+        (λ y. acknowledged-number b c s t o m x h k n b′ q (route-acknowledged (net (view b)) s t (freeIn (view b)) (receive (view b) t) tried o m said (y .0) (some-available (view b) t (y .1)))),
       );
       lowest = λ z. channel-lowest (view b) t k (route z .1);
       unchanged = λ f. sent-goes-on b c s t o m q f .1;
@@ -81,6 +80,6 @@ demand-2 b s t c type vector may x k h n b′ q =
 
     route : x ≡ 0 → Route (net (view b)) s t (freeIn (view b)) (receive (view b) t) tried × (receive (view b) t ≡ channel k)
     route z =
-        let a = number-acknowledged b c s t o m x k h n b′ q z in
+        let a = number-acknowledged b c s t o m x h k n b′ q z in
         acknowledged-route (net (view b)) s t (freeIn (view b)) (receive (view b) t) tried (a .0) k m
         (subst (λ (u : Outcome). AttemptsSay (net (view b)) s t (freeIn (view b)) (receive (view b) t) tried u m) (a .1) said)

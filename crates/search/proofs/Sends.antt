@@ -2,7 +2,7 @@
 -- Assumes nothing.
 use mathlib.Core.Path.{_≡_, refl, ap, ap₂, sym, _∙_}
 use mathlib.Core.Logic.{_≢_}
-use mathlib.Core.Bool.{Bool, true, false, not}
+use mathlib.Core.Bool.{true, false, not}
 use mathlib.Core.List.{List, [], _∷_}
 use Prim.Native.Nat.{ℕ, _+_, _-_, _^_, _≤_, _<_}
 use native.Mathlib.Omega.{arith}
@@ -30,7 +30,7 @@ use Rattle.table.specs.Layout.{dimensionAt, putReceiver}
 use Rattle.table.specs.View.{View, view, receive, available, net, shapeOf}
 use Rattle.table.proofs.Made.{ones}
 use Rattle.table.proofs.Receives.{chosen}
-use Rattle.search.specs.PassAnswer.{freeIn, holdPath, PassAnswer, pass-answer, answerOfPass, arrivalAfter}
+use Rattle.search.specs.PassAnswer.{freeIn, holdPath, pass-answer, answerOfPass, arrivalAfter}
 use Rattle.search.specs.SearchContracts.{farthestAfter, tryAnswer, Narrowed, MayTry}
 use Rattle.search.specs.SendAnswer.{bytesAfterSend, sendAnswer, sends, MaySend}
 use Rattle.search.proofs.Narrow.{narrow-tries}
@@ -76,21 +76,21 @@ receive-small v t k e = chosen (available v t) k e .0
 
 -- The answer of a pass that was acknowledged, with the receive channel taken; and of one that was not.
 module _ (b : List ℕ) (c s t : ℕ) (r : Receive) where
-  pub pass-channel : (p : PassResult) {x k h n : ℕ} {b₁ : List ℕ} → pass-answer x k h n b₁ ≡ answerOfPass b c s 0 r p → x ≡ 0 → r ≡ channel k
+  pub pass-channel : (p : PassResult) {x h k n : ℕ} {b₁ : List ℕ} → pass-answer x h k n b₁ ≡ answerOfPass b c s 0 r p → x ≡ 0 → r ≡ channel k
   unfolding answerOfPass
   pass-channel (none m) {x} q z = let y : x ≡ 10 = cc in absurd (omega arith)
-  pass-channel (found w m) {x} {k} {h} {n} {b₁} q z = go r q
+  pass-channel (found w m) {x} {h} {k} {n} {b₁} q z = go r q
     where
-      go : (r : Receive) → pass-answer x k h n b₁ ≡ answerOfPass b c s 0 r (found w m) → r ≡ channel k
+      go : (r : Receive) → pass-answer x h k n b₁ ≡ answerOfPass b c s 0 r (found w m) → r ≡ channel k
       go all-held u = let y : x ≡ 11 = cc in absurd (omega arith)
       go (channel j) u = let i : j ≡ k = cc in ap channel i
 
-  pub pass-taken : (p : PassResult) {x k h n : ℕ} {b₁ b₂ : List ℕ} → pass-answer x k h n b₁ ≡ answerOfPass b c s 0 r p → x ≡ 0 → b₂ ≡ putReceiver b₁ t k c → pass-answer x k h n b₂ ≡ sendAnswer b c s t (oneResult r p)
+  pub pass-taken : (p : PassResult) {x h k n : ℕ} {b₁ b₂ : List ℕ} → pass-answer x h k n b₁ ≡ answerOfPass b c s 0 r p → x ≡ 0 → b₂ ≡ putReceiver b₁ t k c → pass-answer x h k n b₂ ≡ sendAnswer b c s t (oneResult r p)
   unfolding answerOfPass sendAnswer bytesAfterSend answered outcome received scouts
   pass-taken (none m) {x} q z e = let y : x ≡ 10 = cc in absurd (omega arith)
-  pass-taken (found w m) {x} {k} {h} {n} {b₁} {b₂} q z e = go r q
+  pass-taken (found w m) {x} {h} {k} {n} {b₁} {b₂} q z e = go r q
     where
-      go : (r : Receive) → pass-answer x k h n b₁ ≡ answerOfPass b c s 0 r (found w m) → pass-answer x k h n b₂ ≡ sendAnswer b c s t (oneResult r (found w m))
+      go : (r : Receive) → pass-answer x h k n b₁ ≡ answerOfPass b c s 0 r (found w m) → pass-answer x h k n b₂ ≡ sendAnswer b c s t (oneResult r (found w m))
       go all-held u = let y : x ≡ 11 = cc in absurd (omega arith)
       go (channel j) u =
           let i : k ≡ j = cc in
@@ -100,37 +100,37 @@ module _ (b : List ℕ) (c s t : ℕ) (r : Receive) where
           let d : b₁ ≡ holdPath b c s w = cc in
           rw (z, l, o, e, d, i) refl
 
-  pub pass-rejected : (p : PassResult) {x k h n : ℕ} {b₁ : List ℕ} → pass-answer x k h n b₁ ≡ answerOfPass b c s 0 r p → x ≢ 0 → pass-answer x k h n b₁ ≡ sendAnswer b c s t (oneResult r p)
+  pub pass-rejected : (p : PassResult) {x h k n : ℕ} {b₁ : List ℕ} → pass-answer x h k n b₁ ≡ answerOfPass b c s 0 r p → x ≢ 0 → pass-answer x h k n b₁ ≡ sendAnswer b c s t (oneResult r p)
   unfolding answerOfPass sendAnswer bytesAfterSend answered outcome received scouts
   pass-rejected (none m) q f = q
-  pass-rejected (found w m) {x} {k} {h} {n} {b₁} q f = go r q
+  pass-rejected (found w m) {x} {h} {k} {n} {b₁} q f = go r q
     where
-      go : (r : Receive) → pass-answer x k h n b₁ ≡ answerOfPass b c s 0 r (found w m) → pass-answer x k h n b₁ ≡ sendAnswer b c s t (oneResult r (found w m))
+      go : (r : Receive) → pass-answer x h k n b₁ ≡ answerOfPass b c s 0 r (found w m) → pass-answer x h k n b₁ ≡ sendAnswer b c s t (oneResult r (found w m))
       go all-held u = u
       go (channel j) u = let y : x ≡ 0 = cc in absurd (f y)
 
 -- What the answer of a send tells: whether another pass follows, that a rejection leaves each byte as it was, and its scouts.
 module _ (b : List ℕ) (c s t : ℕ) where
-  pub sent-stops : (o : Outcome) (m : ℕ) {x k h n : ℕ} {b₁ : List ℕ} → pass-answer x k h n b₁ ≡ sendAnswer b c s t (record { outcome = o; scouts = m }) → x ≡ 0 → goesOn o ≡ false
+  pub sent-stops : (o : Outcome) (m : ℕ) {x h k n : ℕ} {b₁ : List ℕ} → pass-answer x h k n b₁ ≡ sendAnswer b c s t (record { outcome = o; scouts = m }) → x ≡ 0 → goesOn o ≡ false
   unfolding sendAnswer bytesAfterSend answered goesOn
   sent-stops (acknowledged w j) m q z = refl
   sent-stops route-rejected m {x} q z = let y : x ≡ 10 = cc in absurd (omega arith)
   sent-stops receive-rejected m {x} q z = let y : x ≡ 11 = cc in absurd (omega arith)
 
-  pub sent-goes-on : (o : Outcome) (m : ℕ) {x k h n : ℕ} {b₁ : List ℕ} → pass-answer x k h n b₁ ≡ sendAnswer b c s t (record { outcome = o; scouts = m }) → x ≢ 0 → (goesOn o ≡ true) × (b₁ ≡ b)
+  pub sent-goes-on : (o : Outcome) (m : ℕ) {x h k n : ℕ} {b₁ : List ℕ} → pass-answer x h k n b₁ ≡ sendAnswer b c s t (record { outcome = o; scouts = m }) → x ≢ 0 → (goesOn o ≡ true) × (b₁ ≡ b)
   unfolding sendAnswer bytesAfterSend answered goesOn
   sent-goes-on (acknowledged w j) m {x} q f = let y : x ≡ 0 = cc in absurd (f y)
   sent-goes-on route-rejected m q f = (refl, cc)
   sent-goes-on receive-rejected m q f = (refl, cc)
 
-  pub sent-scouts : (o : Outcome) (m : ℕ) {x k h n : ℕ} {b₁ : List ℕ} → pass-answer x k h n b₁ ≡ sendAnswer b c s t (record { outcome = o; scouts = m }) → n ≡ m
+  pub sent-scouts : (o : Outcome) (m : ℕ) {x h k n : ℕ} {b₁ : List ℕ} → pass-answer x h k n b₁ ≡ sendAnswer b c s t (record { outcome = o; scouts = m }) → n ≡ m
   unfolding sendAnswer bytesAfterSend answered
   sent-scouts (acknowledged w j) m q = cc
   sent-scouts route-rejected m q = cc
   sent-scouts receive-rejected m q = cc
 
   -- the same answer with other scouts
-  pub sent-counted : (o : Outcome) (m j : ℕ) {x k h n : ℕ} {b₁ : List ℕ} → pass-answer x k h n b₁ ≡ sendAnswer b c s t (record { outcome = o; scouts = m }) → pass-answer x k h j b₁ ≡ sendAnswer b c s t (record { outcome = o; scouts = j })
+  pub sent-counted : (o : Outcome) (m j : ℕ) {x h k n : ℕ} {b₁ : List ℕ} → pass-answer x h k n b₁ ≡ sendAnswer b c s t (record { outcome = o; scouts = m }) → pass-answer x h k j b₁ ≡ sendAnswer b c s t (record { outcome = o; scouts = j })
   unfolding sendAnswer bytesAfterSend answered
   sent-counted (acknowledged w i) m j q = cc
   sent-counted route-rejected m j q = cc
@@ -148,22 +148,22 @@ unfolding sends send attempts attempted runs
 one-pass b s t c vector = refl
 
 -- A send of routing type 0, from the ports that are left of its vector.
-module _ {b : List ℕ} {s t c vector left : ℕ} (may : MaySend b s t c vector) (narrow : Narrowed (view b) s vector left) {x k h n : ℕ} {b₁ : List ℕ}
-    (got : pass-answer x k h n b₁ ≡ tryAnswer b t c s left 7 0 0) where
-  passed : pass-answer x k h n b₁ ≡ answerOfPass b c s 0 (receive (view b) t) (passOf b s t vector)
+module _ {b : List ℕ} {s t c vector left : ℕ} (may : MaySend b s t c vector) (narrow : Narrowed (view b) s vector left) {x h k n : ℕ} {b₁ : List ℕ}
+    (got : pass-answer x h k n b₁ ≡ tryAnswer b t c s left 7 0 0) where
+  passed : pass-answer x h k n b₁ ≡ answerOfPass b c s 0 (receive (view b) t) (passOf b s t vector)
   passed = got ∙ narrow-tries b t c 7 0 0 narrow ∙ tries-pass may
 
   pub maze-channel : x ≡ 0 → k < 8
   maze-channel z = receive-small (view b) t k (pass-channel b c s t (receive (view b) t) (passOf b s t vector) passed z)
 
-  pub maze-taken : x ≡ 0 → {b₂ : List ℕ} → b₂ ≡ putReceiver b₁ t k c → pass-answer x k h n b₂ ≡ sends b s t c 0 vector
+  pub maze-taken : x ≡ 0 → {b₂ : List ℕ} → b₂ ≡ putReceiver b₁ t k c → pass-answer x h k n b₂ ≡ sends b s t c 0 vector
   maze-taken z e = pass-taken b c s t (receive (view b) t) (passOf b s t vector) passed z e ∙ sym (one-pass b s t c vector)
 
-  pub maze-rejected : x ≢ 0 → pass-answer x k h n b₁ ≡ sends b s t c 0 vector
+  pub maze-rejected : x ≢ 0 → pass-answer x h k n b₁ ≡ sends b s t c 0 vector
   maze-rejected f = pass-rejected b c s t (receive (view b) t) (passOf b s t vector) passed f ∙ sym (one-pass b s t c vector)
 
 -- A send of routing type 4: after a rejection, a second pass over the other ports on the same bytes.
-module _ {b : List ℕ} {s t c vector : ℕ} (may : MaySend b s t c vector) {x k h n : ℕ} {b₁ : List ℕ} (got : pass-answer x k h n b₁ ≡ sends b s t c 0 vector) where
+module _ {b : List ℕ} {s t c vector : ℕ} (may : MaySend b s t c vector) {x h k n : ℕ} {b₁ : List ℕ} (got : pass-answer x h k n b₁ ≡ sends b s t c 0 vector) where
   S : Shape
   S = shapeOf (view b)
 
@@ -176,7 +176,7 @@ module _ {b : List ℕ} {s t c vector : ℕ} (may : MaySend b s t c vector) {x k
   second : PassResult
   second = pass (network S) (freeIn (view b)) s (otherPorts S vector) t
 
-  first-is : pass-answer x k h n b₁ ≡ sendAnswer b c s t (oneResult r first)
+  first-is : pass-answer x h k n b₁ ≡ sendAnswer b c s t (oneResult r first)
   unfolding r first
   first-is = got ∙ one-pass b s t c vector
 
@@ -184,7 +184,7 @@ module _ {b : List ℕ} {s t c vector : ℕ} (may : MaySend b s t c vector) {x k
   unfolding sends send attempts attempted S r first second
   both-are = refl
 
-  pub alternate-taken : x ≡ 0 → pass-answer x k h n b₁ ≡ sends b s t c 4 vector
+  pub alternate-taken : x ≡ 0 → pass-answer x h k n b₁ ≡ sends b s t c 4 vector
   alternate-taken z = first-is ∙ ap (sendAnswer b c s t) (sym (runs-stop r first second [] (sent-stops b c s t (outcome r first) (scouts first) first-is z))) ∙ sym both-are
 
   -- the vector of the second pass, from the nodes of the cube
@@ -215,8 +215,8 @@ module _ {b : List ℕ} {s t c vector : ℕ} (may : MaySend b s t c vector) {x k
     unfolding S view
     ports-other = rw others-are (other-vector S vector _ (other-has (dimensionAt b) vector (may .fits)))
 
-    module _ {x₂ k₂ h₂ n₂ : ℕ} {b₂ : List ℕ} (again : pass-answer x₂ k₂ h₂ n₂ b₂ ≡ sends b₁ s t c 0 others) where
-      second-is : pass-answer x₂ k₂ h₂ n₂ b₂ ≡ sendAnswer b c s t (oneResult r second)
+    module _ {x₂ h₂ k₂ n₂ : ℕ} {b₂ : List ℕ} (again : pass-answer x₂ h₂ k₂ n₂ b₂ ≡ sends b₁ s t c 0 others) where
+      second-is : pass-answer x₂ h₂ k₂ n₂ b₂ ≡ sendAnswer b c s t (oneResult r second)
       unfolding S r second
       second-is =
           again ∙ ap (λ u. sends u s t c 0 others) same-bytes ∙ one-pass b s t c others
@@ -227,7 +227,7 @@ module _ {b : List ℕ} {s t c vector : ℕ} (may : MaySend b s t c vector) {x k
       few-scouts =
           omega (arith, sent-scouts b c s t (outcome r first) (scouts first) first-is, sent-scouts b c s t (outcome r second) (scouts second) second-is, scouts-bound S (may .fits) refl s t vector (freeIn (view b)) (freeIn (view b)))
 
-      pub alternate-again : pass-answer x₂ k₂ h₂ (n + n₂) b₂ ≡ sends b s t c 4 vector
+      pub alternate-again : pass-answer x₂ h₂ k₂ (n + n₂) b₂ ≡ sends b s t c 4 vector
       alternate-again =
           sent-counted b c s t (outcome r second) (scouts second) (n + n₂) second-is
           ∙ ap (λ m. sendAnswer b c s t (record { outcome = outcome r second; scouts = m }))

@@ -20,7 +20,7 @@ bytesAfterSend b c s t receive-rejected = b
 
 unfoldable pub sendAnswer : List ℕ → ℕ → ℕ → ℕ → SendResult → PassAnswer
 sendAnswer b c s t x =
-    let a = answered (x .outcome) (x .scouts) in pass-answer (a .number) (a .receive) (a .hops) (a .scouts) (bytesAfterSend b c s t (x .outcome))
+    let a = answered (x .outcome) (x .scouts) in pass-answer (a .number) (a .hops) (a .receive) (a .scouts) (bytesAfterSend b c s t (x .outcome))
 
 -- A send of a routing type from s to t over the ports of a vector, read on what the table shows before it
 unfoldable pub sends : List ℕ → ℕ → ℕ → ℕ → ℕ → ℕ → PassAnswer

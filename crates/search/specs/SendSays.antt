@@ -28,12 +28,12 @@ pub record Lowest (v : View) (t k : ℕ) : Type 0 where
   pub first : (j : ℕ) → j < k → available v t j ≡ false
 
 -- What a send of circuit c from s to t answers, and the bytes after it, on a table with the bytes b. An acknowledgement is number 0.
-pub record SendSays (b : List ℕ) (s t c type vector : ℕ) (number receives hops scouts : ℕ) (after : List ℕ) : Type 0 where
+pub record SendSays (b : List ℕ) (s t c type vector : ℕ) (number hops receives scouts : ℕ) (after : List ℕ) : Type 0 where
   pub outcome : Outcome
   -- the outcome and the scouts are those of the type's attempts: the first free permitted path, and the free beginnings up to it (AnswerSays)
   pub says : AttemptsSay (net (view b)) s t (freeIn (view b)) (receive (view b) t) (attempts (shapeOf (view b)) type vector) outcome scouts
   -- the numbers and the bytes are those of that outcome: an acknowledged path's links and its receive channel are held, nothing else changes
-  pub answer : pass-answer number receives hops scouts after ≡ sendAnswer b c s t (record { outcome = outcome; scouts = scouts })
+  pub answer : pass-answer number hops receives scouts after ≡ sendAnswer b c s t (record { outcome = outcome; scouts = scouts })
   -- it is acknowledged exactly when one of its attempts has a free permitted path and the target has a receive channel available
   pub exactly : (number ≡ 0) ↔ (((a : Attempt) × (a ∈ attempts (shapeOf (view b)) type vector) × FreeRoute (view b) s t a) × Available (view b) t)
   pub lowest : number ≡ 0 → Lowest (view b) t receives

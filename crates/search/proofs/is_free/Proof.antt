@@ -1,6 +1,5 @@
 -- `search::is_free` meets its contract: the link is enabled, and nobody holds it.
 -- Assumes nothing.
-use mathlib.Core.Path.{refl}
 use Rattle.table.specs.View.{view}
 use Rattle.search.proofs.PassAnswer.{free-on}
 use borrow.Author.Needs.{needs}
