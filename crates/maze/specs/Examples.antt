@@ -10,10 +10,10 @@ use Rattle.cube.specs.Bits.{has, flip}
 use Rattle.cube.specs.Cube.{uphill}
 use Rattle.cube.specs.Axes.{axis, present}
 use Rattle.cube.specs.Helical.{helical}
-use Rattle.paths.specs.Network.{offered, end, links, hasLink, freePath}
+use Rattle.paths.specs.Network.{offered, end, links, hasLink, linkState, isFree, freePath}
 use Rattle.paths.specs.Pass.{over, ways, beginnings, scan, whole, pass, scouts}
-use Rattle.paths.specs.Send.{received, outcome, goesOn, runs, answered, lowestOf}
-use Rattle.paths.specs.CubeNetwork.{network, ports, sendPorts, otherPorts, maze, alternateMaze, send}
+use Rattle.paths.specs.Send.{received, outcome, attempted, goesOn, runs, answered, lowestOf}
+use Rattle.paths.specs.CubeNetwork.{network, ports, sendPorts, otherPorts, attempts, send}
 use Rattle.command_word.specs.Commands.{commands, valuesIn, values, reserved}
 use Rattle.command_word.specs.Word.{readTests, reading, readWord, writeTests, writing, writeWord}
 use Rattle.soundness.specs.SoundTest.{tracedInto}
@@ -82,5 +82,5 @@ results =
     ∷ []
 
 pub examples : map result inputs ≡ results
-unfolding answers historyStep stoppedOn callTests refusal factsOn openOn heldOn takenOn any holdsLink holdsReceive belongs enabledOn freeOn receiveOn lowestOf lowest listed sendOn withOpened applied resultOf tracedInto lent send maze alternateMaze network ports sendPorts otherPorts present axis keep from has flip uphill helical offered end links hasLink freePath over ways beginnings scan whole pass scouts received outcome goesOn runs answered commands valuesIn values reserved readTests reading readWord writeTests writing writeWord
+unfolding answers historyStep stoppedOn callTests refusal factsOn openOn heldOn takenOn any holdsLink holdsReceive belongs enabledOn freeOn linkState isFree receiveOn lowestOf lowest listed sendOn withOpened applied resultOf tracedInto lent send attempts attempted network ports sendPorts otherPorts present axis keep from has flip uphill helical offered end links hasLink freePath over ways beginnings scan whole pass scouts received outcome goesOn runs answered commands valuesIn values reserved readTests reading readWord writeTests writing writeWord
 examples = refl

@@ -6,7 +6,7 @@ use mathlib.Core.Bool.{Bool, true, false, cond, not, _&&_, _||_, and-true}
 use mathlib.Core.List.{List, [], _∷_, List·Memᴰ·not-nil, List·Memᴰ·cases-cons}
 use Prim.Native.Nat.{ℕ, _^_, _≤_, _<_}
 use lib.Dec.{eqb, ltb}
-use borrow.Author.Tests.{eqb-true, not-true}
+use borrow.Author.Tests.{eqb-true}
 use Rattle.common.specs.Lists.{_∈_, keep, Pairwise}
 use Rattle.common.proofs.Tests.{clash, both}
 use Rattle.common.proofs.Lists.{keep-mem, keep-pairwise, some-any}
@@ -14,6 +14,7 @@ use Rattle.cube.specs.Cube.{next, circuitOf}
 use Rattle.paths.specs.Network.{Path, Link, links, hasLink}
 use Rattle.paths.specs.Send.{Outcome, acknowledged, route-rejected, receive-rejected, SendResult}
 use Rattle.paths.specs.CubeNetwork.{Shape, network, send}
+use Rattle.paths.proofs.Words.{free-link}
 use Rattle.table.specs.View.{View, setAt, setOwner, setReceiver, setEnabled, withoutCircuit, fresh}
 use Rattle.ownership.specs.Calls.{Call, making, blocking, unblocking, opening, closing, tracing}
 use Rattle.ownership.specs.History.{Circuit, History, shapeOn, netOn, linksOf, holdsLink, holdsReceive, belongs, enabledOn, heldOn, freeOn, takenOn, openOn, receiveOn, factsOn, stoppedOn, sendOn, withBlocked, withCircuits, withOpened, applied}
@@ -106,7 +107,7 @@ module _ (h : History) (valid : Valid h) where
 
     free-facts : (n p : ℕ) → (n, p) ∈ links (netOn h) s w → (enabledOn h n p ≡ true) × (heldOn h n p ≡ false)
     unfolding freeOn
-    free-facts n p m = let r = both (enabledOn h n p) (not (heldOn h n p)) (taken .is-free (n, p) m) in (r .0, not-true _ (r .1))
+    free-facts n p m = free-link (enabledOn h n p) (heldOn h n p) .0 (taken .is-free (n, p) m)
 
     new-stands : CircuitValid h new
     new-stands =

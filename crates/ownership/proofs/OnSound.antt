@@ -17,7 +17,7 @@ use Rattle.paths.specs.Network.{Path}
 use Rattle.paths.proofs.Links.{on-first}
 use Rattle.paths.proofs.Walks.{path-owned}
 use Rattle.table.specs.Layout.{tableLength, dimensionAt, enabledAt, ownerAt}
-use Rattle.table.specs.View.{View, view, shapeOf, net, heldBy}
+use Rattle.table.specs.View.{View, view, shapeOf, net, heldIn, heldBy}
 use Rattle.table.specs.Encode.{Bytes}
 use Rattle.soundness.specs.Sound.{CircuitSound, Sound}
 use Rattle.soundness.specs.SoundTest.{pathOf, isEmpty, tableTests}
@@ -28,7 +28,7 @@ use Rattle.search.specs.SendSays.{SendSays}
 use Rattle.search.proofs.SendSays.{demand-2}
 use Rattle.ownership.specs.Calls.{Call, making, blocking, unblocking, opening, closing, tracing, only, callTests, After}
 use Rattle.ownership.specs.Update.{sendIn}
-use Rattle.ownership.specs.OnTable.{heldIn, openIn, factsOf, lentTests, stoppedAt, done, resultIn, tableEffect, tableStep}
+use Rattle.ownership.specs.OnTable.{openIn, factsOf, lentTests, stoppedAt, done, resultIn, tableEffect, tableStep}
 use Rattle.ownership.specs.Allowed.{Allowed}
 use Rattle.ownership.proofs.Allowed.{allowed}
 use Rattle.ownership.proofs.Stops.{lent-is, lent-numbered, none-stops, none-stops-lent, pass-tests, stopped-is}
@@ -57,17 +57,17 @@ module _ (b : List ℕ) (s c t y v : ℕ) (e : stoppedAt b (opening s c t y v) �
   opened = tableStep b (opening s c t y v)
 
   -- What an open that no test stops before the search answers is what a send answers, whatever the bytes are.
-  pub open-answers : SendSays b s t (circuitOf s c) y v (opened .result .answer .number) (opened .result .answer .receive) (opened .result .answer .hops) (opened .result .answer .scouts)
+  pub open-answers : SendSays b s t (circuitOf s c) y v (opened .result .answer .number) (opened .result .answer .hops) (opened .result .answer .receive) (opened .result .answer .scouts)
       (writtenBy b (opening s c t y v))
   unfolding tableEffect resultIn writtenBy sendIn sends sendAnswer
   open-answers =
       subst
-      (λ (d : After (List ℕ)). SendSays b s t (circuitOf s c) y v (d .result .answer .number) (d .result .answer .receive) (d .result .answer .hops) (d .result .answer .scouts) (writtenBy b (opening s c t y v)))
+      (λ (d : After (List ℕ)). SendSays b s t (circuitOf s c) y v (d .result .answer .number) (d .result .answer .hops) (d .result .answer .receive) (d .result .answer .scouts) (writtenBy b (opening s c t y v)))
       (sym (step-effect b (opening s c t y v) e)) (demand-2 b s t (circuitOf s c) y v (may-open b s c t y v e) _ _ _ _ _ refl)
 
   -- The users' second demand of the open call: it says what a send says, in its answer and in every byte.
   pub open-says : ((i : ℕ) → getD b i 0 < 256)
-      → SendSays b s t (circuitOf s c) y v (opened .result .answer .number) (opened .result .answer .receive) (opened .result .answer .hops) (opened .result .answer .scouts) (opened .state)
+      → SendSays b s t (circuitOf s c) y v (opened .result .answer .number) (opened .result .answer .hops) (opened .result .answer .receive) (opened .result .answer .scouts) (opened .state)
   open-says small = rw (sym (written-bytes b small (opening s c t y v) e)) at open-answers
 
 -- On a sound table a number whose links make a path stands.

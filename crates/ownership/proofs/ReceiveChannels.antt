@@ -19,14 +19,15 @@ use Rattle.cube.specs.Axes.{axis}
 use Rattle.cube.proofs.Bits.{flip-back}
 use Rattle.paths.specs.Network.{Path, end, links}
 use Rattle.paths.specs.Permitted.{Permitted}
-use Rattle.paths.specs.Send.{all-held, Outcome, acknowledged, route-rejected, receive-rejected, Acknowledged, answered}
-use Rattle.paths.specs.Sentences.{Free, AnswerSays, says-acknowledged, says-receive-rejected, says-route-rejected}
-use Rattle.paths.specs.CubeNetwork.{Shape, ports, network, sendPorts, otherPorts}
+use Rattle.paths.specs.Send.{all-held, Outcome, acknowledged, route-rejected, receive-rejected, answered}
+use Rattle.paths.specs.Sentences.{Free, AttemptsSay}
+use Rattle.paths.specs.CubeNetwork.{Shape, ports, network, attempts}
 use Rattle.paths.proofs.Links.{On, on-first, on-later}
 use Rattle.paths.proofs.Apart.{permitted-inside}
 use Rattle.paths.proofs.Sentences.{permitted-end}
-use Rattle.paths.proofs.CubeNetwork.{unfolded-port, send-port, other-port}
-use Rattle.paths.proofs.Words.{free-links, free-link}
+use Rattle.paths.proofs.CubeNetwork.{unfolded-port}
+use Rattle.paths.proofs.Send.{said-by, receive-rejected-says, tries-permitted}
+use Rattle.paths.proofs.Words.{free-links}
 use Rattle.table.specs.View.{View, view, available, receive, shapeOf, net, heldBy}
 use Rattle.table.proofs.Receives.{none-chosen}
 use Rattle.soundness.specs.Sound.{CircuitSound, Sound}
@@ -34,12 +35,11 @@ use Rattle.soundness.specs.SoundTest.{pathOf, tableTests}
 use Rattle.soundness.proofs.Soundness.{path-is, receive-stands}
 use Rattle.search.specs.PassAnswer.{freeIn, PassAnswer, pass-answer}
 use Rattle.search.specs.SendAnswer.{sendAnswer}
-use Rattle.search.specs.SendSays.{PassesSay, one-acknowledged, only-one, two}
+use Rattle.search.proofs.PassAnswer.{free-owner}
 use Rattle.ownership.specs.Calls.{Call, making, blocking, unblocking, opening, closing, tracing, callTests, After}
 use Rattle.ownership.specs.OnTable.{factsOf, lentTests, stoppedAt, resultIn, tableEffect, tableStep}
 use Rattle.ownership.proofs.TableEffect.{step-effect, step-stopped}
 use Rattle.ownership.specs.Allowed.{Allowed}
-use Rattle.ownership.proofs.Acknowledged.{wider}
 use Rattle.ownership.proofs.Allowed.{allowed}
 use Rattle.ownership.proofs.Stops.{none-stops, none-stops-lent, pass-tests}
 use Rattle.ownership.proofs.OnSound.{open-answers}
@@ -143,24 +143,18 @@ module _ (v : View) (sound : Sound v) (most : v .dimension ≤ 8) (t : ℕ) wher
         (λ j l e. full j l (sym (holds j l) ∙ ap (λ p. v .owner (next t p) p) e ∙ z))
 
   -- Where a free permitted path leads to t, a receive channel of t is free.
-  pub receives : (s : ℕ) (ps : List ℕ) (w : Path) → s < 2 ^ v .dimension → ((p : ℕ) → p ∈ ps → p ∈ ports (shapeOf v)) → Permitted (net v) s ps t w → Free (net v) (freeIn v) s w → receive v t ≢ all-held
-  unfolding receive available freeIn
-  receives s ps w i below o free e =
-      let c = comes-in s w i (wider (net v) s ps (ports (shapeOf v)) t w below o) in
-      let z = free-link _ _ .0 (free-links (net v) (freeIn v) s w .0 free _ (c .0)) .1 in
-      no-way-in (λ j h. eqb-false _ 0 (none-chosen _ e j h)) (arrival w) (c .1) z
+  pub receives : (s : ℕ) (w : Path) → s < 2 ^ v .dimension → Permitted (net v) s (ports (shapeOf v)) t w → Free (net v) (freeIn v) s w → receive v t ≢ all-held
+  unfolding receive available
+  receives s w i o free e =
+      let c = comes-in s w i o in
+      no-way-in (λ j h. eqb-false _ 0 (none-chosen _ e j h)) (arrival w) (c .1) (free-owner v _ _ (free-links (net v) (freeIn v) s w .0 free _ (c .0)))
 
-  -- So no pass over ports of the cube, and no send, is receive rejected.
-  pass-receives : (s : ℕ) → s < 2 ^ v .dimension → (ps : List ℕ) → ((p : ℕ) → p ∈ ps → p ∈ ports (shapeOf v)) → (o : Outcome) (n : ℕ) → AnswerSays (net v) (freeIn v) s ps t (receive v t) o n → o ≢ receive-rejected
-  pass-receives s i ps below o n (says-acknowledged e f) q = let z : _≡_ {A = ℕ} 0 1 = cc in omega arith
-  pass-receives s i ps below o n (says-receive-rejected {w} e f) q = receives s ps w i below (f .permitted) (f .is-free) e
-  pass-receives s i ps below o n (says-route-rejected f) q = let z : _≡_ {A = ℕ} 0 1 = cc in omega arith
-
-  send-receives : (s : ℕ) → s < 2 ^ v .dimension → (type vector : ℕ) (o : Outcome) (n : ℕ)
-      → PassesSay (net v) (freeIn v) s t (receive v t) type (sendPorts (shapeOf v) vector) (otherPorts (shapeOf v) vector) o n → o ≢ receive-rejected
-  send-receives s i type vector o n (one-acknowledged a z) q = unfold Acknowledged in rw q at z
-  send-receives s i type vector o n (only-one e a) q = pass-receives s i _ (λ p m. send-port (shapeOf v) vector p .0 m .0) o n a q
-  send-receives s i type vector o _ (two e a z a₂) q = pass-receives s i _ (λ p m. other-port (shapeOf v) vector p .0 m .0) o _ a₂ q
+  -- So no send is receive rejected.
+  send-receives : (s : ℕ) → s < 2 ^ v .dimension → (type vector : ℕ) (o : Outcome) (n : ℕ) → AttemptsSay (net v) s t (freeIn v) (receive v t) (attempts (shapeOf v) type vector) o n → o ≢ receive-rejected
+  send-receives s i type vector o n a q =
+      let x = said-by (net v) s t (freeIn v) (receive v t) (attempts (shapeOf v) type vector) receive-rejected n (rw q at a) in
+      let y = receive-rejected-says (net v) s t (freeIn v) (receive v t) (x .0) (x .2 .0) (x .2 .1) in
+      receives s (y .0 .0) i (tries-permitted (shapeOf v) s t type vector (x .0) (x .1) (y .0 .0) (y .0 .1)) (y .0 .2) (y .1)
 
 -- no test has the number 11
 stopped-otherwise : (b : List ℕ) (a : Call) → stoppedAt b a ≢ 11
@@ -181,7 +175,7 @@ rejected receive-rejected n e = refl
 
 -- the number that a pass or a send settles on
 answerNumber : PassAnswer → ℕ
-answerNumber (pass-answer x k h n b) = x
+answerNumber (pass-answer x h k n b) = x
 
 open-otherwise : (b : List ℕ) (s c t y v : ℕ) → stoppedAt b (opening s c t y v) ≡ 0 → tableStep b (opening s c t y v) .result .answer .number ≢ 11
 unfolding Allowed factsOf view sendAnswer answerNumber

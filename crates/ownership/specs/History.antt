@@ -7,7 +7,7 @@ use lib.Dec.{eqb, ltb}
 use lib.ListN.{length}
 use Rattle.common.specs.Lists.{keep, any}
 use Rattle.common.specs.Tests.{refusal}
-use Rattle.paths.specs.Network.{Network, Path, Link, links, hasLink}
+use Rattle.paths.specs.Network.{Network, Path, Link, links, hasLink, linkState, isFree}
 use Rattle.paths.specs.Send.{Receive, channel, Outcome, acknowledged, route-rejected, receive-rejected, SendResult, answered, lowestOf}
 use Rattle.paths.specs.CubeNetwork.{Shape, network, send}
 use Rattle.soundness.specs.SoundTest.{tracedInto}
@@ -58,7 +58,7 @@ unfoldable pub heldOn : History → ℕ → ℕ → Bool
 heldOn h n p = any (holdsLink (netOn h) n p) (h .circuits)
 
 unfoldable pub freeOn : History → ℕ → ℕ → Bool
-freeOn h n p = enabledOn h n p && not (heldOn h n p)
+freeOn h n p = isFree (linkState (enabledOn h n p) (heldOn h n p))
 
 unfoldable pub takenOn : History → ℕ → ℕ → Bool
 takenOn h n k = any (holdsReceive n k) (h .circuits)

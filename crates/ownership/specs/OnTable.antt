@@ -9,7 +9,7 @@ use Rattle.common.specs.Tests.{Test, test, refusal}
 use Rattle.cube.specs.Cube.{circuitOf}
 use Rattle.paths.specs.Send.{Answer, answered}
 use Rattle.table.specs.Layout.{tableLength}
-use Rattle.table.specs.View.{View, view}
+use Rattle.table.specs.View.{View, view, heldIn}
 use Rattle.table.specs.Encode.{encode}
 use Rattle.soundness.specs.SoundTest.{pathOf, isEmpty, tableTests, tracedInto}
 use Rattle.ownership.specs.Calls.{Call, making, blocking, unblocking, opening, closing, tracing, CallResult, CallFacts, only, callTests, lent, After}
@@ -18,10 +18,6 @@ use Rattle.ownership.specs.Update.{sendIn, updated}
 -- "this send channel has an open circuit": the links that its circuit holds make a path
 unfoldable pub openIn : View → ℕ → ℕ → Bool
 openIn v s c = not (isEmpty (pathOf v (circuitOf s c)))
-
--- "the link is held"
-unfoldable pub heldIn : View → ℕ → ℕ → Bool
-heldIn v n p = not (eqb (v .owner n p) 0)
 
 unfoldable pub factsOf : View → CallFacts
 factsOf v = record { dimension = v .dimension; held = heldIn v; isOpen = openIn v }

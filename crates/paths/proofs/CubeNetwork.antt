@@ -174,7 +174,7 @@ module _ (S : Shape) where
   )
 
   -- both rise
-  send-ports-rise : (v : ℕ) → Pairwise _<_ (sendPorts S v) × Pairwise _<_ (otherPorts S v)
+  pub send-ports-rise : (v : ℕ) → Pairwise _<_ (sendPorts S v) × Pairwise _<_ (otherPorts S v)
   unfolding sendPorts otherPorts
   send-ports-rise v = (keep-pairwise _ _<_ _ ports-rise, keep-pairwise _ _<_ _ ports-rise)
 
@@ -183,17 +183,11 @@ module _ (S : Shape) where
   unfolding sendPorts otherPorts
   other-vector v c h = keep-same _ _ (ports S) (λ q m. h (axis q) (port-axis q m))
 
-  -- What document 01 says of a pass holds in the cube, of the pass with the given vector and of the one with the other ports.
-  ports-say : S .dimension ≤ 8 → (free : ℕ → ℕ → Bool) (s : ℕ) (vector : List ℕ) (t : ℕ) → Node S s → Node S t → Pairwise _<_ vector → ((q : ℕ) → q ∈ vector → q ∈ ports S)
+  -- What document 01 says of a pass holds in the cube, over any of its ports that rise.
+  pub cube-says : S .dimension ≤ 8 → (free : ℕ → ℕ → Bool) (s : ℕ) (vector : List ℕ) (t : ℕ) → Node S s → Node S t → Pairwise _<_ vector → ((q : ℕ) → q ∈ vector → q ∈ ports S)
       → Says (network S) free s vector t (pass (network S) free s vector t)
-  ports-say h free s vector t i l rise there =
+  cube-says h free s vector t i l rise there =
       pass-says (cube-nearing t) (cube-leading h t l) s vector rise (λ q m. unfold network in flip-inside (S .dimension) s (axis q) i (port-axis q (there q m))) free _ refl
-
-  pub cube-says : S .dimension ≤ 8 → (free : ℕ → ℕ → Bool) (s v t : ℕ) → Node S s → Node S t → Says (network S) free s (sendPorts S v) t (pass (network S) free s (sendPorts S v) t)
-  cube-says h free s v t i l = ports-say h free s (sendPorts S v) t i l (send-ports-rise v .0) (λ q m. send-port v q .0 m .0)
-
-  pub cube-says-other : S .dimension ≤ 8 → (free : ℕ → ℕ → Bool) (s v t : ℕ) → Node S s → Node S t → Says (network S) free s (otherPorts S v) t (pass (network S) free s (otherPorts S v) t)
-  cube-says-other h free s v t i l = ports-say h free s (otherPorts S v) t i l (send-ports-rise v .1) (λ q m. other-port v q .0 m .0)
 
 -- With fold mask 0 this is the cube of document 01.
 module _ (S : Shape) (h : S .dimension ≤ 8) (z : S .fold ≡ 0) where

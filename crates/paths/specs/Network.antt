@@ -2,7 +2,7 @@
 -- Assumes nothing.
 use mathlib.Core.Path.{_≡_}
 use mathlib.Core.Logic.{_≢_}
-use mathlib.Core.Bool.{Bool, true, false, cond, _&&_, _||_}
+use mathlib.Core.Bool.{Bool, true, false, _&&_, _||_}
 use mathlib.Core.List.{List, [], _∷_}
 use Prim.Native.Nat.{ℕ, suc}
 use lib.Dec.{eqb}
@@ -49,13 +49,14 @@ pub record Exactly (N : Network) (s : ℕ) (w : Path) (own : ℕ → ℕ → Boo
   pub all : (m q : ℕ) → (m, q) ∈ links N s w → own m q ≡ true
   pub only : (m q : ℕ) → own m q ≡ true → (m, q) ∈ links N s w
 
--- The state of a link, from whether it is enabled and which circuit holds it (0: none). "A link is free if enabled and held by nobody."
+-- The state of a link, from whether it is enabled and whether a circuit holds it. "A link is free if enabled and held by nobody."
 pub data LinkState : Type 0 where
   link-free link-held link-blocked : LinkState
 
-unfoldable pub linkState : Bool → ℕ → LinkState
-linkState false owner = link-blocked
-linkState true owner = cond (eqb owner 0) link-free link-held
+unfoldable pub linkState : (enabled held : Bool) → LinkState
+linkState false held = link-blocked
+linkState true true = link-held
+linkState true false = link-free
 
 unfoldable pub isFree : LinkState → Bool
 isFree link-free = true

@@ -1,4 +1,4 @@
--- A send: one pass or two, and what becomes of the path that the last one found.
+-- A send: a list of attempts made in turn, and what becomes of the path that the last one found.
 -- Assumes nothing.
 use mathlib.Core.Bool.{Bool, true, false, cond}
 use mathlib.Core.List.{List, [], _∷_}
@@ -6,8 +6,8 @@ use Prim.Native.Nat.{ℕ, _+_}
 use lib.Dec.{eqb}
 use lib.ListN.{length}
 use Rattle.common.specs.Lists.{lowest}
-use Rattle.paths.specs.Network.{Path}
-use Rattle.paths.specs.Pass.{PassResult, none, found, scouts}
+use Rattle.paths.specs.Network.{Network, Path}
+use Rattle.paths.specs.Pass.{PassResult, none, found, pass, scouts}
 
 -- "the target takes its lowest receive channel that no circuit holds": that channel, or none where all are held
 pub data Receive : Type 0 where
@@ -38,10 +38,21 @@ unfoldable pub outcome : Receive → PassResult → Outcome
 outcome r (none c) = route-rejected
 outcome r (found w c) = received w r
 
--- what a send answers: its outcome and the scouts of all its passes
+-- What a send tries in turn: the permitted paths whose first hop is a port of a list, in one pass.
+pub data Attempt : Type 0 where
+  pass-over : (ports : List ℕ) → Attempt
+
+-- what an attempt from s to t comes to
+unfoldable pub attempted : Network → (ℕ → ℕ → Bool) → ℕ → ℕ → Attempt → PassResult
+attempted N free s t (pass-over ports) = pass N free s ports t
+
+-- what a send answers: its outcome and the scouts of all its attempts
 pub record SendResult : Type 0 where
   pub outcome : Outcome
   pub scouts : ℕ
+
+abbrev pub oneResult : Receive → PassResult → SendResult
+oneResult r x = record { outcome = outcome r x; scouts = scouts x }
 
 -- "If it does not end in an acknowledgement, a second": the outcomes after which the next attempt is made
 unfoldable pub goesOn : Outcome → Bool
@@ -49,12 +60,13 @@ goesOn (acknowledged w c) = false
 goesOn route-rejected = true
 goesOn receive-rejected = true
 
--- A routing type is a list of attempts, made in turn. "The answer is that of the last pass run; scouts of both are added."
-unfoldable pub runs : Receive → PassResult → List PassResult → SendResult
-runs r a [] = record { outcome = outcome r a; scouts = scouts a }
-runs r a (b ∷ bs) =
-    cond (goesOn (outcome r a)) (record { outcome = runs r b bs .outcome; scouts = scouts a + runs r b bs .scouts })
-    (record { outcome = outcome r a; scouts = scouts a })
+-- Attempts made in turn, from what each comes to. "The answer is that of the last pass run; scouts of both are added." Where nothing is tried,
+-- nothing is found.
+unfoldable pub runs : Receive → List PassResult → SendResult
+runs r [] = record { outcome = route-rejected; scouts = 0 }
+runs r (x ∷ []) = oneResult r x
+runs r (x ∷ y ∷ ys) =
+    cond (goesOn (outcome r x)) (record { outcome = runs r (y ∷ ys) .outcome; scouts = scouts x + runs r (y ∷ ys) .scouts }) (oneResult r x)
 
 -- What a call answers: "An open answers number, hops, receive channel, scouts; a trace, number and hops; .. the rest the number alone." What a call does
 -- not answer is 0 here.

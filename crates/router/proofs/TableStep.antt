@@ -27,7 +27,7 @@ use Rattle.ownership.proofs.BytesAfter.{writtenBy, written-bytes}
 
 -- the answer of a search as that of a call
 shown : PassAnswer → After (List ℕ)
-shown (pass-answer x r h n b) = done b (record { number = x; hops = h; receive = r; scouts = n }) []
+shown (pass-answer x h r n b) = done b (record { number = x; hops = h; receive = r; scouts = n }) []
 
 -- "D outside 1 to 8"
 pub dimension-zero : {D : ℕ} → D ≡ 0 → (leb 1 D && leb D 8) ≡ false
@@ -103,7 +103,7 @@ module _ (b : List ℕ) where
   unfolding lent
   open-refused s c t y v e f = call-stopped (opening s c t y v) e f
 
-  pub call-opens : (s c t y v : ℕ) {m : ℕ} → m ≡ stoppedAt b (opening s c t y v) → m ≡ 0 → ((i : ℕ) → getD b i 0 < 256) → {k : ℕ} → k ≡ circuitOf s c → {x r h n : ℕ} {b₁ : List ℕ} → pass-answer x r h n b₁ ≡ sends b s t k y v
+  pub call-opens : (s c t y v : ℕ) {m : ℕ} → m ≡ stoppedAt b (opening s c t y v) → m ≡ 0 → ((i : ℕ) → getD b i 0 < 256) → {k : ℕ} → k ≡ circuitOf s c → {x h r n : ℕ} {b₁ : List ℕ} → pass-answer x h r n b₁ ≡ sends b s t k y v
       → done b₁ (record { number = x; hops = h; receive = r; scouts = n }) [] ≡ tableStep b (opening s c t y v)
   unfolding writtenBy resultIn sends sendAnswer sendIn shown
   call-opens s c t y v e z small q g = ap shown (g ∙ ap (λ i. sends b s t i y v) q) ∙ call-effect (opening s c t y v) e z small refl

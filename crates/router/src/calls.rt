@@ -8,6 +8,7 @@ use crate::tests;
 use common::refusal;
 use cube::Node;
 use cube::Port;
+use search::Opened;
 
 // Makes a table of a dimension: all its links enabled, nothing held. What the bytes were before does not matter.
 pub fn make(t: &mut [u8], dimension: u16) -> u16
@@ -50,15 +51,6 @@ pub fn unblock(t: &mut [u8], node: Node, port: Port) -> u16
     refusal::ACCEPTED
 }
 
-// What an open answers: 0 with the hops of its path and the receive channel taken, or the refusal; and the scouts sent.
-#[repr(C)]
-pub struct Opened {
-    pub number: u16,
-    pub hops: u16,
-    pub receive: u16,
-    pub scouts: u32,
-}
-
 // Opens a circuit from a send channel of a node to a target.
 pub fn open(
     t: &mut [u8],
@@ -80,13 +72,7 @@ pub fn open(
         };
     }
     let c = cube::circuit_of(source, channel);
-    let got = search::send(t, source, target, c, routing, vector);
-    Opened {
-        number: got.refused,
-        hops: got.hops,
-        receive: got.channel,
-        scouts: got.scouts,
-    }
+    search::send(t, source, target, c, routing, vector)
 }
 
 // Closes the circuit of a send channel: it frees its links and its receive channel, and nothing else.

@@ -3,7 +3,6 @@ mod calls;
 mod release;
 mod tests;
 
-pub use calls::Opened;
 pub use calls::Traced;
 pub use calls::block;
 pub use calls::close;
@@ -11,3 +10,4 @@ pub use calls::make;
 pub use calls::open;
 pub use calls::trace;
 pub use calls::unblock;
+pub use search::Opened;

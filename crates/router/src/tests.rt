@@ -3,10 +3,10 @@
 ghost use mathlib.Core.Path.{_≡_};
 ghost use mathlib.Core.Bool.{false};
 ghost use Rattle.common.specs.Tests.{refusal};
-ghost use Rattle.table.specs.View.{view};
+ghost use Rattle.table.specs.View.{view, heldIn};
 ghost use Rattle.soundness.specs.SoundTest.{tableTests};
 ghost use Rattle.ownership.specs.Calls.{blocking, unblocking, opening, closing, tracing, absent, nodes, channel, port, routingType, sendVector, shortBuffer};
-ghost use Rattle.ownership.specs.OnTable.{heldIn, openIn, factsOf, stoppedAt};
+ghost use Rattle.ownership.specs.OnTable.{openIn, factsOf, stoppedAt};
 use common::refusal;
 use cube::Node;
 use cube::Port;

@@ -75,7 +75,7 @@ module _ (b : List ℕ) (n vector x : ℕ) (within : Within b n 0) (byte : x ≡
       record {
         most = and-le-l vector x;
         among = λ p e. in-both p e .0;
-        dropped = λ p l e f. sym (free-off (view b) n p (has x p) (sym (read p l)) (is-false (has x p) (λ y. clash (has-and vector x p ∙ (rw (e, y))) f)));
+        dropped = λ p l e f. free-off (view b) n p (read p l ∙ is-false (has x p) (λ y. clash (has-and vector x p ∙ (rw (e, y))) f));
       }
 
   pub enabled-all : Enabled (view b) n (bitAnd vector x)

@@ -1,15 +1,15 @@
 -- One hop of the search, as the code makes it: held, handed on, and given back where it is rejected.
 -- Assumes nothing.
-use mathlib.Core.Path.{_≡_, refl, ap, ap₂, sym, _∙_, fun-ext}
+use mathlib.Core.Path.{_≡_, refl, ap, sym, _∙_, fun-ext}
 use mathlib.Core.Logic.{_≢_}
-use mathlib.Core.Bool.{Bool, true, false, cond, _&&_, not, false≢true, and-true, and-false}
+use mathlib.Core.Bool.{Bool, true, false, cond, _&&_, not, and-true, and-false}
 use mathlib.Core.List.{List, [], _∷_, List·Memᴰ·head}
 use Prim.Native.Nat.{ℕ, zero, suc, _+_, _/_, _%_, _<_}
 use native.Mathlib.Omega.{arith}
 use lib.Dec.{eqb}
 use lib.ListN.{length, set, getD}
 use lib.Seq.{set-getD, set-set, set-comm}
-use borrow.Author.Tests.{eq-eqb, ne-eqb, eqb-true}
+use borrow.Author.Tests.{eq-eqb, ne-eqb, eqb-true, not-false}
 use Rattle.common.specs.Lists.{_∈_}
 use Rattle.cube.specs.Cube.{next}
 use Rattle.cube.specs.Helical.{helical}
@@ -18,11 +18,12 @@ use Rattle.paths.specs.Network.{Network, Path, offered, Nearing, isFree, linkSt
 use Rattle.paths.specs.Pass.{PassResult, none, found, scouts}
 use Rattle.paths.specs.Send.{Receive, channel, all-held, lowestOf}
 use Rattle.paths.specs.Search.{hopOr, trying, arriving, holding}
+use Rattle.paths.proofs.Words.{free-link}
 use Rattle.paths.proofs.Depth.{trying-cons}
 use Rattle.paths.proofs.Cone.{trying-same, holding-after}
 use Rattle.table.specs.Layout.{entryPlace, linkPart, wordAt, putWord, putEntry, putOwner, ownerAt, entryAt}
 use Rattle.table.specs.LayoutContracts.{Within}
-use Rattle.table.specs.View.{View, view, setAt, setOwner, receive, lowestChannel, available}
+use Rattle.table.specs.View.{View, view, heldIn, setAt, setOwner, receive, lowestChannel, available}
 use Rattle.table.proofs.Entries.{within}
 use Rattle.table.proofs.Views.{view-put-owner}
 use Rattle.search.specs.PassAnswer.{freeIn, holdPath, PassAnswer, pass-answer, answerOfPass, arrivalAfter}
@@ -44,39 +45,34 @@ given-back b n p c w e = given-word b (entryPlace linkPart n p) c (rw (within n 
 
 -- While a link is held, it alone is no longer free.
 pub free-held : (v : View) (n p c : ℕ) → c ≢ 0 → freeIn (setOwner v n p c) ≡ holding (freeIn v) n p
-unfolding freeIn setOwner setAt holding
+unfolding freeIn heldIn setOwner setAt holding
 free-held v n p c h = fun-ext (λ m. fun-ext (λ q. go (eqb m n && eqb q p) (v .enabled m q) (v .owner m q)))
   where
-    taken : (on : Bool) → isFree (linkState on c) ≡ false
-    taken true = unfold isFree linkState in rw (ne-eqb c 0 h)
+    taken : (on : Bool) → isFree (linkState on true) ≡ false
+    taken true = unfold isFree linkState in refl
     taken false = unfold isFree linkState in refl
 
-    go : (x on : Bool) (o : ℕ) → isFree (linkState on (cond x c o)) ≡ isFree (linkState on o) && not x
-    go true on o = taken on ∙ sym (and-false (isFree (linkState on o)))
-    go false on o = sym (and-true (isFree (linkState on o)))
+    go : (x on : Bool) (o : ℕ) → isFree (linkState on (not (eqb (cond x c o) 0))) ≡ isFree (linkState on (not (eqb o 0))) && not x
+    go true on o = rw (ne-eqb c 0 h) (taken on ∙ sym (and-false (isFree (linkState on (not (eqb o 0))))))
+    go false on o = sym (and-true (isFree (linkState on (not (eqb o 0)))))
 
 -- the two tests of a link
-pub free-on : (v : View) (n p : ℕ) (on : Bool) (o : ℕ) → on ≡ v .enabled n p → on ≡ true → o ≡ v .owner n p → eqb o 0 ≡ freeIn v n p
-unfolding freeIn
-free-on v n p on o a e q = go (eqb o 0) refl ∙ ap₂ (λ x y. isFree (linkState x y)) (sym e ∙ a) q
+pub free-on : (v : View) (n p : ℕ) {o : ℕ} → v .enabled n p ≡ true → o ≡ v .owner n p → eqb o 0 ≡ freeIn v n p
+unfolding freeIn heldIn
+free-on v n p {o} e q = rw (e, ← q) (go (eqb o 0))
   where
-    go : (x : Bool) → eqb o 0 ≡ x → x ≡ isFree (linkState true o)
-    go true f = unfold isFree linkState in rw f
-    go false f = unfold isFree linkState in rw f
+    go : (z : Bool) → z ≡ isFree (linkState true (not z))
+    go true = unfold isFree linkState in refl
+    go false = unfold isFree linkState in refl
 
-pub free-off : (v : View) (n p : ℕ) (on : Bool) → on ≡ v .enabled n p → on ≡ false → false ≡ freeIn v n p
+pub free-off : (v : View) (n p : ℕ) → v .enabled n p ≡ false → freeIn v n p ≡ false
 unfolding freeIn isFree linkState
-free-off v n p on a e = rw (← a, e)
+free-off v n p e = rw e
 
 -- a link that is free is held by nobody
 pub free-owner : (v : View) (n p : ℕ) → freeIn v n p ≡ true → v .owner n p ≡ 0
-unfolding freeIn isFree linkState
-free-owner v n p e = go (v .enabled n p) (eqb (v .owner n p) 0) refl refl e
-  where
-    go : (on z : Bool) → v .enabled n p ≡ on → eqb (v .owner n p) 0 ≡ z → isFree (linkState (v .enabled n p) (v .owner n p)) ≡ true → v .owner n p ≡ 0
-    go on true a f t = eqb-true _ 0 f
-    go true false a f t = absurd (false≢true (rw (a, f) at t))
-    go false false a f t = absurd (false≢true (rw a at t))
+unfolding freeIn heldIn
+free-owner v n p e = eqb-true _ 0 (not-false _ (free-link _ _ .0 e .1))
 
 -- The arrival behind a hop just held finds what it would find on the table before.
 module _ (N : Network) (t : ℕ) (near : Nearing N t) (b : List ℕ) (n p c : ℕ) (w : Within b n p) (small : c < 65536) (h : c ≢ 0) where
@@ -90,16 +86,16 @@ module _ (N : Network) (t : ℕ) (near : Nearing N t) (b : List ℕ) (n p c : �
 
 -- the parts of an answer
 refusedOf : PassAnswer → ℕ
-refusedOf (pass-answer r k h s b) = r
+refusedOf (pass-answer r h k s b) = r
 
 scoutsOf : PassAnswer → ℕ
-scoutsOf (pass-answer r k h s b) = s
+scoutsOf (pass-answer r h k s b) = s
 
 bytesOf : PassAnswer → List ℕ
-bytesOf (pass-answer r k h s b) = b
+bytesOf (pass-answer r h k s b) = b
 
 withBytes : List ℕ → PassAnswer → PassAnswer
-withBytes x (pass-answer r k h s b) = pass-answer r k h s x
+withBytes x (pass-answer r h k s b) = pass-answer r h k s x
 
 ten≢zero : (x : _≡_ {A = ℕ} 10 0) → ⊥
 ten≢zero x = omega arith
@@ -125,8 +121,8 @@ module _ (free : ℕ → Bool) (on : ℕ → ℕ → PassResult) (b : List ℕ) 
   tried e = trying-cons free on p ps s ∙ (rw e)
 
   -- acknowledged: the answer stands, with the hop before its path
-  pub port-acknowledged : free p ≡ true → (k hops d : ℕ) (b′ : List ℕ) → pass-answer 0 k hops d b′ ≡ answerOfPass (putOwner b n p c) c (next n p) (h + 1) r (on p (suc s))
-      → pass-answer 0 k hops d b′ ≡ answerOfPass b c n h r (trying free on (p ∷ ps) s)
+  pub port-acknowledged : free p ≡ true → (k hops d : ℕ) (b′ : List ℕ) → pass-answer 0 hops k d b′ ≡ answerOfPass (putOwner b n p c) c (next n p) (h + 1) r (on p (suc s))
+      → pass-answer 0 hops k d b′ ≡ answerOfPass b c n h r (trying free on (p ∷ ps) s)
   unfolding refusedOf
   port-acknowledged e k hops d b′ q = q ∙ go r (on p (suc s)) (ap refusedOf (sym q)) ∙ ap (answerOfPass b c n h r) (sym (tried e))
     where
@@ -135,41 +131,41 @@ module _ (free : ℕ → Bool) (on : ℕ → ℕ → PassResult) (b : List ℕ) 
       go r (none d) z = absurd (ten≢zero (unfold answerOfPass refusedOf in z))
       go all-held (found w d) z = absurd (eleven≢zero (unfold answerOfPass refusedOf in z))
       go (channel k) (found w d) z =
-          unfold answerOfPass hopOr holdPath in ap (λ x. pass-answer 0 k x d (holdPath (putOwner b n p c) c (next n p) w)) (one-longer h p w)
+          unfold answerOfPass hopOr holdPath in ap (λ x. pass-answer 0 x k d (holdPath (putOwner b n p c) c (next n p) w)) (one-longer h p w)
 
   -- receive rejected: the hop is given back, and no other port is tried
-  pub port-receive-rejected : free p ≡ true → (k hops d : ℕ) (b′ : List ℕ) → pass-answer 11 k hops d b′ ≡ answerOfPass (putOwner b n p c) c (next n p) (h + 1) r (on p (suc s))
-      → (b′ ≡ putOwner b n p c) × (pass-answer 11 k hops d b ≡ answerOfPass b c n h r (trying free on (p ∷ ps) s))
+  pub port-receive-rejected : free p ≡ true → (k hops d : ℕ) (b′ : List ℕ) → pass-answer 11 hops k d b′ ≡ answerOfPass (putOwner b n p c) c (next n p) (h + 1) r (on p (suc s))
+      → (b′ ≡ putOwner b n p c) × (pass-answer 11 hops k d b ≡ answerOfPass b c n h r (trying free on (p ∷ ps) s))
   port-receive-rejected e k hops d b′ q =
       let g = go r (on p (suc s)) q in (g .0, g .1 ∙ ap (answerOfPass b c n h r) (sym (tried e)))
     where
-      go : (r : Receive) (a : PassResult) → pass-answer 11 k hops d b′ ≡ answerOfPass (putOwner b n p c) c (next n p) (h + 1) r a
-          → (b′ ≡ putOwner b n p c) × (pass-answer 11 k hops d b ≡ answerOfPass b c n h r (hopOr p a (trying free on ps)))
+      go : (r : Receive) (a : PassResult) → pass-answer 11 hops k d b′ ≡ answerOfPass (putOwner b n p c) c (next n p) (h + 1) r a
+          → (b′ ≡ putOwner b n p c) × (pass-answer 11 hops k d b ≡ answerOfPass b c n h r (hopOr p a (trying free on ps)))
       go r (none d) z = absurd (ten≢eleven (sym (unfold answerOfPass refusedOf in ap refusedOf z)))
       go (channel k) (found w d) z = absurd (eleven≢zero (unfold answerOfPass refusedOf in ap refusedOf z))
       go all-held (found w d) z = (unfold answerOfPass bytesOf in ap bytesOf z, unfold answerOfPass hopOr withBytes in ap (withBytes b) z)
 
   -- route rejected: the hop is given back, and the next port is tried with the scouts sent by then
-  pub port-route-rejected : free p ≡ true → (k hops d : ℕ) (b′ : List ℕ) → pass-answer 10 k hops d b′ ≡ answerOfPass (putOwner b n p c) c (next n p) (h + 1) r (on p (suc s))
+  pub port-route-rejected : free p ≡ true → (k hops d : ℕ) (b′ : List ℕ) → pass-answer 10 hops k d b′ ≡ answerOfPass (putOwner b n p c) c (next n p) (h + 1) r (on p (suc s))
       → (b′ ≡ putOwner b n p c) × (answerOfPass b c n h r (trying free on ps d) ≡ answerOfPass b c n h r (trying free on (p ∷ ps) s))
   port-route-rejected e k hops d b′ q =
       let g = go r (on p (suc s)) q in (g .0, ap (answerOfPass b c n h r) (g .1 ∙ sym (tried e)))
     where
-      go : (r : Receive) (a : PassResult) → pass-answer 10 k hops d b′ ≡ answerOfPass (putOwner b n p c) c (next n p) (h + 1) r a
+      go : (r : Receive) (a : PassResult) → pass-answer 10 hops k d b′ ≡ answerOfPass (putOwner b n p c) c (next n p) (h + 1) r a
           → (b′ ≡ putOwner b n p c) × (trying free on ps d ≡ hopOr p a (trying free on ps))
       go r (none d) z = (unfold answerOfPass bytesOf in ap bytesOf z, unfold answerOfPass hopOr scoutsOf in ap (λ x. trying free on ps (scoutsOf x)) z)
       go (channel k) (found w d) z = absurd (ten≢zero (unfold answerOfPass refusedOf in ap refusedOf z))
       go all-held (found w d) z = absurd (ten≢eleven (unfold answerOfPass refusedOf in ap refusedOf z))
 
 -- an answer is an acknowledgement or one of the two rejections
-pub three-answers : (b : List ℕ) (c n h : ℕ) (r : Receive) (a : PassResult) (x k hops s : ℕ) (b′ : List ℕ) → pass-answer x k hops s b′ ≡ answerOfPass b c n h r a → x ≢ 0 → x ≢ 11 → x ≡ 10
+pub three-answers : (b : List ℕ) (c n h : ℕ) (r : Receive) (a : PassResult) (x k hops s : ℕ) (b′ : List ℕ) → pass-answer x hops k s b′ ≡ answerOfPass b c n h r a → x ≢ 0 → x ≢ 11 → x ≡ 10
 unfolding answerOfPass refusedOf
 three-answers b c n h r (none d) x k hops s b′ e f g = ap refusedOf e
 three-answers b c n h (channel j) (found w d) x k hops s b′ e f g = absurd (f (ap refusedOf e))
 three-answers b c n h all-held (found w d) x k hops s b′ e f g = absurd (g (ap refusedOf e))
 
 -- its scouts are those of the pass
-pub answer-scouts : (b : List ℕ) (c n h : ℕ) (r : Receive) (a : PassResult) (x k hops s : ℕ) (b′ : List ℕ) → pass-answer x k hops s b′ ≡ answerOfPass b c n h r a → s ≡ scouts a
+pub answer-scouts : (b : List ℕ) (c n h : ℕ) (r : Receive) (a : PassResult) (x k hops s : ℕ) (b′ : List ℕ) → pass-answer x hops k s b′ ≡ answerOfPass b c n h r a → s ≡ scouts a
 unfolding answerOfPass scoutsOf scouts
 answer-scouts b c n h r (none d) x k hops s b′ e = ap scoutsOf e
 answer-scouts b c n h (channel j) (found w d) x k hops s b′ e = ap scoutsOf e
@@ -205,8 +201,8 @@ module _ (N : Network) (free : ℕ → ℕ → Bool) (t n a s : ℕ) where
           (λ p m d. let q : N .distance t (N .next n p) ≡ k = omega (arith, near .nearer n p (helical-mem a _ m)) in ap (λ j. arriving j N free t (N .next n p) p d) q) s)
 
 module _ (v : View) (b : List ℕ) (c n h s : ℕ) {k : ℕ} (low : k ≡ lowestChannel v n) where
-  pub target-receives : k ≢ 8 → pass-answer 0 k h s b ≡ answerOfPass b c n h (receive v n) (found [] s)
-  target-receives g = unfold receive lowestOf lowestChannel in rw (← low, ne-eqb k 8 g) (unfold answerOfPass holdPath in ap (λ x. pass-answer 0 k x s b) (no-longer h))
+  pub target-receives : k ≢ 8 → pass-answer 0 h k s b ≡ answerOfPass b c n h (receive v n) (found [] s)
+  target-receives g = unfold receive lowestOf lowestChannel in rw (← low, ne-eqb k 8 g) (unfold answerOfPass holdPath in ap (λ x. pass-answer 0 x k s b) (no-longer h))
 
   pub target-full : k ≡ 8 → pass-answer 11 0 0 s b ≡ answerOfPass b c n h (receive v n) (found [] s)
   target-full g = unfold receive lowestOf lowestChannel in rw (← low, eq-eqb k 8 g) (unfold answerOfPass in refl)

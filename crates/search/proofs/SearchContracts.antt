@@ -220,27 +220,27 @@ module _ {b now : List ℕ} {t c n a h v left p sent s : ℕ} (may : MayTry b t 
 
   -- the link is free: the arrival behind it answers
   module _ (free-now : freeIn (view now) n p ≡ true) {b₁ b₂ : List ℕ} {n₁ x k g d : ℕ} (held : b₁ ≡ putOwner now n p c) (to : n₁ ≡ next n p)
-      (arrival : pass-answer x k g d b₂ ≡ arriveAnswer b₁ t c n₁ p (h + 1) (sent + 1)) where
+      (arrival : pass-answer x g k d b₂ ≡ arriveAnswer b₁ t c n₁ p (h + 1) (sent + 1)) where
     free : freeIn (view b) n p ≡ true
     free = rw (← inv .same) free-now
 
     -- its answer, on the table before the hop
-    answer : pass-answer x k g d b₂ ≡ answerOfPass (putOwner b n p c) c (next n p) (h + 1) (receive (view b) t) (on p (suc sent))
+    answer : pass-answer x g k d b₂ ≡ answerOfPass (putOwner b n p c) c (next n p) (h + 1) (receive (view b) t) (on p (suc sent))
     answer = arrival ∙ handed-on b t c n p h sent here-within (may .here .small) (may .here .circuit) (now-held held) to
 
-    pub turn-acknowledged : x ≡ 0 → pass-answer x k g d b₂ ≡ tryAnswer b t c n v a h s
+    pub turn-acknowledged : x ≡ 0 → pass-answer x g k d b₂ ≡ tryAnswer b t c n v a h s
     turn-acknowledged z =
-        ap (λ y. pass-answer y k g d b₂) z
-        ∙ port-acknowledged (freeIn (view b) n) on b c n h (receive (view b) t) p others sent free k g d b₂ (ap (λ y. pass-answer y k g d b₂) (sym z) ∙ answer)
+        ap (λ y. pass-answer y g k d b₂) z
+        ∙ port-acknowledged (freeIn (view b) n) on b c n h (receive (view b) t) p others sent free k g d b₂ (ap (λ y. pass-answer y g k d b₂) (sym z) ∙ answer)
         ∙ all-tries
 
     restored : b₂ ≡ putOwner b n p c → {b₃ : List ℕ} → b₃ ≡ putOwner b₂ n p 0 → b₃ ≡ b
     restored e q = q ∙ ap (λ y. putOwner y n p 0) e ∙ given-back b n p c here-within (unfold view in free-owner (view b) n p free)
 
-    pub turn-full : x ≡ 11 → {b₃ : List ℕ} → b₃ ≡ putOwner b₂ n p 0 → pass-answer x k g d b₃ ≡ tryAnswer b t c n v a h s
+    pub turn-full : x ≡ 11 → {b₃ : List ℕ} → b₃ ≡ putOwner b₂ n p 0 → pass-answer x g k d b₃ ≡ tryAnswer b t c n v a h s
     turn-full z q =
-        let r = port-receive-rejected (freeIn (view b) n) on b c n h (receive (view b) t) p others sent free k g d b₂ (ap (λ y. pass-answer y k g d b₂) (sym z) ∙ answer) in
-        ap₂ (λ y u. pass-answer y k g d u) z (restored (r .0) q) ∙ r .1 ∙ all-tries
+        let r = port-receive-rejected (freeIn (view b) n) on b c n h (receive (view b) t) p others sent free k g d b₂ (ap (λ y. pass-answer y g k d b₂) (sym z) ∙ answer) in
+        ap₂ (λ y u. pass-answer y g k d u) z (restored (r .0) q) ∙ r .1 ∙ all-tries
 
     few-scouts : d ≤ suc sent + waysFrom 1 (farthestAfter b t n v)
     unfolding arrivalAfter hopsLeft network
@@ -254,7 +254,7 @@ module _ {b now : List ℕ} {t c n a h v left p sent s : ℕ} (may : MayTry b t 
     unfolding tryAnswer
     turn-next f e less u =
         let z : x ≡ 10 = three-answers (putOwner b n p c) c (next n p) (h + 1) (receive (view b) t) (on p (suc sent)) x k g d b₂ answer f e in
-        let w = port-route-rejected (freeIn (view b) n) on b c n h (receive (view b) t) p others sent free k g d b₂ (ap (λ y. pass-answer y k g d b₂) (sym z) ∙ answer) in
+        let w = port-route-rejected (freeIn (view b) n) on b c n h (receive (view b) t) p others sent free k g d b₂ (ap (λ y. pass-answer y g k d b₂) (sym z) ∙ answer) in
         rw (left-over less)
         record {
           same = restored (w .0) u;
@@ -295,7 +295,7 @@ module _ {b : List ℕ} {t c n a h s : ℕ} (may : MayArrive b t c n a h s) wher
   unfolding arriveAnswer
   at-goal e = ap₂ (λ m w. answerOfPass b c n h (receive (view b) m) w) e (sym (at-target (net (view b)) (freeIn (view b)) t n a s (hopsLeft b t n) e))
 
-  pub arrive-receives : {k : ℕ} → n ≡ t → k ≡ lowestChannel (view b) n → k ≢ 8 → pass-answer 0 k h s b ≡ arriveAnswer b t c n a h s
+  pub arrive-receives : {k : ℕ} → n ≡ t → k ≡ lowestChannel (view b) n → k ≢ 8 → pass-answer 0 h k s b ≡ arriveAnswer b t c n a h s
   arrive-receives e q g = target-receives (view b) b c n h s q g ∙ at-goal e
 
   pub arrive-full : {k : ℕ} → n ≡ t → k ≡ lowestChannel (view b) n → k ≡ 8 → pass-answer 11 0 0 s b ≡ arriveAnswer b t c n a h s

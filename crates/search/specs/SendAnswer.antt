@@ -6,7 +6,7 @@ use mathlib.Core.List.{List}
 use Prim.Native.Nat.{ℕ, _^_, _≤_, _<_}
 use lib.ListN.{length}
 use Rattle.paths.specs.Send.{Outcome, acknowledged, route-rejected, receive-rejected, SendResult, answered}
-use Rattle.paths.specs.CubeNetwork.{maze, alternateMaze, send}
+use Rattle.paths.specs.CubeNetwork.{send}
 use Rattle.table.specs.Layout.{tableLength, dimensionAt, putReceiver}
 use Rattle.table.specs.View.{view, receive, shapeOf}
 use Rattle.search.specs.PassAnswer.{freeIn, holdPath, PassAnswer, pass-answer}
@@ -20,15 +20,9 @@ bytesAfterSend b c s t receive-rejected = b
 
 unfoldable pub sendAnswer : List ℕ → ℕ → ℕ → ℕ → SendResult → PassAnswer
 sendAnswer b c s t x =
-    let a = answered (x .outcome) (x .scouts) in pass-answer (a .number) (a .receive) (a .hops) (a .scouts) (bytesAfterSend b c s t (x .outcome))
+    let a = answered (x .outcome) (x .scouts) in pass-answer (a .number) (a .hops) (a .receive) (a .scouts) (bytesAfterSend b c s t (x .outcome))
 
--- A send from s to t over the ports of a vector, read on what the table shows before it: of routing type 0, of type 4, and of either
-unfoldable pub sendsMaze : List ℕ → ℕ → ℕ → ℕ → ℕ → PassAnswer
-sendsMaze b s t c vector = sendAnswer b c s t (maze (shapeOf (view b)) (freeIn (view b)) (receive (view b) t) s vector t)
-
-unfoldable pub sendsAlternate : List ℕ → ℕ → ℕ → ℕ → ℕ → PassAnswer
-sendsAlternate b s t c vector = sendAnswer b c s t (alternateMaze (shapeOf (view b)) (freeIn (view b)) (receive (view b) t) s vector t)
-
+-- A send of a routing type from s to t over the ports of a vector, read on what the table shows before it
 unfoldable pub sends : List ℕ → ℕ → ℕ → ℕ → ℕ → ℕ → PassAnswer
 sends b s t c type vector = sendAnswer b c s t (send type (shapeOf (view b)) (freeIn (view b)) (receive (view b) t) s vector t)
 

@@ -1,7 +1,7 @@
 -- What a table shows, whatever the layout of its bytes: its dimension, which links are enabled, and who holds links and receive channels.
 -- It is changed only through the functions below.
 -- Assumes nothing.
-use mathlib.Core.Bool.{Bool, cond, _&&_}
+use mathlib.Core.Bool.{Bool, cond, not, _&&_}
 use mathlib.Core.List.{List}
 use Prim.Native.Nat.{ℕ, _^_}
 use lib.Dec.{eqb, ltb}
@@ -27,6 +27,10 @@ shapeOf v = record { dimension = v .dimension; fold = 0 }
 
 abbrev pub net : View → Network
 net v = network (shapeOf v)
+
+-- "the link is held": its entry is not "zero", which "means no circuit"
+unfoldable pub heldIn : View → ℕ → ℕ → Bool
+heldIn v n p = not (eqb (v .owner n p) 0)
 
 -- the link out of port q of node m is held by circuit c
 abbrev pub heldBy : View → ℕ → ℕ → ℕ → Bool

@@ -3,8 +3,8 @@
 use mathlib.Core.Path.{ap}
 use mathlib.Core.Bool.{not}
 use lib.Dec.{eqb}
-use Rattle.table.specs.View.{view}
-use Rattle.ownership.specs.OnTable.{factsOf, heldIn}
+use Rattle.table.specs.View.{view, heldIn}
+use Rattle.ownership.specs.OnTable.{factsOf}
 use Rattle.ownership.proofs.Allowed.{below}
 use Rattle.router.proofs.Stopping.{node-passed, link-within}
 use Rattle.router.proofs.tests.is_held.Statement.{statement}
