@@ -4,7 +4,6 @@ use mathlib.Core.Bool.{Bool, true, false, cond}
 use mathlib.Core.List.{List, [], _∷_}
 use Prim.Native.Nat.{ℕ, _+_}
 use lib.Dec.{eqb}
-use lib.ListN.{length}
 use Rattle.common.specs.Lists.{lowest}
 use Rattle.paths.specs.Network.{Path}
 use Rattle.paths.specs.Pass.{PassResult, none, found, scouts}
@@ -55,17 +54,3 @@ runs r a [] = record { outcome = outcome r a; scouts = scouts a }
 runs r a (b ∷ bs) =
     cond (goesOn (outcome r a)) (record { outcome = runs r b bs .outcome; scouts = scouts a + runs r b bs .scouts })
     (record { outcome = outcome r a; scouts = scouts a })
-
--- What a call answers: "An open answers number, hops, receive channel, scouts; a trace, number and hops; .. the rest the number alone." What a call does
--- not answer is 0 here.
-pub record Answer : Type 0 where
-  pub number : ℕ
-  pub hops : ℕ
-  pub receive : ℕ
-  pub scouts : ℕ
-
--- "Success is 0." "When refused, all but the number are 0, except that 10 and 11 carry their scouts."
-unfoldable pub answered : Outcome → ℕ → Answer
-answered (acknowledged w k) n = record { number = 0; hops = length w; receive = k; scouts = n }
-answered route-rejected n = record { number = 10; hops = 0; receive = 0; scouts = n }
-answered receive-rejected n = record { number = 11; hops = 0; receive = 0; scouts = n }

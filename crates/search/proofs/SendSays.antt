@@ -12,7 +12,7 @@ use Rattle.common.specs.Lists.{_∈_, lowest}
 use Rattle.common.proofs.Tests.{clash}
 use Rattle.paths.specs.Network.{Path}
 use Rattle.paths.specs.Pass.{PassResult, pass, scouts}
-use Rattle.paths.specs.Send.{Receive, channel, all-held, Outcome, acknowledged, route-rejected, receive-rejected, Acknowledged, outcome, goesOn, answered}
+use Rattle.paths.specs.Send.{Receive, channel, all-held, Outcome, acknowledged, route-rejected, receive-rejected, Acknowledged, outcome, goesOn}
 use Rattle.paths.specs.Sentences.{AnswerSays, says-acknowledged, says-receive-rejected, says-route-rejected}
 use Rattle.paths.specs.CubeNetwork.{Shape, network, sendPorts, otherPorts, maze, alternateMaze, send}
 use Rattle.paths.proofs.Send.{answer-says, maze-answers, alternate-stops, alternate-goes-on, goes-on-unless, sends-bounded}
@@ -21,7 +21,7 @@ use Rattle.table.specs.Layout.{dimensionAt}
 use Rattle.table.specs.View.{View, view, receive, available, net, shapeOf}
 use Rattle.table.proofs.Receives.{chosen, none-chosen}
 use Rattle.search.specs.PassAnswer.{freeIn, pass-answer}
-use Rattle.search.specs.SendAnswer.{bytesAfterSend, sendAnswer, sends, MaySend}
+use Rattle.search.specs.SendAnswer.{bytesAfterSend, answered, sendAnswer, sends, MaySend}
 use Rattle.search.specs.SendSays.{FreeRoute, Available, Lowest, passesOf, PassesSay, one-acknowledged, only-one, two, SendSays}
 use Rattle.search.proofs.Sends.{sent-goes-on, sent-scouts}
 

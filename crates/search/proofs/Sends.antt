@@ -19,7 +19,7 @@ use Rattle.cube.specs.Helical.{portsOf}
 use Rattle.cube.proofs.Order.{helical-last, ports-wider, ports-mem, length-ports}
 use Rattle.paths.specs.Pass.{PassResult, none, found, pass, scouts}
 use Rattle.paths.specs.Search.{trying, sending}
-use Rattle.paths.specs.Send.{Receive, channel, all-held, Outcome, acknowledged, route-rejected, receive-rejected, SendResult, received, outcome, goesOn, answered}
+use Rattle.paths.specs.Send.{Receive, channel, all-held, Outcome, acknowledged, route-rejected, receive-rejected, SendResult, received, outcome, goesOn}
 use Rattle.paths.specs.CubeNetwork.{Shape, network, sendPorts, otherPorts, maze, send}
 use Rattle.paths.proofs.Depth.{search-is-pass}
 use Rattle.paths.proofs.CubeNetwork.{distance-within, unfolded-send-ports, scouts-bound, other-vector}
@@ -32,7 +32,7 @@ use Rattle.table.proofs.Made.{ones}
 use Rattle.table.proofs.Receives.{chosen}
 use Rattle.search.specs.PassAnswer.{freeIn, holdPath, PassAnswer, pass-answer, answerOfPass, arrivalAfter}
 use Rattle.search.specs.SearchContracts.{farthestAfter, tryAnswer, Narrowed, MayTry}
-use Rattle.search.specs.SendAnswer.{bytesAfterSend, sendAnswer, sendsMaze, sendsAlternate, sends, MaySend}
+use Rattle.search.specs.SendAnswer.{bytesAfterSend, answered, sendAnswer, sendsMaze, sendsAlternate, sends, MaySend}
 use Rattle.search.proofs.Narrow.{narrow-tries}
 use Rattle.search.proofs.SearchContracts.{farthest-most}
 
