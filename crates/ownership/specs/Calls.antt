@@ -77,6 +77,10 @@ answered (acknowledged w k) n = record { number = 0; values = length w ∷ k ∷
 answered route-rejected n = record { number = 10; values = 0 ∷ 0 ∷ n ∷ []; buffers = [] }
 answered receive-rejected n = record { number = 11; values = 0 ∷ 0 ∷ n ∷ []; buffers = [] }
 
+-- the numbers that an open answers with its scouts
+unfoldable pub carriesScouts : ℕ → Bool
+carriesScouts n = eqb n 0 || eqb n 10 || eqb n 11
+
 -- What a call asks of whatever it is made on, in document 01's words. Each is read off a table, and off the history.
 pub record CallFacts : Type 0 where
   -- the dimension
