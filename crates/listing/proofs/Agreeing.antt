@@ -7,9 +7,8 @@ use mathlib.Core.Option.{Option, none, some}
 use Prim.Native.Nat.{ℕ, suc}
 use lib.Dec.{ltb, lit≤}
 use lib.ListN.{length, take}
-use Rattle.paths.specs.Send.{Answer}
 use Rattle.table.specs.Layout.{made}
-use Rattle.ownership.specs.Calls.{Call, tracing, CallResult}
+use Rattle.ownership.specs.Calls.{Call, tracing, CallResult, hopsOf, bufferOf}
 use Rattle.ownership.specs.OnTable.{tableStep}
 use Rattle.ownership.specs.History.{History, historyStep}
 use Rattle.ownership.specs.Invariant.{Represents}
@@ -26,14 +25,14 @@ use Rattle.listing.specs.Listing.{callRow, traced, rowFor, stateAfter, r
 traced-alike : (b : List ℕ) (h : History) → Represents b h → (n c : ℕ) → traced tableStep b n c ≡ traced historyStep h n c
 unfolding traced
 traced-alike b h k n c =
-    ap (λ (g : CallResult). take (g .answer .hops) (g .buffer)) (represents-step b h k (tracing n c empty) .result)
+    ap (λ (g : CallResult). take (hopsOf g) (bufferOf g)) (represents-step b h k (tracing n c empty) .result)
 
 row-alike : (b : List ℕ) (h : History) → Represents b h → (n : ℕ) (a : Option Call) → rowFor tableStep b n a ≡ rowFor historyStep h n a
 unfolding rowFor
 row-alike b h k n none = refl
 row-alike b h k n (some a) =
     let s = represents-step b h k a in
-    ap₂ (λ (x : Answer) (w : ℕ → ℕ → List ℕ). callRow n a x w) (ap (λ (g : CallResult). g .answer) (s .result)) (fun-ext (λ m. fun-ext (λ c. traced-alike (tableStep b a .state) (historyStep h a .state) (s .covered) m c)))
+    ap₂ (λ (x : CallResult) (w : ℕ → ℕ → List ℕ). callRow n a x w) (s .result) (fun-ext (λ m. fun-ext (λ c. traced-alike (tableStep b a .state) (historyStep h a .state) (s .covered) m c)))
 
 represents-after : (b : List ℕ) (h : History) → Represents b h → (a : Option Call) → Represents (stateAfter tableStep b a) (stateAfter historyStep h a)
 unfolding stateAfter

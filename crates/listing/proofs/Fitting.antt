@@ -1,6 +1,6 @@
 -- The text of every input fits the output that the listing function asks for.
 -- Assumes nothing.
-use mathlib.Core.Path.{_≡_, refl, ap, sym, _∙_}
+use mathlib.Core.Path.{_≡_, refl, ap, sym, _∙_, subst}
 use mathlib.Core.Logic.{⊎-elim, _≢_}
 use mathlib.Core.Bool.{Bool, true, false, cond}
 use mathlib.Core.List.{List, [], _∷_, _++_, List·Memᴰ·head, List·Memᴰ·tail}
@@ -20,19 +20,19 @@ use Rattle.table.specs.Layout.{made}
 use Rattle.table.specs.View.{view, shapeOf}
 use Rattle.soundness.specs.SoundTest.{pathOf, tracedInto}
 use Rattle.soundness.proofs.Soundness.{path-is}
-use Rattle.ownership.specs.Calls.{Call, making, blocking, unblocking, opening, closing, tracing, After}
-use Rattle.ownership.specs.OnTable.{factsOf, stoppedAt, resultIn, tableEffect, tableStep}
+use Rattle.ownership.specs.Calls.{Call, making, blocking, unblocking, opening, closing, tracing, CallResult, hopsOf, receiveOf, scoutsOf, bufferOf, carriesScouts, resultOf, After}
+use Rattle.ownership.specs.OnTable.{factsOf, stoppedAt, tableStep}
 use Rattle.ownership.specs.Allowed.{Allowed}
 use Rattle.ownership.proofs.Allowed.{allowed}
 use Rattle.ownership.proofs.Stops.{none-stops, none-stops-lent, pass-tests}
-use Rattle.ownership.proofs.TableEffect.{step-effect, step-stopped}
+use Rattle.ownership.proofs.Steps.{table-step}
 use Rattle.ownership.proofs.Shows.{PortsBelow}
 use Rattle.ownership.proofs.OnSound.{open-answers, open-stands}
 use Rattle.text.specs.Text.{newline, decimal}
 use Rattle.text.specs.Lines.{onFirst, cut, lines, fields}
 use Rattle.listing.specs.Line.{numbers, numbersOf, byLetter, withNumbers, ofFields, longest, asks}
 use Rattle.text.specs.Row.{Field, nothing, shows, path, inTurn, bytesOf, spaced, ended, rowText, rowsText}
-use Rattle.listing.specs.Listing.{accepted, sent, callRow, unreadable, empty, traced, rowFor, stateAfter, rows, header, inputLimit, tooLong, listing, printed}
+use Rattle.listing.specs.Listing.{accepted, callRow, unreadable, empty, traced, rowFor, stateAfter, rows, header, inputLimit, tooLong, listing, printed}
 use Rattle.listing.specs.Printed.{outputBytes}
 use Rattle.text.specs.Written.{width}
 use Rattle.text.proofs.Digits.{decimal-length}
@@ -110,22 +110,21 @@ module _ (b : List ℕ) (s c : ℕ) where
   trace = tracing s c empty
 
   history-step-path : stoppedAt b trace ≡ 0 → traced tableStep b s c ≡ pathOf (view b) (circuitOf s c)
-  unfolding traced tableEffect resultIn tracedInto
+  unfolding traced resultOf factsOf tracedInto
   history-step-path e =
-      ap (λ (d : After (List ℕ)). take (d .result .answer .hops) (d .result .buffer)) (step-effect b trace e)
+      ap (λ (x : CallResult). take (hopsOf x) (bufferOf x)) (table-step b trace .result e)
       ∙ take-append-seam (pathOf (view b) (circuitOf s c)) (drop (length (pathOf (view b) (circuitOf s c))) empty)
 
   no-path : stoppedAt b trace ≢ 0 → traced tableStep b s c ≡ []
   unfolding traced
-  no-path e = ap (λ (d : After (List ℕ)). take (d .result .answer .hops) (d .result .buffer)) (step-stopped b trace e)
+  no-path e = rw (table-step b trace .stopped e)
 
   found-path : stoppedAt b trace ≡ 0 → width (path (pathOf (view b) (circuitOf s c))) ≤ 9
-  unfolding Allowed factsOf PortsBelow
+  unfolding Allowed factsOf view PortsBelow
   found-path e =
-      let t = pass-tests b (none-stops-lent b trace (λ D q. let z : _≡_ {A = ℕ} 0 1 = cc in omega arith) e) in
+      let t = pass-tests b (none-stops-lent b trace refl e) in
       let stands = open-stands (view b) (t .3) s c .0 (allowed (factsOf (view b)) trace (none-stops b trace e) .2) in
-      let most : view b .dimension ≤ 8 = unfold view in t .2 in
-      let below = permitted-below (shapeOf (view b)) most refl _ _ (stands .path) (stands .permitted) in
+      let below = permitted-below (shapeOf (view b)) (t .2) refl _ _ (stands .path) (stands .permitted) in
       let hops = path-hops (shapeOf (view b)) _ _ _ (stands .path) (stands .permitted) .1 in
       rw (path-is (view b) (circuitOf s c) stands) (path-width (stands .path) (omega arith) (turn-length (view b .dimension) (stands .path) (omega arith) below))
 
@@ -138,15 +137,15 @@ module _ (b : List ℕ) (s c t y v : ℕ) where
   abbrev opens : Call
   opens = opening s c t y v
 
-  open-scouts : tableStep b opens .result .answer .scouts ≤ 123300
-  open-scouts = ⊎-elim (λ e. open-answers b s c t y v e .bounded) (λ e. rw (step-stopped b opens e) (lit≤ tt)) (same? (stoppedAt b opens) 0)
+  open-scouts : scoutsOf (tableStep b opens .result) ≤ 123300
+  open-scouts = ⊎-elim (λ e. open-answers b s c t y v e .bounded) (λ e. subst (λ (x : After (List ℕ)). scoutsOf (x .result) ≤ 123300) (sym (table-step b opens .stopped e)) (lit≤ tt)) (same? (stoppedAt b opens) 0)
 
-  open-receive : tableStep b opens .result .answer .number ≡ 0 → tableStep b opens .result .answer .receive < 8
-  open-receive z = ⊎-elim (λ e. open-answers b s c t y v e .lowest z .small) (λ e. absurd (e (rw (step-stopped b opens e) at z))) (same? (stoppedAt b opens) 0)
+  open-receive : tableStep b opens .result .number ≡ 0 → receiveOf (tableStep b opens .result) < 8
+  open-receive z = ⊎-elim (λ e. open-answers b s c t y v e .lowest z .small) (λ e. absurd (e (table-step b opens .passed z))) (same? (stoppedAt b opens) 0)
 
 -- the line of each call
 module _ (b : List ℕ) (n : ℕ) (small : n < 65536) where
-  answer-digits : (a : Call) → length (decimal (tableStep b a .result .answer .number)) ≤ 2
+  answer-digits : (a : Call) → length (decimal (tableStep b a .result .number)) ≤ 2
   answer-digits a = decimal-length 1 _ (let l = call-below b a in omega arith)
 
   call-length : (a : Call) → ArgumentsFit a → length (rowText (rowFor tableStep b n (some a))) ≤ 72
@@ -155,9 +154,9 @@ module _ (b : List ℕ) (n : ℕ) (small : n < 65536) where
   call-length (blocking m p) g = rw row-length (omega (arith, five-digits n small, answer-digits (blocking m p), five-digits m (g .0), five-digits p (g .1)))
   call-length (unblocking m p) g = rw row-length (omega (arith, five-digits n small, answer-digits (unblocking m p), five-digits m (g .0), five-digits p (g .1)))
   call-length (opening s c t y v) g =
-      let x = tableStep b (opening s c t y v) .result .answer in
-      let receive = if-fits 1 (accepted x) (shows (x .receive)) (lit≤ tt) (λ e. decimal-length 0 (x .receive) (let l = open-receive b s c t y v (eqb-true _ 0 e) in omega arith)) in
-      let scouts = if-fits 6 (sent x) (shows (x .scouts)) (lit≤ tt) (λ e. decimal-length 5 (x .scouts) (let l = open-scouts b s c t y v in omega arith)) in
+      let x = tableStep b (opening s c t y v) .result in
+      let receive = if-fits 1 (accepted x) (shows (receiveOf x)) (lit≤ tt) (λ e. decimal-length 0 (receiveOf x) (let l = open-receive b s c t y v (eqb-true _ 0 e) in omega arith)) in
+      let scouts = if-fits 6 (carriesScouts (x .number)) (shows (scoutsOf x)) (lit≤ tt) (λ e. decimal-length 5 (scoutsOf x) (let l = open-scouts b s c t y v in omega arith)) in
       let ports = if-fits 9 (accepted x) (path (traced tableStep (tableStep b (opening s c t y v) .state) s c)) (lit≤ tt) (λ e. traced-width (tableStep b (opening s c t y v) .state) s c) in
       rw row-length (omega (arith, five-digits n small, answer-digits (opening s c t y v), five-digits s (g .0), five-digits c (g .1), receive, scouts, ports))
   call-length (closing s c) g = rw row-length (omega (arith, five-digits n small, answer-digits (closing s c), five-digits s (g .0), five-digits c (g .1)))

@@ -11,13 +11,13 @@ use lib.Seq.{take-append-seam}
 use borrow.Author.Tests.{eq-eqb}
 use Rattle.common.specs.Lists.{any}
 use Rattle.paths.specs.Network.{Path}
-use Rattle.paths.specs.Send.{acknowledged, answered}
+use Rattle.paths.specs.Send.{acknowledged}
 use Rattle.soundness.specs.SoundTest.{tracedInto}
-use Rattle.ownership.specs.Calls.{opening, tracing, After}
+use Rattle.ownership.specs.Calls.{opening, tracing, CallResult, hopsOf, bufferOf, answered, resultOf}
 use Rattle.ownership.specs.Allowed.{Allowed}
-use Rattle.ownership.specs.History.{Circuit, History, belongs, openOn, listed, factsOn, stoppedOn, sendOn, withCircuits, withOpened, applied, resultOf, historyStep}
+use Rattle.ownership.specs.History.{Circuit, History, belongs, openOn, listed, factsOn, stoppedOn, sendOn, withCircuits, withOpened, applied, historyStep}
 use Rattle.ownership.proofs.Allowed.{allowed-on, allowed-passes}
-use Rattle.ownership.proofs.HistoryStep.{history-step-passed}
+use Rattle.ownership.proofs.Steps.{history-step}
 use Rattle.text.specs.Row.{path}
 use Rattle.listing.specs.Listing.{callRow, empty, traced, rowFor}
 
@@ -28,9 +28,13 @@ module _ (h : History) (s c t y v : ℕ) (w : Path) (k : ℕ) (passes : stoppedO
   after : History
   after = withCircuits h (new ∷ h .circuits)
 
+  accepted-number : historyStep h (opening s c t y v) .result .number ≡ 0
+  unfolding resultOf factsOn answered
+  accepted-number = ap (λ (x : CallResult). x .number) (history-step h (opening s c t y v) .result passes) ∙ ap (λ o. answered o (sendOn h s t y v .scouts) .number) sends
+
   opened : historyStep h (opening s c t y v) .state ≡ after
   unfolding applied withOpened after new
-  opened = ap (λ (x : After History). x .state) (history-step-passed h (opening s c t y v) passes) ∙ ap (withOpened h s c t) sends
+  opened = history-step h (opening s c t y v) .accepted accepted-number ∙ ap (withOpened h s c t) sends
 
   its-own : belongs s c new ≡ true
   unfolding belongs new
@@ -47,16 +51,12 @@ module _ (h : History) (s c t y v : ℕ) (w : Path) (k : ℕ) (passes : stoppedO
       allowed-passes (factsOn after) (tracing s c empty) (r .0, r .2, ap (_|| any (belongs s c) (h .circuits)) its-own, lit≤ tt)
 
   traced-path : traced historyStep after s c ≡ w
-  unfolding traced resultOf tracedInto
+  unfolding traced resultOf factsOn tracedInto
   traced-path =
-      ap (λ (x : After History). take (x .result .answer .hops) (x .result .buffer)) (history-step-passed after (tracing s c empty) trace-passes)
+      ap (λ (x : CallResult). take (hopsOf x) (bufferOf x)) (history-step after (tracing s c empty) .result trace-passes)
       ∙ ap (λ u. take (length u) (u ++ drop (length u) empty)) listed-path ∙ take-append-seam w (drop (length w) empty)
-
-  accepted-number : historyStep h (opening s c t y v) .result .answer .number ≡ 0
-  unfolding resultOf answered
-  accepted-number = ap (λ (x : After History). x .result .answer .number) (history-step-passed h (opening s c t y v) passes) ∙ ap (λ o. answered o (sendOn h s t y v .scouts) .number) sends
 
   -- "ports in path order": those of the path with which the open was acknowledged
   pub shows-path : (n : ℕ) → rowFor historyStep h n (some (opening s c t y v)) .ports ≡ path w
   unfolding rowFor callRow
-  shows-path n = rw (eq-eqb (historyStep h (opening s c t y v) .result .answer .number) 0 accepted-number) (ap path (ap (λ x. traced historyStep x s c) opened ∙ traced-path))
+  shows-path n = rw (eq-eqb (historyStep h (opening s c t y v) .result .number) 0 accepted-number) (ap path (ap (λ x. traced historyStep x s c) opened ∙ traced-path))

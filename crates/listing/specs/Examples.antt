@@ -12,11 +12,11 @@ use Rattle.cube.specs.Axes.{axis, present}
 use Rattle.cube.specs.Helical.{helical}
 use Rattle.paths.specs.Network.{offered, end, links, hasLink, linkState, isFree, freePath}
 use Rattle.paths.specs.Pass.{over, ways, beginnings, scan, whole, pass, scouts}
-use Rattle.paths.specs.Send.{received, outcome, attempted, goesOn, runs, answered, lowestOf}
+use Rattle.paths.specs.Send.{received, outcome, attempted, goesOn, runs, lowestOf}
 use Rattle.paths.specs.CubeNetwork.{network, ports, sendPorts, otherPorts, attempts, send}
 use Rattle.soundness.specs.SoundTest.{tracedInto}
-use Rattle.ownership.specs.Calls.{making, blocking, unblocking, opening, closing, callTests, lent}
-use Rattle.ownership.specs.History.{holdsLink, holdsReceive, belongs, enabledOn, heldOn, freeOn, takenOn, openOn, receiveOn, listed, factsOn, stoppedOn, sendOn, withOpened, applied, resultOf, historyStep}
+use Rattle.ownership.specs.Calls.{making, blocking, unblocking, opening, closing, answered, carriesScouts, callTests, resultOf, callOn}
+use Rattle.ownership.specs.History.{holdsLink, holdsReceive, belongs, enabledOn, heldOn, freeOn, takenOn, openOn, receiveOn, listed, factsOn, stoppedOn, sendOn, withOpened, applied, historyStep}
 use Rattle.text.specs.Text.{digits, decimal, allDigits, value, leadingZero, number}
 use Rattle.text.specs.Lines.{onFirst, cut, lines, fields}
 use Rattle.listing.specs.Line.{inFront, numbers, numbersOf, asked, byLetter, withNumbers, ofFields, asks}
@@ -58,7 +58,7 @@ output =
     []
 
 pub printed-example : recorded input ≡ output
-unfolding historyStep stoppedOn callTests refusal factsOn openOn heldOn takenOn any holdsLink holdsReceive belongs enabledOn freeOn linkState isFree receiveOn lowestOf lowest listed sendOn withOpened applied resultOf tracedInto lent send attempts attempted network ports sendPorts otherPorts present axis keep from has flip uphill helical offered end links hasLink freePath over ways beginnings scan whole pass scouts received outcome goesOn runs answered digits decimal allDigits value leadingZero number onFirst cut lines fields inFront numbers numbersOf asked byLetter withNumbers ofFields asks inTurn bytesOf inOrder spaced ended rowText rowsText callRow unreadable traced rowFor stateAfter rows header tooLong listing recorded
+unfolding historyStep stoppedOn callTests refusal factsOn openOn heldOn takenOn any holdsLink holdsReceive belongs enabledOn freeOn linkState isFree receiveOn lowestOf lowest listed sendOn withOpened applied resultOf callOn carriesScouts tracedInto send attempts attempted network ports sendPorts otherPorts present axis keep from has flip uphill helical offered end links hasLink freePath over ways beginnings scan whole pass scouts received outcome goesOn runs answered digits decimal allDigits value leadingZero number onFirst cut lines fields inFront numbers numbersOf asked byLetter withNumbers ofFields asks inTurn bytesOf inOrder spaced ended rowText rowsText callRow unreadable traced rowFor stateAfter rows header tooLong listing recorded
 printed-example = refl
 
 -- "`F D` make, `B node port` block, `E node port` unblock, `S node channel target type vector` open, `C node channel` close", with a number of its own in

@@ -2,11 +2,9 @@
 ghost use mathlib.Core.List.{List};
 ghost use mathlib.Core.Option.{some};
 ghost use mathlib.Core.Path.{_≡_};
-ghost use mathlib.Core.Bool.{_||_};
 ghost use Prim.Native.Nat.{ℕ, _+_, _≤_};
-ghost use lib.Dec.{eqb};
 ghost use lib.ListN.{length};
-ghost use Rattle.ownership.specs.Calls.{opening};
+ghost use Rattle.ownership.specs.Calls.{opening, carriesScouts};
 ghost use Rattle.ownership.specs.OnTable.{tableStep};
 ghost use Rattle.text.specs.Row.{shows, rowText};
 ghost use Rattle.text.specs.Written.{fieldOf};
@@ -22,7 +20,7 @@ use text::row::Field;
 
 // The scouts of an open that was sent: it was accepted, or rejected after the search.
 fn scouts_of(number: u16, scouts: u32) -> Field
-    ensures { λ r. ⌜ ((w : List ℕ) → fieldOf w r ≡ showsIf (eqb number 0 || eqb number 10 || eqb number 11) (shows scouts)) ⌝ }
+    ensures { λ r. ⌜ ((w : List ℕ) → fieldOf w r ≡ showsIf (carriesScouts number) (shows scouts)) ⌝ }
 {
     if number == refusal::ACCEPTED {
         return Field::Number(scouts);

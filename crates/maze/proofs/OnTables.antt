@@ -12,7 +12,7 @@ use Rattle.ownership.proofs.Agreement.{making-accepted, demand-3}
 use Rattle.maze.specs.Examples.{Input, calls, read, write, before, shown, result, inputs, results, examples}
 
 -- what an input comes to where its calls are made on a table
-abbrev pub resultOn : List ℕ → Input → List (List ℕ)
+abbrev pub resultOn : List ℕ → Input → List (List (List ℕ))
 resultOn b (calls cs) = map shown (tableResults b cs)
 resultOn b (read w) = result (read w)
 resultOn b (write c k) = result (write c k)

@@ -1,6 +1,6 @@
 -- The users' third demand: one theorem about lists of calls. A table that a history covers stays covered by every call, and an accepted making covers any bytes.
 -- Assumes nothing.
-use mathlib.Core.Path.{_≡_, refl, ap, ap₂, sym, _∙_, subst}
+use mathlib.Core.Path.{_≡_, refl, ap, ap₂, sym, _∙_}
 use mathlib.Core.Logic.{⊎-elim, _≢_}
 use mathlib.Core.Bool.{false, not, _&&_}
 use mathlib.Core.List.{List, [], _∷_}
@@ -12,7 +12,7 @@ use Rattle.common.specs.Tests.{refusal}
 use Rattle.common.proofs.Tests.{same?, passed, accepted}
 use Rattle.cube.specs.Cube.{circuitOf}
 use Rattle.paths.specs.Network.{Path}
-use Rattle.paths.specs.Send.{SendResult, answered}
+use Rattle.paths.specs.Send.{SendResult}
 use Rattle.table.specs.Layout.{tableLength, dimensionAt}
 use Rattle.table.specs.View.{View, view}
 use Rattle.soundness.specs.Sound.{Sound}
@@ -20,24 +20,24 @@ use Rattle.soundness.specs.SoundTest.{pathOf, tableTests, tracedInto}
 use Rattle.table.specs.Encode.{encode}
 use Rattle.table.proofs.Encode.{encode-view}
 use Rattle.table.proofs.Encoded.{encode-bytes, view-encode}
-use Rattle.ownership.specs.Calls.{Call, making, blocking, unblocking, opening, closing, tracing, only, callTests, lent, After}
+use Rattle.ownership.specs.Calls.{Call, making, blocking, unblocking, opening, closing, tracing, CallResult, refusedWith, answered, callTests, resultOf}
 use Rattle.ownership.specs.Update.{sendIn, updated}
-use Rattle.ownership.specs.OnTable.{factsOf, stoppedAt, resultIn, tableEffect, tableStep}
-use Rattle.ownership.specs.History.{History, factsOn, stoppedOn, listed, applied, resultOf, historyStep}
+use Rattle.ownership.specs.OnTable.{factsOf, stoppedAt, tableStep}
+use Rattle.ownership.specs.History.{History, factsOn, stoppedOn, listed, applied, historyStep}
 use Rattle.ownership.specs.Agrees.{tableAfter, tableResults, historyAfter, historyResults, Agrees, Accepted, leaves, answers}
 use Rattle.ownership.specs.Invariant.{Valid, Represents}
 use Rattle.ownership.specs.HistoryView.{viewOf, bytesOf}
 use Rattle.ownership.specs.Allowed.{Allowed}
-use Rattle.ownership.proofs.Allowed.{allowed}
+use Rattle.ownership.proofs.Allowed.{allowed-on}
 use Rattle.ownership.proofs.Stops.{none-stops, making-stopped, tests-pass, stopped-is}
-use Rattle.ownership.proofs.TableEffect.{step-effect, step-stopped, effect-encoded, made-shows}
+use Rattle.ownership.proofs.TableEffect.{made-shows}
 use Rattle.ownership.proofs.Range.{sound-fits}
 use Rattle.ownership.proofs.Refused.{refused-within}
 use Rattle.ownership.proofs.Sameness.{send-same}
 use Rattle.ownership.proofs.CircuitValid.{valid-sound}
 use Rattle.ownership.proofs.Stopped.{path-listed, stopped-same}
 use Rattle.ownership.proofs.Applied.{made-valid, made-view, follows-valid, follows-view}
-use Rattle.ownership.proofs.HistoryStep.{history-step-passed, history-step-stopped}
+use Rattle.ownership.proofs.Steps.{table-step, history-step}
 
 -- The bytes of a valid history are covered by it.
 bytes-represent : (h : History) → Valid h → Represents (bytesOf h) h
@@ -69,56 +69,46 @@ module _ (b : List ℕ) (h : History) (k : Represents b h) where
   pub stops-alike : (a : Call) → stoppedAt b a ≡ stoppedOn h a
   stops-alike a = stopped-is b (k .length) least most represents-sound a ∙ ap (λ v. refusal (callTests (factsOf v) a)) (k .shows) ∙ stopped-same h (k .valid) a
 
-  -- and carried out it gives what the history says
-  results-alike : (a : Call) → stoppedOn h a ≡ 0 → tableEffect b a .result ≡ resultOf h a
-  unfolding tableEffect resultIn resultOf
+  -- and where no test does, it gives what the history says
+  results-alike : (a : Call) → stoppedOn h a ≡ 0 → resultOf (factsOf (view b)) a ≡ resultOf (factsOn h) a
+  unfolding resultOf factsOf factsOn
   results-alike (making D) e = refl
   results-alike (blocking n p) e = refl
   results-alike (unblocking n p) e = refl
-  results-alike (opening s c t y v) e = ap (λ (x : SendResult). record { answer = answered (x .outcome) (x .scouts); buffer = [] }) (ap (λ u. sendIn u s t y v) (k .shows) ∙ send-same h s t y v)
+  results-alike (opening s c t y v) e = ap (λ (x : SendResult). answered (x .outcome) (x .scouts)) (ap (λ u. sendIn u s t y v) (k .shows) ∙ send-same h s t y v)
   results-alike (closing s c) e = refl
-  results-alike (tracing s c buffer) e = ap (λ (w : Path). record { answer = record { number = 0; hops = length w; receive = 0; scouts = 0 }; buffer = tracedInto w buffer }) path-alike
+  results-alike (tracing s c buffer) e = ap (λ (w : Path). record { number = 0; values = length w ∷ []; buffers = tracedInto w buffer ∷ [] }) path-alike
     where
       path-alike : pathOf (view b) (circuitOf s c) ≡ listed (h .circuits) s c
       path-alike =
-          let r : Allowed (factsOn h) (tracing s c buffer) = allowed (factsOn h) (tracing s c buffer) (unfold stoppedOn in e) in
+          let r : Allowed (factsOn h) (tracing s c buffer) = allowed-on h (tracing s c buffer) e in
           unfold Allowed factsOn in ap (λ v. pathOf v (circuitOf s c)) (k .shows) ∙ path-listed h (k .valid) s c (r .1) (r .2)
-
-  -- and its bytes are then those of the history
-  bytes-alike : (a : Call) → stoppedOn h a ≡ 0 → stoppedAt b a ≡ 0 → tableStep b a .state ≡ bytesOf (applied h a)
-  unfolding bytesOf
-  bytes-alike a e z =
-      ap (λ (x : After (List ℕ)). x .state) (step-effect b a z) ∙ effect-encoded b record { long = k .length; small = k .bytes } a
-      ∙ ap (λ v. encode (updated v a)) (k .shows) ∙ ap encode (sym (follows-view h (k .valid) a e))
 
   -- What a call gives, on the table and in the history, and that the table stays covered.
   pub record Step (a : Call) : Type 0 where
     pub result : tableStep b a .result ≡ historyStep h a .result
     pub covered : Represents (tableStep b a .state) (historyStep h a .state)
 
-  pub represents-step : (a : Call) → Step a
-  represents-step a = ⊎-elim carried stopped (same? (stoppedOn h a) 0)
-    where
-      carried : stoppedOn h a ≡ 0 → Step a
-      carried e =
-          let z = stops-alike a ∙ e in
-          let t = history-step-passed h a e in
-          record {
-            result = ap (λ (x : After (List ℕ)). x .result) (step-effect b a z) ∙ results-alike a e ∙ sym (ap (λ (x : After History). x .result) t);
-            covered =
-                subst (λ (x : After History). Represents (tableStep b a .state) (x .state)) (sym t)
-                (subst (λ (x : List ℕ). Represents x (applied h a)) (sym (bytes-alike a e z)) (bytes-represent (applied h a) (follows-valid h (k .valid) a e)));
-          }
+  result-same : (a : Call) → tableStep b a .result ≡ historyStep h a .result
+  result-same a =
+      ⊎-elim (λ e. table-step b a .result (stops-alike a ∙ e) ∙ results-alike a e ∙ sym (history-step h a .result e))
+      (λ f. rw (table-step b a .stopped (λ z. f (sym (stops-alike a) ∙ z)), history-step h a .stopped f) (ap (λ i. refusedWith i a) (stops-alike a))) (same? (stoppedOn h a) 0)
 
-      stopped : stoppedOn h a ≢ 0 → Step a
-      stopped f =
-          let n = stops-alike a in
-          let c = step-stopped b a (λ z. f (sym n ∙ z)) in
-          let t = history-step-stopped h a f in
-          record {
-            result = ap (λ (x : After (List ℕ)). x .result) c ∙ ap (λ i. record { answer = only i; buffer = lent a }) n ∙ sym (ap (λ (x : After History). x .result) t);
-            covered = subst (λ (x : After (List ℕ)). Represents (x .state) (historyStep h a .state)) (sym c) (subst (λ (x : After History). Represents b (x .state)) (sym t) k);
-          }
+  pub represents-step : (a : Call) → Step a
+  represents-step a = record { result = result-same a; covered = ⊎-elim accepts refuses (same? (historyStep h a .result .number) 0) }
+    where
+      number : tableStep b a .result .number ≡ historyStep h a .result .number
+      number = ap (λ (g : CallResult). g .number) (result-same a)
+
+      -- the bytes of an accepted call show the update of what they showed, which is what the history then says
+      accepts : historyStep h a .result .number ≡ 0 → Represents (tableStep b a .state) (historyStep h a .state)
+      accepts e =
+          let passes = history-step h a .passed e in
+          let bytes : tableStep b a .state ≡ bytesOf (applied h a) = table-step b a .accepted (number ∙ e) ∙ ap (λ v. encode (updated v a)) (k .shows) ∙ (unfold bytesOf in ap encode (sym (follows-view h (k .valid) a passes))) in
+          rw (bytes, history-step h a .accepted e) (bytes-represent (applied h a) (follows-valid h (k .valid) a passes))
+
+      refuses : historyStep h a .result .number ≢ 0 → Represents (tableStep b a .state) (historyStep h a .state)
+      refuses f = rw (table-step b a .refused (λ z. f (sym number ∙ z)), history-step h a .refused f) k
 
 -- A covered table's bytes are those of its history.
 pub represents-bytes : (b : List ℕ) (h : History) → Represents b h → b ≡ bytesOf h
@@ -140,38 +130,34 @@ pub represents-agrees : (calls : List Call) (b : List ℕ) (h : History) → Rep
 represents-agrees calls b h k =
     let after = represents-run calls b h k in record { bytes = represents-bytes _ _ after; results = represents-results calls b h k; valid = after .valid; refused = λ before a more e. refused-within before b a }
 
--- an accepted call is one that no test stops, or a send that goes through
-accepted-passes : (b : List ℕ) (a : Call) → Accepted b a → stoppedAt b a ≡ 0
-accepted-passes b a e = ⊎-elim (λ z. z) (λ f. absurd (f (sym (ap (λ (x : After (List ℕ)). x .result .answer .number) (step-stopped b a f)) ∙ e))) (same? (stoppedAt b a) 0)
-
 -- a making of a dimension from 1 to 8 is accepted on any table of the right length
 pub making-accepted : (b : List ℕ) (D : ℕ) → length b ≡ tableLength → 1 ≤ D → D ≤ 8 → Accepted b (making D)
-unfolding tableEffect resultIn callTests
+unfolding resultOf callTests
 making-accepted b D long l m =
     let inside : not (leb 1 D && leb D 8) ≡ false = ap not (ap₂ _&&_ (le-leb 1 D l) (le-leb D 8 m)) in
-    let z : stoppedAt b (making D) ≡ 0 = making-stopped b long D ∙ passed 2 [] inside ∙ accepted in
-    ap (λ (x : After (List ℕ)). x .result .answer .number) (step-effect b (making D) z)
+    ap (λ (g : CallResult). g .number) (table-step b (making D) .result (making-stopped b long D ∙ passed 2 [] inside ∙ accepted))
 
 -- An accepted making covers any bytes, whatever the table and the history were.
 module _ (b : List ℕ) (h : History) (D : ℕ) (e : Accepted b (making D)) where
   pub making-passes : stoppedOn h (making D) ≡ 0
   unfolding stoppedOn callTests
-  making-passes = none-stops b (making D) (accepted-passes b (making D) e)
+  making-passes = none-stops b (making D) (table-step b (making D) .passed e)
 
   pub made-result : tableStep b (making D) .result ≡ historyStep h (making D) .result
-  unfolding tableEffect resultIn resultOf
-  made-result = ap (λ (x : After (List ℕ)). x .result) (step-effect b (making D) (accepted-passes b (making D) e)) ∙ sym (ap (λ (x : After History). x .result) (history-step-passed h (making D) making-passes))
+  unfolding resultOf
+  made-result = table-step b (making D) .result (table-step b (making D) .passed e) ∙ sym (history-step h (making D) .result making-passes)
+
+  made-history : historyStep h (making D) .state ≡ record { dimension = D; blocked = []; circuits = [] }
+  unfolding applied
+  made-history = history-step h (making D) .accepted (sym (ap (λ (g : CallResult). g .number) made-result) ∙ e)
 
   pub made-clears : historyStep h (making D) .state .circuits ≡ []
-  unfolding applied
-  made-clears = ap (λ (x : After History). x .state .circuits) (history-step-passed h (making D) making-passes)
+  made-clears = rw made-history
 
   pub made-represents : Represents (tableStep b (making D) .state) (historyStep h (making D) .state)
-  unfolding applied
   made-represents =
-      let m = made-shows b D (accepted-passes b (making D) e) in
-      subst (λ (x : After History). Represents (tableStep b (making D) .state) (x .state)) (sym (history-step-passed h (making D) making-passes))
-      record { length = m .bytes .long; bytes = m .bytes .small; shows = m .shows ∙ sym (made-view D); valid = made-valid D (m .least) (m .most) }
+      let m = made-shows b D e in
+      rw made-history record { length = m .bytes .long; bytes = m .bytes .small; shows = m .shows ∙ sym (made-view D); valid = made-valid D (m .least) (m .most) }
 
 -- The users' third demand. From any bytes, after an accepted making and any list of calls, refused ones included.
 pub demand-3 : (b : List ℕ) (h : History) (D : ℕ) → Accepted b (making D) → (calls : List Call) → Agrees b h (making D ∷ calls)

@@ -1,7 +1,7 @@
 -- The bytes after a call as the functions below the calls write them, each in its own contract: they are those of the definition.
 -- Assumes nothing.
 use mathlib.Core.Path.{_≡_, refl, ap, sym, _∙_}
-use mathlib.Core.Logic.{⊎-elim, _≢_}
+use mathlib.Core.Logic.{⊎-elim}
 use mathlib.Core.Bool.{Bool, true, false}
 use mathlib.Core.List.{List, [], _∷_}
 use Prim.Native.Nat.{ℕ, _+_, _/_, _%_, _^_, _≤_, _<_}
@@ -26,14 +26,14 @@ use Rattle.table.proofs.Views.{view-put-enabled}
 use Rattle.table.proofs.Made.{made-bytes, view-made}
 use Rattle.search.specs.PassAnswer.{holdPath}
 use Rattle.search.specs.SendAnswer.{bytesAfterSend}
-use Rattle.ownership.specs.Calls.{Call, making, blocking, unblocking, opening, closing, tracing, After}
+use Rattle.ownership.specs.Calls.{Call, making, blocking, unblocking, opening, closing, tracing, form}
 use Rattle.ownership.specs.Allowed.{Allowed}
 use Rattle.ownership.specs.Update.{sendIn, viewAfterSend, updated}
 use Rattle.ownership.specs.OnTable.{factsOf, stoppedAt, tableStep}
 use Rattle.ownership.proofs.Allowed.{allowed}
 use Rattle.ownership.proofs.Shows.{Fits, view-after-send, sent-fits}
 use Rattle.ownership.proofs.Stops.{none-stops, none-stops-lent, none-stops-length, pass-tests}
-use Rattle.ownership.proofs.TableEffect.{step-effect, effect-encoded}
+use Rattle.ownership.proofs.TableEffect.{step-encoded}
 
 -- one byte written, an entry, the links of a path, a send's marks: bytes stay bytes
 set-bytes : (b : List ℕ) (i x : ℕ) → Bytes b → x < 256 → Bytes (set b i x)
@@ -82,17 +82,17 @@ module _ (b : List ℕ) (small : (i : ℕ) → getD b i 0 < 256) (a : Call) (e :
   bytes : Bytes b
   bytes = record { long = none-stops-length b a e; small = small }
 
-  encoded : (x : Call) → (((D : ℕ) → x ≢ making D) → dimensionAt b ≤ 8) → Allowed (factsOf (view b)) x → writtenBy b x ≡ encode (updated (view b) x)
+  encoded : (x : Call) → (form x .makes ≡ false → dimensionAt b ≤ 8) → Allowed (factsOf (view b)) x → writtenBy b x ≡ encode (updated (view b) x)
   unfolding writtenBy updated Allowed factsOf view
   encoded (making D) most r = encode-shown (made D) (fresh D) (made-bytes D (omega (arith, r .1))) (view-made D (omega (arith, r .1)))
   encoded (blocking n p) most r =
-      let m = most (λ D q. let y : _≡_ {A = ℕ} 0 1 = cc in omega arith) in
+      let m = most refl in
       put-encoded b bytes n p false record { bytes = bytes .long; node = below-256 m (r .0); port = omega (arith, r .1) }
   encoded (unblocking n p) most r =
-      let m = most (λ D q. let y : _≡_ {A = ℕ} 0 1 = cc in omega arith) in
+      let m = most refl in
       put-encoded b bytes n p true record { bytes = bytes .long; node = below-256 m (r .0); port = omega (arith, r .1) }
   encoded (opening s c t y v) most r =
-      let m = most (λ D q. let z : _≡_ {A = ℕ} 0 1 = cc in omega arith) in
+      let m = most refl in
       send-encoded b bytes (circuitOf s c) s t (sendIn (view b) s t y v .outcome) m (omega (arith, most-nodes m, r .0, r .2)) (r .0) (r .1) (sent-fits (view b) s t y v m (r .0) (r .1))
   encoded (closing s c) most r = refl
   encoded (tracing s c buffer) most r = sym (encode-view b (bytes .long) (bytes .small))
@@ -100,5 +100,5 @@ module _ (b : List ℕ) (small : (i : ℕ) → getD b i 0 < 256) (a : Call) (e :
   -- A call that no test stops leaves what they write.
   pub written-bytes : tableStep b a .state ≡ writtenBy b a
   written-bytes =
-      ap (λ (x : After (List ℕ)). x .state) (step-effect b a e) ∙ effect-encoded b bytes a
+      step-encoded b bytes a e
       ∙ sym (encoded a (λ other. pass-tests b (none-stops-lent b a other e) .2) (allowed (factsOf (view b)) a (none-stops b a e)))

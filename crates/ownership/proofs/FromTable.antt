@@ -25,10 +25,10 @@ use Rattle.soundness.specs.Sound.{endFor, CircuitSound, Sound}
 use Rattle.soundness.specs.SoundTest.{pathOf, isEmpty, tableTests}
 use Rattle.soundness.proofs.Soundness.{path-is, link-stands, receive-stands}
 use Rattle.paths.specs.CubeNetwork.{ports}
-use Rattle.ownership.specs.Calls.{Call, After}
+use Rattle.ownership.specs.Calls.{Call}
 use Rattle.ownership.specs.Update.{updated}
 use Rattle.ownership.specs.OnTable.{stoppedAt, tableStep}
-use Rattle.ownership.specs.History.{Circuit, History, shapeOn, netOn, linksOf, holdsLink, holdsReceive, enabledOn, stoppedOn}
+use Rattle.ownership.specs.History.{Circuit, History, shapeOn, netOn, linksOf, holdsLink, holdsReceive, enabledOn, historyStep}
 use Rattle.ownership.specs.Agrees.{Agrees}
 use Rattle.ownership.specs.Invariant.{CircuitValid, Disjoint, Valid, Represents}
 use Rattle.ownership.specs.HistoryView.{numberOf, viewOf}
@@ -38,8 +38,9 @@ use Rattle.ownership.proofs.CircuitValid.{holds-link, link-holds, holds
 use Rattle.ownership.proofs.Stops.{pass-tests}
 use Rattle.ownership.proofs.OnSound.{path-stands, stands-path}
 use Rattle.ownership.proofs.Applied.{follows-view}
-use Rattle.ownership.proofs.HistoryStep.{history-step-passed}
-use Rattle.ownership.proofs.Agreement.{represents-not-stopped, stops-alike, represents-step, represents-agrees}
+use Rattle.ownership.proofs.Steps.{table-step, history-step}
+use Rattle.ownership.proofs.TableEffect.{rejected-same}
+use Rattle.ownership.proofs.Agreement.{represents-not-stopped, represents-step, represents-agrees}
 
 -- the links out of some ports of some nodes
 out-mem : (ns ps : List ℕ) (n p : ℕ) → (n, p) ∈ linksOut ns ps → (n ∈ ns) × (p ∈ ps)
@@ -227,7 +228,14 @@ keeps-sound b small e a = represents-not-stopped (tableStep b a .state) _ (repre
 -- What a table shows after a call that no test stops is the update of what it showed: the definition of the bytes says what it seems to say.
 pub shows-update : (b : List ℕ) → ((i : ℕ) → getD b i 0 < 256) → refusal (tableTests b) ≡ 0 → (a : Call) → stoppedAt b a ≡ 0 → view (tableStep b a .state) ≡ updated (view b) a
 shows-update b small e a z =
-    let k = sound-represents b small e in
-    let h = historyOf (view b) in
-    let s : stoppedOn h a ≡ 0 = sym (stops-alike b h k a) ∙ z in
-    represents-step b h k a .covered .shows ∙ ap (λ (x : After History). viewOf (x .state)) (history-step-passed h a s) ∙ follows-view h (k .valid) a s ∙ ap (λ v. updated v a) (sym (k .shows))
+    let f = table-step b a in
+    ⊎-elim shown (λ r. ap view (f .refused r) ∙ sym (rejected-same (view b) a (rw (f .result z) at r))) (same? (tableStep b a .result .number) 0)
+  where
+    shown : tableStep b a .result .number ≡ 0 → view (tableStep b a .state) ≡ updated (view b) a
+    shown n =
+        let h = historyOf (view b) in
+        let k = sound-represents b small e in
+        let s = represents-step b h k a in
+        let g = history-step h a in
+        let accepted : historyStep h a .result .number ≡ 0 = rw (s .result) at n in
+        s .covered .shows ∙ ap viewOf (g .accepted accepted) ∙ follows-view h (k .valid) a (g .passed accepted) ∙ ap (λ v. updated v a) (sym (k .shows))

@@ -8,7 +8,7 @@ pub mod Allowed
 pub mod Reasons
 pub mod Enabled
 pub mod Applied
-pub mod HistoryStep
+pub mod Steps
 pub mod StillOpen
 pub mod OpenedBy
 pub mod Shows

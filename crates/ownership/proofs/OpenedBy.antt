@@ -10,12 +10,12 @@ use borrow.Author.Tests.{not-true}
 use Rattle.common.proofs.Tests.{same?, clash}
 use Rattle.common.proofs.Lists.{keep-mem}
 use Rattle.paths.specs.Send.{Outcome, acknowledged, route-rejected, receive-rejected}
-use Rattle.ownership.specs.Calls.{Call, making, blocking, unblocking, opening, closing, tracing, After}
+use Rattle.ownership.specs.Calls.{Call, making, blocking, unblocking, opening, closing, tracing}
 use Rattle.ownership.specs.History.{Circuit, History, belongs, stoppedOn, sendOn, withOpened, applied, historyStep}
 use Rattle.ownership.specs.Agrees.{historyAfter, historyResults, leaves, answers}
 use Rattle.ownership.specs.StillOpen.{numbered, Ends, Lasts, OpenedBy}
 use Rattle.ownership.proofs.Circuits.{parts-belong}
-use Rattle.ownership.proofs.HistoryStep.{history-step-passed, history-step-stopped}
+use Rattle.ownership.proofs.Steps.{history-step}
 
 -- one call: what is listed after it was listed before, or is what it opened
 record New (h : History) (a : Call) (x : Circuit) : Type 0 where
@@ -42,8 +42,8 @@ followed h (tracing s c buffer) x m = inl m
 
 step : (h : History) (a : Call) (x : Circuit) → x ∈ historyStep h a .state .circuits → (x ∈ h .circuits) ⊎ ((stoppedOn h a ≡ 0) × New h a x)
 step h a x m =
-    ⊎-elim (λ e. ⊎-elim inl (λ z. inr (e, z)) (followed h a x (subst (λ (u : After History). x ∈ u .state .circuits) (history-step-passed h a e) m)))
-    (λ e. inl (subst (λ (u : After History). x ∈ u .state .circuits) (history-step-stopped h a e) m)) (same? (stoppedOn h a) 0)
+    let g = history-step h a in
+    ⊎-elim (λ e. ⊎-elim inl (λ z. inr (g .passed e, z)) (followed h a x (rw (g .accepted e) at m))) (λ f. inl (rw (g .refused f) at m)) (same? (historyStep h a .result .number) 0)
 
 -- what is listed after an accepted call was not ended by it
 ended : (h : History) (a : Call) (x : Circuit) → x ∈ applied h a .circuits → Ends (x .source) (x .channel) a → ⊥
@@ -55,10 +55,8 @@ ended h (opening s c t y v) x m z = z
 ended h (closing s c) x m z = clash (parts-belong s c x (sym (z .0)) (sym (z .1))) (not-true _ (keep-mem (λ y. not (belongs s c y)) (h .circuits) m .1))
 ended h (tracing s c buffer) x m z = z
 
-lasted : (h : History) (a : Call) (x : Circuit) → x ∈ historyStep h a .state .circuits → historyStep h a .result .answer .number ≡ 0 → Ends (x .source) (x .channel) a → ⊥
-lasted h a x m e z =
-    ⊎-elim (λ q. ended h a x (subst (λ (u : After History). x ∈ u .state .circuits) (history-step-passed h a q) m) z)
-    (λ q. q (sym (ap (λ (u : After History). u .result .answer .number) (history-step-stopped h a q)) ∙ e)) (same? (stoppedOn h a) 0)
+lasted : (h : History) (a : Call) (x : Circuit) → x ∈ historyStep h a .state .circuits → historyStep h a .result .number ≡ 0 → Ends (x .source) (x .channel) a → ⊥
+lasted h a x m e z = ended h a x (rw (history-step h a .accepted e) at m) z
 
 -- an open of a list is one of the list with a call in front
 pub opened-later : (h : History) (a : Call) (more : List Call) (x : Circuit) → OpenedBy (historyStep h a .state) more x → OpenedBy h (a ∷ more) x
@@ -74,7 +72,7 @@ listed-by [] h x m = inl (m, λ a k z. List·Memᴰ·not-nil k)
 listed-by (a ∷ more) h x m =
     ⊎-elim (λ k. ⊎-elim (λ i. inl (i, later (k .0) (k .1))) (λ z. inr (now z (k .1))) (step h a x (k .0))) (λ z. inr (opened-later h a more x z)) (listed-by more (historyStep h a .state) x m)
   where
-    later : x ∈ historyStep h a .state .circuits → Lasts (x .source) (x .channel) (numbered more (historyResults (historyStep h a .state) more)) → Lasts (x .source) (x .channel) ((a, historyStep h a .result .answer .number) ∷ numbered more (historyResults (historyStep h a .state) more))
+    later : x ∈ historyStep h a .state .circuits → Lasts (x .source) (x .channel) (numbered more (historyResults (historyStep h a .state) more)) → Lasts (x .source) (x .channel) ((a, historyStep h a .result .number) ∷ numbered more (historyResults (historyStep h a .state) more))
     later k l b i z =
         ⊎-elim (λ e. lasted h a x k (sym (ap (λ (u : Call × ℕ). u .1) e)) (subst (Ends (x .source) (x .channel)) (ap (λ (u : Call × ℕ). u .0) e) z)) (λ j. l b j z) (List·Memᴰ·cases-cons i)
 

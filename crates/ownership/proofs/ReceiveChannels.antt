@@ -19,7 +19,7 @@ use Rattle.cube.specs.Axes.{axis}
 use Rattle.cube.proofs.Bits.{flip-back}
 use Rattle.paths.specs.Network.{Path, end, links}
 use Rattle.paths.specs.Permitted.{Permitted}
-use Rattle.paths.specs.Send.{all-held, Outcome, acknowledged, route-rejected, receive-rejected, answered}
+use Rattle.paths.specs.Send.{all-held, Outcome, acknowledged, route-rejected, receive-rejected}
 use Rattle.paths.specs.Sentences.{Free, AttemptsSay}
 use Rattle.paths.specs.CubeNetwork.{Shape, ports, network, attempts}
 use Rattle.paths.proofs.Links.{On, on-first, on-later}
@@ -34,11 +34,11 @@ use Rattle.soundness.specs.Sound.{CircuitSound, Sound}
 use Rattle.soundness.specs.SoundTest.{pathOf, tableTests}
 use Rattle.soundness.proofs.Soundness.{path-is, receive-stands}
 use Rattle.search.specs.PassAnswer.{freeIn, PassAnswer, pass-answer}
-use Rattle.search.specs.SendAnswer.{sendAnswer}
+use Rattle.search.specs.SendAnswer.{answerOfOutcome, sendAnswer}
 use Rattle.search.proofs.PassAnswer.{free-owner}
-use Rattle.ownership.specs.Calls.{Call, making, blocking, unblocking, opening, closing, tracing, callTests, After}
-use Rattle.ownership.specs.OnTable.{factsOf, lentTests, stoppedAt, resultIn, tableEffect, tableStep}
-use Rattle.ownership.proofs.TableEffect.{step-effect, step-stopped}
+use Rattle.ownership.specs.Calls.{Call, making, blocking, unblocking, opening, closing, tracing, callTests, resultOf}
+use Rattle.ownership.specs.OnTable.{factsOf, lentTests, stoppedAt, tableStep}
+use Rattle.ownership.proofs.Steps.{table-step}
 use Rattle.ownership.specs.Allowed.{Allowed}
 use Rattle.ownership.proofs.Allowed.{allowed}
 use Rattle.ownership.proofs.Stops.{none-stops, none-stops-lent, pass-tests}
@@ -166,35 +166,33 @@ stopped-otherwise b (opening s c t y v) = never-answered 11 _ (avoiding 11 _ ref
 stopped-otherwise b (closing s c) = never-answered 11 _ (avoiding 11 _ refl) (λ z. omega arith)
 stopped-otherwise b (tracing s c buffer) = never-answered 11 _ (avoiding 11 _ refl) (λ z. omega arith)
 
--- an outcome that is answered 11
-rejected : (o : Outcome) (n : ℕ) → answered o n .number ≡ 11 → o ≡ receive-rejected
-unfolding answered
-rejected (acknowledged w k) n e = absurd (omega (arith, e))
-rejected route-rejected n e = absurd (omega (arith, e))
-rejected receive-rejected n e = refl
-
--- the number that a pass or a send settles on
+-- the number that a pass or a send settles on, and the outcome of which it is 11
 answerNumber : PassAnswer → ℕ
 answerNumber (pass-answer x h k n b) = x
 
-open-otherwise : (b : List ℕ) (s c t y v : ℕ) → stoppedAt b (opening s c t y v) ≡ 0 → tableStep b (opening s c t y v) .result .answer .number ≢ 11
+rejected : (o : Outcome) (n : ℕ) (b : List ℕ) → answerNumber (answerOfOutcome o n b) ≡ 11 → o ≡ receive-rejected
+unfolding answerOfOutcome answerNumber
+rejected (acknowledged w k) n b e = absurd (omega (arith, e))
+rejected route-rejected n b e = absurd (omega (arith, e))
+rejected receive-rejected n b e = refl
+
+open-otherwise : (b : List ℕ) (s c t y v : ℕ) → stoppedAt b (opening s c t y v) ≡ 0 → tableStep b (opening s c t y v) .result .number ≢ 11
 unfolding Allowed factsOf view sendAnswer answerNumber
 open-otherwise b s c t y v z e =
-    let p = pass-tests b (none-stops-lent b (opening s c t y v) (λ D q. let x : _≡_ {A = ℕ} 0 1 = cc in omega arith) z) in
+    let p = pass-tests b (none-stops-lent b (opening s c t y v) refl z) in
     let r = allowed (factsOf (view b)) (opening s c t y v) (none-stops b (opening s c t y v) z) in
     let x = open-answers b s c t y v z in
-    send-receives (view b) (p .3) (p .2) t s (r .0) y v (x .outcome) _ (x .says) (rejected (x .outcome) _ (sym (ap answerNumber (x .answer)) ∙ e))
+    send-receives (view b) (p .3) (p .2) t s (r .0) y v (x .outcome) _ (x .says) (rejected (x .outcome) _ _ (sym (ap answerNumber (x .answer)) ∙ e))
 
-effect-otherwise : (b : List ℕ) (a : Call) → stoppedAt b a ≡ 0 → tableStep b a .result .answer .number ≢ 11
-unfolding tableEffect resultIn
-effect-otherwise b (making D) z e = let q = step-effect b (making D) z in omega (arith, ap (λ (d : After (List ℕ)). d .result .answer .number) q, e)
-effect-otherwise b (blocking n p) z e = let q = step-effect b (blocking n p) z in omega (arith, ap (λ (d : After (List ℕ)). d .result .answer .number) q, e)
-effect-otherwise b (unblocking n p) z e = let q = step-effect b (unblocking n p) z in omega (arith, ap (λ (d : After (List ℕ)). d .result .answer .number) q, e)
-effect-otherwise b (opening s c t y v) z e = open-otherwise b s c t y v z e
-effect-otherwise b (closing s c) z e = let q = step-effect b (closing s c) z in omega (arith, ap (λ (d : After (List ℕ)). d .result .answer .number) q, e)
-effect-otherwise b (tracing s c buffer) z e = let q = step-effect b (tracing s c buffer) z in omega (arith, ap (λ (d : After (List ℕ)). d .result .answer .number) q, e)
+passed-otherwise : (b : List ℕ) (a : Call) → stoppedAt b a ≡ 0 → tableStep b a .result .number ≢ 11
+unfolding resultOf
+passed-otherwise b (making D) z e = omega (arith, rw (table-step b (making D) .result z) at e)
+passed-otherwise b (blocking n p) z e = omega (arith, rw (table-step b (blocking n p) .result z) at e)
+passed-otherwise b (unblocking n p) z e = omega (arith, rw (table-step b (unblocking n p) .result z) at e)
+passed-otherwise b (opening s c t y v) z e = open-otherwise b s c t y v z e
+passed-otherwise b (closing s c) z e = omega (arith, rw (table-step b (closing s c) .result z) at e)
+passed-otherwise b (tracing s c buffer) z e = omega (arith, rw (table-step b (tracing s c buffer) .result z) at e)
 
 -- No call answers 11, whatever the bytes of the table are.
-pub never-full : (b : List ℕ) (a : Call) → tableStep b a .result .answer .number ≢ 11
-never-full b a e =
-    ⊎-elim (λ z. effect-otherwise b a z e) (λ z. stopped-otherwise b a (sym (ap (λ (d : After (List ℕ)). d .result .answer .number) (step-stopped b a z)) ∙ e)) (same? (stoppedAt b a) 0)
+pub never-full : (b : List ℕ) (a : Call) → tableStep b a .result .number ≢ 11
+never-full b a e = ⊎-elim (λ z. passed-otherwise b a z e) (λ z. stopped-otherwise b a (rw (table-step b a .stopped z) at e)) (same? (stoppedAt b a) 0)

@@ -36,15 +36,15 @@ historyResults h calls = answers historyStep h calls
 
 -- The users' third demand for a list of calls, refused ones included: table and history agree in every byte, each answer and each lent buffer is the
 -- history's, what always holds of a history holds of it (no two of its circuits share a link or a receive channel), and wherever a call of the list is refused,
--- so where a search is rejected too, each byte of the table and of the lent buffer is as it was. The table's side of it runs the very definitions that the
+-- so where a search is rejected too, each byte of the table and of the lent buffers is as it was. The table's side of it runs the very definitions that the
 -- contracts of the calls cite. The calls are lent no second table, so nothing else could be taken for this one.
 pub record Agrees (b : List ℕ) (h : History) (calls : List Call) : Type 0 where
   pub bytes : tableAfter b calls ≡ bytesOf (historyAfter h calls)
   pub results : tableResults b calls ≡ historyResults h calls
   pub valid : Valid (historyAfter h calls)
-  pub refused : (before : List Call) (a : Call) (more : List Call) → calls ≡ before ++ a ∷ more → tableStep (tableAfter b before) a .result .answer .number ≢ 0
-      → (tableAfter b (before ++ a ∷ []) ≡ tableAfter b before) × (tableStep (tableAfter b before) a .result .buffer ≡ lent a)
+  pub refused : (before : List Call) (a : Call) (more : List Call) → calls ≡ before ++ a ∷ more → tableStep (tableAfter b before) a .result .number ≢ 0
+      → (tableAfter b (before ++ a ∷ []) ≡ tableAfter b before) × (tableStep (tableAfter b before) a .result .buffers ≡ lent a)
 
 -- "accepted": the call answers 0
 abbrev pub Accepted : List ℕ → Call → Type 0
-Accepted b a = tableStep b a .result .answer .number ≡ 0
+Accepted b a = tableStep b a .result .number ≡ 0

@@ -4,14 +4,12 @@ use mathlib.Core.Bool.{Bool, cond, _&&_, not}
 use mathlib.Core.List.{List, [], _∷_}
 use Prim.Native.Nat.{ℕ, _^_}
 use lib.Dec.{eqb, ltb}
-use lib.ListN.{length}
 use Rattle.common.specs.Lists.{keep, any}
 use Rattle.common.specs.Tests.{refusal}
 use Rattle.paths.specs.Network.{Network, Path, Link, links, hasLink, linkState, isFree}
-use Rattle.paths.specs.Send.{Receive, channel, Outcome, acknowledged, route-rejected, receive-rejected, SendResult, answered, lowestOf}
+use Rattle.paths.specs.Send.{Receive, channel, Outcome, acknowledged, route-rejected, receive-rejected, SendResult, lowestOf}
 use Rattle.paths.specs.CubeNetwork.{Shape, network, send}
-use Rattle.soundness.specs.SoundTest.{tracedInto}
-use Rattle.ownership.specs.Calls.{Call, making, blocking, unblocking, opening, closing, tracing, CallResult, CallFacts, only, callTests, lent, After}
+use Rattle.ownership.specs.Calls.{Call, making, blocking, unblocking, opening, closing, tracing, CallFacts, callTests, After, callOn}
 
 -- "each open circuit with the links and receive channel it holds": its source and send channel, its path, and the receive channel at the path's end
 pub record Circuit : Type 0 where
@@ -75,16 +73,16 @@ unfoldable pub listed : List Circuit → ℕ → ℕ → Path
 listed [] s c = []
 listed (x ∷ xs) s c = cond (belongs s c x) (x .ports) (listed xs s c)
 
--- "The tests are read off it; of 1 to 3, only a making's 2 arises on this table."
-unfoldable pub factsOn : History → CallFacts
-factsOn h = record { dimension = h .dimension; held = heldOn h; isOpen = openOn h }
-
-unfoldable pub stoppedOn : History → Call → ℕ
-stoppedOn h a = refusal (callTests (factsOn h) a)
-
 -- the send of an open, "by the rules above, read on this record"
 unfoldable pub sendOn : History → ℕ → ℕ → ℕ → ℕ → SendResult
 sendOn h s t y v = send y (shapeOn h) (freeOn h) (receiveOn h t) s v t
+
+-- "The tests are read off it; of 1 to 3, only a making's 2 arises on this table."
+unfoldable pub factsOn : History → CallFacts
+factsOn h = record { dimension = h .dimension; held = heldOn h; isOpen = openOn h; sends = sendOn h; path = listed (h .circuits) }
+
+unfoldable pub stoppedOn : History → Call → ℕ
+stoppedOn h a = refusal (callTests (factsOn h) a)
 
 -- the history with other blocked links, or with other circuits
 abbrev pub withBlocked : History → List Link → History
@@ -108,17 +106,6 @@ applied h (opening s c t y v) = withOpened h s c t (sendOn h s t y v .outcome)
 applied h (closing s c) = withCircuits h (keep (λ x. not (belongs s c x)) (h .circuits))
 applied h (tracing s c buffer) = h
 
-unfoldable pub resultOf : History → Call → CallResult
-resultOf h (making D) = record { answer = only 0; buffer = [] }
-resultOf h (blocking n p) = record { answer = only 0; buffer = [] }
-resultOf h (unblocking n p) = record { answer = only 0; buffer = [] }
-resultOf h (opening s c t y v) = let x = sendOn h s t y v in record { answer = answered (x .outcome) (x .scouts); buffer = [] }
-resultOf h (closing s c) = record { answer = only 0; buffer = [] }
-resultOf h (tracing s c buffer) =
-    let w = listed (h .circuits) s c in record { answer = record { number = 0; hops = length w; receive = 0; scouts = 0 }; buffer = tracedInto w buffer }
-
 -- a call entered in the history; "A refused call and a trace change nothing."
 unfoldable pub historyStep : History → Call → After History
-historyStep h a =
-    let n = stoppedOn h a in
-    cond (eqb n 0) (record { state = applied h a; result = resultOf h a }) (record { state = h; result = record { answer = only n; buffer = lent a } })
+historyStep h a = callOn h (applied h a) (factsOn h) (stoppedOn h a) a

@@ -13,7 +13,7 @@ use Rattle.ownership.specs.Agrees.{historyAfter, historyResults}
 unfoldable pub numbered : List Call → List CallResult → List (Call × ℕ)
 numbered [] gs = []
 numbered (a ∷ more) [] = []
-numbered (a ∷ more) (g ∷ gs) = (a, g .answer .number) ∷ numbered more gs
+numbered (a ∷ more) (g ∷ gs) = (a, g .number) ∷ numbered more gs
 
 -- where it is accepted, the call ends the circuit of send channel c of node s: it is a making, or a close of that channel
 unfoldable pub Ends : ℕ → ℕ → Call → Type 0

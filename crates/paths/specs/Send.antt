@@ -4,7 +4,6 @@ use mathlib.Core.Bool.{Bool, true, false, cond}
 use mathlib.Core.List.{List, [], _∷_}
 use Prim.Native.Nat.{ℕ, _+_}
 use lib.Dec.{eqb}
-use lib.ListN.{length}
 use Rattle.common.specs.Lists.{lowest}
 use Rattle.paths.specs.Network.{Network, Path}
 use Rattle.paths.specs.Pass.{PassResult, none, found, pass, scouts}
@@ -67,17 +66,3 @@ runs r [] = record { outcome = route-rejected; scouts = 0 }
 runs r (x ∷ []) = oneResult r x
 runs r (x ∷ y ∷ ys) =
     cond (goesOn (outcome r x)) (record { outcome = runs r (y ∷ ys) .outcome; scouts = scouts x + runs r (y ∷ ys) .scouts }) (oneResult r x)
-
--- What a call answers: "An open answers number, hops, receive channel, scouts; a trace, number and hops; .. the rest the number alone." What a call does
--- not answer is 0 here.
-pub record Answer : Type 0 where
-  pub number : ℕ
-  pub hops : ℕ
-  pub receive : ℕ
-  pub scouts : ℕ
-
--- "Success is 0." "When refused, all but the number are 0, except that 10 and 11 carry their scouts."
-unfoldable pub answered : Outcome → ℕ → Answer
-answered (acknowledged w k) n = record { number = 0; hops = length w; receive = k; scouts = n }
-answered route-rejected n = record { number = 10; hops = 0; receive = 0; scouts = n }
-answered receive-rejected n = record { number = 11; hops = 0; receive = 0; scouts = n }

@@ -9,7 +9,7 @@ use native.Mathlib.Omega.{arith}
 use lib.ListN.{length}
 use lib.Pow.{pow-mono}
 use Rattle.common.specs.Tests.{Test, test, refusal}
-use Rattle.common.proofs.Tests.{neither, refused, passed, accepted, refusal-after, refusal-both, refusal-before}
+use Rattle.common.proofs.Tests.{neither, refused, passed, accepted, refusal-after, refusal-before}
 use Rattle.table.specs.Layout.{tableLength, dimensionAt}
 use Rattle.table.specs.LayoutContracts.{Within}
 use Rattle.table.specs.View.{view}
@@ -20,11 +20,11 @@ use Rattle.cube.proofs.Ports.{most-nodes, below-256}
 use Rattle.soundness.specs.Sound.{Sound}
 use Rattle.soundness.specs.SoundTest.{pathOf, isEmpty, tableTests}
 use Rattle.soundness.specs.Follow.{HasSource}
-use Rattle.ownership.specs.Calls.{Call, absent, blocking, unblocking, opening, closing, tracing}
+use Rattle.ownership.specs.Calls.{Call, form, absent, blocking, unblocking, opening, closing, tracing}
 use Rattle.ownership.specs.Allowed.{Allowed}
-use Rattle.ownership.specs.OnTable.{openIn, factsOf, lentTests, stoppedAt}
+use Rattle.ownership.specs.OnTable.{openIn, factsOf, stoppedAt}
 use Rattle.ownership.proofs.Allowed.{below, allowed}
-use Rattle.ownership.proofs.Stops.{pass-tests, lent-numbered, table-numbered}
+use Rattle.ownership.proofs.Stops.{pass-tests, table-numbered, none-stops, none-stops-lent}
 
 -- What a call answers at each return of its tests: a test of the lent table stops it;
 pub by-table : (b : List ℕ) (ts : List Test) {n : ℕ} → n ≡ refusal (tableTests b) → n ≢ 0 → n ≡ refusal (tableTests b ++ ts)
@@ -90,34 +90,31 @@ unfolding factsOf view
 node-passed b s e f = let h = below s (2 ^ dimensionAt b) f in inside b e h h
 
 -- a call that no test stops: the table passes its tests, and the arguments are allowed
-none-applies : (b : List ℕ) (a : Call) → lentTests b a ≡ tableTests b → {n : ℕ} → n ≡ stoppedAt b a → n ≡ 0 → (refusal (tableTests b) ≡ 0) × Allowed (factsOf (view b)) a
-unfolding stoppedAt
-none-applies b a q e z =
-    let r = refusal-both (lentTests b a) _ (lent-numbered b a) (sym e ∙ z) in
-    (rw q at (r .0), allowed (factsOf (view b)) a (r .1))
+none-applies : (b : List ℕ) (a : Call) → form a .makes ≡ false → {n : ℕ} → n ≡ stoppedAt b a → n ≡ 0 → (refusal (tableTests b) ≡ 0) × Allowed (factsOf (view b)) a
+none-applies b a q e z = (none-stops-lent b a q (sym e ∙ z), allowed (factsOf (view b)) a (none-stops b a (sym e ∙ z)))
 
 module _ {b : List ℕ} {m p n : ℕ} where
   pub link-passed : n ≡ stoppedAt b (unblocking m p) → n ≡ 0 → Inside b m m × (p < dimensionAt b)
-  unfolding lentTests Allowed factsOf view
+  unfolding Allowed factsOf view
   link-passed e z = let r = none-applies b (unblocking m p) refl e z in (inside b (r .0) (r .1 .0) (r .1 .0), r .1 .1)
 
   pub block-passed : n ≡ stoppedAt b (blocking m p) → n ≡ 0 → Inside b m m × (p < dimensionAt b)
-  unfolding lentTests Allowed factsOf view
+  unfolding Allowed factsOf view
   block-passed e z = let r = none-applies b (blocking m p) refl e z in (inside b (r .0) (r .1 .0) (r .1 .0), r .1 .1)
 
 pub open-passed : {b : List ℕ} {s c t : ℕ} (y : ℕ) {v n : ℕ} → n ≡ stoppedAt b (opening s c t y v) → n ≡ 0 → Inside b s t × (c < 8) × (v < 2 ^ dimensionAt b)
-unfolding lentTests Allowed factsOf view
+unfolding Allowed factsOf view
 open-passed {b} {s} {c} {t} y {v} e z =
     let r = none-applies b (opening s c t y v) refl e z in
     (inside b (r .0) (r .1 .0) (r .1 .1), r .1 .2, no-bit-above (dimensionAt b) v (r .1 .4))
 
 module _ {b : List ℕ} {s c : ℕ} where
   pub close-passed : {n : ℕ} → n ≡ stoppedAt b (closing s c) → n ≡ 0 → Inside b s s × (c < 8) × (openIn (view b) s c ≡ true)
-  unfolding lentTests Allowed factsOf view
+  unfolding Allowed factsOf view
   close-passed e z = let r = none-applies b (closing s c) refl e z in (inside b (r .0) (r .1 .0) (r .1 .0), r .1 .1, r .1 .2)
 
   pub trace-passed : (buffer : List ℕ) {n : ℕ} → n ≡ stoppedAt b (tracing s c buffer) → n ≡ 0 → (Inside b s s × (c < 8) × (openIn (view b) s c ≡ true)) × (9 ≤ length buffer)
-  unfolding lentTests Allowed factsOf view
+  unfolding Allowed factsOf view
   trace-passed buffer e z = let r = none-applies b (tracing s c buffer) refl e z in ((inside b (r .0) (r .1 .0) (r .1 .0), r .1 .1, r .1 .2), r .1 .3)
 
 -- A cube has 2 to 256 nodes.

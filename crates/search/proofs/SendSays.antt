@@ -7,14 +7,14 @@ use Prim.Native.Nat.{ℕ, _≤_}
 use native.Mathlib.Omega.{arith}
 use Rattle.common.proofs.Tests.{clash}
 use Rattle.paths.specs.Network.{Path}
-use Rattle.paths.specs.Send.{channel, all-held, Outcome, acknowledged, route-rejected, receive-rejected, Acknowledged, Attempt, SendResult, answered}
+use Rattle.paths.specs.Send.{channel, all-held, Outcome, acknowledged, route-rejected, receive-rejected, Acknowledged, Attempt, SendResult}
 use Rattle.paths.specs.Sentences.{AttemptsSay}
 use Rattle.paths.specs.CubeNetwork.{attempts, send}
 use Rattle.paths.proofs.Send.{Route, acknowledged-route, route-acknowledged, send-says, send-bounded}
 use Rattle.table.specs.View.{View, view, receive, available, net, shapeOf}
 use Rattle.table.proofs.Receives.{chosen, none-chosen}
 use Rattle.search.specs.PassAnswer.{freeIn, pass-answer}
-use Rattle.search.specs.SendAnswer.{bytesAfterSend, sendAnswer, sends, MaySend}
+use Rattle.search.specs.SendAnswer.{bytesAfterSend, answerOfOutcome, sendAnswer, sends, MaySend}
 use Rattle.search.specs.SendSays.{Available, Lowest, SendSays}
 use Rattle.search.proofs.Sends.{sent-goes-on, sent-scouts}
 
@@ -31,11 +31,11 @@ module _ (v : View) (t : ℕ) where
 -- Acknowledged is number 0.
 module _ (b : List ℕ) (c s t : ℕ) where
   acknowledged-number : (o : Outcome) (m x h k n : ℕ) (b′ : List ℕ) → pass-answer x h k n b′ ≡ sendAnswer b c s t (record { outcome = o; scouts = m }) → Acknowledged o → x ≡ 0
-  unfolding sendAnswer bytesAfterSend answered Acknowledged
+  unfolding sendAnswer bytesAfterSend answerOfOutcome Acknowledged
   acknowledged-number (acknowledged w j) m x h k n b′ q z = cc
 
   number-acknowledged : (o : Outcome) (m x h k n : ℕ) (b′ : List ℕ) → pass-answer x h k n b′ ≡ sendAnswer b c s t (record { outcome = o; scouts = m }) → x ≡ 0 → (w : Path) × (o ≡ acknowledged w k)
-  unfolding sendAnswer bytesAfterSend answered
+  unfolding sendAnswer bytesAfterSend answerOfOutcome
   number-acknowledged (acknowledged w j) m x h k n b′ q z = let y : j ≡ k = cc in (w, ap (acknowledged w) y)
   number-acknowledged route-rejected m x h k n b′ q z = let y : x ≡ 10 = cc in absurd (omega arith)
   number-acknowledged receive-rejected m x h k n b′ q z = let y : x ≡ 11 = cc in absurd (omega arith)

@@ -19,7 +19,7 @@ use Rattle.cube.specs.Helical.{portsOf}
 use Rattle.cube.proofs.Order.{helical-last, ports-wider, ports-mem, length-ports}
 use Rattle.paths.specs.Pass.{PassResult, none, found, pass, scouts}
 use Rattle.paths.specs.Search.{trying, sending}
-use Rattle.paths.specs.Send.{Receive, channel, all-held, Outcome, acknowledged, route-rejected, receive-rejected, attempted, oneResult, received, outcome, goesOn, runs, answered}
+use Rattle.paths.specs.Send.{Receive, channel, all-held, Outcome, acknowledged, route-rejected, receive-rejected, attempted, oneResult, received, outcome, goesOn, runs}
 use Rattle.paths.specs.CubeNetwork.{Shape, network, sendPorts, otherPorts, attempts, send}
 use Rattle.paths.proofs.Depth.{search-is-pass}
 use Rattle.paths.proofs.CubeNetwork.{distance-within, unfolded-send-ports, scouts-bound, other-vector}
@@ -32,7 +32,7 @@ use Rattle.table.proofs.Made.{ones}
 use Rattle.table.proofs.Receives.{chosen}
 use Rattle.search.specs.PassAnswer.{freeIn, holdPath, pass-answer, answerOfPass, arrivalAfter}
 use Rattle.search.specs.SearchContracts.{farthestAfter, tryAnswer, Narrowed, MayTry}
-use Rattle.search.specs.SendAnswer.{bytesAfterSend, sendAnswer, sends, MaySend}
+use Rattle.search.specs.SendAnswer.{bytesAfterSend, answerOfOutcome, sendAnswer, sends, MaySend}
 use Rattle.search.proofs.Narrow.{narrow-tries}
 use Rattle.search.proofs.SearchContracts.{farthest-most}
 
@@ -86,7 +86,7 @@ module _ (b : List ℕ) (c s t : ℕ) (r : Receive) where
       go (channel j) u = let i : j ≡ k = cc in ap channel i
 
   pub pass-taken : (p : PassResult) {x h k n : ℕ} {b₁ b₂ : List ℕ} → pass-answer x h k n b₁ ≡ answerOfPass b c s 0 r p → x ≡ 0 → b₂ ≡ putReceiver b₁ t k c → pass-answer x h k n b₂ ≡ sendAnswer b c s t (oneResult r p)
-  unfolding answerOfPass sendAnswer bytesAfterSend answered outcome received scouts
+  unfolding answerOfPass sendAnswer bytesAfterSend answerOfOutcome outcome received scouts
   pass-taken (none m) {x} q z e = let y : x ≡ 10 = cc in absurd (omega arith)
   pass-taken (found w m) {x} {h} {k} {n} {b₁} {b₂} q z e = go r q
     where
@@ -101,7 +101,7 @@ module _ (b : List ℕ) (c s t : ℕ) (r : Receive) where
           rw (z, l, o, e, d, i) refl
 
   pub pass-rejected : (p : PassResult) {x h k n : ℕ} {b₁ : List ℕ} → pass-answer x h k n b₁ ≡ answerOfPass b c s 0 r p → x ≢ 0 → pass-answer x h k n b₁ ≡ sendAnswer b c s t (oneResult r p)
-  unfolding answerOfPass sendAnswer bytesAfterSend answered outcome received scouts
+  unfolding answerOfPass sendAnswer bytesAfterSend answerOfOutcome outcome received scouts
   pass-rejected (none m) q f = q
   pass-rejected (found w m) {x} {h} {k} {n} {b₁} q f = go r q
     where
@@ -112,26 +112,26 @@ module _ (b : List ℕ) (c s t : ℕ) (r : Receive) where
 -- What the answer of a send tells: whether another pass follows, that a rejection leaves each byte as it was, and its scouts.
 module _ (b : List ℕ) (c s t : ℕ) where
   pub sent-stops : (o : Outcome) (m : ℕ) {x h k n : ℕ} {b₁ : List ℕ} → pass-answer x h k n b₁ ≡ sendAnswer b c s t (record { outcome = o; scouts = m }) → x ≡ 0 → goesOn o ≡ false
-  unfolding sendAnswer bytesAfterSend answered goesOn
+  unfolding sendAnswer bytesAfterSend answerOfOutcome goesOn
   sent-stops (acknowledged w j) m q z = refl
   sent-stops route-rejected m {x} q z = let y : x ≡ 10 = cc in absurd (omega arith)
   sent-stops receive-rejected m {x} q z = let y : x ≡ 11 = cc in absurd (omega arith)
 
   pub sent-goes-on : (o : Outcome) (m : ℕ) {x h k n : ℕ} {b₁ : List ℕ} → pass-answer x h k n b₁ ≡ sendAnswer b c s t (record { outcome = o; scouts = m }) → x ≢ 0 → (goesOn o ≡ true) × (b₁ ≡ b)
-  unfolding sendAnswer bytesAfterSend answered goesOn
+  unfolding sendAnswer bytesAfterSend answerOfOutcome goesOn
   sent-goes-on (acknowledged w j) m {x} q f = let y : x ≡ 0 = cc in absurd (f y)
   sent-goes-on route-rejected m q f = (refl, cc)
   sent-goes-on receive-rejected m q f = (refl, cc)
 
   pub sent-scouts : (o : Outcome) (m : ℕ) {x h k n : ℕ} {b₁ : List ℕ} → pass-answer x h k n b₁ ≡ sendAnswer b c s t (record { outcome = o; scouts = m }) → n ≡ m
-  unfolding sendAnswer bytesAfterSend answered
+  unfolding sendAnswer bytesAfterSend answerOfOutcome
   sent-scouts (acknowledged w j) m q = cc
   sent-scouts route-rejected m q = cc
   sent-scouts receive-rejected m q = cc
 
   -- the same answer with other scouts
   pub sent-counted : (o : Outcome) (m j : ℕ) {x h k n : ℕ} {b₁ : List ℕ} → pass-answer x h k n b₁ ≡ sendAnswer b c s t (record { outcome = o; scouts = m }) → pass-answer x h k j b₁ ≡ sendAnswer b c s t (record { outcome = o; scouts = j })
-  unfolding sendAnswer bytesAfterSend answered
+  unfolding sendAnswer bytesAfterSend answerOfOutcome
   sent-counted (acknowledged w i) m j q = cc
   sent-counted route-rejected m j q = cc
   sent-counted receive-rejected m j q = cc

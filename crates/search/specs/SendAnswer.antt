@@ -5,7 +5,7 @@ use mathlib.Core.Logic.{_≢_}
 use mathlib.Core.List.{List}
 use Prim.Native.Nat.{ℕ, _^_, _≤_, _<_}
 use lib.ListN.{length}
-use Rattle.paths.specs.Send.{Outcome, acknowledged, route-rejected, receive-rejected, SendResult, answered}
+use Rattle.paths.specs.Send.{Outcome, acknowledged, route-rejected, receive-rejected, SendResult}
 use Rattle.paths.specs.CubeNetwork.{send}
 use Rattle.table.specs.Layout.{tableLength, dimensionAt, putReceiver}
 use Rattle.table.specs.View.{view, receive, shapeOf}
@@ -18,9 +18,14 @@ bytesAfterSend b c s t (acknowledged w k) = putReceiver (holdPath b c s w) t k c
 bytesAfterSend b c s t route-rejected = b
 bytesAfterSend b c s t receive-rejected = b
 
+-- the answer of an outcome, with the scouts that were sent and the bytes after it
+unfoldable pub answerOfOutcome : Outcome → ℕ → List ℕ → PassAnswer
+answerOfOutcome (acknowledged w k) n b = pass-answer 0 (length w) k n b
+answerOfOutcome route-rejected n b = pass-answer 10 0 0 n b
+answerOfOutcome receive-rejected n b = pass-answer 11 0 0 n b
+
 unfoldable pub sendAnswer : List ℕ → ℕ → ℕ → ℕ → SendResult → PassAnswer
-sendAnswer b c s t x =
-    let a = answered (x .outcome) (x .scouts) in pass-answer (a .number) (a .hops) (a .receive) (a .scouts) (bytesAfterSend b c s t (x .outcome))
+sendAnswer b c s t x = answerOfOutcome (x .outcome) (x .scouts) (bytesAfterSend b c s t (x .outcome))
 
 -- A send of a routing type from s to t over the ports of a vector, read on what the table shows before it
 unfoldable pub sends : List ℕ → ℕ → ℕ → ℕ → ℕ → ℕ → PassAnswer

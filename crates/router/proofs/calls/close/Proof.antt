@@ -1,7 +1,7 @@
 -- `router::calls::close` meets its contract: its tests, then every entry of the circuit freed.
 -- Assumes nothing.
 use Rattle.router.proofs.Stopping.{close-passed, small-source, has-source}
-use Rattle.router.proofs.TableStep.{close-refused, call-closes, open-path}
+use Rattle.router.proofs.TableStep.{call-stopped, call-closes, open-path}
 use native.Mathlib.Omega.{arith}
 use borrow.Author.Needs.{needs}
 use Rattle.router.proofs.calls.close.Statement.{statement}
@@ -14,7 +14,7 @@ same-length : tie.Need-same-length
 same-length c = search needs
 
 returns : tie.Need-returns
-returns c = close-refused _ _ _ (c .before .close .ensures) (c .if1 .taken)
+returns c = call-stopped _ _ (c .before .close .ensures) (c .if1 .taken)
 
 circuit-of-requires : tie.Need-circuit-of-requires
 circuit-of-requires c κs =

@@ -1,7 +1,7 @@
 -- `router::calls::trace` meets its contract: its tests, then the path of the circuit written.
 -- Assumes nothing.
 use Rattle.router.proofs.Stopping.{trace-passed, small-source, has-source}
-use Rattle.router.proofs.TableStep.{trace-refused, call-traces, open-path}
+use Rattle.router.proofs.TableStep.{call-stopped, call-traces, open-path}
 use native.Mathlib.Omega.{arith}
 use borrow.Author.Needs.{needs}
 use Rattle.router.proofs.calls.trace.Statement.{statement}
@@ -14,7 +14,7 @@ same-length : tie.Need-same-length
 same-length c = search needs
 
 returns : tie.Need-returns
-returns c = trace-refused _ _ _ _ (c .before .trace .ensures) (c .if1 .taken)
+returns c = call-stopped _ _ (c .before .trace .ensures) (c .if1 .taken)
 
 circuit-of-requires : tie.Need-circuit-of-requires
 circuit-of-requires c κs =
