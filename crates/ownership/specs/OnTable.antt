@@ -5,18 +5,24 @@ use mathlib.Core.List.{List, [], _∷_, _++_}
 use Prim.Native.Nat.{ℕ}
 use lib.Dec.{eqb}
 use lib.ListN.{length}
+use Rattle.common.specs.Lists.{any}
 use Rattle.common.specs.Tests.{Test, test, refusal}
-use Rattle.cube.specs.Cube.{circuitOf}
+use Rattle.cube.specs.Cube.{circuitOf, sourceOf}
+use Rattle.paths.specs.CubeNetwork.{ports}
 use Rattle.table.specs.Layout.{tableLength}
-use Rattle.table.specs.View.{View, view}
+use Rattle.table.specs.View.{View, view, shapeOf, heldBy}
 use Rattle.table.specs.Encode.{encode}
-use Rattle.soundness.specs.SoundTest.{pathOf, isEmpty, tableTests}
+use Rattle.soundness.specs.SoundTest.{pathOf, tableTests}
 use Rattle.ownership.specs.Calls.{Call, form, CallFacts, callTests, After, callOn}
 use Rattle.ownership.specs.Update.{sendIn, updated}
 
--- "this send channel has an open circuit": the links that its circuit holds make a path
+-- circuit number c is open: it holds a link out of its source
+unfoldable pub isOpenIn : View → ℕ → Bool
+isOpenIn v c = any (heldBy v c (sourceOf c)) (ports (shapeOf v))
+
+-- "this send channel has an open circuit"
 unfoldable pub openIn : View → ℕ → ℕ → Bool
-openIn v s c = not (isEmpty (pathOf v (circuitOf s c)))
+openIn v s c = isOpenIn v (circuitOf s c)
 
 -- "the link is held"
 unfoldable pub heldIn : View → ℕ → ℕ → Bool
