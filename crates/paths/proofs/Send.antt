@@ -141,23 +141,43 @@ module _ (S : Shape) where
       go : (a : Attempt) → InCube a → Tries (network S) s t a w → Permitted (network S) s (ports S) t w
       go (pass-over ps) i h = unfold InCube Tries in wider (network S) s ps (ports S) t w (i .1) h
 
-  module _ (free : ℕ → ℕ → Bool) (r : Receive) (s vector t type : ℕ) where
-    -- so a send says what document 01 says of it,
-    pub send-says : S .dimension ≤ 8 → Node S s → Node S t → AttemptsSay (network S) s t free r (attempts S type vector) (send type S free r s vector t .outcome) (send type S free r s vector t .scouts)
-    unfolding send attempts
-    send-says h i l = runs-say (network S) s t free r _ _ (λ a m. go a (in-cube type vector a (unfold attempts in m)))
-      where
-        go : (a : Attempt) → InCube a → AttemptSays (network S) s t free r a (outcome r (attempted (network S) free s t a)) (scouts (attempted (network S) free s t a))
-        go (pass-over ps) c = unfold AttemptSays attempted InCube in answer-says (network S) free s ps t r _ (cube-says S h free s ps t i l (c .0) (c .1))
+  module _ (free : ℕ → ℕ → Bool) (r : Receive) (s vector t : ℕ) where
+    -- the pass with the given vector, and the one with the ports that are not in it
+    abbrev first : PassResult
+    first = pass (network S) free s (sendPorts S vector) t
 
-    -- and reports no more than 123,300 scouts, where nothing is folded.
-    pub send-bounded : S .dimension ≤ 8 → S .fold ≡ 0 → send type S free r s vector t .scouts ≤ 123300
-    unfolding send attempts attempted allScouts
-    send-bounded h z = go (eqb type 4)
-      where
-        both : scouts (pass (network S) free s (sendPorts S vector) t) + scouts (pass (network S) free s (otherPorts S vector) t) ≤ 123300
-        both = scouts-bound S h z s t vector free free
+    abbrev second : PassResult
+    second = pass (network S) free s (otherPorts S vector) t
 
-        go : (b : Bool) → runs r (map (attempted (network S) free s t) (pass-over (sendPorts S vector) ∷ cond b (pass-over (otherPorts S vector) ∷ []) [])) .scouts ≤ 123300
-        go true = omega (arith, both, runs-most r (pass (network S) free s (sendPorts S vector) t ∷ pass (network S) free s (otherPorts S vector) t ∷ []))
-        go false = omega (arith, both, runs-most r (pass (network S) free s (sendPorts S vector) t ∷ []))
+    -- Routing type 0 answers what its one pass comes to.
+    pub maze-answers : send 0 S free r s vector t ≡ oneResult r first
+    unfolding send attempts attempted runs
+    maze-answers = refl
+
+    -- Routing type 4 stops where the first pass is acknowledged,
+    pub alternate-stops : goesOn (outcome r first) ≡ false → send 4 S free r s vector t ≡ oneResult r first
+    unfolding send attempts attempted
+    alternate-stops e = runs-stop r first second [] e
+
+    -- and otherwise answers what the second comes to, with the scouts of both.
+    pub alternate-goes-on : goesOn (outcome r first) ≡ true → send 4 S free r s vector t ≡ record { outcome = outcome r second; scouts = scouts first + scouts second }
+    unfolding send attempts attempted runs
+    alternate-goes-on e = rw e
+
+    module _ (type : ℕ) where
+      -- A send says what document 01 says of it,
+      pub send-says : S .dimension ≤ 8 → Node S s → Node S t → AttemptsSay (network S) s t free r (attempts S type vector) (send type S free r s vector t .outcome) (send type S free r s vector t .scouts)
+      unfolding send attempts
+      send-says h i l = runs-say (network S) s t free r _ _ (λ a m. go a (in-cube type vector a (unfold attempts in m)))
+        where
+          go : (a : Attempt) → InCube a → AttemptSays (network S) s t free r a (outcome r (attempted (network S) free s t a)) (scouts (attempted (network S) free s t a))
+          go (pass-over ps) c = unfold AttemptSays attempted InCube in answer-says (network S) free s ps t r _ (cube-says S h free s ps t i l (c .0) (c .1))
+
+      -- and reports no more than 123,300 scouts, where nothing is folded.
+      pub send-bounded : S .dimension ≤ 8 → S .fold ≡ 0 → send type S free r s vector t .scouts ≤ 123300
+      unfolding send attempts attempted allScouts
+      send-bounded h z = go (eqb type 4)
+        where
+          go : (b : Bool) → runs r (map (attempted (network S) free s t) (pass-over (sendPorts S vector) ∷ cond b (pass-over (otherPorts S vector) ∷ []) [])) .scouts ≤ 123300
+          go true = omega (arith, scouts-bound S h z s t vector free free, runs-most r (first ∷ second ∷ []))
+          go false = omega (arith, scouts-bound S h z s t vector free free, runs-most r (first ∷ []))
