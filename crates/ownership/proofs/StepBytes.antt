@@ -32,7 +32,7 @@ unfolding resultOf factsOf updated
 rejected-same v (making D) f = absurd (f refl)
 rejected-same v (blocking n p) f = absurd (f refl)
 rejected-same v (unblocking n p) f = absurd (f refl)
-rejected-same v (opening s c t y x) f = go (sendIn v s t y x .outcome) (sendIn v s t y x .scouts) f
+rejected-same v (opening s c t y x) f = go (sendIn v s t y x .outcome) _ f
   where
     go : (o : Outcome) (n : ℕ) → answered o n .number ≢ 0 → viewAfterSend v (circuitOf s c) s t o ≡ v
     go (acknowledged w k) n g = unfold answered in absurd (g refl)
