@@ -8,8 +8,9 @@ use Prim.Native.Nat.{ℕ, _+_, _-_, _≤_, _<_}
 use native.Mathlib.Omega.{arith}
 use lib.ListN.{getD}
 use borrow.Author.Tests.{lt-ltb, le-ltb}
-use Rattle.common.specs.Lists.{_∈_, keep, from, Sorted}
-use Rattle.common.proofs.Lists.{keep-yes, keep-no, from-mem, mem-from, from-sorted, sorted-append, sorted-imp}
+use Rattle.common.specs.Lists.{_∈_, keep, from, Pairwise}
+use Rattle.common.proofs.Lists.{keep-yes, keep-no, pairwise-append, pairwise-imp}
+use Rattle.common.proofs.From.{from-mem, mem-from, from-pairwise}
 use Rattle.common.proofs.Tests.{below-or, clash}
 use Rattle.arbiter.specs.Arbiter.{asks, order, chosen}
 use Rattle.arbiter.specs.Chosen.{steps, Chosen}
@@ -34,8 +35,8 @@ module _ (rank : ℕ → ℕ) (f : ℕ → Bool) (none : ℕ) where
     pub passes : f c ≡ true
     pub least : (j : ℕ) → j ∈ xs → f j ≡ true → rank c ≤ rank j
 
-  pub first-says : (xs : List ℕ) (p : ℕ) → Sorted (sooner rank) xs → p ∈ xs → f p ≡ true → First xs (getD (keep f xs) 0 none)
-  unfolding Sorted
+  pub first-says : (xs : List ℕ) (p : ℕ) → Pairwise (sooner rank) xs → p ∈ xs → f p ≡ true → First xs (getD (keep f xs) 0 none)
+  unfolding Pairwise
   first-says [] p s m e = absurd (List·Memᴰ·not-nil m)
   first-says (x ∷ xs) p s m e = go (f x) refl (first-says xs p (s .1))
     where
@@ -54,8 +55,8 @@ module _ (rank : ℕ → ℕ) (f : ℕ → Bool) (none : ℕ) where
           })
 
   -- and it is the only one
-  pub first-is : (xs : List ℕ) (c : ℕ) → Sorted (sooner rank) xs → First xs c → getD (keep f xs) 0 none ≡ c
-  unfolding Sorted
+  pub first-is : (xs : List ℕ) (c : ℕ) → Pairwise (sooner rank) xs → First xs c → getD (keep f xs) 0 none ≡ c
+  unfolding Pairwise
   first-is [] c s h = absurd (List·Memᴰ·not-nil (h .member))
   first-is (x ∷ xs) c s h = go (f x) refl (first-is xs c (s .1))
     where
@@ -85,14 +86,14 @@ module _ (last : ℕ) (stored : last < 26) where
       ⊎-elim (λ k. let h = from-mem (last + 1) (25 - last) k in omega arith) (λ k. let h = from-mem 0 (last + 1) k in omega arith)
       (List·Memᴰ·append-cases (from (last + 1) (25 - last)) m)
 
-  pub order-sorted : Sorted (sooner (steps last)) (order last)
+  pub order-pairwise : Pairwise (sooner (steps last)) (order last)
   unfolding order
-  order-sorted =
+  order-pairwise =
       let above : (x : ℕ) → x ∈ from (last + 1) (25 - last) → (steps last x ≡ x - last) × (last < x) × (x < 26) = λ x m. let h = from-mem (last + 1) (25 - last) m in (steps-above last x (omega arith), omega arith, omega arith) in
       let round : (x : ℕ) → x ∈ from 0 (last + 1) → (steps last x ≡ x + 26 - last) × (x ≤ last) = λ x m. let h = from-mem 0 (last + 1) m in (steps-round last x (omega arith), omega arith) in
-      sorted-append (from (last + 1) (25 - last)) (from 0 (last + 1))
-      (sorted-imp _<_ (sooner (steps last)) _ (λ x y m k l. let a = above x m in let b = above y k in omega arith) (from-sorted (last + 1) (25 - last)))
-      (sorted-imp _<_ (sooner (steps last)) _ (λ x y m k l. let a = round x m in let b = round y k in omega arith) (from-sorted 0 (last + 1)))
+      pairwise-append (from (last + 1) (25 - last)) (from 0 (last + 1))
+      (pairwise-imp _<_ (sooner (steps last)) _ (λ x y m k l. let a = above x m in let b = above y k in omega arith) (from-pairwise (last + 1) (25 - last)))
+      (pairwise-imp _<_ (sooner (steps last)) _ (λ x y m k l. let a = round x m in let b = round y k in omega arith) (from-pairwise 0 (last + 1)))
       (λ x y m k. let a = above x m in let b = round y k in omega arith)
 
   module _ (requests : ℕ) where
@@ -100,12 +101,12 @@ module _ (last : ℕ) (stored : last < 26) where
     pub chosen-says : (r : ℕ) → r < 26 → asks requests r ≡ true → Chosen last requests (chosen last requests)
     unfolding chosen
     chosen-says r h e =
-        let f = first-says (steps last) (asks requests) 26 (order last) r order-sorted (order-mem r h) e in
+        let f = first-says (steps last) (asks requests) 26 (order last) r order-pairwise (order-mem r h) e in
         record { requester = order-below _ (f .member); requested = f .passes; nearest = λ j l t. f .least j (order-mem j l) t }
 
     -- and nobody else is as they say
     pub chosen-is : (r : ℕ) → Chosen last requests r → chosen last requests ≡ r
     unfolding chosen
     chosen-is r c =
-        first-is (steps last) (asks requests) 26 (order last) r order-sorted
+        first-is (steps last) (asks requests) 26 (order last) r order-pairwise
         (record { member = order-mem r (c .requester); passes = c .requested; least = λ j m t. c .nearest j (order-below j m) t })

@@ -2,4 +2,5 @@
 pub mod Tests
 pub mod Every
 pub mod Lists
+pub mod From
 pub mod Lowest

@@ -1,15 +1,13 @@
--- Laws of `keep`, `any`, `from` and `Sorted`, and of counting.
+-- Laws of `keep`, `any` and `Pairwise`.
 -- Assumes nothing.
 use mathlib.Core.Path.{_≡_, refl, ap, _∙_, sym, subst}
 use mathlib.Core.Logic.{⊎-elim}
 use mathlib.Core.Bool.{Bool, true, false, cond, _&&_, not, and-comm, true≢false}
 use mathlib.Core.List.{List, [], _∷_, _++_, map, Memᴰ·of-map, Memᴰ·append-left, Memᴰ·append-right, List·Memᴰ·head, List·Memᴰ·tail, List·Memᴰ·not-nil, List·Memᴰ·append-cases, List·Memᴰ·cases-cons}
-use Prim.Native.Nat.{ℕ, zero, suc, _+_, _≤_, _<_}
+use Prim.Native.Nat.{suc, _+_, _≤_, _<_}
 use native.Mathlib.Omega.{arith}
-use native.Mathlib.Nat.{eq-or-lt-of-le}
-use native.Mathlib.Numerals.{add-one}
-use lib.ListN.{length, length-append}
-use Rattle.common.specs.Lists.{_∈_, keep, any, from, Sorted}
+use lib.ListN.{length}
+use Rattle.common.specs.Lists.{_∈_, keep, any, Pairwise}
 use Rattle.common.proofs.Tests.{clash, either, or-left, or-right}
 
 -- what holds of every member, where a list is put together of others or is another under a function
@@ -86,12 +84,12 @@ module _ {A : Type 0} (f : A → Bool) where
       go false e ih = rw (e, ih)
 
   -- what is kept of a sorted list is sorted
-  pub keep-sorted : (R : A → A → Type 0) (xs : List A) → Sorted R xs → Sorted R (keep f xs)
-  unfolding Sorted
-  keep-sorted R [] s = rw keep-nil tt
-  keep-sorted R (x ∷ xs) s = go (f x) refl (keep-sorted R xs (s .1))
+  pub keep-pairwise : (R : A → A → Type 0) (xs : List A) → Pairwise R xs → Pairwise R (keep f xs)
+  unfolding Pairwise
+  keep-pairwise R [] s = rw keep-nil tt
+  keep-pairwise R (x ∷ xs) s = go (f x) refl (keep-pairwise R xs (s .1))
     where
-      go : (b : Bool) → f x ≡ b → Sorted R (keep f xs) → Sorted R (keep f (x ∷ xs))
+      go : (b : Bool) → f x ≡ b → Pairwise R (keep f xs) → Pairwise R (keep f (x ∷ xs))
       go true e ih = rw (keep-yes x xs e) ((λ y m. s .0 y (keep-mem xs m .0)), ih)
       go false e ih = rw (keep-no x xs e) ih
 
@@ -106,40 +104,40 @@ pub keep-swap : {A : Type 0} (f g : A → Bool) (xs : List A) → keep f (keep g
 keep-swap f g xs = keep-keep f g xs ∙ keep-same _ _ xs (λ y m. and-comm (g y) (f y)) ∙ sym (keep-keep g f xs)
 
 -- a sorted list behind another, each member of the one in the relation to each of the other
-pub sorted-append : {A : Type 0} {R : A → A → Type 0} (xs ys : List A) → Sorted R xs → Sorted R ys → ((x y : A) → x ∈ xs → y ∈ ys → R x y) → Sorted R (xs ++ ys)
-unfolding Sorted
-sorted-append [] ys left right across = right
-sorted-append {R = R} (x ∷ xs) ys left right across =
-    (all-append (R x) xs (left .0) (λ y. across x y (List·Memᴰ·head refl)), sorted-append xs ys (left .1) right (λ u y m. across u y (List·Memᴰ·tail m)))
+pub pairwise-append : {A : Type 0} {R : A → A → Type 0} (xs ys : List A) → Pairwise R xs → Pairwise R ys → ((x y : A) → x ∈ xs → y ∈ ys → R x y) → Pairwise R (xs ++ ys)
+unfolding Pairwise
+pairwise-append [] ys left right across = right
+pairwise-append {R = R} (x ∷ xs) ys left right across =
+    (all-append (R x) xs (left .0) (λ y. across x y (List·Memᴰ·head refl)), pairwise-append xs ys (left .1) right (λ u y m. across u y (List·Memᴰ·tail m)))
 
 -- a relation that follows from another for whatever has P, where every member has it
-sorted-among : {A : Type 0} {R S : A → A → Type 0} (P : A → Type 0) → ((x y : A) → P x → P y → R x y → S x y) → (xs : List A) → ((x : A) → x ∈ xs → P x) → Sorted R xs → Sorted S xs
-unfolding Sorted
-sorted-among P follows [] each s = tt
-sorted-among P follows (x ∷ xs) each s =
+pairwise-among : {A : Type 0} {R S : A → A → Type 0} (P : A → Type 0) → ((x y : A) → P x → P y → R x y → S x y) → (xs : List A) → ((x : A) → x ∈ xs → P x) → Pairwise R xs → Pairwise S xs
+unfolding Pairwise
+pairwise-among P follows [] each s = tt
+pairwise-among P follows (x ∷ xs) each s =
     let later : (y : _) → y ∈ xs → P y = λ y m. each y (List·Memᴰ·tail m) in
-    ((λ y m. follows x y (each x (List·Memᴰ·head refl)) (later y m) (s .0 y m)), sorted-among P follows xs later (s .1))
+    ((λ y m. follows x y (each x (List·Memᴰ·head refl)) (later y m) (s .0 y m)), pairwise-among P follows xs later (s .1))
 
 -- so for the members, and for those of them that pass a test
-pub sorted-imp : {A : Type 0} (R S : A → A → Type 0) (xs : List A) → ((x y : A) → x ∈ xs → y ∈ xs → R x y → S x y) → Sorted R xs → Sorted S xs
-sorted-imp R S xs follows = sorted-among (_∈ xs) follows xs (λ x m. m)
+pub pairwise-imp : {A : Type 0} (R S : A → A → Type 0) (xs : List A) → ((x y : A) → x ∈ xs → y ∈ xs → R x y → S x y) → Pairwise R xs → Pairwise S xs
+pairwise-imp R S xs follows = pairwise-among (_∈ xs) follows xs (λ x m. m)
 
-pub sorted-kept : {A : Type 0} (f : A → Bool) (R S : A → A → Type 0) (xs : List A) → ((x y : A) → f x ≡ true → f y ≡ true → R x y → S x y) → Sorted R xs → Sorted S (keep f xs)
-sorted-kept f R S xs follows s = sorted-among (λ x. f x ≡ true) follows (keep f xs) (λ x m. keep-mem f xs m .1) (keep-sorted f R xs s)
+pub pairwise-kept : {A : Type 0} (f : A → Bool) (R S : A → A → Type 0) (xs : List A) → ((x y : A) → f x ≡ true → f y ≡ true → R x y → S x y) → Pairwise R xs → Pairwise S (keep f xs)
+pairwise-kept f R S xs follows s = pairwise-among (λ x. f x ≡ true) follows (keep f xs) (λ x m. keep-mem f xs m .1) (keep-pairwise f R xs s)
 
 -- a sorted list under a function that carries the one relation over into the other
-pub sorted-map : {A B : Type 0} (R : A → A → Type 0) (S : B → B → Type 0) (f : A → B) (xs : List A) → ((x y : A) → R x y → S (f x) (f y)) → Sorted R xs → Sorted S (map f xs)
-unfolding Sorted
-sorted-map R S f [] carries s = tt
-sorted-map R S f (x ∷ xs) carries s = (all-map (S (f x)) f xs (λ y m. carries x y (s .0 y m)), sorted-map R S f xs carries (s .1))
+pub pairwise-map : {A B : Type 0} (R : A → A → Type 0) (S : B → B → Type 0) (f : A → B) (xs : List A) → ((x y : A) → R x y → S (f x) (f y)) → Pairwise R xs → Pairwise S (map f xs)
+unfolding Pairwise
+pairwise-map R S f [] carries s = tt
+pairwise-map R S f (x ∷ xs) carries s = (all-map (S (f x)) f xs (λ y m. carries x y (s .0 y m)), pairwise-map R S f xs carries (s .1))
 
 -- a sorted list taken apart at a member: its beginning, what stands before the member, and what stands behind it
-pub sorted-at : {A : Type 0} (R : A → A → Type 0) (xs : List A) (w : A) (ys : List A) → Sorted R (xs ++ w ∷ ys)
-    → Sorted R xs × ((x : A) → x ∈ xs → R x w) × ((y : A) → y ∈ ys → R w y)
-unfolding Sorted
-sorted-at R [] w ys s = (tt, (λ x m. absurd (List·Memᴰ·not-nil m)), s .0)
-sorted-at R (x ∷ xs) w ys s =
-    let r = sorted-at R xs w ys (s .1) in
+pub pairwise-at : {A : Type 0} (R : A → A → Type 0) (xs : List A) (w : A) (ys : List A) → Pairwise R (xs ++ w ∷ ys)
+    → Pairwise R xs × ((x : A) → x ∈ xs → R x w) × ((y : A) → y ∈ ys → R w y)
+unfolding Pairwise
+pairwise-at R [] w ys s = (tt, (λ x m. absurd (List·Memᴰ·not-nil m)), s .0)
+pairwise-at R (x ∷ xs) w ys s =
+    let r = pairwise-at R xs w ys (s .1) in
     (((λ y m. s .0 y (Memᴰ·append-left (w ∷ ys) m)), r .0), all-cons (λ z. R z w) (s .0 w (Memᴰ·append-right xs (List·Memᴰ·head refl))) (r .1), r .2)
 
 -- lengths: of the two parts that a test makes, and of what is kept
@@ -167,84 +165,6 @@ module _ {A : Type 0} (f : A → Bool) where
   unfolding any
   some-any (y ∷ xs) {x} (List·Memᴰ·head h) e = or-left (any f xs) (sym (ap f h) ∙ e)
   some-any (y ∷ xs) {x} (List·Memᴰ·tail m) e = or-right (f y) (some-any xs m e)
-
--- the numbers from s, k of them: which they are, that they rise, how many
-pub from-mem : (s k : ℕ) {n : ℕ} → n ∈ from s k → (s ≤ n) × (n < s + k)
-unfolding from
-from-mem s zero m = absurd (List·Memᴰ·not-nil m)
-from-mem s (suc k) {n} m = ⊎-elim (λ e. omega arith) (λ l. let r = from-mem (suc s) k l in omega arith) (List·Memᴰ·cases-cons m)
-
-pub mem-from : (s k n : ℕ) → s ≤ n → n < s + k → n ∈ from s k
-unfolding from
-mem-from s zero n h l = absurd (omega arith)
-mem-from s (suc k) n h l =
-    ⊎-elim (λ e. List·Memᴰ·head (sym e)) (λ g. List·Memᴰ·tail (mem-from (suc s) k n g (omega arith))) (eq-or-lt-of-le h)
-
-pub from-sorted : (s k : ℕ) → Sorted _<_ (from s k)
-unfolding from Sorted
-from-sorted s zero = tt
-from-sorted s (suc k) = ((λ n m. from-mem (suc s) k m .0), from-sorted (suc s) k)
-
-pub length-from : (s k : ℕ) → length (from s k) ≡ k
-unfolding from
-length-from s zero = refl
-length-from s (suc k) = ap suc (length-from (suc s) k)
-
--- the numbers below k, and those of them that pass a test
-pub from-below : (k n : ℕ) → n ∈ from 0 k → n < k
-from-below k n m = let r = from-mem 0 k m in omega arith
-
-pub below-from : (k n : ℕ) → n < k → n ∈ from 0 k
-below-from k n h = mem-from 0 k n (omega arith) (omega arith)
-
-pub kept-below : (f : ℕ → Bool) (k n : ℕ) → n ∈ keep f (from 0 k) → (n < k) × (f n ≡ true)
-kept-below f k n m = let r = keep-mem f (from 0 k) m in (from-below k n (r .0), r .1)
-
-pub below-kept : (f : ℕ → Bool) (k n : ℕ) → n < k → f n ≡ true → n ∈ keep f (from 0 k)
-below-kept f k n h e = mem-keep f (from 0 k) (below-from k n h) e
-
--- numbers that do not pass the test may be left out at the end
-pub keep-wider : (f : ℕ → Bool) (s k l : ℕ) → k ≤ l → ((n : ℕ) → s + k ≤ n → f n ≡ false) → keep f (from s l) ≡ keep f (from s k)
-unfolding from
-keep-wider f s zero l h z = keep-none f (from s l) (λ n m. let r = from-mem s l m in z n (omega arith)) ∙ sym (keep-nil f)
-keep-wider f s (suc k) zero h z = absurd (omega arith)
-keep-wider f s (suc k) (suc l) h z = go (f s) refl (keep-wider f (suc s) k l (omega arith) (λ n i. z n (omega arith)))
-  where
-    go : (b : Bool) → f s ≡ b → keep f (from (suc s) l) ≡ keep f (from (suc s) k) → keep f (s ∷ from (suc s) l) ≡ keep f (s ∷ from (suc s) k)
-    go true e ih = rw (keep-yes f s (from (suc s) l) e, keep-yes f s (from (suc s) k) e, ih)
-    go false e ih = rw (keep-no f s (from (suc s) l) e, keep-no f s (from (suc s) k) e, ih)
-
--- the numbers on either side of one of them; so one number more stands at the end
-pub from-split : (s k j : ℕ) → from s (k + suc j) ≡ from s k ++ (s + k) ∷ from (suc (s + k)) j
-unfolding from
-from-split s zero j = let z : s + 0 ≡ s = omega arith in let e : 0 + suc j ≡ suc j = omega arith in rw (z, e)
-from-split s (suc k) j = let z : s + suc k ≡ suc s + k = omega arith in let e : suc k + suc j ≡ suc (k + suc j) = omega arith in rw (z, e) (ap (s ∷_) (from-split (suc s) k j))
-
-pub from-last : (s k : ℕ) → from s (suc k) ≡ from s k ++ ((s + k) ∷ [])
-unfolding from
-from-last s k = let e : k + 1 ≡ suc k = omega arith in rw e at (from-split s k 0)
-
--- counting the numbers below k that pass a test
-module _ (f : ℕ → Bool) where
-  pub count-none : 0 ≡ length (keep f (from 0 0))
-  unfolding from
-  count-none = rw (keep-nil f)
-
-  more : (k : ℕ) → length (keep f (from 0 (k + 1))) ≡ length (keep f (from 0 k)) + length (keep f (k ∷ []))
-  more k =
-      let last : 0 + k ≡ k = omega arith in
-      ap (λ n. length (keep f (from 0 n))) (add-one k) ∙ ap (λ xs. length (keep f xs)) (from-last 0 k ∙ ap (λ n. from 0 k ++ (n ∷ [])) last)
-      ∙ ap length (keep-append f (from 0 k) (k ∷ [])) ∙ length-append (keep f (from 0 k)) (keep f (k ∷ []))
-
-  pub count-yes : (k count : ℕ) → f k ≡ true → count ≡ length (keep f (from 0 k)) → count + 1 ≡ length (keep f (from 0 (k + 1)))
-  count-yes k count e h =
-      let one : length (keep f (k ∷ [])) ≡ 1 = ap length (keep-yes f k [] e ∙ ap (k ∷_) (keep-nil f)) in
-      omega (arith, more k)
-
-  pub count-no : (k count : ℕ) → f k ≡ false → count ≡ length (keep f (from 0 k)) → count ≡ length (keep f (from 0 (k + 1)))
-  count-no k count e h =
-      let none : length (keep f (k ∷ [])) ≡ 0 = ap length (keep-no f k [] e ∙ keep-nil f) in
-      omega (arith, more k)
 
 -- fewer are kept where a member does not pass
 pub keep-shorter : {A : Type 0} (f : A → Bool) (xs : List A) (x : A) → x ∈ xs → f x ≡ false → length (keep f xs) < length xs

@@ -90,17 +90,17 @@ unfoldable pub Avoids : ℕ → List Test → Type 0
 Avoids n [] = Unit
 Avoids n (x ∷ xs) = (x .number ≢ n) × Avoids n xs
 
-pub numbered-behind : (xs : List Test) (x : Test) → Avoids 0 xs → x .number ≢ 0 → Avoids 0 (xs ++ x ∷ [])
+pub numbered-after : (xs : List Test) (x : Test) → Avoids 0 xs → x .number ≢ 0 → Avoids 0 (xs ++ x ∷ [])
 unfolding Avoids
-numbered-behind [] x h f = (f, tt)
-numbered-behind (y ∷ ys) x h f = (h .0, numbered-behind ys x (h .1) f)
+numbered-after [] x h f = (f, tt)
+numbered-after (y ∷ ys) x h f = (h .0, numbered-after ys x (h .1) f)
 
-pub refusal-behind : (xs ys : List Test) → Avoids 0 xs → refusal xs ≡ 0 → refusal (xs ++ ys) ≡ refusal ys
+pub refusal-after : (xs ys : List Test) → Avoids 0 xs → refusal xs ≡ 0 → refusal (xs ++ ys) ≡ refusal ys
 unfolding Avoids
-refusal-behind [] ys h e = refl
-refusal-behind (x ∷ xs) ys h e =
+refusal-after [] ys h e = refl
+refusal-after (x ∷ xs) ys h e =
     let r = first-passed (x .when) (x .number) xs (h .0) e in
-    passed (x .number) (xs ++ ys) (r .0) ∙ refusal-behind xs ys (h .1) (r .1)
+    passed (x .number) (xs ++ ys) (r .0) ∙ refusal-after xs ys (h .1) (r .1)
 
 pub refusal-both : (xs ys : List Test) → Avoids 0 xs → refusal (xs ++ ys) ≡ 0 → (refusal xs ≡ 0) × (refusal ys ≡ 0)
 unfolding Avoids

@@ -25,9 +25,9 @@ from s zero = []
 from s (suc k) = s ∷ from (suc s) k
 
 -- each member stands in the relation R to every later one
-unfoldable pub Sorted : {A : Type 0} → (A → A → Type 0) → List A → Type 0
-Sorted R [] = Unit
-Sorted R (x ∷ xs) = ((y : _) → y ∈ xs → R x y) × Sorted R xs
+unfoldable pub Pairwise : {A : Type 0} → (A → A → Type 0) → List A → Type 0
+Pairwise R [] = Unit
+Pairwise R (x ∷ xs) = ((y : _) → y ∈ xs → R x y) × Pairwise R xs
 
 -- the test passes at every number below n
 abbrev pub every : ℕ → (ℕ → Bool) → Bool

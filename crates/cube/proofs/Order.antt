@@ -9,9 +9,10 @@ use native.Mathlib.Omega.{arith}
 use lib.Dec.{eqb, leb, ltb}
 use lib.ListN.{length, getD, length-append}
 use borrow.Author.Tests.{ltb-true, ltb-false, lt-leb, le-leb, le-ltb, leb-true, lt-ltb, ne-eqb, eq-eqb}
-use Rattle.common.specs.Lists.{_∈_, keep, from, Sorted}
+use Rattle.common.specs.Lists.{_∈_, keep, from, Pairwise}
 use Rattle.common.proofs.Tests.{below-or}
-use Rattle.common.proofs.Lists.{all-append, keep-no, keep-mem, mem-keep, keep-append, keep-all, keep-keep, keep-same, keep-swap, keep-sorted, sorted-append, sorted-kept, length-parts, length-keep, length-from, keep-none, keep-wider, from-sorted, kept-below, below-kept}
+use Rattle.common.proofs.Lists.{all-append, keep-no, keep-mem, mem-keep, keep-append, keep-all, keep-keep, keep-same, keep-swap, keep-pairwise, pairwise-append, pairwise-kept, length-parts, length-keep, keep-none}
+use Rattle.common.proofs.From.{length-from, keep-wider, from-pairwise, kept-below, below-kept}
 use Rattle.common.proofs.Every.{everyEntry, table-rule}
 use Rattle.cube.specs.Bits.{has}
 use Rattle.cube.specs.Cube.{Without}
@@ -42,14 +43,14 @@ helical-last a ps h =
     rw (keep-none (λ p. ltb a p) ps (λ p m. le-ltb a p (h p m)), keep-all (λ p. leb p a) ps (λ p m. le-leb p a (h p m)))
 
 -- no port stands in it twice
-pub helical-distinct : (a : ℕ) (ps : List ℕ) → Sorted _<_ ps → Sorted _≢_ (helical a ps)
+pub helical-distinct : (a : ℕ) (ps : List ℕ) → Pairwise _<_ ps → Pairwise _≢_ (helical a ps)
 unfolding helical
 helical-distinct a ps s =
-    sorted-append (keep (λ p. ltb a p) ps) (keep (λ p. leb p a) ps) (apart (λ p. ltb a p)) (apart (λ p. leb p a))
+    pairwise-append (keep (λ p. ltb a p) ps) (keep (λ p. leb p a) ps) (apart (λ p. ltb a p)) (apart (λ p. leb p a))
     (λ p q m k e. omega (arith, ltb-true a p (keep-mem _ ps m .1), leb-true q a (keep-mem _ ps k .1)))
   where
-    apart : (f : ℕ → Bool) → Sorted _≢_ (keep f ps)
-    apart f = sorted-kept f _<_ _≢_ ps (λ p q i j l e. omega arith) s
+    apart : (f : ℕ → Bool) → Pairwise _≢_ (keep f ps)
+    apart f = pairwise-kept f _<_ _≢_ ps (λ p q i j l e. omega arith) s
 
 -- the ports of a vector: those below w that it has, rising
 pub ports-mem : (w v : ℕ) {q : ℕ} → q ∈ portsOf w v → (q < w) × (has v q ≡ true)
@@ -60,9 +61,9 @@ pub mem-ports : (w v q : ℕ) → q < w → has v q ≡ true → q ∈ portsOf w
 unfolding portsOf
 mem-ports w v = below-kept (has v) w
 
-pub ports-sorted : (w v : ℕ) → Sorted _<_ (portsOf w v)
+pub ports-pairwise : (w v : ℕ) → Pairwise _<_ (portsOf w v)
 unfolding portsOf
-ports-sorted w v = keep-sorted (has v) _<_ (from 0 w) (from-sorted 0 w)
+ports-pairwise w v = keep-pairwise (has v) _<_ (from 0 w) (from-pairwise 0 w)
 
 -- positions above the last port that a vector has add nothing
 pub ports-wider : (D w v : ℕ) → D ≤ w → v < 2 ^ D → portsOf w v ≡ portsOf D v
@@ -76,11 +77,11 @@ ports-without w v p r h =
     keep-same (has r) (λ q. has v q && not (eqb q p)) (from 0 w) (λ q m. h .bits q) ∙ sym (keep-keep (λ q. not (eqb q p)) (has v) (from 0 w))
 
 -- what is left of the order behind its first port is the order of the vector without that port
-pub behind-first : (w v a p r : ℕ) (ps : List ℕ) → Without v p r → helical a (portsOf w v) ≡ p ∷ ps → helical a (portsOf w r) ≡ ps
-unfolding Sorted
-behind-first w v a p r ps h e =
+pub after-first : (w v a p r : ℕ) (ps : List ℕ) → Without v p r → helical a (portsOf w v) ≡ p ∷ ps → helical a (portsOf w r) ≡ ps
+unfolding Pairwise
+after-first w v a p r ps h e =
     let other : ℕ → ℕ → Bool = λ p q. not (eqb q p) in
-    let apart : Sorted _≢_ (p ∷ ps) = rw e at (helical-distinct a (portsOf w v) (ports-sorted w v)) in
+    let apart : Pairwise _≢_ (p ∷ ps) = rw e at (helical-distinct a (portsOf w v) (ports-pairwise w v)) in
     rw (ports-without w v p r h, helical-keep a (other p) (portsOf w v), e, keep-no (other p) p ps (ap not (eq-eqb p p refl)))
     (keep-all (other p) ps (λ q m. ap not (ne-eqb q p (λ i. apart .0 q m (sym i)))))
 
@@ -105,7 +106,7 @@ first-tried none w v a h z = go (helical a (portsOf w v)) refl
     go (p ∷ ps) e =
         let h₀ : p ∈ helical a (portsOf w v) = rw e (List·Memᴰ·head refl) in
         let m = ports-mem w v (helical-mem a (portsOf w v) h₀) in
-        record { small = m .0; offered = m .1; rest = e ∙ ap (p ∷_) (sym (behind-first w v a p (v - 2 ^ p) ps (without-power v p (m .1)) e)) }
+        record { small = m .0; offered = m .1; rest = e ∙ ap (p ∷_) (sym (after-first w v a p (v - 2 ^ p) ps (without-power v p (m .1)) e)) }
 
 -- the order is as long as the list
 pub length-helical : (a : ℕ) (ps : List ℕ) → length (helical a ps) ≡ length ps

@@ -1,6 +1,6 @@
 -- The text of every input fits the output that the listing function asks for.
 -- Assumes nothing.
-use mathlib.Core.Path.{_≡_, refl, ap, sym, _∙_}
+use mathlib.Core.Path.{_≡_, refl, ap, sym, _∙_, subst}
 use mathlib.Core.Logic.{⊎-elim, _≢_}
 use mathlib.Core.Bool.{Bool, true, false, cond}
 use mathlib.Core.List.{List, [], _∷_, _++_, List·Memᴰ·head, List·Memᴰ·tail}
@@ -17,23 +17,22 @@ use Rattle.paths.specs.Network.{Path}
 use Rattle.paths.proofs.Apart.{permitted-below}
 use Rattle.paths.proofs.CubeNetwork.{path-hops}
 use Rattle.table.specs.Layout.{made}
-use Rattle.table.specs.View.{view}
-use Rattle.soundness.specs.Sound.{shapeOf}
-use Rattle.soundness.specs.SoundTest.{pathOf, written}
+use Rattle.table.specs.View.{view, shapeOf}
+use Rattle.soundness.specs.SoundTest.{pathOf, tracedInto}
 use Rattle.soundness.proofs.Soundness.{path-is}
-use Rattle.ownership.specs.Calls.{Call, making, blocking, unblocking, opening, closing, tracing, After}
-use Rattle.ownership.specs.OnTable.{askedOf, stoppedAt, givesIn, carriedOut, called}
+use Rattle.ownership.specs.Calls.{Call, making, blocking, unblocking, opening, closing, tracing, CallResult, hopsOf, receiveOf, scoutsOf, bufferOf, carriesScouts, resultOf, After}
+use Rattle.ownership.specs.OnTable.{factsOf, stoppedAt, tableStep}
 use Rattle.ownership.specs.Allowed.{Allowed}
 use Rattle.ownership.proofs.Allowed.{allowed}
 use Rattle.ownership.proofs.Stops.{none-stops, none-stops-lent, pass-tests}
-use Rattle.ownership.proofs.Carried.{called-carried, called-stopped}
+use Rattle.ownership.proofs.Steps.{table-step}
 use Rattle.ownership.proofs.Shows.{PortsBelow}
 use Rattle.ownership.proofs.OnSound.{open-answers, open-stands}
 use Rattle.text.specs.Text.{newline, decimal}
 use Rattle.text.specs.Lines.{onFirst, cut, lines, fields}
 use Rattle.listing.specs.Line.{numbers, numbersOf, byLetter, withNumbers, ofFields, longest, asks}
 use Rattle.text.specs.Row.{Field, nothing, shows, path, inTurn, bytesOf, spaced, ended, rowText, rowsText}
-use Rattle.listing.specs.Listing.{accepted, sent, callRow, unreadable, empty, traced, rowFor, behind, rows, header, inputLimit, tooLong, listing, printed}
+use Rattle.listing.specs.Listing.{accepted, callRow, unreadable, empty, traced, rowFor, stateAfter, rows, header, inputLimit, tooLong, listing, printed}
 use Rattle.listing.specs.Printed.{outputBytes}
 use Rattle.text.specs.Written.{width}
 use Rattle.text.proofs.Digits.{decimal-length}
@@ -66,31 +65,31 @@ numbers-small : (fs : List (List ℕ)) → IfRead Small (numbers fs)
 numbers-small = numbers-hold (λ fs. Small) (λ i. omega arith) (λ f fs. in-front)
 
 -- the numbers of a call that its line shows as given
-abbrev Given : Call → Type 0
-Given (making D) = Unit
-Given (blocking n p) = (n < 65536) × (p < 65536)
-Given (unblocking n p) = (n < 65536) × (p < 65536)
-Given (opening s c t y v) = (s < 65536) × (c < 65536)
-Given (closing s c) = (s < 65536) × (c < 65536)
-Given (tracing s c buffer) = Unit
+abbrev ArgumentsFit : Call → Type 0
+ArgumentsFit (making D) = Unit
+ArgumentsFit (blocking n p) = (n < 65536) × (p < 65536)
+ArgumentsFit (unblocking n p) = (n < 65536) × (p < 65536)
+ArgumentsFit (opening s c t y v) = (s < 65536) × (c < 65536)
+ArgumentsFit (closing s c) = (s < 65536) × (c < 65536)
+ArgumentsFit (tracing s c buffer) = Unit
 
-given-letter : (x : ℕ) (ns : List ℕ) → Small ns → IfRead Given (byLetter x ns)
+given-letter : (x : ℕ) (ns : List ℕ) → Small ns → IfRead ArgumentsFit (byLetter x ns)
 unfolding byLetter
 given-letter x ns h =
-    if-read Given (eqb (length ns) (numbersOf x)) _ (each-letter (λ n f. IfRead Given (f (getD ns 0 0) (getD ns 1 0) (getD ns 2 0) (getD ns 3 0) (getD ns 4 0))) tt (h 0, h 1) (h 0, h 1) (h 0, h 1) (h 0, h 1) tt x)
+    if-read ArgumentsFit (eqb (length ns) (numbersOf x)) _ (each-letter (λ n f. IfRead ArgumentsFit (f (getD ns 0 0) (getD ns 1 0) (getD ns 2 0) (getD ns 3 0) (getD ns 4 0))) tt (h 0, h 1) (h 0, h 1) (h 0, h 1) (h 0, h 1) tt x)
 
-given : (l : List ℕ) → IfRead Given (asks l)
+arguments-fit : (l : List ℕ) → IfRead ArgumentsFit (asks l)
 unfolding asks
-given l = if-read Given (leb (length l) longest) (ofFields (fields l)) (of (fields l))
+arguments-fit l = if-read ArgumentsFit (leb (length l) longest) (ofFields (fields l)) (of (fields l))
   where
-    behind-letter : (x : ℕ) (m : Option (List ℕ)) → IfRead Small m → IfRead Given (withNumbers x m)
-    behind-letter x none h = unfold withNumbers in tt
-    behind-letter x (some ns) h = unfold withNumbers in given-letter x ns h
+    after-letter : (x : ℕ) (m : Option (List ℕ)) → IfRead Small m → IfRead ArgumentsFit (withNumbers x m)
+    after-letter x none h = unfold withNumbers in tt
+    after-letter x (some ns) h = unfold withNumbers in given-letter x ns h
 
-    of : (fs : List (List ℕ)) → IfRead Given (ofFields fs)
+    of : (fs : List (List ℕ)) → IfRead ArgumentsFit (ofFields fs)
     of [] = unfold ofFields in tt
     of ([] ∷ fs) = unfold ofFields in tt
-    of ((x ∷ []) ∷ fs) = unfold ofFields in behind-letter x (numbers fs) (numbers-small fs)
+    of ((x ∷ []) ∷ fs) = unfold ofFields in after-letter x (numbers fs) (numbers-small fs)
     of ((x ∷ y ∷ xs) ∷ fs) = unfold ofFields in tt
 
 -- A path that a trace tells: at most nine ports, of one digit each.
@@ -110,56 +109,55 @@ module _ (b : List ℕ) (s c : ℕ) where
   abbrev trace : Call
   trace = tracing s c empty
 
-  entered-path : stoppedAt b trace ≡ 0 → traced called b s c ≡ pathOf (view b) (circuitOf s c)
-  unfolding traced carriedOut givesIn written
-  entered-path e =
-      ap (λ (d : After (List ℕ)). take (d .given .answer .hops) (d .given .buffer)) (called-carried b trace e)
+  history-step-path : stoppedAt b trace ≡ 0 → traced tableStep b s c ≡ pathOf (view b) (circuitOf s c)
+  unfolding traced resultOf factsOf tracedInto
+  history-step-path e =
+      ap (λ (x : CallResult). take (hopsOf x) (bufferOf x)) (table-step b trace .result e)
       ∙ take-append-seam (pathOf (view b) (circuitOf s c)) (drop (length (pathOf (view b) (circuitOf s c))) empty)
 
-  no-path : stoppedAt b trace ≢ 0 → traced called b s c ≡ []
+  no-path : stoppedAt b trace ≢ 0 → traced tableStep b s c ≡ []
   unfolding traced
-  no-path e = ap (λ (d : After (List ℕ)). take (d .given .answer .hops) (d .given .buffer)) (called-stopped b trace e)
+  no-path e = rw (table-step b trace .stopped e)
 
   found-path : stoppedAt b trace ≡ 0 → width (path (pathOf (view b) (circuitOf s c))) ≤ 9
-  unfolding Allowed askedOf PortsBelow
+  unfolding Allowed factsOf view PortsBelow
   found-path e =
-      let t = pass-tests b (none-stops-lent b trace (λ D q. let z : _≡_ {A = ℕ} 0 1 = cc in omega arith) e) in
-      let stands = open-stands (view b) (t .3) s c .0 (allowed (askedOf (view b)) trace (none-stops b trace e) .2) in
-      let most : view b .dimension ≤ 8 = unfold view in t .2 in
-      let below = permitted-below (shapeOf (view b)) most refl _ _ (stands .path) (stands .permitted) in
+      let t = pass-tests b (none-stops-lent b trace refl e) in
+      let stands = open-stands (view b) (t .3) s c .0 (allowed (factsOf (view b)) trace (none-stops b trace e) .2) in
+      let below = permitted-below (shapeOf (view b)) (t .2) refl _ _ (stands .path) (stands .permitted) in
       let hops = path-hops (shapeOf (view b)) _ _ _ (stands .path) (stands .permitted) .1 in
       rw (path-is (view b) (circuitOf s c) stands) (path-width (stands .path) (omega arith) (turn-length (view b .dimension) (stands .path) (omega arith) below))
 
-  traced-width : width (path (traced called b s c)) ≤ 9
+  traced-width : width (path (traced tableStep b s c)) ≤ 9
   unfolding bytesOf
-  traced-width = ⊎-elim (λ e. rw (entered-path e) (found-path e)) (λ e. rw (no-path e) (lit≤ tt)) (same? (stoppedAt b trace) 0)
+  traced-width = ⊎-elim (λ e. rw (history-step-path e) (found-path e)) (λ e. rw (no-path e) (lit≤ tt)) (same? (stoppedAt b trace) 0)
 
 -- the receive channel and the scouts of an open
 module _ (b : List ℕ) (s c t y v : ℕ) where
   abbrev opens : Call
   opens = opening s c t y v
 
-  open-scouts : called b opens .given .answer .scouts ≤ 123300
-  open-scouts = ⊎-elim (λ e. open-answers b s c t y v e .bounded) (λ e. rw (called-stopped b opens e) (lit≤ tt)) (same? (stoppedAt b opens) 0)
+  open-scouts : scoutsOf (tableStep b opens .result) ≤ 123300
+  open-scouts = ⊎-elim (λ e. open-answers b s c t y v e .bounded) (λ e. subst (λ (x : After (List ℕ)). scoutsOf (x .result) ≤ 123300) (sym (table-step b opens .stopped e)) (lit≤ tt)) (same? (stoppedAt b opens) 0)
 
-  open-receive : called b opens .given .answer .number ≡ 0 → called b opens .given .answer .receive < 8
-  open-receive z = ⊎-elim (λ e. open-answers b s c t y v e .lowest z .small) (λ e. absurd (e (rw (called-stopped b opens e) at z))) (same? (stoppedAt b opens) 0)
+  open-receive : tableStep b opens .result .number ≡ 0 → receiveOf (tableStep b opens .result) < 8
+  open-receive z = ⊎-elim (λ e. open-answers b s c t y v e .lowest z .small) (λ e. absurd (e (table-step b opens .passed z))) (same? (stoppedAt b opens) 0)
 
 -- the line of each call
 module _ (b : List ℕ) (n : ℕ) (small : n < 65536) where
-  answer-digits : (a : Call) → length (decimal (called b a .given .answer .number)) ≤ 2
+  answer-digits : (a : Call) → length (decimal (tableStep b a .result .number)) ≤ 2
   answer-digits a = decimal-length 1 _ (let l = call-below b a in omega arith)
 
-  call-length : (a : Call) → Given a → length (rowText (rowFor called b n (some a))) ≤ 72
+  call-length : (a : Call) → ArgumentsFit a → length (rowText (rowFor tableStep b n (some a))) ≤ 72
   unfolding rowFor callRow bytesOf
   call-length (making D) g = rw row-length (omega (arith, five-digits n small, answer-digits (making D)))
   call-length (blocking m p) g = rw row-length (omega (arith, five-digits n small, answer-digits (blocking m p), five-digits m (g .0), five-digits p (g .1)))
   call-length (unblocking m p) g = rw row-length (omega (arith, five-digits n small, answer-digits (unblocking m p), five-digits m (g .0), five-digits p (g .1)))
   call-length (opening s c t y v) g =
-      let x = called b (opening s c t y v) .given .answer in
-      let receive = if-fits 1 (accepted x) (shows (x .receive)) (lit≤ tt) (λ e. decimal-length 0 (x .receive) (let l = open-receive b s c t y v (eqb-true _ 0 e) in omega arith)) in
-      let scouts = if-fits 6 (sent x) (shows (x .scouts)) (lit≤ tt) (λ e. decimal-length 5 (x .scouts) (let l = open-scouts b s c t y v in omega arith)) in
-      let ports = if-fits 9 (accepted x) (path (traced called (called b (opening s c t y v) .state) s c)) (lit≤ tt) (λ e. traced-width (called b (opening s c t y v) .state) s c) in
+      let x = tableStep b (opening s c t y v) .result in
+      let receive = if-fits 1 (accepted x) (shows (receiveOf x)) (lit≤ tt) (λ e. decimal-length 0 (receiveOf x) (let l = open-receive b s c t y v (eqb-true _ 0 e) in omega arith)) in
+      let scouts = if-fits 6 (carriesScouts (x .number)) (shows (scoutsOf x)) (lit≤ tt) (λ e. decimal-length 5 (scoutsOf x) (let l = open-scouts b s c t y v in omega arith)) in
+      let ports = if-fits 9 (accepted x) (path (traced tableStep (tableStep b (opening s c t y v) .state) s c)) (lit≤ tt) (λ e. traced-width (tableStep b (opening s c t y v) .state) s c) in
       rw row-length (omega (arith, five-digits n small, answer-digits (opening s c t y v), five-digits s (g .0), five-digits c (g .1), receive, scouts, ports))
   call-length (closing s c) g = rw row-length (omega (arith, five-digits n small, answer-digits (closing s c), five-digits s (g .0), five-digits c (g .1)))
   call-length (tracing s c buffer) g = rw row-length (omega (arith, five-digits n small, answer-digits (tracing s c buffer)))
@@ -169,10 +167,10 @@ module _ (b : List ℕ) (n : ℕ) (small : n < 65536) where
   unreadable-length = rw row-length (omega (arith, five-digits n small, decimal-length 1 20 (lit< tt)))
 
   -- 24 bytes for each byte of a line and its newline: a line with a call has two bytes at least
-  line-length : (l : List ℕ) → length (rowText (rowFor called b n (asks l))) ≤ 24 * suc (length l)
-  line-length l = go (asks l) refl (given l)
+  line-length : (l : List ℕ) → length (rowText (rowFor tableStep b n (asks l))) ≤ 24 * suc (length l)
+  line-length l = go (asks l) refl (arguments-fit l)
     where
-      go : (o : Option Call) → asks l ≡ o → IfRead Given o → length (rowText (rowFor called b n o)) ≤ 24 * suc (length l)
+      go : (o : Option Call) → asks l ≡ o → IfRead ArgumentsFit o → length (rowText (rowFor tableStep b n o)) ≤ 24 * suc (length l)
       go none e g = unfold rowFor in omega (arith, unreadable-length)
       go (some a) e g =
           ⊎-elim (λ h. absurd (let z : _≡_ {A = Option Call} none (some a) = sym (short-line l h) ∙ e in let y : _≡_ {A = ℕ} 0 1 = cc in omega arith)) (λ h. omega (arith, call-length a g)) (below-or 2 (length l))
@@ -192,21 +190,21 @@ taken-lines (x ∷ xs) = go (eqb x newline) (cut newline [] xs) (taken-lines xs)
     go false [] h = unfold onFirst in omega arith
     go false (l ∷ ls) h = unfold onFirst in omega arith
 
-rows-length : (ls : List (List ℕ)) (b : List ℕ) (n : ℕ) → n + taken ls ≤ 65536 → length (rowsText (rows called b n ls)) ≤ 24 * taken ls
+rows-length : (ls : List (List ℕ)) (b : List ℕ) (n : ℕ) → n + taken ls ≤ 65536 → length (rowsText (rows tableStep b n ls)) ≤ 24 * taken ls
 unfolding rows rowsText
 rows-length [] b n h = omega arith
 rows-length (l ∷ ls) b n h =
-    omega (arith, length-append (rowText (rowFor called b n (asks l))) (rowsText (rows called (behind called b (asks l)) (suc n) ls)), line-length b n (omega arith) l, rows-length ls (behind called b (asks l)) (suc n) (omega arith))
+    omega (arith, length-append (rowText (rowFor tableStep b n (asks l))) (rowsText (rows tableStep (stateAfter tableStep b (asks l)) (suc n) ls)), line-length b n (omega arith) l, rows-length ls (stateAfter tableStep b (asks l)) (suc n) (omega arith))
 
 -- The printed text of every input fits an output of the size that the listing function asks for.
 pub text-fits : (input : List ℕ) → length (printed input) ≤ outputBytes
 unfolding printed listing
 text-fits input = go (ltb inputLimit (length input)) refl
   where
-    go : (x : Bool) → ltb inputLimit (length input) ≡ x → length (cond x tooLong (header ++ rowsText (rows called (made 1) 1 (lines input)))) ≤ outputBytes
+    go : (x : Bool) → ltb inputLimit (length input) ≡ x → length (cond x tooLong (header ++ rowsText (rows tableStep (made 1) 1 (lines input)))) ≤ outputBytes
     go true e = unfold tooLong ended spaced in lit≤ tt
     go false e =
         let long : length header ≡ 51 = unfold header ended spaced in refl in
         let few = ltb-false inputLimit (length input) e in
         let most = taken-lines input in
-        omega (arith, length-append header (rowsText (rows called (made 1) 1 (lines input))), rows-length (lines input) (made 1) 1 (omega arith))
+        omega (arith, length-append header (rowsText (rows tableStep (made 1) 1 (lines input))), rows-length (lines input) (made 1) 1 (omega arith))

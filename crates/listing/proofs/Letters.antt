@@ -10,8 +10,7 @@ use native.Mathlib.Omega.{arith}
 use lib.Dec.{lit≤, lit<}
 use lib.ListN.{length, length-append}
 use borrow.Author.Tests.{le-leb, ne-eqb}
-use Rattle.paths.specs.Send.{Answer}
-use Rattle.ownership.specs.Calls.{Call, making, blocking, unblocking, opening, closing, After}
+use Rattle.ownership.specs.Calls.{Call, making, blocking, unblocking, opening, closing, CallResult, receiveOf, scoutsOf, carriesScouts, After}
 use Rattle.text.specs.Text.{space, decimal}
 use Rattle.listing.specs.Line.{inFront, numbers, numbersOf, asked, byLetter, withNumbers, ofFields, longest, asks}
 use Rattle.text.specs.Row.{Field, nothing, shows, letter, path, inOrder, spaced}
@@ -78,8 +77,8 @@ module _ {S : Type 0} (makes : S → Call → After S) (state : S) (n : ℕ) whe
   shown a = inOrder (rowFor makes state n (some a))
 
   -- what the call answers
-  abbrev answer : Call → Answer
-  answer a = makes state a .given .answer
+  abbrev answer : Call → CallResult
+  answer a = makes state a .result
 
   -- F: the number alone
   pub make-shows : (D : ℕ)
@@ -110,20 +109,20 @@ module _ {S : Type 0} (makes : S → Call → After S) (state : S) (n : ℕ) whe
 
     -- S: "node as given (source for S); channel as given; receive channel taken; scouts ..; ports in path order": those that a trace of this channel gives now
     pub acknowledged-shows : answer opens .number ≡ 0
-        → shown opens ≡ shows n ∷ letter 83 ∷ shows 0 ∷ shows node ∷ shows channel ∷ shows (answer opens .receive) ∷ shows (answer opens .scouts)
+        → shown opens ≡ shows n ∷ letter 83 ∷ shows 0 ∷ shows node ∷ shows channel ∷ shows (receiveOf (answer opens)) ∷ shows (scoutsOf (answer opens))
         ∷ path (traced makes (makes state opens .state) node channel) ∷ []
-    unfolding inOrder rowFor callRow
+    unfolding inOrder rowFor callRow carriesScouts
     acknowledged-shows e = rw e
 
     -- S answered 10 or 11: "A refused S shows `-` for receive and ports."
     pub rejected-shows : (answer opens .number ≡ 10) ⊎ (answer opens .number ≡ 11)
-        → shown opens ≡ shows n ∷ letter 83 ∷ shows (answer opens .number) ∷ shows node ∷ shows channel ∷ nothing ∷ shows (answer opens .scouts) ∷ nothing ∷ []
-    unfolding inOrder rowFor callRow
+        → shown opens ≡ shows n ∷ letter 83 ∷ shows (answer opens .number) ∷ shows node ∷ shows channel ∷ nothing ∷ shows (scoutsOf (answer opens)) ∷ nothing ∷ []
+    unfolding inOrder rowFor callRow carriesScouts
     rejected-shows (inl e) = rw e
     rejected-shows (inr e) = rw e
 
     -- S stopped before the search: "scouts (S answered 0, 10 or 11)", and not otherwise
     pub stopped-shows : answer opens .number ≢ 0 → answer opens .number ≢ 10 → answer opens .number ≢ 11
         → shown opens ≡ shows n ∷ letter 83 ∷ shows (answer opens .number) ∷ shows node ∷ shows channel ∷ nothing ∷ nothing ∷ nothing ∷ []
-    unfolding inOrder rowFor callRow
+    unfolding inOrder rowFor callRow carriesScouts
     stopped-shows e f g = rw (ne-eqb _ 0 e, ne-eqb _ 10 f, ne-eqb _ 11 g)

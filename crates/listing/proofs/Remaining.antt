@@ -18,13 +18,13 @@ use Rattle.text.specs.Text.{newline}
 use Rattle.text.specs.Lines.{cut, lines}
 use Rattle.listing.specs.Line.{asks}
 use Rattle.text.specs.Row.{rowText, rowsText}
-use Rattle.listing.specs.Listing.{rowFor, behind, rows, header, inputLimit, tooLong, listing, printed}
+use Rattle.listing.specs.Listing.{rowFor, stateAfter, rows, header, inputLimit, tooLong, listing, printed}
 use Rattle.text.specs.Written.{before, Wrote}
 use Rattle.listing.specs.Printed.{WroteLine, outputBytes, Filled, lists}
 use Rattle.text.proofs.Cuts.{part-is, part-more, lines-last}
 use Rattle.text.proofs.Writing.{carries, carries-place}
 use Rattle.listing.proofs.Fitting.{text-fits}
-use Rattle.ownership.specs.OnTable.{called}
+use Rattle.ownership.specs.OnTable.{tableStep}
 
 -- behind an input there is no line
 none-left : (input : List ℕ) (n : ℕ) → length input < n → [] ≡ lines (drop n input)
@@ -47,46 +47,46 @@ module _ (input : List ℕ) (i j : ℕ) (inside : i < length input) (found : j �
       more e = unfold lines in part-more input newline i j (omega arith) found [] (omega (arith, e))
 
   -- the printed line of it, and those behind it
-  pub rows-step : (b : List ℕ) (n : ℕ) → rowsText (rows called b n (lines (drop i input)))
-      ≡ rowText (rowFor called b n (asks (take (j - i) (drop i input)))) ++ rowsText (rows called (behind called b (asks (take (j - i) (drop i input)))) (n + 1) (lines (drop (j + 1) input)))
+  pub rows-step : (b : List ℕ) (n : ℕ) → rowsText (rows tableStep b n (lines (drop i input)))
+      ≡ rowText (rowFor tableStep b n (asks (take (j - i) (drop i input)))) ++ rowsText (rows tableStep (stateAfter tableStep b (asks (take (j - i) (drop i input)))) (n + 1) (lines (drop (j + 1) input)))
   unfolding rowsText rows
   rows-step b n = rw (line-step, add-one n)
 
   -- where they fit, it does
-  pub line-fits : (b : List ℕ) (n : ℕ) → length (rowText (rowFor called b n (asks (take (j - i) (drop i input))))) ≤ length (rowsText (rows called b n (lines (drop i input))))
-  line-fits b n = rw (rows-step b n, length-append (rowText (rowFor called b n (asks (take (j - i) (drop i input)))))) (omega arith)
+  pub line-fits : (b : List ℕ) (n : ℕ) → length (rowText (rowFor tableStep b n (asks (take (j - i) (drop i input))))) ≤ length (rowsText (rows tableStep b n (lines (drop i input))))
+  line-fits b n = rw (rows-step b n, length-append (rowText (rowFor tableStep b n (asks (take (j - i) (drop i input)))))) (omega arith)
 
   -- what is left to write, after that line
   module _ {n p q : ℕ} {b b′ out out′ : List ℕ} (w : WroteLine b n (asks (take (j - i) (drop i input))) out p b′ out′ q) where
-    left-is : rowText (rowFor called b n (asks (take (j - i) (drop i input)))) ++ rowsText (rows called b′ (n + 1) (lines (drop (j + 1) input))) ≡ rowsText (rows called b n (lines (drop i input)))
+    left-is : rowText (rowFor tableStep b n (asks (take (j - i) (drop i input)))) ++ rowsText (rows tableStep b′ (n + 1) (lines (drop (j + 1) input))) ≡ rowsText (rows tableStep b n (lines (drop i input)))
     left-is = rw (w .table) (sym (rows-step b n))
 
-    pub left-bytes : sets out′ q (rowsText (rows called b′ (n + 1) (lines (drop (j + 1) input)))) ≡ sets out p (rowsText (rows called b n (lines (drop i input))))
-    left-bytes = carries (rowsText (rows called b′ (n + 1) (lines (drop (j + 1) input)))) (w .text) ∙ ap (λ (xs : List ℕ). sets out p xs) left-is
+    pub left-bytes : sets out′ q (rowsText (rows tableStep b′ (n + 1) (lines (drop (j + 1) input)))) ≡ sets out p (rowsText (rows tableStep b n (lines (drop i input))))
+    left-bytes = carries (rowsText (rows tableStep b′ (n + 1) (lines (drop (j + 1) input)))) (w .text) ∙ ap (λ (xs : List ℕ). sets out p xs) left-is
 
-    pub left-place : q + length (rowsText (rows called b′ (n + 1) (lines (drop (j + 1) input)))) ≡ p + length (rowsText (rows called b n (lines (drop i input))))
-    left-place = carries-place (rowsText (rows called b′ (n + 1) (lines (drop (j + 1) input)))) (w .text) ∙ ap (λ (xs : List ℕ). p + length xs) left-is
+    pub left-place : q + length (rowsText (rows tableStep b′ (n + 1) (lines (drop (j + 1) input)))) ≡ p + length (rowsText (rows tableStep b n (lines (drop i input))))
+    left-place = carries-place (rowsText (rows tableStep b′ (n + 1) (lines (drop (j + 1) input)))) (w .text) ∙ ap (λ (xs : List ℕ). p + length xs) left-is
 
 -- behind the last line nothing is left
-pub left-none : (input b : List ℕ) (n i : ℕ) → length input ≤ i → rowsText (rows called b n (lines (drop i input))) ≡ []
+pub left-none : (input b : List ℕ) (n i : ℕ) → length input ≤ i → rowsText (rows tableStep b n (lines (drop i input))) ≡ []
 unfolding lines cut rows rowsText
-left-none input b n i h = ap (λ (xs : List ℕ). rowsText (rows called b n (cut newline [] xs))) (drop-of-length-le input h)
+left-none input b n i h = ap (λ (xs : List ℕ). rowsText (rows tableStep b n (cut newline [] xs))) (drop-of-length-le input h)
 
 -- the text of an input that is too long, and of one that is listed
 pub printed-long : (input : List ℕ) → inputLimit < length input → tooLong ≡ printed input
 unfolding printed listing
 printed-long input h = rw (lt-ltb inputLimit (length input) h)
 
-pub printed-rows : (input b : List ℕ) → length input ≤ inputLimit → b ≡ made 1 → header ++ rowsText (rows called b 1 (lines input)) ≡ printed input
+pub printed-rows : (input b : List ℕ) → length input ≤ inputLimit → b ≡ made 1 → header ++ rowsText (rows tableStep b 1 (lines input)) ≡ printed input
 unfolding printed listing
 printed-rows input b h e = rw (e, le-ltb inputLimit (length input) h)
 
 -- the lines behind the header fit the output
-pub rows-fit : (input b : List ℕ) → length input ≤ inputLimit → b ≡ made 1 → length header + length (rowsText (rows called b 1 (lines input))) ≤ outputBytes
+pub rows-fit : (input b : List ℕ) → length input ≤ inputLimit → b ≡ made 1 → length header + length (rowsText (rows tableStep b 1 (lines input))) ≤ outputBytes
 rows-fit input b h e =
     let f = text-fits input in
     let l = ap length (printed-rows input b h e) in
-    omega (arith, length-append header (rowsText (rows called b 1 (lines input))))
+    omega (arith, length-append header (rowsText (rows tableStep b 1 (lines input))))
 
 -- an output that is too short stays as it is; one that is not holds the text, and its own bytes behind it
 pub lists-short : (input out : List ℕ) → length out < outputBytes → record { short = true; written = 0; output = out } ≡ lists input out

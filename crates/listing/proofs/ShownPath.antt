@@ -11,13 +11,13 @@ use lib.Seq.{take-append-seam}
 use borrow.Author.Tests.{eq-eqb}
 use Rattle.common.specs.Lists.{any}
 use Rattle.paths.specs.Network.{Path}
-use Rattle.paths.specs.Send.{acknowledged, answered}
-use Rattle.soundness.specs.SoundTest.{written}
-use Rattle.ownership.specs.Calls.{opening, tracing, After}
+use Rattle.paths.specs.Send.{acknowledged}
+use Rattle.soundness.specs.SoundTest.{tracedInto}
+use Rattle.ownership.specs.Calls.{opening, tracing, CallResult, hopsOf, bufferOf, answered, resultOf}
 use Rattle.ownership.specs.Allowed.{Allowed}
-use Rattle.ownership.specs.History.{Circuit, History, belongs, openOn, listed, askedOn, stoppedOn, sendOn, withCircuits, adds, follows, gives, entered}
+use Rattle.ownership.specs.History.{Circuit, History, belongs, openOn, listed, factsOn, stoppedOn, sendOn, withCircuits, withOpened, applied, historyStep}
 use Rattle.ownership.proofs.Allowed.{allowed-on, allowed-passes}
-use Rattle.ownership.proofs.Entered.{entered-passed}
+use Rattle.ownership.proofs.Steps.{history-step}
 use Rattle.text.specs.Row.{path}
 use Rattle.listing.specs.Listing.{callRow, empty, traced, rowFor}
 
@@ -28,9 +28,13 @@ module _ (h : History) (s c t y v : ℕ) (w : Path) (k : ℕ) (passes : stoppedO
   after : History
   after = withCircuits h (new ∷ h .circuits)
 
-  opened : entered h (opening s c t y v) .state ≡ after
-  unfolding follows adds after new
-  opened = ap (λ (x : After History). x .state) (entered-passed h (opening s c t y v) passes) ∙ ap (adds h s c t) sends
+  accepted-number : historyStep h (opening s c t y v) .result .number ≡ 0
+  unfolding resultOf factsOn answered
+  accepted-number = ap (λ (x : CallResult). x .number) (history-step h (opening s c t y v) .result passes) ∙ ap (λ o. answered o (sendOn h s t y v .scouts) .number) sends
+
+  opened : historyStep h (opening s c t y v) .state ≡ after
+  unfolding applied withOpened after new
+  opened = history-step h (opening s c t y v) .accepted accepted-number ∙ ap (withOpened h s c t) sends
 
   its-own : belongs s c new ≡ true
   unfolding belongs new
@@ -41,22 +45,18 @@ module _ (h : History) (s c t y v : ℕ) (w : Path) (k : ℕ) (passes : stoppedO
   listed-path = ap (λ x. cond x w (listed (h .circuits) s c)) its-own
 
   trace-passes : stoppedOn after (tracing s c empty) ≡ 0
-  unfolding stoppedOn Allowed askedOn after openOn any
+  unfolding stoppedOn Allowed factsOn after openOn any
   trace-passes =
       let r = allowed-on h (opening s c t y v) passes in
-      allowed-passes (askedOn after) (tracing s c empty) (r .0, r .2, ap (_|| any (belongs s c) (h .circuits)) its-own, lit≤ tt)
+      allowed-passes (factsOn after) (tracing s c empty) (r .0, r .2, ap (_|| any (belongs s c) (h .circuits)) its-own, lit≤ tt)
 
-  traced-path : traced entered after s c ≡ w
-  unfolding traced gives written
+  traced-path : traced historyStep after s c ≡ w
+  unfolding traced resultOf factsOn tracedInto
   traced-path =
-      ap (λ (x : After History). take (x .given .answer .hops) (x .given .buffer)) (entered-passed after (tracing s c empty) trace-passes)
+      ap (λ (x : CallResult). take (hopsOf x) (bufferOf x)) (history-step after (tracing s c empty) .result trace-passes)
       ∙ ap (λ u. take (length u) (u ++ drop (length u) empty)) listed-path ∙ take-append-seam w (drop (length w) empty)
 
-  accepted-number : entered h (opening s c t y v) .given .answer .number ≡ 0
-  unfolding gives answered
-  accepted-number = ap (λ (x : After History). x .given .answer .number) (entered-passed h (opening s c t y v) passes) ∙ ap (λ o. answered o (sendOn h s t y v .scouts) .number) sends
-
   -- "ports in path order": those of the path with which the open was acknowledged
-  pub shows-path : (n : ℕ) → rowFor entered h n (some (opening s c t y v)) .ports ≡ path w
+  pub shows-path : (n : ℕ) → rowFor historyStep h n (some (opening s c t y v)) .ports ≡ path w
   unfolding rowFor callRow
-  shows-path n = rw (eq-eqb (entered h (opening s c t y v) .given .answer .number) 0 accepted-number) (ap path (ap (λ x. traced entered x s c) opened ∙ traced-path))
+  shows-path n = rw (eq-eqb (historyStep h (opening s c t y v) .result .number) 0 accepted-number) (ap path (ap (λ x. traced historyStep x s c) opened ∙ traced-path))

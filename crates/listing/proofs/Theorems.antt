@@ -14,18 +14,16 @@ use borrow.Author.Tests.{eq-eqb, ne-eqb, eqb-true, le-ltb}
 use Rattle.common.specs.Lists.{from}
 use Rattle.common.specs.Tests.{Test, test, refusal}
 use Rattle.common.proofs.Tests.{same?, refused, passed, accepted as tests-accepted}
-use Rattle.paths.specs.Send.{Answer, Outcome, acknowledged, route-rejected, receive-rejected, answered as answeredAs}
-use Rattle.table.specs.View.{view}
+use Rattle.paths.specs.Send.{Outcome, acknowledged, route-rejected, receive-rejected}
 use Rattle.soundness.specs.SoundTest.{tableTests}
-use Rattle.ownership.specs.Calls.{Call, making, blocking, unblocking, opening, closing, tracing, callTests, After}
-use Rattle.ownership.specs.Update.{sendIn}
-use Rattle.ownership.specs.OnTable.{lentTests, stoppedAt, givesIn, carriedOut, called}
-use Rattle.ownership.proofs.Carried.{called-carried, called-stopped}
+use Rattle.ownership.specs.Calls.{Call, making, blocking, unblocking, opening, closing, tracing, CallResult, answered, carriesScouts, CallFacts, callTests, resultOf, After}
+use Rattle.ownership.specs.OnTable.{lentTests, stoppedAt, tableStep}
+use Rattle.ownership.proofs.Steps.{table-step}
 use Rattle.text.specs.Text.{newline, space, digit, decimal}
 use Rattle.text.specs.Lines.{onFirst, cut, lines, fields}
 use Rattle.listing.specs.Line.{asks}
 use Rattle.text.specs.Row.{Field, nothing, shows, letter, path, inTurn, bytesOf, Row, inOrder, spaced, ended, rowText, rowsText}
-use Rattle.listing.specs.Listing.{sent, callRow, unreadable, traced, rowFor, behind, rows, headerWords, header, inputLimit, listing, printed}
+use Rattle.listing.specs.Listing.{callRow, unreadable, traced, rowFor, stateAfter, rows, headerWords, header, inputLimit, listing, printed}
 use Rattle.listing.specs.Sentences.{Above, AllAbove, Shown, IsOpen, WasSent}
 use Rattle.listing.proofs.Asking.{short-line}
 
@@ -117,7 +115,7 @@ ruleset plain = (a-dash, a-number, a-letter, a-path, or-dash, needs)
 abbrev pub eight : Row → List (List ℕ)
 eight r = map bytesOf (inOrder r)
 
-above-eight : (n : ℕ) (a : Call) (x : Answer) (way : ℕ → ℕ → List ℕ) → AllAbove space (eight (callRow n a x way))
+above-eight : (n : ℕ) (a : Call) (x : CallResult) (way : ℕ → ℕ → List ℕ) → AllAbove space (eight (callRow n a x way))
 unfolding AllAbove inOrder callRow
 above-eight n (making D) x way = search plain
 above-eight n (blocking m p) x way = search plain
@@ -156,7 +154,7 @@ unfolding AllAbove Above
 above-header = search needs
 
 -- the line of every call shows its number and the call's answer
-line-shown : (n : ℕ) (a : Call) (x : Answer) (way : ℕ → ℕ → List ℕ) → (callRow n a x way .line ≡ shows n) × (callRow n a x way .answer ≡ shows (x .number))
+line-shown : (n : ℕ) (a : Call) (x : CallResult) (way : ℕ → ℕ → List ℕ) → (callRow n a x way .line ≡ shows n) × (callRow n a x way .answer ≡ shows (x .number))
 unfolding callRow
 line-shown n (making D) x way = (refl, refl)
 line-shown n (blocking m p) x way = (refl, refl)
@@ -169,7 +167,7 @@ module _ {S : Type 0} (makes : S → Call → After S) where
   above-row : (s : S) (n : ℕ) (a : Option Call) → AllAbove space (eight (rowFor makes s n a))
   unfolding rowFor
   above-row s n none = above-unreadable n
-  above-row s n (some a) = above-eight n a (makes s a .given .answer) (traced makes (makes s a .state))
+  above-row s n (some a) = above-eight n a (makes s a .result) (traced makes (makes s a .state))
 
   -- Every printed line has eight fields with one space between: cut at the newlines and then at the spaces, the printed lines are the eight fields of
   -- each row, no more and no fewer. (That each ends in a newline is `row-ends`.)
@@ -179,19 +177,19 @@ module _ {S : Type 0} (makes : S → Call → After S) where
   eight-fields s n (l ∷ ls) =
       let r = rowFor makes s n (asks l) in
       let p = above-row s n (asks l) in
-      ap (map fields) (ended-line (eight r) (rowsText (rows makes (behind makes s (asks l)) (suc n) ls)) p) ∙ ap₂ _∷_ (row-fields r p) (eight-fields (behind makes s (asks l)) (suc n) ls)
+      ap (map fields) (ended-line (eight r) (rowsText (rows makes (stateAfter makes s (asks l)) (suc n) ls)) p) ∙ ap₂ _∷_ (row-fields r p) (eight-fields (stateAfter makes s (asks l)) (suc n) ls)
 
   -- "one line per input line"
   pub one-line-each : (s : S) (n : ℕ) (ls : List (List ℕ)) → length (rows makes s n ls) ≡ length ls
   unfolding rows
   one-line-each s n [] = refl
-  one-line-each s n (l ∷ ls) = ap suc (one-line-each (behind makes s (asks l)) (suc n) ls)
+  one-line-each s n (l ∷ ls) = ap suc (one-line-each (stateAfter makes s (asks l)) (suc n) ls)
 
   -- "input line from 1"
   pub counts-lines : (s : S) (n : ℕ) (ls : List (List ℕ)) → map (λ (r : Row). r .line) (rows makes s n ls) ≡ map shows (from n (length ls))
   unfolding rows from
   counts-lines s n [] = refl
-  counts-lines s n (l ∷ ls) = ap₂ _∷_ (line-is (asks l)) (counts-lines (behind makes s (asks l)) (suc n) ls)
+  counts-lines s n (l ∷ ls) = ap₂ _∷_ (line-is (asks l)) (counts-lines (stateAfter makes s (asks l)) (suc n) ls)
     where
       line-is : (a : Option Call) → rowFor makes s n a .line ≡ shows n
       line-is none = unfold rowFor unreadable in refl
@@ -221,10 +219,10 @@ module _ {S : Type 0} (makes : S → Call → After S) where
   unreadable-line s n l e = ap (λ (a : Option Call). inOrder (rowFor makes s n a)) e
 
 -- "A refused S shows `-` for receive and ports."
-module _ {S : Type 0} (makes : S → Call → After S) (state : S) (line s c t y v : ℕ) (refused : makes state (opening s c t y v) .given .answer .number ≢ 0) where
+module _ {S : Type 0} (makes : S → Call → After S) (state : S) (line s c t y v : ℕ) (refused : makes state (opening s c t y v) .result .number ≢ 0) where
   pub refused-row : (rowFor makes state line (some (opening s c t y v)) .receive ≡ nothing) × (rowFor makes state line (some (opening s c t y v)) .ports ≡ nothing)
   unfolding rowFor callRow
-  refused-row = let e = ne-eqb (makes state (opening s c t y v) .given .answer .number) 0 refused in (rw e, rw e)
+  refused-row = let e = ne-eqb (makes state (opening s c t y v) .result .number) 0 refused in (rw e, rw e)
 
 -- "scouts (S answered 0, 10 or 11)": exactly then the field shows a number
 shown-if : (b : Bool) (n : ℕ) → Shown (cond b (shows n) nothing) ↔ (b ≡ true)
@@ -232,24 +230,22 @@ unfolding Shown
 shown-if true n = ((λ p. refl), (λ e. tt))
 shown-if false n = ((λ p. absurd p), (λ e. absurd (false≢true e)))
 
-was-sent : (x : Answer) → sent x ≡ true → (x .number ≡ 0) ⊎ ((x .number ≡ 10) ⊎ (x .number ≡ 11))
-was-sent x e =
-    let n = x .number in
-    ⊎-elim inl (λ f. inr (⊎-elim inl (λ g. inr (eqb-true n 11 (rw (ne-eqb n 0 f, ne-eqb n 10 g) at e))) (same? n 10))) (same? n 0)
+was-sent : (n : ℕ) → carriesScouts n ≡ true → (n ≡ 0) ⊎ ((n ≡ 10) ⊎ (n ≡ 11))
+unfolding carriesScouts
+was-sent n e = ⊎-elim inl (λ f. inr (⊎-elim inl (λ g. inr (eqb-true n 11 (rw (ne-eqb n 0 f, ne-eqb n 10 g) at e))) (same? n 10))) (same? n 0)
 
-is-sent : (x : Answer) → (x .number ≡ 0) ⊎ ((x .number ≡ 10) ⊎ (x .number ≡ 11)) → sent x ≡ true
-is-sent x (inl e) = rw e
-is-sent x (inr (inl e)) = rw e
-is-sent x (inr (inr e)) = rw e
+is-sent : (n : ℕ) → (n ≡ 0) ⊎ ((n ≡ 10) ⊎ (n ≡ 11)) → carriesScouts n ≡ true
+unfolding carriesScouts
+is-sent n (inl e) = rw e
+is-sent n (inr (inl e)) = rw e
+is-sent n (inr (inr e)) = rw e
 
-pub scouts-row : {S : Type 0} (makes : S → Call → After S) (state : S) (line : ℕ) (a : Call) → Shown (rowFor makes state line (some a) .scouts) ↔ WasSent a (makes state a .given .answer)
+pub scouts-row : {S : Type 0} (makes : S → Call → After S) (state : S) (line : ℕ) (a : Call) → Shown (rowFor makes state line (some a) .scouts) ↔ WasSent a (makes state a .result)
 unfolding rowFor callRow Shown IsOpen
 scouts-row makes state line (making D) = ((λ p. absurd p), (λ p. p .0))
 scouts-row makes state line (blocking n p) = ((λ p. absurd p), (λ p. p .0))
 scouts-row makes state line (unblocking n p) = ((λ p. absurd p), (λ p. p .0))
-scouts-row makes state line (opening s c t y v) =
-    let x = makes state (opening s c t y v) .given .answer in
-    ((λ p. (tt, was-sent x (shown-if _ (x .scouts) .0 p))), (λ p. shown-if _ (x .scouts) .1 (is-sent x (p .1))))
+scouts-row makes state line (opening s c t y v) = ((λ p. (tt, was-sent _ (shown-if _ _ .0 p))), (λ p. shown-if _ _ .1 (is-sent _ (p .1))))
 scouts-row makes state line (closing s c) = ((λ p. absurd p), (λ p. p .0))
 scouts-row makes state line (tracing s c buffer) = ((λ p. absurd p), (λ p. p .0))
 
@@ -270,35 +266,35 @@ stopped-below b (opening s c t y v) = search (other, nil, needs) depth 12
 stopped-below b (closing s c) = search (other, nil, needs) depth 12
 stopped-below b (tracing s c buffer) = search (other, nil, needs) depth 12
 
-answered-below : (o : Outcome) (n : ℕ) → answeredAs o n .number < 20
-unfolding answeredAs
+answered-below : (o : Outcome) (n : ℕ) → answered o n .number < 20
+unfolding answered
 answered-below (acknowledged w k) n = lit< tt
 answered-below route-rejected n = lit< tt
 answered-below receive-rejected n = lit< tt
 
-carried-below : (b : List ℕ) (a : Call) → carriedOut b a .given .answer .number < 20
-unfolding carriedOut givesIn
-carried-below b (making D) = lit< tt
-carried-below b (blocking n p) = lit< tt
-carried-below b (unblocking n p) = lit< tt
-carried-below b (opening s c t y v) = answered-below (sendIn (view b) s t y v .outcome) (sendIn (view b) s t y v .scouts)
-carried-below b (closing s c) = lit< tt
-carried-below b (tracing s c buffer) = lit< tt
+result-below : (f : CallFacts) (a : Call) → resultOf f a .number < 20
+unfolding resultOf
+result-below f (making D) = lit< tt
+result-below f (blocking n p) = lit< tt
+result-below f (unblocking n p) = lit< tt
+result-below f (opening s c t y v) = answered-below (f .sends s t y v .outcome) (f .sends s t y v .scouts)
+result-below f (closing s c) = lit< tt
+result-below f (tracing s c buffer) = lit< tt
 
-pub call-below : (b : List ℕ) (a : Call) → called b a .given .answer .number < 20
+pub call-below : (b : List ℕ) (a : Call) → tableStep b a .result .number < 20
 call-below b a =
-    ⊎-elim (λ e. rw (called-carried b a e) (carried-below b a)) (λ e. rw (called-stopped b a e) (stopped-below b a)) (same? (stoppedAt b a) 0)
+    ⊎-elim (λ e. rw (table-step b a .result e) (result-below _ a)) (λ e. rw (table-step b a .stopped e) (stopped-below b a)) (same? (stoppedAt b a) 0)
 
 -- "For number 20 every field but line and answer is `-`": a printed line whose answer is 20 is that of a line that cannot be read.
 same-shown : {m n : ℕ} → shows m ≡ shows n → m ≡ n
 same-shown e = cc
 
-pub twenty : (b : List ℕ) (n : ℕ) (l : List ℕ) → rowFor called b n (asks l) .answer ≡ shows 20 → rowFor called b n (asks l) ≡ unreadable n
+pub twenty : (b : List ℕ) (n : ℕ) (l : List ℕ) → rowFor tableStep b n (asks l) .answer ≡ shows 20 → rowFor tableStep b n (asks l) ≡ unreadable n
 twenty b n l e = go (asks l) e
   where
-    go : (a : Option Call) → rowFor called b n a .answer ≡ shows 20 → rowFor called b n a ≡ unreadable n
+    go : (a : Option Call) → rowFor tableStep b n a .answer ≡ shows 20 → rowFor tableStep b n a ≡ unreadable n
     go none k = unfold rowFor in refl
-    go (some a) k = absurd (let p : called b a .given .answer .number ≡ 20 = unfold rowFor in same-shown (sym (line-shown n a _ _ .1) ∙ k) in let q = call-below b a in omega arith)
+    go (some a) k = absurd (let p : tableStep b a .result .number ≡ 20 = unfold rowFor in same-shown (sym (line-shown n a _ _ .1) ∙ k) in let q = call-below b a in omega arith)
 
 -- "An empty line is unreadable"; "Empty input prints the header alone."
 pub empty-line : asks [] ≡ none

@@ -10,19 +10,18 @@ use Rattle.cube.specs.Bits.{has, flip}
 use Rattle.cube.specs.Cube.{uphill}
 use Rattle.cube.specs.Axes.{axis, present}
 use Rattle.cube.specs.Helical.{helical}
-use Rattle.paths.specs.Network.{offered, end, links, hasLink, freePath}
+use Rattle.paths.specs.Network.{offered, end, links, hasLink, linkState, isFree, freePath}
 use Rattle.paths.specs.Pass.{over, ways, beginnings, scan, whole, pass, scouts}
-use Rattle.paths.specs.Send.{received, outcome, goesOn, runs, answered}
-use Rattle.paths.specs.CubeNetwork.{network, ports, sendPorts, otherPorts, maze, alternateMaze, send}
-use Rattle.table.specs.View.{lowestOf}
-use Rattle.soundness.specs.SoundTest.{written}
-use Rattle.ownership.specs.Calls.{making, blocking, unblocking, opening, closing, callTests, lent}
-use Rattle.ownership.specs.History.{holdsLink, holdsReceive, belongs, enabledOn, heldOn, freeOn, takenOn, openOn, receiveOn, listed, askedOn, stoppedOn, sendOn, adds, follows, gives, entered}
+use Rattle.paths.specs.Send.{received, outcome, attempted, goesOn, runs, lowestOf}
+use Rattle.paths.specs.CubeNetwork.{network, ports, sendPorts, otherPorts, attempts, send}
+use Rattle.soundness.specs.SoundTest.{tracedInto}
+use Rattle.ownership.specs.Calls.{making, blocking, unblocking, opening, closing, answered, carriesScouts, callTests, resultOf, callOn}
+use Rattle.ownership.specs.History.{holdsLink, holdsReceive, belongs, enabledOn, heldOn, freeOn, takenOn, openOn, receiveOn, listed, factsOn, stoppedOn, sendOn, withOpened, applied, historyStep}
 use Rattle.text.specs.Text.{digits, decimal, allDigits, value, leadingZero, number}
 use Rattle.text.specs.Lines.{onFirst, cut, lines, fields}
 use Rattle.listing.specs.Line.{inFront, numbers, numbersOf, asked, byLetter, withNumbers, ofFields, asks}
 use Rattle.text.specs.Row.{inTurn, bytesOf, inOrder, spaced, ended, rowText, rowsText}
-use Rattle.listing.specs.Listing.{callRow, unreadable, traced, rowFor, behind, rows, header, tooLong, listing, recorded}
+use Rattle.listing.specs.Listing.{callRow, unreadable, traced, rowFor, stateAfter, rows, header, tooLong, listing, recorded}
 
 abbrev pub input : List ℕ
 input =
@@ -59,7 +58,7 @@ output =
     []
 
 pub printed-example : recorded input ≡ output
-unfolding entered stoppedOn callTests refusal askedOn openOn heldOn takenOn any holdsLink holdsReceive belongs enabledOn freeOn receiveOn lowestOf lowest listed sendOn adds follows gives written lent send maze alternateMaze network ports sendPorts otherPorts present axis keep from has flip uphill helical offered end links hasLink freePath over ways beginnings scan whole pass scouts received outcome goesOn runs answered digits decimal allDigits value leadingZero number onFirst cut lines fields inFront numbers numbersOf asked byLetter withNumbers ofFields asks inTurn bytesOf inOrder spaced ended rowText rowsText callRow unreadable traced rowFor behind rows header tooLong listing recorded
+unfolding historyStep stoppedOn callTests refusal factsOn openOn heldOn takenOn any holdsLink holdsReceive belongs enabledOn freeOn linkState isFree receiveOn lowestOf lowest listed sendOn withOpened applied resultOf callOn carriesScouts tracedInto send attempts attempted network ports sendPorts otherPorts present axis keep from has flip uphill helical offered end links hasLink freePath over ways beginnings scan whole pass scouts received outcome goesOn runs answered digits decimal allDigits value leadingZero number onFirst cut lines fields inFront numbers numbersOf asked byLetter withNumbers ofFields asks inTurn bytesOf inOrder spaced ended rowText rowsText callRow unreadable traced rowFor stateAfter rows header tooLong listing recorded
 printed-example = refl
 
 -- "`F D` make, `B node port` block, `E node port` unblock, `S node channel target type vector` open, `C node channel` close", with a number of its own in

@@ -1,27 +1,23 @@
 -- The printed list of an input. It is stated over any state that calls are made on: the bytes of a table, on which the program makes them, and the
 -- ownership history, on which it can be computed.
 -- Assumes nothing.
-use mathlib.Core.Bool.{Bool, cond, _||_}
+use mathlib.Core.Bool.{Bool, cond}
 use mathlib.Core.List.{List, [], _∷_, _++_}
 use mathlib.Core.Option.{Option, none, some}
 use Prim.Native.Nat.{ℕ, suc}
 use lib.Dec.{eqb, ltb}
 use lib.ListN.{length, take, replicate}
-use Rattle.paths.specs.Send.{Answer}
 use Rattle.table.specs.Layout.{made}
-use Rattle.ownership.specs.Calls.{Call, making, blocking, unblocking, opening, closing, tracing, After}
-use Rattle.ownership.specs.OnTable.{called}
-use Rattle.ownership.specs.History.{entered}
+use Rattle.ownership.specs.Calls.{Call, making, blocking, unblocking, opening, closing, tracing, CallResult, hopsOf, receiveOf, scoutsOf, bufferOf, carriesScouts, After}
+use Rattle.ownership.specs.OnTable.{tableStep}
+use Rattle.ownership.specs.History.{historyStep}
 use Rattle.text.specs.Lines.{lines}
 use Rattle.listing.specs.Line.{letterB, letterC, letterE, letterF, letterS, asks}
 use Rattle.text.specs.Row.{Field, nothing, shows, path, Row, row, lone, ended, rowsText}
 
--- "Success is 0."; "S answered 0, 10 or 11"
-abbrev pub accepted : Answer → Bool
-accepted a = eqb (a .number) 0
-
-abbrev pub sent : Answer → Bool
-sent a = eqb (a .number) 0 || eqb (a .number) 10 || eqb (a .number) 11
+-- "Success is 0."
+abbrev pub accepted : CallResult → Bool
+accepted x = eqb (x .number) 0
 
 -- a field that shows nothing unless something holds
 abbrev pub showsIf : Bool → Field → Field
@@ -29,12 +25,13 @@ showsIf b f = cond b f nothing
 
 -- "Fields: input line from 1; call letter; refusal number; node as given (source for S); channel as given; receive channel taken; scouts (S answered 0, 10
 -- or 11); ports in path order, or the port of B and E as given. A refused S shows `-` for receive and ports." The path of a send channel is what `way` says.
-unfoldable pub callRow : ℕ → Call → Answer → (ℕ → ℕ → List ℕ) → Row
+unfoldable pub callRow : ℕ → Call → CallResult → (ℕ → ℕ → List ℕ) → Row
 callRow n (making D) x way = row n letterF (x .number) nothing nothing nothing nothing nothing
 callRow n (blocking m p) x way = row n letterB (x .number) (shows m) nothing nothing nothing (shows p)
 callRow n (unblocking m p) x way = row n letterE (x .number) (shows m) nothing nothing nothing (shows p)
 callRow n (opening s c t y v) x way =
-    row n letterS (x .number) (shows s) (shows c) (showsIf (accepted x) (shows (x .receive))) (showsIf (sent x) (shows (x .scouts))) (showsIf (accepted x) (path (way s c)))
+    row n letterS (x .number) (shows s) (shows c) (showsIf (accepted x) (shows (receiveOf x))) (showsIf (carriesScouts (x .number)) (shows (scoutsOf x)))
+    (showsIf (accepted x) (path (way s c)))
 callRow n (closing s c) x way = row n letterC (x .number) (shows s) (shows c) nothing nothing nothing
 -- no line asks for a trace
 callRow n (tracing s c buffer) x way = lone n (x .number)
@@ -50,22 +47,22 @@ empty = replicate 9 0
 module _ {S : Type 0} (makes : S → Call → After S) where
   -- the ports that a trace of a send channel writes
   unfoldable pub traced : S → ℕ → ℕ → List ℕ
-  traced s n c = take (makes s (tracing n c empty) .given .answer .hops) (makes s (tracing n c empty) .given .buffer)
+  traced s n c = let x = makes s (tracing n c empty) .result in take (hopsOf x) (bufferOf x)
 
   -- the line printed for what an input line asks
   unfoldable pub rowFor : S → ℕ → Option Call → Row
   rowFor s n none = unreadable n
-  rowFor s n (some a) = callRow n a (makes s a .given .answer) (traced (makes s a .state))
+  rowFor s n (some a) = callRow n a (makes s a .result) (traced (makes s a .state))
 
   -- the state behind it; a line that cannot be read changes nothing
-  unfoldable pub behind : S → Option Call → S
-  behind s none = s
-  behind s (some a) = makes s a .state
+  unfoldable pub stateAfter : S → Option Call → S
+  stateAfter s none = s
+  stateAfter s (some a) = makes s a .state
 
   -- "one line per input line", counted from n
   unfoldable pub rows : S → ℕ → List (List ℕ) → List Row
   rows s n [] = []
-  rows s n (l ∷ ls) = rowFor s n (asks l) ∷ rows (behind s (asks l)) (suc n) ls
+  rows s n (l ∷ ls) = rowFor s n (asks l) ∷ rows (stateAfter s (asks l)) (suc n) ls
 
 -- "line", "call", "answer", "node", "channel", "receive", "scouts", "ports"
 abbrev pub headerWords : List (List ℕ)
@@ -96,7 +93,7 @@ listing makes s input = cond (ltb inputLimit (length input)) tooLong (header ++ 
 
 -- "It starts from a made table of dimension 1.": on the bytes of a table, by the definition that the contracts of the calls cite, and in the ownership history
 unfoldable pub printed : List ℕ → List ℕ
-printed input = listing called (made 1) input
+printed input = listing tableStep (made 1) input
 
 unfoldable pub recorded : List ℕ → List ℕ
-recorded input = listing entered (record { dimension = 1; blocked = []; circuits = [] }) input
+recorded input = listing historyStep (record { dimension = 1; blocked = []; circuits = [] }) input

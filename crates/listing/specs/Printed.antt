@@ -9,14 +9,14 @@ use Prim.Native.Nat.{ℕ, _+_, _*_, _≤_}
 use lib.Dec.{ltb}
 use lib.ListN.{length, take, drop}
 use Rattle.ownership.specs.Calls.{Call, making, blocking, unblocking, opening, closing}
-use Rattle.ownership.specs.OnTable.{called}
+use Rattle.ownership.specs.OnTable.{tableStep}
 use Rattle.text.specs.Row.{rowText}
 use Rattle.text.specs.Written.{Wrote, rowOf}
 use Rattle.text.specs.declared.row.Row.{Row}
 use Rattle.listing.specs.declared.line.Asked.{Asked}
 use Rattle.listing.specs.declared.line.Asked.the-variants.{Make, Block, Unblock, Open, Close, Unreadable}
 use Rattle.listing.specs.Line.{numbers, withNumbers}
-use Rattle.listing.specs.Listing.{rowFor, behind, printed}
+use Rattle.listing.specs.Listing.{rowFor, stateAfter, printed}
 
 -- the call of what a line was read as
 abbrev pub callOf : Asked → Option Call
@@ -36,13 +36,13 @@ pub record ReadNumbers (fs : List (List ℕ)) (values : List ℕ) (r : ℕ) : Ty
 
 -- What an input line asks was carried out on a table b: the fields of its printed line n, given beside a buffer of ports, and the table afterwards.
 pub record Answered (b : List ℕ) (n : ℕ) (a : Option Call) (ports : List ℕ) (r : Row) (after : List ℕ) : Type 0 where
-  pub row : rowOf ports r ≡ rowFor called b n a
-  pub table : after ≡ behind called b a
+  pub row : rowOf ports r ≡ rowFor tableStep b n a
+  pub table : after ≡ stateAfter tableStep b a
 
 -- and the line was written from place i of an output on
 pub record WroteLine (b : List ℕ) (n : ℕ) (a : Option Call) (out : List ℕ) (i : ℕ) (after : List ℕ) (out′ : List ℕ) (j : ℕ) : Type 0 where
-  pub text : Wrote out i (rowText (rowFor called b n a)) out′ j
-  pub table : after ≡ behind called b a
+  pub text : Wrote out i (rowText (rowFor tableStep b n a)) out′ j
+  pub table : after ≡ stateAfter tableStep b a
 
 -- the size of an output that is enough for every input: the header, and 24 bytes for each of 60,001 bytes, one more than the longest input has
 abbrev pub outputBytes : ℕ

@@ -4,8 +4,7 @@ use mathlib.Core.Path.{_≡_}
 use mathlib.Core.Logic.{_⊎_}
 use mathlib.Core.List.{List, [], _∷_, map}
 use Prim.Native.Nat.{ℕ, _≤_, _<_}
-use Rattle.paths.specs.Send.{Answer}
-use Rattle.ownership.specs.Calls.{Call, making, blocking, unblocking, opening, closing, tracing}
+use Rattle.ownership.specs.Calls.{Call, making, blocking, unblocking, opening, closing, tracing, CallResult}
 use Rattle.text.specs.Text.{decimal, largest}
 use Rattle.text.specs.Row.{Field, nothing, shows, letter, path, spaced}
 
@@ -36,7 +35,7 @@ IsOpen (closing s c) = ⊥
 IsOpen (tracing s c buffer) = ⊥
 
 -- "S answered 0, 10 or 11"
-abbrev pub WasSent : Call → Answer → Type 0
+abbrev pub WasSent : Call → CallResult → Type 0
 WasSent a x = IsOpen a × ((x .number ≡ 0) ⊎ ((x .number ≡ 10) ⊎ (x .number ≡ 11)))
 
 -- the input line of a call letter and the numbers behind it

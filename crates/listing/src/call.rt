@@ -2,12 +2,10 @@
 ghost use mathlib.Core.List.{List};
 ghost use mathlib.Core.Option.{some};
 ghost use mathlib.Core.Path.{_≡_};
-ghost use mathlib.Core.Bool.{_||_};
 ghost use Prim.Native.Nat.{ℕ, _+_, _≤_};
-ghost use lib.Dec.{eqb};
 ghost use lib.ListN.{length};
-ghost use Rattle.ownership.specs.Calls.{opening};
-ghost use Rattle.ownership.specs.OnTable.{called};
+ghost use Rattle.ownership.specs.Calls.{opening, carriesScouts};
+ghost use Rattle.ownership.specs.OnTable.{tableStep};
 ghost use Rattle.text.specs.Row.{shows, rowText};
 ghost use Rattle.text.specs.Written.{fieldOf};
 ghost use Rattle.listing.specs.Line.{asks};
@@ -22,7 +20,7 @@ use text::row::Field;
 
 // The scouts of an open that was sent: it was accepted, or rejected after the search.
 fn scouts_of(number: u16, scouts: u32) -> Field
-    ensures { λ r. ⌜ ((w : List ℕ) → fieldOf w r ≡ showsIf (eqb number 0 || eqb number 10 || eqb number 11) (shows scouts)) ⌝ }
+    ensures { λ r. ⌜ ((w : List ℕ) → fieldOf w r ≡ showsIf (carriesScouts number) (shows scouts)) ⌝ }
 {
     if number == refusal::ACCEPTED {
         return Field::Number(scouts);
@@ -109,7 +107,7 @@ fn carry_out(t: &mut [u8], line: u16, asked: Asked, ports: &mut [u8]) -> row::Ro
 
 // Reads an input line, carries it out, and writes its printed line from a place on; the answer is the place behind it.
 pub fn answer(t: &mut [u8], out: &mut [u8], at: usize, line: u16, text: &[u8]) -> usize
-    requires { ⌜ at + length (rowText (rowFor called (now t) line (asks (now text)))) ≤ length (now out) ⌝ }
+    requires { ⌜ at + length (rowText (rowFor tableStep (now t) line (asks (now text)))) ≤ length (now out) ⌝ }
     ensures { λ r. ⌜ WroteLine (now (t .entry)) line (asks (now (text .entry))) (now (out .entry)) at (now (t .exit)) (now (out .exit)) r ⌝ }
 {
     let mut ports = [0u8; 9];

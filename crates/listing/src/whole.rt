@@ -7,7 +7,7 @@ ghost use Rattle.text.specs.Row.{rowsText};
 ghost use Rattle.listing.specs.Listing.{rows};
 ghost use Rattle.text.specs.Written.{Wrote};
 ghost use Rattle.listing.specs.Printed.{lists};
-ghost use Rattle.ownership.specs.OnTable.{called};
+ghost use Rattle.ownership.specs.OnTable.{tableStep};
 use crate::call;
 use text::put;
 
@@ -19,8 +19,8 @@ pub const OUTPUT_BYTES: usize = 1440075;
 
 // The printed lines of an input, from a place on. Each line of input is found, carried out on the table and printed.
 fn rows(input: &[u8], t: &mut [u8], out: &mut [u8], at: usize) -> usize
-    requires { ⌜ (length (now input) ≤ 60000) × (at + length (rowsText (rows called (now t) 1 (lines (now input)))) ≤ length (now out)) ⌝ }
-    ensures { λ r. ⌜ Wrote (now (out .entry)) at (rowsText (rows called (now (t .entry)) 1 (lines (now (input .entry))))) (now (out .exit)) r ⌝ }
+    requires { ⌜ (length (now input) ≤ 60000) × (at + length (rowsText (rows tableStep (now t) 1 (lines (now input)))) ≤ length (now out)) ⌝ }
+    ensures { λ r. ⌜ Wrote (now (out .entry)) at (rowsText (rows tableStep (now (t .entry)) 1 (lines (now (input .entry))))) (now (out .exit)) r ⌝ }
 {
     let mut place = at;
     let mut from: usize = 0;

@@ -7,13 +7,13 @@ use lib.Dec.{lit≤}
 use lib.ListN.{length}
 use Rattle.table.specs.Layout.{tableLength}
 use Rattle.ownership.specs.Calls.{making, blocking, unblocking, opening, closing, tracing}
-use Rattle.ownership.specs.Lists.{tableGives}
+use Rattle.ownership.specs.Agrees.{tableResults}
 use Rattle.ownership.proofs.Agreement.{making-accepted, demand-3}
 use Rattle.maze.specs.Examples.{Input, calls, read, write, before, shown, result, inputs, results, examples}
 
 -- what an input comes to where its calls are made on a table
-abbrev pub resultOn : List ℕ → Input → List (List ℕ)
-resultOn b (calls cs) = map shown (tableGives b cs)
+abbrev pub resultOn : List ℕ → Input → List (List (List ℕ))
+resultOn b (calls cs) = map shown (tableResults b cs)
 resultOn b (read w) = result (read w)
 resultOn b (write c k) = result (write c k)
 
@@ -35,7 +35,7 @@ All (i ∷ is) = Begins i × All is
 
 same : (b : List ℕ) → length b ≡ tableLength → (i : Input) → Begins i → resultOn b i ≡ result i
 unfolding Begins
-same b e (calls (making D ∷ cs)) h = ap (map shown) (demand-3 b before D (making-accepted b D e (h .0) (h .1)) cs .gives)
+same b e (calls (making D ∷ cs)) h = ap (map shown) (demand-3 b before D (making-accepted b D e (h .0) (h .1)) cs .results)
 same b e (read w) h = refl
 same b e (write c k) h = refl
 

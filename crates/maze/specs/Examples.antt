@@ -10,17 +10,16 @@ use Rattle.cube.specs.Bits.{has, flip}
 use Rattle.cube.specs.Cube.{uphill}
 use Rattle.cube.specs.Axes.{axis, present}
 use Rattle.cube.specs.Helical.{helical}
-use Rattle.paths.specs.Network.{offered, end, links, hasLink, freePath}
+use Rattle.paths.specs.Network.{offered, end, links, hasLink, linkState, isFree, freePath}
 use Rattle.paths.specs.Pass.{over, ways, beginnings, scan, whole, pass, scouts}
-use Rattle.paths.specs.Send.{received, outcome, goesOn, runs, answered}
-use Rattle.paths.specs.CubeNetwork.{network, ports, sendPorts, otherPorts, maze, alternateMaze, send}
+use Rattle.paths.specs.Send.{received, outcome, attempted, goesOn, runs, lowestOf}
+use Rattle.paths.specs.CubeNetwork.{network, ports, sendPorts, otherPorts, attempts, send}
 use Rattle.command_word.specs.Commands.{commands, valuesIn, values, reserved}
 use Rattle.command_word.specs.Word.{readTests, reading, readWord, writeTests, writing, writeWord}
-use Rattle.table.specs.View.{lowestOf}
-use Rattle.soundness.specs.SoundTest.{written}
-use Rattle.ownership.specs.Calls.{Call, making, blocking, opening, closing, tracing, Given, callTests, lent}
-use Rattle.ownership.specs.History.{History, holdsLink, holdsReceive, belongs, enabledOn, heldOn, freeOn, takenOn, openOn, receiveOn, listed, askedOn, stoppedOn, sendOn, adds, follows, gives, entered}
-use Rattle.ownership.specs.Lists.{historyGives, answers}
+use Rattle.soundness.specs.SoundTest.{tracedInto}
+use Rattle.ownership.specs.Calls.{Call, making, blocking, opening, closing, tracing, CallResult, answered, callTests, resultOf, callOn}
+use Rattle.ownership.specs.History.{History, holdsLink, holdsReceive, belongs, enabledOn, heldOn, freeOn, takenOn, openOn, receiveOn, listed, factsOn, stoppedOn, sendOn, withOpened, applied, historyStep}
+use Rattle.ownership.specs.Agrees.{historyResults, answers}
 
 -- an input: a list of calls, a word to read, a command and a carried number to write
 pub data Input : Type 0 where
@@ -32,14 +31,19 @@ pub data Input : Type 0 where
 abbrev pub before : History
 before = record { dimension = 0; blocked = []; circuits = [] }
 
--- what a call gave: number, hops, receive channel, scouts, and the buffer
-abbrev pub shown : Given → List ℕ
-shown g = g .answer .number ∷ g .answer .hops ∷ g .answer .receive ∷ g .answer .scouts ∷ g .buffer
+-- numbers beside no buffer
+abbrev alone : List ℕ → List (List ℕ)
+alone ns = ns ∷ []
 
-abbrev pub result : Input → List (List ℕ)
-result (calls cs) = map shown (historyGives before cs)
-result (read w) = (readWord w .number ∷ readWord w .command ∷ readWord w .carried ∷ []) ∷ []
-result (write c k) = (writeWord c k .number ∷ writeWord c k .word ∷ []) ∷ []
+-- what a call gave: number and values, and behind them its buffers
+abbrev pub shown : CallResult → List (List ℕ)
+shown g = (g .number ∷ g .values) ∷ g .buffers
+
+-- what each call of an input gave, or a word
+abbrev pub result : Input → List (List (List ℕ))
+result (calls cs) = map shown (historyResults before cs)
+result (read w) = alone (readWord w .number ∷ readWord w .command ∷ readWord w .carried ∷ []) ∷ []
+result (write c k) = alone (writeWord c k .number ∷ writeWord c k .word ∷ []) ∷ []
 
 -- a trace of send channel c of node 0, into nine bytes that are 9
 abbrev trace : ℕ → Call
@@ -66,22 +70,34 @@ inputs =
     ∷ read 2175 ∷ write 1 0 ∷ read 2437 ∷ read 3649 ∷ read 3136 ∷ read 2240
     ∷ []
 
-abbrev done : List ℕ
-done = 0 ∷ 0 ∷ 0 ∷ 0 ∷ []
+-- a call that answers the number alone; an open; a trace with its buffer
+abbrev done : List (List ℕ)
+done = alone (0 ∷ [])
 
-abbrev pub results : List (List (List ℕ))
+abbrev opened : ℕ → ℕ → ℕ → ℕ → List (List ℕ)
+opened number hops receive scouts = alone (number ∷ hops ∷ receive ∷ scouts ∷ [])
+
+abbrev traced : ℕ → List ℕ → List (List ℕ)
+traced hops buffer = (0 ∷ hops ∷ []) ∷ buffer ∷ []
+
+abbrev pub results : List (List (List (List ℕ)))
 results =
-    (done ∷ (0 ∷ 3 ∷ 0 ∷ 3 ∷ []) ∷ (0 ∷ 3 ∷ 0 ∷ 0 ∷ 0 ∷ 1 ∷ 2 ∷ 9 ∷ 9 ∷ 9 ∷ 9 ∷ 9 ∷ 9 ∷ []) ∷ [])
-    ∷ (done ∷ done ∷ done ∷ (0 ∷ 3 ∷ 0 ∷ 5 ∷ []) ∷ (0 ∷ 3 ∷ 0 ∷ 0 ∷ 1 ∷ 2 ∷ 0 ∷ 9 ∷ 9 ∷ 9 ∷ 9 ∷ 9 ∷ 9 ∷ []) ∷ [])
-    ∷ (done ∷ (0 ∷ 2 ∷ 0 ∷ 2 ∷ []) ∷ (0 ∷ 2 ∷ 0 ∷ 0 ∷ 0 ∷ 0 ∷ 9 ∷ 9 ∷ 9 ∷ 9 ∷ 9 ∷ 9 ∷ 9 ∷ []) ∷ [])
-    ∷ (done ∷ (0 ∷ 3 ∷ 0 ∷ 3 ∷ []) ∷ (0 ∷ 3 ∷ 0 ∷ 0 ∷ 1 ∷ 0 ∷ 1 ∷ 9 ∷ 9 ∷ 9 ∷ 9 ∷ 9 ∷ 9 ∷ []) ∷ [])
-    ∷ (done ∷ done ∷ (0 ∷ 3 ∷ 0 ∷ 3 ∷ []) ∷ (0 ∷ 3 ∷ 0 ∷ 0 ∷ 1 ∷ 1 ∷ 0 ∷ 9 ∷ 9 ∷ 9 ∷ 9 ∷ 9 ∷ 9 ∷ []) ∷ [])
-    ∷ (done ∷ done ∷ (10 ∷ 0 ∷ 0 ∷ 0 ∷ []) ∷ [])
-    ∷ (done ∷ done ∷ (0 ∷ 3 ∷ 0 ∷ 3 ∷ []) ∷ (0 ∷ 3 ∷ 0 ∷ 0 ∷ 1 ∷ 0 ∷ 1 ∷ 9 ∷ 9 ∷ 9 ∷ 9 ∷ 9 ∷ 9 ∷ []) ∷ [])
-    ∷ (done ∷ (0 ∷ 1 ∷ 0 ∷ 1 ∷ []) ∷ (10 ∷ 0 ∷ 0 ∷ 0 ∷ []) ∷ done ∷ (0 ∷ 1 ∷ 0 ∷ 1 ∷ []) ∷ [])
-    ∷ ((0 ∷ 1 ∷ 0 ∷ []) ∷ []) ∷ ((0 ∷ 2112 ∷ []) ∷ []) ∷ ((0 ∷ 6 ∷ 5 ∷ []) ∷ []) ∷ ((0 ∷ 9 ∷ 1 ∷ []) ∷ []) ∷ ((17 ∷ 0 ∷ 0 ∷ []) ∷ []) ∷ ((18 ∷ 0 ∷ 0 ∷ []) ∷ [])
+    (done ∷ opened 0 3 0 3 ∷ traced 3 (0 ∷ 1 ∷ 2 ∷ 9 ∷ 9 ∷ 9 ∷ 9 ∷ 9 ∷ 9 ∷ []) ∷ [])
+    ∷ (done ∷ done ∷ done ∷ opened 0 3 0 5 ∷ traced 3 (1 ∷ 2 ∷ 0 ∷ 9 ∷ 9 ∷ 9 ∷ 9 ∷ 9 ∷ 9 ∷ []) ∷ [])
+    ∷ (done ∷ opened 0 2 0 2 ∷ traced 2 (0 ∷ 0 ∷ 9 ∷ 9 ∷ 9 ∷ 9 ∷ 9 ∷ 9 ∷ 9 ∷ []) ∷ [])
+    ∷ (done ∷ opened 0 3 0 3 ∷ traced 3 (1 ∷ 0 ∷ 1 ∷ 9 ∷ 9 ∷ 9 ∷ 9 ∷ 9 ∷ 9 ∷ []) ∷ [])
+    ∷ (done ∷ done ∷ opened 0 3 0 3 ∷ traced 3 (1 ∷ 1 ∷ 0 ∷ 9 ∷ 9 ∷ 9 ∷ 9 ∷ 9 ∷ 9 ∷ []) ∷ [])
+    ∷ (done ∷ done ∷ opened 10 0 0 0 ∷ [])
+    ∷ (done ∷ done ∷ opened 0 3 0 3 ∷ traced 3 (1 ∷ 0 ∷ 1 ∷ 9 ∷ 9 ∷ 9 ∷ 9 ∷ 9 ∷ 9 ∷ []) ∷ [])
+    ∷ (done ∷ opened 0 1 0 1 ∷ opened 10 0 0 0 ∷ done ∷ opened 0 1 0 1 ∷ [])
+    ∷ (alone (0 ∷ 1 ∷ 0 ∷ []) ∷ [])
+    ∷ (alone (0 ∷ 2112 ∷ []) ∷ [])
+    ∷ (alone (0 ∷ 6 ∷ 5 ∷ []) ∷ [])
+    ∷ (alone (0 ∷ 9 ∷ 1 ∷ []) ∷ [])
+    ∷ (alone (17 ∷ 0 ∷ 0 ∷ []) ∷ [])
+    ∷ (alone (18 ∷ 0 ∷ 0 ∷ []) ∷ [])
     ∷ []
 
 pub examples : map result inputs ≡ results
-unfolding answers entered stoppedOn callTests refusal askedOn openOn heldOn takenOn any holdsLink holdsReceive belongs enabledOn freeOn receiveOn lowestOf lowest listed sendOn adds follows gives written lent send maze alternateMaze network ports sendPorts otherPorts present axis keep from has flip uphill helical offered end links hasLink freePath over ways beginnings scan whole pass scouts received outcome goesOn runs answered commands valuesIn values reserved readTests reading readWord writeTests writing writeWord
+unfolding answers historyStep stoppedOn callTests refusal factsOn openOn heldOn takenOn any holdsLink holdsReceive belongs enabledOn freeOn linkState isFree receiveOn lowestOf lowest listed sendOn withOpened applied resultOf callOn tracedInto send attempts attempted network ports sendPorts otherPorts present axis keep from has flip uphill helical offered end links hasLink freePath over ways beginnings scan whole pass scouts received outcome goesOn runs answered commands valuesIn values reserved readTests reading readWord writeTests writing writeWord
 examples = refl

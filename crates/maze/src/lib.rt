@@ -1,10 +1,10 @@
 // The calls that C links, over bare numbers, byte slices and the arbiter's record. Each hands its arguments on to the call that is proved, and promises the same.
 ghost use mathlib.Core.Path.{_≡_};
-ghost use mathlib.Core.List.{[]};
+ghost use mathlib.Core.List.{[], _∷_};
 ghost use Rattle.arbiter.specs.Arbiter.{arbitrated, choice};
 ghost use Rattle.command_word.specs.Word.{readWord, writeWord};
-ghost use Rattle.ownership.specs.Calls.{only, making, blocking, unblocking, opening, closing, tracing};
-ghost use Rattle.ownership.specs.OnTable.{called, done};
+ghost use Rattle.ownership.specs.Calls.{making, blocking, unblocking, opening, closing, tracing};
+ghost use Rattle.ownership.specs.OnTable.{tableStep, done};
 ghost use Rattle.receiver.specs.Receive.{dataPacket, commandWord, started, received, overshoot};
 use arbiter::Arbiter;
 use arbiter::Served;
@@ -20,21 +20,21 @@ use router::Traced;
 
 #[no_mangle]
 pub extern "C" fn maze_make(table: &mut [u8], dimension: u16) -> u16
-    ensures { λ r. ⌜ done (now (table .exit)) (only r) [] ≡ called (now (table .entry)) (making dimension) ⌝ }
+    ensures { λ r. ⌜ done (now (table .exit)) r [] [] ≡ tableStep (now (table .entry)) (making dimension) ⌝ }
 {
     router::make(table, dimension)
 }
 
 #[no_mangle]
 pub extern "C" fn maze_block(table: &mut [u8], node: u16, port: u16) -> u16
-    ensures { λ r. ⌜ done (now (table .exit)) (only r) [] ≡ called (now (table .entry)) (blocking node port) ⌝ }
+    ensures { λ r. ⌜ done (now (table .exit)) r [] [] ≡ tableStep (now (table .entry)) (blocking node port) ⌝ }
 {
     router::block(table, Node(node), Port(port))
 }
 
 #[no_mangle]
 pub extern "C" fn maze_unblock(table: &mut [u8], node: u16, port: u16) -> u16
-    ensures { λ r. ⌜ done (now (table .exit)) (only r) [] ≡ called (now (table .entry)) (unblocking node port) ⌝ }
+    ensures { λ r. ⌜ done (now (table .exit)) r [] [] ≡ tableStep (now (table .entry)) (unblocking node port) ⌝ }
 {
     router::unblock(table, Node(node), Port(port))
 }
@@ -48,21 +48,21 @@ pub extern "C" fn maze_open(
     routing: u16,
     vector: u16,
 ) -> Opened
-    ensures { λ r. ⌜ done (now (table .exit)) (record { number = r .number; hops = r .hops; receive = r .receive; scouts = r .scouts }) [] ≡ called (now (table .entry)) (opening node channel target routing vector) ⌝ }
+    ensures { λ r. ⌜ done (now (table .exit)) (r .number) (r .hops ∷ r .receive ∷ r .scouts ∷ []) [] ≡ tableStep (now (table .entry)) (opening node channel target routing vector) ⌝ }
 {
     router::open(table, Node(node), channel, Node(target), routing, vector)
 }
 
 #[no_mangle]
 pub extern "C" fn maze_close(table: &mut [u8], node: u16, channel: u16) -> u16
-    ensures { λ r. ⌜ done (now (table .exit)) (only r) [] ≡ called (now (table .entry)) (closing node channel) ⌝ }
+    ensures { λ r. ⌜ done (now (table .exit)) r [] [] ≡ tableStep (now (table .entry)) (closing node channel) ⌝ }
 {
     router::close(table, Node(node), channel)
 }
 
 #[no_mangle]
 pub extern "C" fn maze_trace(table: &[u8], node: u16, channel: u16, buffer: &mut [u8]) -> Traced
-    ensures { λ r. ⌜ done (now (table .exit)) (record { number = r .number; hops = r .hops; receive = 0; scouts = 0 }) (now (buffer .exit)) ≡ called (now (table .entry)) (tracing node channel (now (buffer .entry))) ⌝ }
+    ensures { λ r. ⌜ done (now (table .exit)) (r .number) (r .hops ∷ []) (now (buffer .exit) ∷ []) ≡ tableStep (now (table .entry)) (tracing node channel (now (buffer .entry))) ⌝ }
 {
     router::trace(table, Node(node), channel, buffer)
 }

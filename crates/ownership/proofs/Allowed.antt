@@ -12,9 +12,9 @@ use borrow.Author.Tests.{eqb-true, eqb-false, eq-eqb, ne-eqb, ltb-true, ltb-fals
 use Rattle.common.specs.Tests.{refusal}
 use Rattle.common.proofs.Tests.{neither, passed, accepted, first-passed, both}
 use Rattle.cube.proofs.Bits.{high-has, no-bit-above}
-use Rattle.ownership.specs.Calls.{Call, making, blocking, unblocking, opening, closing, tracing, Asked, callTests}
+use Rattle.ownership.specs.Calls.{Call, making, blocking, unblocking, opening, closing, tracing, CallFacts, callTests}
 use Rattle.ownership.specs.Allowed.{Allowed}
-use Rattle.ownership.specs.History.{History, askedOn, stoppedOn}
+use Rattle.ownership.specs.History.{History, factsOn, stoppedOn}
 
 -- what the tests say where they do not apply
 pub below : (n m : ℕ) → not (ltb n m) ≡ false → n < m
@@ -41,7 +41,7 @@ channel-is c h = le-ltb 7 c (omega (arith, h))
 pub channel-small : (c : ℕ) → ltb 7 c ≡ false → c < 8
 channel-small c e = let h = ltb-false 7 c e in omega arith
 
-pub allowed : (a : Asked) (x : Call) → refusal (callTests a x) ≡ 0 → Allowed a x
+pub allowed : (a : CallFacts) (x : Call) → refusal (callTests a x) ≡ 0 → Allowed a x
 unfolding callTests Allowed
 allowed a (making D) e =
     let r = both (leb 1 D) (leb D 8) (not-false _ (first-passed _ 2 [] (λ z. omega arith) e .0)) in
@@ -77,7 +77,7 @@ allowed a (tracing s c buffer) e =
     (below s _ (x .0), channel-small c (y .0), not-false _ (z .0), ltb-false (length buffer) 9 (u .0))
 
 -- and where they are allowed, no test of the call stops it
-pub allowed-passes : (a : Asked) (x : Call) → Allowed a x → refusal (callTests a x) ≡ 0
+pub allowed-passes : (a : CallFacts) (x : Call) → Allowed a x → refusal (callTests a x) ≡ 0
 unfolding callTests Allowed
 allowed-passes a (making D) h = passed 2 [] (ap not (ap₂ _&&_ (le-leb 1 D (h .0)) (le-leb D 8 (h .1)))) ∙ accepted
 allowed-passes a (blocking n p) h = passed 4 _ (is-below n _ (h .0)) ∙ passed 6 _ (is-below p _ (h .1)) ∙ passed 13 _ (h .2) ∙ accepted
@@ -90,6 +90,6 @@ allowed-passes a (tracing s c buffer) h =
     passed 4 _ (is-below s _ (h .0)) ∙ passed 5 _ (channel-is c (h .1)) ∙ passed 12 _ (ap not (h .2)) ∙ passed 14 _ (le-ltb (length buffer) 9 (h .3)) ∙ accepted
 
 -- the same of a call that no test stops in the history
-pub allowed-on : (h : History) (x : Call) → stoppedOn h x ≡ 0 → Allowed (askedOn h) x
+pub allowed-on : (h : History) (x : Call) → stoppedOn h x ≡ 0 → Allowed (factsOn h) x
 unfolding stoppedOn
-allowed-on h x e = allowed (askedOn h) x e
+allowed-on h x e = allowed (factsOn h) x e

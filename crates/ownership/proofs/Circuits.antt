@@ -8,21 +8,21 @@ use Prim.Native.Nat.{ℕ, _<_}
 use native.Mathlib.Omega.{arith}
 use lib.Dec.{eqb}
 use borrow.Author.Tests.{eqb-true, eq-eqb, ne-eqb, not-false}
-use Rattle.common.specs.Lists.{_∈_, keep, any, Sorted}
+use Rattle.common.specs.Lists.{_∈_, keep, any, Pairwise}
 use Rattle.common.proofs.Tests.{clash, is-false, both, and}
 use Rattle.common.proofs.Lists.{keep-nil, keep-yes, keep-no}
 use Rattle.cube.specs.Cube.{circuitOf, sourceOf, channelOf}
 use Rattle.cube.proofs.Circuits.{source-of-circuit, channel-of-circuit}
 use Rattle.ownership.specs.History.{Circuit, belongs}
-use Rattle.ownership.specs.Lists.{numberOf}
+use Rattle.ownership.specs.HistoryView.{numberOf}
 
 -- two members of which neither stands in the relation to the other are one
-pub sorted-one : {A : Type 0} (R : A → A → Type 0) (xs : List A) → Sorted R xs → (x y : A) → x ∈ xs → y ∈ xs → (R x y → ⊥) → (R y x → ⊥) → x ≡ y
-unfolding Sorted
-sorted-one R (z ∷ xs) o x y (List·Memᴰ·head e) (List·Memᴰ·head d) f g = e ∙ sym d
-sorted-one R (z ∷ xs) o x y (List·Memᴰ·head e) (List·Memᴰ·tail k) f g = absurd (f (rw e (o .0 y k)))
-sorted-one R (z ∷ xs) o x y (List·Memᴰ·tail m) (List·Memᴰ·head d) f g = absurd (g (rw d (o .0 x m)))
-sorted-one R (z ∷ xs) o x y (List·Memᴰ·tail m) (List·Memᴰ·tail k) f g = sorted-one R xs (o .1) x y m k f g
+pub pairwise-one : {A : Type 0} (R : A → A → Type 0) (xs : List A) → Pairwise R xs → (x y : A) → x ∈ xs → y ∈ xs → (R x y → ⊥) → (R y x → ⊥) → x ≡ y
+unfolding Pairwise
+pairwise-one R (z ∷ xs) o x y (List·Memᴰ·head e) (List·Memᴰ·head d) f g = e ∙ sym d
+pairwise-one R (z ∷ xs) o x y (List·Memᴰ·head e) (List·Memᴰ·tail k) f g = absurd (f (rw e (o .0 y k)))
+pairwise-one R (z ∷ xs) o x y (List·Memᴰ·tail m) (List·Memᴰ·head d) f g = absurd (g (rw d (o .0 x m)))
+pairwise-one R (z ∷ xs) o x y (List·Memᴰ·tail m) (List·Memᴰ·tail k) f g = pairwise-one R xs (o .1) x y m k f g
 
 -- the number of a circuit, from which its send channel is read back
 abbrev pub numberFor : Circuit → ℕ
@@ -103,18 +103,18 @@ module _ (f : Circuit → Bool) where
 
   -- of two circuits at different places of a list at most one passes
   abbrev pub Once : List Circuit → Type 0
-  Once = Sorted (λ x y. f x ≡ true → f y ≡ true → ⊥)
+  Once = Pairwise (λ x y. f x ≡ true → f y ≡ true → ⊥)
 
   -- then one that passes has it
   pub number-at : (xs : List Circuit) → Once xs → (x : Circuit) → x ∈ xs → f x ≡ true → numberOf f xs ≡ numberFor x
-  unfolding Sorted
+  unfolding Pairwise
   number-at (y ∷ xs) o x (List·Memᴰ·head h) e = number-yes y xs (sym (ap f h) ∙ e) ∙ ap numberFor (sym h)
   number-at (y ∷ xs) o x (List·Memᴰ·tail m) e = number-no y xs (is-false (f y) (λ u. o .0 x m u e)) ∙ number-at xs (o .1) x m e
 
   -- and a circuit that is dropped takes its own number away and no other
   pub number-drop : (s c : ℕ) → c < 8 → (xs : List Circuit) → ((x : Circuit) → x ∈ xs → x .channel < 8) → Once xs
       → numberOf f (keep (λ x. not (belongs s c x)) xs) ≡ cond (eqb (numberOf f xs) (circuitOf s c)) 0 (numberOf f xs)
-  unfolding Sorted
+  unfolding Pairwise
   number-drop s c h [] l o = rw (keep-nil (λ x. not (belongs s c x)), number-nil) (sym (cond-same (eqb 0 (circuitOf s c)) 0))
   number-drop s c h (x ∷ xs) l o =
       go (belongs s c x) refl (f x) refl (number-drop s c h xs (λ y m. l y (List·Memᴰ·tail m)) (o .1))

@@ -17,16 +17,17 @@ use Rattle.soundness.specs.Sound.{Sound}
 use Rattle.soundness.specs.SoundTest.{tableTests}
 use Rattle.paths.specs.CubeNetwork.{ports}
 use Rattle.ownership.specs.Calls.{Call, making}
-use Rattle.ownership.specs.OnTable.{called}
-use Rattle.ownership.specs.History.{Circuit, History, shapeOn, netOn, linksOf, belongs, openOn, entered}
-use Rattle.ownership.specs.Lists.{tableAfter, tableGives, historyAfter, Separate, Covered, Accepted, leaves}
+use Rattle.ownership.specs.OnTable.{tableStep}
+use Rattle.ownership.specs.History.{Circuit, History, shapeOn, netOn, linksOf, belongs, openOn, historyStep}
+use Rattle.ownership.specs.Agrees.{tableAfter, tableResults, historyAfter, Accepted, leaves}
+use Rattle.ownership.specs.Invariant.{Disjoint, Represents}
 use Rattle.ownership.specs.StillOpen.{numbered, StillOpen, OpenedBy}
-use Rattle.ownership.proofs.Circuits.{sorted-one, belongs-parts}
-use Rattle.ownership.proofs.Followed.{open-send}
+use Rattle.ownership.proofs.Circuits.{pairwise-one, belongs-parts}
+use Rattle.ownership.proofs.Applied.{open-send}
 use Rattle.ownership.proofs.OpenedBy.{opened-later, listed-by}
-use Rattle.ownership.proofs.Standing.{owner-exactly, receiver-exactly}
+use Rattle.ownership.proofs.CircuitValid.{owner-exactly, receiver-exactly}
 use Rattle.ownership.proofs.StillOpen.{open-exactly}
-use Rattle.ownership.proofs.Agreement.{making-passes, made-clears, made-covered, covered-after, covered-sound, covered-passes, demand-3}
+use Rattle.ownership.proofs.Agreement.{making-passes, made-clears, made-represents, represents-run, represents-sound, represents-not-stopped, demand-3}
 
 -- a permitted path has a link out of its source
 first-link : (N : Network) (s : ℕ) (vector : List ℕ) (t : ℕ) (w : Path) → Permitted N s vector t w → (p : ℕ) × ((s, p) ∈ links N s w)
@@ -42,9 +43,9 @@ module _ (b : List ℕ) (h : History) (D : ℕ) (e : Accepted b (making D)) (cal
   abbrev history : History
   history = historyAfter h (making D ∷ calls)
 
-  pub reached-covered : Covered table history
+  pub reached-represents : Represents table history
   unfolding leaves
-  reached-covered = covered-after calls (called b (making D) .state) (entered h (making D) .state) (made-covered b h D e)
+  reached-represents = represents-run calls (tableStep b (making D) .state) (historyStep h (making D) .state) (made-represents b h D e)
 
   -- the history lists the circuit of a send channel, and it holds something
   abbrev pub Listed : ℕ → ℕ → (Circuit → Type 0) → Type 0
@@ -54,43 +55,43 @@ module _ (b : List ℕ) (h : History) (D : ℕ) (e : Accepted b (making D)) (cal
   pub table-holds-link : (s c : ℕ) → c < 8 → (n p : ℕ)
       → (ownerAt table n p ≡ circuitOf s c) ↔ Listed s c (λ x. (n, p) ∈ linksOf (netOn history) x)
   unfolding view
-  table-holds-link s c l n p = subst (λ (v : View). (v .owner n p ≡ circuitOf s c) ↔ Listed s c (λ x. (n, p) ∈ linksOf (netOn history) x)) (sym (reached-covered .shows)) (owner-exactly history (reached-covered .valid) s c l n p)
+  table-holds-link s c l n p = subst (λ (v : View). (v .owner n p ≡ circuitOf s c) ↔ Listed s c (λ x. (n, p) ∈ linksOf (netOn history) x)) (sym (reached-represents .shows)) (owner-exactly history (reached-represents .valid) s c l n p)
 
   pub table-holds-receive : (s c : ℕ) → c < 8 → (n k : ℕ)
       → (receiverAt table n k ≡ circuitOf s c) ↔ Listed s c (λ x. (n ≡ x .target) × (k ≡ x .receive))
   unfolding view
-  table-holds-receive s c l n k = subst (λ (v : View). (v .receiver n k ≡ circuitOf s c) ↔ Listed s c (λ x. (n ≡ x .target) × (k ≡ x .receive))) (sym (reached-covered .shows)) (receiver-exactly history (reached-covered .valid) s c l n k)
+  table-holds-receive s c l n k = subst (λ (v : View). (v .receiver n k ≡ circuitOf s c) ↔ Listed s c (λ x. (n ≡ x .target) × (k ≡ x .receive))) (sym (reached-represents .shows)) (receiver-exactly history (reached-represents .valid) s c l n k)
 
   -- it is listed exactly when the list has an acknowledged open of it, and no accepted making and no accepted close of it afterwards, by the answers of the calls
   -- on the table
-  pub listed-exactly : (s c : ℕ) → (openOn history s c ≡ true) ↔ StillOpen s c (numbered (making D ∷ calls) (tableGives b (making D ∷ calls)))
-  listed-exactly s c = rw (demand-3 b h D e calls .gives) (open-exactly s c h D (making-passes b h D e) calls)
+  pub listed-exactly : (s c : ℕ) → (openOn history s c ≡ true) ↔ StillOpen s c (numbered (making D ∷ calls) (tableResults b (making D ∷ calls)))
+  listed-exactly s c = rw (demand-3 b h D e calls .results) (open-exactly s c h D (making-passes b h D e) calls)
 
   -- each listed circuit has the path and the receive channel of an acknowledged open of the list, and no accepted call after that open ends it
   pub listed-opened : (x : Circuit) → x ∈ history .circuits → OpenedBy h (making D ∷ calls) x
   unfolding leaves
   listed-opened x m =
-      ⊎-elim (λ k. absurd (List·Memᴰ·not-nil (subst (λ (u : List Circuit). x ∈ u) (made-clears b h D e) (k .0)))) (λ z. opened-later h (making D) calls x z) (listed-by calls (entered h (making D) .state) x m)
+      ⊎-elim (λ k. absurd (List·Memᴰ·not-nil (subst (λ (u : List Circuit). x ∈ u) (made-clears b h D e) (k .0)))) (λ z. opened-later h (making D) calls x z) (listed-by calls (historyStep h (making D) .state) x m)
 
-  still-open : (s c : ℕ) {Holds : Circuit → Type 0} → Listed s c Holds → StillOpen s c (numbered (making D ∷ calls) (tableGives b (making D ∷ calls)))
+  still-open : (s c : ℕ) {Holds : Circuit → Type 0} → Listed s c Holds → StillOpen s c (numbered (making D ∷ calls) (tableResults b (making D ∷ calls)))
   still-open s c r = listed-exactly s c .0 (open-send history (r .0) (r .1) s c (r .2 .0) (r .2 .1))
 
-  some-listed : (s c : ℕ) → StillOpen s c (numbered (making D ∷ calls) (tableGives b (making D ∷ calls))) → Listed s c (λ x. x ∈ history .circuits)
+  some-listed : (s c : ℕ) → StillOpen s c (numbered (making D ∷ calls) (tableResults b (making D ∷ calls))) → Listed s c (λ x. x ∈ history .circuits)
   unfolding openOn
   some-listed s c k =
       let r = any-some (belongs s c) (history .circuits) (listed-exactly s c .1 k) in
       (r .0, r .1, belongs-parts s c (r .0) (r .2), r .1)
 
   -- so a circuit holds a link in the table, and a receive channel, exactly when the list has an acknowledged open of it, and no accepted call after that ends it
-  pub link-shown-exactly : (s c : ℕ) → c < 8 → ((n : ℕ) × ((p : ℕ) × (ownerAt table n p ≡ circuitOf s c))) ↔ StillOpen s c (numbered (making D ∷ calls) (tableGives b (making D ∷ calls)))
+  pub link-shown-exactly : (s c : ℕ) → c < 8 → ((n : ℕ) × ((p : ℕ) × (ownerAt table n p ≡ circuitOf s c))) ↔ StillOpen s c (numbered (making D ∷ calls) (tableResults b (making D ∷ calls)))
   link-shown-exactly s c l = ((λ r. still-open s c (table-holds-link s c l (r .0) (r .1 .0) .0 (r .1 .1))), (λ k. shows (some-listed s c k)))
     where
       shows : Listed s c (λ x. x ∈ history .circuits) → (n : ℕ) × ((p : ℕ) × (ownerAt table n p ≡ circuitOf s c))
       shows r =
-          let first = first-link (netOn history) (r .0 .source) (ports (shapeOn history)) (r .0 .target) (r .0 .ports) (reached-covered .valid .stands (r .0) (r .1) .permitted) in
+          let first = first-link (netOn history) (r .0 .source) (ports (shapeOn history)) (r .0 .target) (r .0 .ports) (reached-represents .valid .stands (r .0) (r .1) .permitted) in
           (r .0 .source, (first .0, table-holds-link s c l (r .0 .source) (first .0) .1 (r .0, r .1, r .2, first .1)))
 
-  pub receive-shown-exactly : (s c : ℕ) → c < 8 → ((n : ℕ) × ((k : ℕ) × (receiverAt table n k ≡ circuitOf s c))) ↔ StillOpen s c (numbered (making D ∷ calls) (tableGives b (making D ∷ calls)))
+  pub receive-shown-exactly : (s c : ℕ) → c < 8 → ((n : ℕ) × ((k : ℕ) × (receiverAt table n k ≡ circuitOf s c))) ↔ StillOpen s c (numbered (making D ∷ calls) (tableResults b (making D ∷ calls)))
   receive-shown-exactly s c l = ((λ r. still-open s c (table-holds-receive s c l (r .0) (r .1 .0) .0 (r .1 .1))), (λ k. shows (some-listed s c k)))
     where
       shows : Listed s c (λ x. x ∈ history .circuits) → (n : ℕ) × ((k : ℕ) × (receiverAt table n k ≡ circuitOf s c))
@@ -98,14 +99,14 @@ module _ (b : List ℕ) (h : History) (D : ℕ) (e : Accepted b (making D)) (cal
 
   -- no two open circuits share a link or a receive channel
   pub no-link-shared : (x y : Circuit) → x ∈ history .circuits → y ∈ history .circuits → (l : Link) → l ∈ linksOf (netOn history) x → l ∈ linksOf (netOn history) y → x ≡ y
-  no-link-shared x y m k l i j = sorted-one (Separate (netOn history)) (history .circuits) (demand-3 b h D e calls .valid .apart) x y m k (λ r. r .link l i j) (λ r. r .link l j i)
+  no-link-shared x y m k l i j = pairwise-one (Disjoint (netOn history)) (history .circuits) (demand-3 b h D e calls .valid .apart) x y m k (λ r. r .link l i j) (λ r. r .link l j i)
 
   pub no-receive-shared : (x y : Circuit) → x ∈ history .circuits → y ∈ history .circuits → x .target ≡ y .target → x .receive ≡ y .receive → x ≡ y
-  no-receive-shared x y m k t r = sorted-one (Separate (netOn history)) (history .circuits) (demand-3 b h D e calls .valid .apart) x y m k (λ z. z .receives t r) (λ z. z .receives (sym t) (sym r))
+  no-receive-shared x y m k t r = pairwise-one (Disjoint (netOn history)) (history .circuits) (demand-3 b h D e calls .valid .apart) x y m k (λ z. z .receives t r) (λ z. z .receives (sym t) (sym r))
 
   -- every table so reached is sound, and none of tests 1 to 3 stops a call on it but a making's 2
   pub reached-sound : Sound (view table)
-  reached-sound = covered-sound table history reached-covered
+  reached-sound = represents-sound table history reached-represents
 
   pub reached-passes : refusal (tableTests table) ≡ 0
-  reached-passes = covered-passes table history reached-covered
+  reached-passes = represents-not-stopped table history reached-represents

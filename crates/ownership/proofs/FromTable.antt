@@ -7,12 +7,12 @@ use mathlib.Core.List.{List, _∷_, map, Memᴰ·map, Memᴰ·of-map, Memᴰ·ap
 use Prim.Native.Nat.{ℕ, _*_, _^_, _≤_, _<_}
 use native.Mathlib.Omega.{arith}
 use lib.Dec.{eqb, ltb}
-use lib.ListN.{length, getD}
 use borrow.Author.Tests.{eqb-true, eq-eqb, lt-ltb, not-true}
-use Rattle.common.specs.Lists.{_∈_, keep, from, lowest, Sorted}
+use Rattle.common.specs.Lists.{_∈_, keep, from, lowest, Pairwise}
 use Rattle.common.specs.Tests.{refusal}
 use Rattle.common.proofs.Tests.{same?, clash, is-false, both-below, and}
-use Rattle.common.proofs.Lists.{keep-mem, mem-keep, keep-sorted, from-mem, mem-from, from-sorted, from-below, below-from, sorted-imp, sorted-map}
+use Rattle.common.proofs.Lists.{keep-mem, mem-keep, keep-pairwise, pairwise-imp, pairwise-map}
+use Rattle.common.proofs.From.{from-mem, mem-from, from-pairwise, from-below, below-from}
 use Rattle.common.proofs.Lowest.{lowest-passes, lowest-found}
 use Rattle.cube.specs.Cube.{circuitOf}
 use Rattle.cube.proofs.Circuits.{circuit-of-parts, channel-below}
@@ -20,23 +20,27 @@ use Rattle.paths.specs.Network.{Link, hasLink}
 use Rattle.paths.specs.Permitted.{Permitted}
 use Rattle.paths.proofs.Links.{link-true, true-link}
 use Rattle.table.specs.View.{View, view}
-use Rattle.soundness.specs.Sound.{endFor, Stands, Sound}
-use Rattle.soundness.specs.SoundTest.{pathOf, isEmpty, tableTests}
+use Rattle.table.specs.Encode.{AllBytes}
+use Rattle.soundness.specs.Sound.{endFor, CircuitSound, Sound}
+use Rattle.soundness.specs.SoundTest.{pathOf, tableTests}
 use Rattle.soundness.proofs.Soundness.{path-is, link-stands, receive-stands}
 use Rattle.paths.specs.CubeNetwork.{ports}
-use Rattle.ownership.specs.Calls.{Call, After}
+use Rattle.ownership.specs.Calls.{Call}
 use Rattle.ownership.specs.Update.{updated}
-use Rattle.ownership.specs.OnTable.{stoppedAt, called}
-use Rattle.ownership.specs.History.{Circuit, History, shapeOn, netOn, linksOf, holdsLink, holdsReceive, enabledOn, stoppedOn}
-use Rattle.ownership.specs.Lists.{numberOf, viewOf, Standing, Separate, Valid, Covered, Agrees}
+use Rattle.ownership.specs.OnTable.{isOpenIn, stoppedAt, tableStep}
+use Rattle.ownership.specs.History.{Circuit, History, shapeOn, netOn, linksOf, holdsLink, holdsReceive, enabledOn, historyStep}
+use Rattle.ownership.specs.Agrees.{Agrees}
+use Rattle.ownership.specs.Invariant.{CircuitValid, Disjoint, Valid, Represents}
+use Rattle.ownership.specs.HistoryView.{numberOf, viewOf}
 use Rattle.ownership.specs.FromTable.{linksOut, circuitAt, openNumbers, historyOf}
 use Rattle.ownership.proofs.Circuits.{numberFor, number-none, Once, number-at}
-use Rattle.ownership.proofs.Standing.{holds-link, link-holds, holds-receive, receive-holds, links-once, receives-once}
+use Rattle.ownership.proofs.CircuitValid.{holds-link, link-holds, holds-receive, receive-holds, links-once, receives-once}
 use Rattle.ownership.proofs.Stops.{pass-tests}
-use Rattle.ownership.proofs.OnSound.{path-stands, stands-path}
-use Rattle.ownership.proofs.Followed.{follows-view}
-use Rattle.ownership.proofs.Entered.{entered-passed}
-use Rattle.ownership.proofs.Agreement.{covered-passes, stops-alike, covered-step, covered-agrees}
+use Rattle.ownership.proofs.OpenCircuits.{open-sound, sound-open}
+use Rattle.ownership.proofs.Applied.{follows-view}
+use Rattle.ownership.proofs.Steps.{table-step, history-step}
+use Rattle.ownership.proofs.StepBytes.{rejected-same}
+use Rattle.ownership.proofs.Agreement.{represents-not-stopped, represents-step, represents-agrees}
 
 -- the links out of some ports of some nodes
 out-mem : (ns ps : List ℕ) (n p : ℕ) → (n, p) ∈ linksOut ns ps → (n ∈ ns) × (p ∈ ps)
@@ -65,20 +69,20 @@ module _ (v : View) (sound : Sound v) where
   record Open (c : ℕ) : Type 0 where
     positive : 0 < c
     most : c ≤ 8 * 2 ^ D
-    stands : Stands v c
+    stands : CircuitSound v c
 
   open-number : (c : ℕ) → c ∈ openNumbers v → Open c
   unfolding openNumbers
   open-number c m =
-      let r = keep-mem (λ c. not (isEmpty (pathOf v c))) (from 1 (8 * 2 ^ D)) m in
+      let r = keep-mem (isOpenIn v) (from 1 (8 * 2 ^ D)) m in
       let i = from-mem 1 (8 * 2 ^ D) (r .0) in
-      record { positive = omega arith; most = omega arith; stands = path-stands v sound c (λ z. omega arith) (r .1) }
+      record { positive = omega arith; most = omega arith; stands = open-sound v sound c (λ z. omega arith) (r .1) }
 
   number-open : (c : ℕ) → Open c → c ∈ openNumbers v
   unfolding openNumbers
   number-open c o =
-      mem-keep (λ c. not (isEmpty (pathOf v c))) (from 1 (8 * 2 ^ D)) (mem-from 1 (8 * 2 ^ D) c (o .positive) (omega (arith, o .most)))
-      (stands-path v sound c (λ z. omega (arith, o .positive)) (o .stands))
+      mem-keep (isOpenIn v) (from 1 (8 * 2 ^ D)) (mem-from 1 (8 * 2 ^ D) c (o .positive) (omega (arith, o .most)))
+      (sound-open v c (o .stands))
 
   -- the circuit of such a number has its number, and holds what the number stands on
   module _ (c : ℕ) (o : Open c) where
@@ -97,8 +101,8 @@ module _ (v : View) (sound : Sound v) where
         let e = path-is v c (o .stands) in
         let there : f (o .stands .channel) ≡ true = rw e (eq-eqb _ c (o .stands .receives)) in
         let low : lowest f 8 0 ≤ o .stands .channel = lowest-found f 8 0 (o .stands .channel) (omega arith) there in
-        let passes : f (lowest f 8 0) ≡ true = lowest-passes f 8 0 (omega (arith, o .stands .small)) in
-        o .stands .once _ _ (eqb-true _ c passes) .1
+        let onPathOf : f (lowest f 8 0) ≡ true = lowest-passes f 8 0 (omega (arith, o .stands .small)) in
+        o .stands .once _ _ (eqb-true _ c onPathOf) .1
 
     link-number : (n p : ℕ) → (n, p) ∈ linksOf (netOn h) (circuitAt v c) → v .owner n p ≡ c
     unfolding circuitAt historyOf
@@ -125,7 +129,7 @@ module _ (v : View) (sound : Sound v) where
   open-listed c o = Memᴰ·map (circuitAt v) (number-open c o)
 
   -- circuits of two numbers share nothing
-  separate : (c d : ℕ) → Open c → Open d → c ≢ d → Separate (netOn h) (circuitAt v c) (circuitAt v d)
+  separate : (c d : ℕ) → Open c → Open d → c ≢ d → Disjoint (netOn h) (circuitAt v c) (circuitAt v d)
   separate c d o u ne =
       record {
         send = λ e f. ne (sym (number-is c o) ∙ (λ i. circuitOf (e i) (f i)) ∙ number-is d u);
@@ -133,12 +137,12 @@ module _ (v : View) (sound : Sound v) where
         receives = λ e f. ne (sym (receive-number c o _ _ refl refl) ∙ receive-number d u _ _ e f);
       }
 
-  apart : Sorted (Separate (netOn h)) (h .circuits)
+  apart : Pairwise (Disjoint (netOn h)) (h .circuits)
   apart =
       unfold historyOf in
-      sorted-map (λ c d. Open c × Open d × (c < d)) (Separate (netOn h)) (circuitAt v) (openNumbers v) (λ c d r. separate c d (r .0) (r .1) (λ e. omega (arith, r .2)))
-      (sorted-imp _<_ (λ c d. Open c × Open d × (c < d)) (openNumbers v) (λ c d m k l. (open-number c m, open-number d k, l))
-      (unfold openNumbers in keep-sorted (λ c. not (isEmpty (pathOf v c))) _<_ (from 1 (8 * 2 ^ D)) (from-sorted 1 (8 * 2 ^ D))))
+      pairwise-map (λ c d. Open c × Open d × (c < d)) (Disjoint (netOn h)) (circuitAt v) (openNumbers v) (λ c d r. separate c d (r .0) (r .1) (λ e. omega (arith, r .2)))
+      (pairwise-imp _<_ (λ c d. Open c × Open d × (c < d)) (openNumbers v) (λ c d m k l. (open-number c m, open-number d k, l))
+      (unfold openNumbers in keep-pairwise (isOpenIn v) _<_ (from 1 (8 * 2 ^ D)) (from-pairwise 1 (8 * 2 ^ D))))
 
   -- what the history shows is what the table shows: its links' states
   enabled-same : (n p : ℕ) → v .enabled n p ≡ enabledOn h n p
@@ -159,7 +163,7 @@ module _ (v : View) (sound : Sound v) where
           sym (ap not (link-true (keep off every) n p (mem-keep off every (mem-out (from 0 (2 ^ D)) (from 0 D) n p (below-from _ n (i .0)) (below-from _ p (i .1))) (ap not q))))
 
   -- its entries: the number that stands in one is that of the circuit that holds it
-  entry-same : (holds : Circuit → Bool) {e : ℕ} → Once holds (h .circuits) → e ≤ 8 * 2 ^ D → (e ≢ 0 → Stands v e)
+  entry-same : (holds : Circuit → Bool) {e : ℕ} → Once holds (h .circuits) → e ≤ 8 * 2 ^ D → (e ≢ 0 → CircuitSound v e)
       → ((c : ℕ) → Open c → holds (circuitAt v c) ≡ true → e ≡ c) → (Open e → holds (circuitAt v e) ≡ true) → e ≡ numberOf holds (h .circuits)
   entry-same holds {e} once most stands its holder = ⊎-elim free held (same? e 0)
     where
@@ -185,10 +189,10 @@ module _ (v : View) (sound : Sound v) where
   unfolding viewOf historyOf
   shows-same = λ i. record { dimension = D; enabled = λ n p. enabled-same n p i; owner = λ n p. owner-same n p i; receiver = λ n k. receiver-same n k i }
 
-  standing : (x : Circuit) → x ∈ h .circuits → Standing h x
-  standing x m = let r = listed-open x m in subst (Standing h) (r .2) (stood (r .0) (r .1))
+  standing : (x : Circuit) → x ∈ h .circuits → CircuitValid h x
+  standing x m = let r = listed-open x m in subst (CircuitValid h) (r .2) (stood (r .0) (r .1))
     where
-      stood : (c : ℕ) → Open c → Standing h (circuitAt v c)
+      stood : (c : ℕ) → Open c → CircuitValid h (circuitAt v c)
       stood c o =
           record {
             source = unfold circuitAt historyOf in omega (arith, o .positive, o .most);
@@ -209,22 +213,29 @@ module _ (v : View) (sound : Sound v) where
       }
 
 -- Every table that passes the tests of a lent table shows what its history says.
-pub sound-covered : (b : List ℕ) → ((i : ℕ) → getD b i 0 < 256) → refusal (tableTests b) ≡ 0 → Covered b (historyOf (view b))
-sound-covered b small e =
-    let p = pass-tests b e in record { length = p .0; bytes = small; shows = shows-same (view b) (p .3); valid = table-valid (view b) (p .3) (unfold view in p .1) (unfold view in p .2) }
+pub sound-represents : (b : List ℕ) → AllBytes b → refusal (tableTests b) ≡ 0 → Represents b (historyOf (view b))
+sound-represents b small e =
+    let p = pass-tests b e in record { bytes = record { long = p .0; small = small }; shows = shows-same (view b) (p .3); valid = table-valid (view b) (p .3) (unfold view in p .1) (unfold view in p .2) }
 
 -- So lists of calls agree with that history from there on,
-pub sound-agrees : (b : List ℕ) → ((i : ℕ) → getD b i 0 < 256) → refusal (tableTests b) ≡ 0 → (calls : List Call) → Agrees b (historyOf (view b)) calls
-sound-agrees b small e calls = covered-agrees calls b (historyOf (view b)) (sound-covered b small e)
+pub sound-agrees : (b : List ℕ) → AllBytes b → refusal (tableTests b) ≡ 0 → (calls : List Call) → Agrees b (historyOf (view b)) calls
+sound-agrees b small e calls = represents-agrees calls b (historyOf (view b)) (sound-represents b small e)
 
 -- and no call, accepted or refused, leaves a table that the next would refuse as a whole.
-pub keeps-sound : (b : List ℕ) → ((i : ℕ) → getD b i 0 < 256) → refusal (tableTests b) ≡ 0 → (a : Call) → refusal (tableTests (called b a .state)) ≡ 0
-keeps-sound b small e a = covered-passes (called b a .state) _ (covered-step b (historyOf (view b)) (sound-covered b small e) a .covered)
+pub keeps-sound : (b : List ℕ) → AllBytes b → refusal (tableTests b) ≡ 0 → (a : Call) → refusal (tableTests (tableStep b a .state)) ≡ 0
+keeps-sound b small e a = represents-not-stopped (tableStep b a .state) _ (represents-step b (historyOf (view b)) (sound-represents b small e) a .covered)
 
 -- What a table shows after a call that no test stops is the update of what it showed: the definition of the bytes says what it seems to say.
-pub shows-update : (b : List ℕ) → ((i : ℕ) → getD b i 0 < 256) → refusal (tableTests b) ≡ 0 → (a : Call) → stoppedAt b a ≡ 0 → view (called b a .state) ≡ updated (view b) a
+pub shows-update : (b : List ℕ) → AllBytes b → refusal (tableTests b) ≡ 0 → (a : Call) → stoppedAt b a ≡ 0 → view (tableStep b a .state) ≡ updated (view b) a
 shows-update b small e a z =
-    let k = sound-covered b small e in
-    let h = historyOf (view b) in
-    let s : stoppedOn h a ≡ 0 = sym (stops-alike b h k a) ∙ z in
-    covered-step b h k a .covered .shows ∙ ap (λ (x : After History). viewOf (x .state)) (entered-passed h a s) ∙ follows-view h (k .valid) a s ∙ ap (λ v. updated v a) (sym (k .shows))
+    let f = table-step b a in
+    ⊎-elim shown (λ r. ap view (f .refused r) ∙ sym (rejected-same (view b) a (rw (f .result z) at r))) (same? (tableStep b a .result .number) 0)
+  where
+    shown : tableStep b a .result .number ≡ 0 → view (tableStep b a .state) ≡ updated (view b) a
+    shown n =
+        let h = historyOf (view b) in
+        let k = sound-represents b small e in
+        let s = represents-step b h k a in
+        let g = history-step h a in
+        let accepted : historyStep h a .result .number ≡ 0 = rw (s .result) at n in
+        s .covered .shows ∙ ap viewOf (g .accepted accepted) ∙ follows-view h (k .valid) a (g .passed accepted) ∙ ap (λ v. updated v a) (sym (k .shows))

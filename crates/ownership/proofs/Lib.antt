@@ -1,21 +1,22 @@
 -- The laws of the calls and of the ownership history.
 pub mod Circuits
 pub mod Sameness
-pub mod Standing
+pub mod CircuitValid
+pub mod OpenCircuits
 pub mod Stopped
 pub mod Acknowledged
 pub mod Allowed
 pub mod Reasons
 pub mod Enabled
-pub mod Followed
-pub mod Entered
+pub mod Applied
+pub mod Steps
 pub mod StillOpen
 pub mod OpenedBy
 pub mod Shows
 pub mod Range
 pub mod Stops
-pub mod Carried
-pub mod Written
+pub mod StepBytes
+pub mod BytesAfter
 pub mod Refused
 pub mod Agreement
 pub mod OnSound

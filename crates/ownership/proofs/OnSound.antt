@@ -1,47 +1,46 @@
 -- What the calls say of any table that passes the tests of a lent table, whether a history covers it or not.
 -- Assumes nothing.
-use mathlib.Core.Path.{_≡_, refl, ap, sym, _∙_, subst}
+use mathlib.Core.Path.{_≡_, refl, ap, sym, _∙_}
 use mathlib.Core.Logic.{⊎-elim, _≢_, _↔_}
-use mathlib.Core.Bool.{true, false, not, false≢true}
-use mathlib.Core.List.{List, [], _∷_}
+use mathlib.Core.Bool.{true, false, not}
+use mathlib.Core.List.{List, []}
 use Prim.Native.Nat.{ℕ, _^_, _<_}
 use native.Mathlib.Omega.{arith}
-use lib.Dec.{eqb, ltb}
-use lib.ListN.{length, getD}
-use borrow.Author.Tests.{eqb-true, eq-eqb, lt-ltb}
-use Rattle.common.specs.Tests.{test, refusal}
-use Rattle.common.proofs.Tests.{clash, same?, passed, accepted, refusal-before, refusal-behind, Avoids, avoids, avoiding, never-answered}
-use Rattle.cube.specs.Cube.{circuitOf, sourceOf}
+use lib.Dec.{ltb}
+use borrow.Author.Tests.{eq-eqb, lt-ltb}
+use Rattle.common.specs.Tests.{refusal}
+use Rattle.common.proofs.Tests.{clash, same?, passed, accepted, refusal-before, refusal-after, Avoids, avoids, avoiding, never-answered}
+use Rattle.cube.specs.Cube.{circuitOf}
 use Rattle.cube.proofs.Bits.{no-bit-above}
-use Rattle.paths.specs.Network.{Path}
-use Rattle.paths.proofs.Links.{on-first}
-use Rattle.paths.proofs.Recover.{path-owned}
-use Rattle.table.specs.Layout.{tableLength, dimensionAt, enabledAt, ownerAt}
-use Rattle.table.specs.View.{View, view}
-use Rattle.table.specs.Encode.{Bytes}
-use Rattle.soundness.specs.Sound.{shapeOf, net, heldBy, Stands, Sound}
-use Rattle.soundness.specs.SoundTest.{pathOf, isEmpty, tableTests}
-use Rattle.soundness.proofs.Soundness.{path-is, some-hop}
+use Rattle.paths.specs.Send.{Outcome, acknowledged, route-rejected, receive-rejected}
+use Rattle.table.specs.Layout.{dimensionAt, enabledAt, ownerAt}
+use Rattle.table.specs.View.{View, view, heldIn}
+use Rattle.table.specs.Encode.{AllBytes, Bytes}
+use Rattle.soundness.specs.Sound.{CircuitSound, Sound}
+use Rattle.soundness.specs.SoundTest.{tableTests}
 use Rattle.soundness.proofs.Passing.{answers}
-use Rattle.search.specs.Sent.{sentOn, sends, MaySend}
+use Rattle.search.specs.PassAnswer.{pass-answer}
+use Rattle.search.specs.SendAnswer.{answerOfOutcome, sendAnswer, sends, MaySend}
 use Rattle.search.specs.SendSays.{SendSays}
 use Rattle.search.proofs.SendSays.{demand-2}
-use Rattle.ownership.specs.Calls.{Call, making, blocking, unblocking, opening, closing, tracing, only, callTests, After}
+use Rattle.ownership.specs.Calls.{Call, making, blocking, unblocking, opening, closing, tracing, CallResult, hopsOf, receiveOf, scoutsOf, answered, callTests, resultOf}
 use Rattle.ownership.specs.Update.{sendIn}
-use Rattle.ownership.specs.OnTable.{heldIn, openIn, askedOf, lentTests, stoppedAt, done, givesIn, carriedOut, called}
+use Rattle.ownership.specs.OnTable.{openIn, factsOf, lentTests, stoppedAt, tableStep, done}
 use Rattle.ownership.specs.Allowed.{Allowed}
 use Rattle.ownership.proofs.Allowed.{allowed}
-use Rattle.ownership.proofs.Stops.{lent-is, lent-numbered, none-stops, none-stops-lent, pass-tests, stopped-is}
+use Rattle.ownership.proofs.Stops.{lent-both, lent-numbered, none-stops, none-stops-lent, pass-tests, stopped-is}
+use Rattle.ownership.proofs.OpenCircuits.{open-sound, sound-open}
+use Rattle.ownership.proofs.Steps.{table-step}
 use Rattle.cube.proofs.Ports.{most-nodes}
-use Rattle.ownership.proofs.Carried.{called-carried, blocking-again, unblocking-again}
-use Rattle.ownership.proofs.Written.{writtenBy, written-bytes}
+use Rattle.ownership.proofs.StepBytes.{blocking-again, unblocking-again}
+use Rattle.ownership.proofs.BytesAfter.{writtenBy, written-bytes}
 
 -- what the tests that have passed say of an open
 may-open : (b : List ℕ) (s c t y v : ℕ) → stoppedAt b (opening s c t y v) ≡ 0 → MaySend b s t (circuitOf s c) v
-unfolding Allowed askedOf view
+unfolding Allowed factsOf view
 may-open b s c t y v e =
-    let p = pass-tests b (none-stops-lent b (opening s c t y v) (λ D q. let z : _≡_ {A = ℕ} 0 1 = cc in omega arith) e) in
-    let r = allowed (askedOf (view b)) (opening s c t y v) (none-stops b (opening s c t y v) e) in
+    let p = pass-tests b (none-stops-lent b (opening s c t y v) refl e) in
+    let r = allowed (factsOf (view b)) (opening s c t y v) (none-stops b (opening s c t y v) e) in
     record {
       bytes = p .0;
       fits = p .2;
@@ -52,51 +51,39 @@ may-open b s c t y v e =
       small = omega (arith, most-nodes (p .2), r .0, r .2);
     }
 
+-- the numbers of an outcome, as an open gives them and as a send answers them
+answer-same : (o : Outcome) (n : ℕ) (b : List ℕ)
+    → pass-answer (answered o n .number) (hopsOf (answered o n)) (receiveOf (answered o n)) (scoutsOf (answered o n)) b ≡ answerOfOutcome o n b
+unfolding answered answerOfOutcome
+answer-same (acknowledged w k) n b = refl
+answer-same route-rejected n b = refl
+answer-same receive-rejected n b = refl
+
 module _ (b : List ℕ) (s c t y v : ℕ) (e : stoppedAt b (opening s c t y v) ≡ 0) where
-  abbrev opened : After (List ℕ)
-  opened = called b (opening s c t y v)
+  -- what the open gives
+  abbrev gives : CallResult
+  gives = tableStep b (opening s c t y v) .result
 
   -- What an open that no test stops before the search answers is what a send answers, whatever the bytes are.
-  pub open-answers : SendSays b s t (circuitOf s c) y v (opened .given .answer .number) (opened .given .answer .receive) (opened .given .answer .hops) (opened .given .answer .scouts)
-      (writtenBy b (opening s c t y v))
-  unfolding carriedOut givesIn writtenBy sendIn sends sentOn
-  open-answers =
-      subst
-      (λ (d : After (List ℕ)). SendSays b s t (circuitOf s c) y v (d .given .answer .number) (d .given .answer .receive) (d .given .answer .hops) (d .given .answer .scouts) (writtenBy b (opening s c t y v)))
-      (sym (called-carried b (opening s c t y v) e)) (demand-2 b s t (circuitOf s c) y v (may-open b s c t y v e) _ _ _ _ _ refl)
+  pub open-answers : SendSays b s t (circuitOf s c) y v (gives .number) (hopsOf gives) (receiveOf gives) (scoutsOf gives) (writtenBy b (opening s c t y v))
+  unfolding resultOf factsOf writtenBy sendIn sends sendAnswer
+  open-answers = rw (table-step b (opening s c t y v) .result e) (demand-2 b s t (circuitOf s c) y v (may-open b s c t y v e) _ _ _ _ _ (answer-same _ _ _))
 
   -- The users' second demand of the open call: it says what a send says, in its answer and in every byte.
-  pub open-says : ((i : ℕ) → getD b i 0 < 256)
-      → SendSays b s t (circuitOf s c) y v (opened .given .answer .number) (opened .given .answer .receive) (opened .given .answer .hops) (opened .given .answer .scouts) (opened .state)
+  pub open-says : AllBytes b → SendSays b s t (circuitOf s c) y v (gives .number) (hopsOf gives) (receiveOf gives) (scoutsOf gives) (tableStep b (opening s c t y v) .state)
   open-says small = rw (sym (written-bytes b small (opening s c t y v) e)) at open-answers
 
--- On a sound table a number whose links make a path stands.
-module _ (w : View) (sound : Sound w) (c : ℕ) (some : c ≢ 0) where
-  first-held : (p : ℕ) (u : Path) → pathOf w c ≡ p ∷ u → heldBy w c (sourceOf c) p ≡ true
-  unfolding pathOf
-  first-held p u q = path-owned (shapeOf w) (heldBy w c) (sourceOf c) (sourceOf c) p (rw q (on-first (net w) (sourceOf c) p u))
-
-  pub path-stands : not (isEmpty (pathOf w c)) ≡ true → Stands w c
-  path-stands e = go (pathOf w c) refl
-    where
-      go : (u : Path) → pathOf w c ≡ u → Stands w c
-      go [] q = unfold isEmpty in absurd (false≢true (sym (ap (λ x. not (isEmpty x)) q) ∙ e))
-      go (p ∷ u) q = ⊎-elim (λ z. absurd (z .0 (sourceOf c) p (eqb-true _ c (first-held p u q)))) (λ z. z) (sound .numbers c some)
-
-  pub stands-path : Stands w c → not (isEmpty (pathOf w c)) ≡ true
-  stands-path k = rw (path-is w c k) (some-hop (net w) (sourceOf c) _ _ (k .path) (k .permitted))
-
--- So a send channel has an open circuit exactly where its number stands on a path and a receive channel.
-pub open-stands : (w : View) → Sound w → (s c : ℕ) → (openIn w s c ≡ true) ↔ Stands w (circuitOf s c)
+-- On a sound table a send channel has an open circuit exactly where its number stands on a path and a receive channel.
+pub open-stands : (w : View) → Sound w → (s c : ℕ) → (openIn w s c ≡ true) ↔ CircuitSound w (circuitOf s c)
 unfolding openIn
-open-stands w sound s c = (path-stands w sound (circuitOf s c) (λ z. omega arith), stands-path w sound (circuitOf s c) (λ z. omega arith))
+open-stands w sound s c = (open-sound w sound (circuitOf s c) (λ z. omega arith), sound-open w (circuitOf s c))
 
 -- Number 3 says that the table is not sound, of every call that is stopped by it.
-no-three : (b : List ℕ) (a : Call) → refusal (callTests (askedOf (view b)) a) ≢ 3
+no-three : (b : List ℕ) (a : Call) → refusal (callTests (factsOf (view b)) a) ≢ 3
 unfolding callTests avoids
-no-three b a = never-answered 3 (callTests (askedOf (view b)) a) (others a) (λ z. omega arith)
+no-three b a = never-answered 3 (callTests (factsOf (view b)) a) (others a) (λ z. omega arith)
   where
-    others : (a : Call) → Avoids 3 (callTests (askedOf (view b)) a)
+    others : (a : Call) → Avoids 3 (callTests (factsOf (view b)) a)
     others (making D) = avoiding 3 _ refl
     others (blocking n p) = avoiding 3 _ refl
     others (unblocking n p) = avoiding 3 _ refl
@@ -105,26 +92,23 @@ no-three b a = never-answered 3 (callTests (askedOf (view b)) a) (others a) (λ 
     others (tracing s c buffer) = avoiding 3 _ refl
 
 pub stopped-three : (b : List ℕ) (a : Call) → stoppedAt b a ≡ 3 → Sound (view b) → ⊥
-unfolding stoppedAt
+unfolding stoppedAt avoids
 stopped-three b a e sound =
-    ⊎-elim (λ z. no-three b a (sym (refusal-behind (lentTests b a) (callTests (askedOf (view b)) a) (lent-numbered b a) z) ∙ e))
-    (λ f. lent (sym (refusal-before (lentTests b a) (callTests (askedOf (view b)) a) f) ∙ e)) (same? (refusal (lentTests b a)) 0)
+    ⊎-elim (λ z. no-three b a (sym (refusal-after (lentTests b a) (callTests (factsOf (view b)) a) (lent-numbered b a) z) ∙ e))
+    (λ f. lent (sym (refusal-before (lentTests b a) (callTests (factsOf (view b)) a) f) ∙ e)) (same? (refusal (lentTests b a)) 0)
   where
     lent : refusal (lentTests b a) ≢ 3
-    lent q = ⊎-elim (λ r. made (r .0) (rw (r .1) at q)) (λ r. answers b .not-sound (rw r at q) sound) (lent-is b a)
-      where
-        made : (D : ℕ) → refusal (lentTests b (making D)) ≢ 3
-        made D = unfold lentTests avoids in never-answered 3 (test (not (eqb (length b) tableLength)) 1 ∷ []) (avoiding 3 _ refl) (λ z. omega arith)
+    lent = lent-both (λ ts. refusal ts ≢ 3) b a (never-answered 3 _ (avoiding 3 _ refl) (λ z. omega arith)) (λ q. answers b .not-sound q sound)
 
 -- Blocking a blocked link, or unblocking an enabled one, succeeds and changes nothing, on any table that passes its tests.
-module _ (b : List ℕ) (small : (i : ℕ) → getD b i 0 < 256) (pass : refusal (tableTests b) ≡ 0) (n p : ℕ) (i : n < 2 ^ dimensionAt b) (l : p < dimensionAt b) where
+module _ (b : List ℕ) (small : AllBytes b) (pass : refusal (tableTests b) ≡ 0) (n p : ℕ) (i : n < 2 ^ dimensionAt b) (l : p < dimensionAt b) where
   node-there : not (ltb n (2 ^ dimensionAt b)) ≡ false
   node-there = ap not (lt-ltb n (2 ^ dimensionAt b) i)
 
   port-there : not (ltb p (dimensionAt b)) ≡ false
   port-there = ap not (lt-ltb p (dimensionAt b) l)
 
-  stops-as : (a : Call) → stoppedAt b a ≡ refusal (callTests (askedOf (view b)) a)
+  stops-as : (a : Call) → stoppedAt b a ≡ refusal (callTests (factsOf (view b)) a)
   stops-as a = let r = pass-tests b pass in stopped-is b (r .0) (r .1) (r .2) (r .3) a
 
   bytes : Bytes b
@@ -134,16 +118,14 @@ module _ (b : List ℕ) (small : (i : ℕ) → getD b i 0 < 256) (pass : refusal
   unfolding heldIn view
   idle e = ⊎-elim (λ z. ap not (eq-eqb (ownerAt b n p) 0 z)) (λ f. absurd (clash (unfold view in pass-tests b pass .3 .held-enabled n p f) e)) (same? (ownerAt b n p) 0)
 
-  pub blocked-again : enabledAt b n p ≡ false → called b (blocking n p) ≡ done b (only 0) []
-  unfolding callTests askedOf view carriedOut givesIn
+  pub blocked-again : enabledAt b n p ≡ false → tableStep b (blocking n p) ≡ done b 0 [] []
+  unfolding callTests factsOf view resultOf
   blocked-again e =
       let z : stoppedAt b (blocking n p) ≡ 0 = stops-as (blocking n p) ∙ passed 4 _ node-there ∙ passed 6 _ port-there ∙ passed 13 [] (idle e) ∙ accepted in
-      let c = called-carried b (blocking n p) z in
-      c ∙ ap (λ x. done x (only 0) []) (sym (ap (λ (d : After (List ℕ)). d .state) c) ∙ blocking-again b bytes n p e)
+      λ i. record { state = blocking-again b bytes n p e i; result = table-step b (blocking n p) .result z i }
 
-  pub enabled-again : enabledAt b n p ≡ true → called b (unblocking n p) ≡ done b (only 0) []
-  unfolding callTests askedOf view carriedOut givesIn
+  pub enabled-again : enabledAt b n p ≡ true → tableStep b (unblocking n p) ≡ done b 0 [] []
+  unfolding callTests factsOf view resultOf
   enabled-again e =
       let z : stoppedAt b (unblocking n p) ≡ 0 = stops-as (unblocking n p) ∙ passed 4 _ node-there ∙ passed 6 [] port-there ∙ accepted in
-      let c = called-carried b (unblocking n p) z in
-      c ∙ ap (λ x. done x (only 0) []) (sym (ap (λ (d : After (List ℕ)). d .state) c) ∙ unblocking-again b bytes n p e)
+      λ i. record { state = unblocking-again b bytes n p e i; result = table-step b (unblocking n p) .result z i }

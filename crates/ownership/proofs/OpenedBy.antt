@@ -1,6 +1,6 @@
 -- Each listed circuit has the path and the receive channel of an acknowledged open of the list, and no accepted call after that open ends it.
 -- Assumes nothing.
-use mathlib.Core.Path.{_≡_, refl, ap, sym, subst, _∙_}
+use mathlib.Core.Path.{_≡_, refl, ap, sym, subst}
 use mathlib.Core.Logic.{_⊎_, inl, inr, ⊎-elim}
 use mathlib.Core.Bool.{not}
 use mathlib.Core.List.{List, [], _∷_, List·Memᴰ·cases-cons, List·Memᴰ·not-nil}
@@ -10,12 +10,12 @@ use borrow.Author.Tests.{not-true}
 use Rattle.common.proofs.Tests.{same?, clash}
 use Rattle.common.proofs.Lists.{keep-mem}
 use Rattle.paths.specs.Send.{Outcome, acknowledged, route-rejected, receive-rejected}
-use Rattle.ownership.specs.Calls.{Call, making, blocking, unblocking, opening, closing, tracing, After}
-use Rattle.ownership.specs.History.{Circuit, History, belongs, stoppedOn, sendOn, adds, follows, entered}
-use Rattle.ownership.specs.Lists.{historyAfter, historyGives, leaves, answers}
+use Rattle.ownership.specs.Calls.{Call, making, blocking, unblocking, opening, closing, tracing}
+use Rattle.ownership.specs.History.{Circuit, History, belongs, stoppedOn, sendOn, withOpened, applied, historyStep}
+use Rattle.ownership.specs.Agrees.{historyAfter, historyResults, leaves, answers}
 use Rattle.ownership.specs.StillOpen.{numbered, Ends, Lasts, OpenedBy}
 use Rattle.ownership.proofs.Circuits.{parts-belong}
-use Rattle.ownership.proofs.Entered.{entered-passed, entered-stopped}
+use Rattle.ownership.proofs.Steps.{history-step}
 
 -- one call: what is listed after it was listed before, or is what it opened
 record New (h : History) (a : Call) (x : Circuit) : Type 0 where
@@ -24,15 +24,15 @@ record New (h : History) (a : Call) (x : Circuit) : Type 0 where
   is-open : a ≡ opening (x .source) (x .channel) (x .target) type vector
   acknowledges : sendOn h (x .source) (x .target) type vector .outcome ≡ acknowledged (x .ports) (x .receive)
 
-added : (h : History) (s c t y v : ℕ) (o : Outcome) → sendOn h s t y v .outcome ≡ o → (x : Circuit) → x ∈ adds h s c t o .circuits → (x ∈ h .circuits) ⊎ New h (opening s c t y v) x
-unfolding adds
+added : (h : History) (s c t y v : ℕ) (o : Outcome) → sendOn h s t y v .outcome ≡ o → (x : Circuit) → x ∈ withOpened h s c t o .circuits → (x ∈ h .circuits) ⊎ New h (opening s c t y v) x
+unfolding withOpened
 added h s c t y v (acknowledged w k) e x m =
     ⊎-elim (λ z. inr (subst (λ (u : Circuit). New h (opening s c t y v) u) (sym z) record { type = y; vector = v; is-open = refl; acknowledges = e })) inl (List·Memᴰ·cases-cons m)
 added h s c t y v route-rejected e x m = inl m
 added h s c t y v receive-rejected e x m = inl m
 
-followed : (h : History) (a : Call) (x : Circuit) → x ∈ follows h a .circuits → (x ∈ h .circuits) ⊎ New h a x
-unfolding follows
+followed : (h : History) (a : Call) (x : Circuit) → x ∈ applied h a .circuits → (x ∈ h .circuits) ⊎ New h a x
+unfolding applied
 followed h (making D) x m = absurd (List·Memᴰ·not-nil m)
 followed h (blocking n p) x m = inl m
 followed h (unblocking n p) x m = inl m
@@ -40,14 +40,14 @@ followed h (opening s c t y v) x m = added h s c t y v (sendOn h s t y v .outcom
 followed h (closing s c) x m = inl (keep-mem _ (h .circuits) m .0)
 followed h (tracing s c buffer) x m = inl m
 
-step : (h : History) (a : Call) (x : Circuit) → x ∈ entered h a .state .circuits → (x ∈ h .circuits) ⊎ ((stoppedOn h a ≡ 0) × New h a x)
+step : (h : History) (a : Call) (x : Circuit) → x ∈ historyStep h a .state .circuits → (x ∈ h .circuits) ⊎ ((stoppedOn h a ≡ 0) × New h a x)
 step h a x m =
-    ⊎-elim (λ e. ⊎-elim inl (λ z. inr (e, z)) (followed h a x (subst (λ (u : After History). x ∈ u .state .circuits) (entered-passed h a e) m)))
-    (λ e. inl (subst (λ (u : After History). x ∈ u .state .circuits) (entered-stopped h a e) m)) (same? (stoppedOn h a) 0)
+    let g = history-step h a in
+    ⊎-elim (λ e. ⊎-elim inl (λ z. inr (g .passed e, z)) (followed h a x (rw (g .accepted e) at m))) (λ f. inl (rw (g .refused f) at m)) (same? (historyStep h a .result .number) 0)
 
 -- what is listed after an accepted call was not ended by it
-ended : (h : History) (a : Call) (x : Circuit) → x ∈ follows h a .circuits → Ends (x .source) (x .channel) a → ⊥
-unfolding follows Ends
+ended : (h : History) (a : Call) (x : Circuit) → x ∈ applied h a .circuits → Ends (x .source) (x .channel) a → ⊥
+unfolding applied Ends
 ended h (making D) x m z = List·Memᴰ·not-nil m
 ended h (blocking n p) x m z = z
 ended h (unblocking n p) x m z = z
@@ -55,30 +55,28 @@ ended h (opening s c t y v) x m z = z
 ended h (closing s c) x m z = clash (parts-belong s c x (sym (z .0)) (sym (z .1))) (not-true _ (keep-mem (λ y. not (belongs s c y)) (h .circuits) m .1))
 ended h (tracing s c buffer) x m z = z
 
-lasted : (h : History) (a : Call) (x : Circuit) → x ∈ entered h a .state .circuits → entered h a .given .answer .number ≡ 0 → Ends (x .source) (x .channel) a → ⊥
-lasted h a x m e z =
-    ⊎-elim (λ q. ended h a x (subst (λ (u : After History). x ∈ u .state .circuits) (entered-passed h a q) m) z)
-    (λ q. q (sym (ap (λ (u : After History). u .given .answer .number) (entered-stopped h a q)) ∙ e)) (same? (stoppedOn h a) 0)
+lasted : (h : History) (a : Call) (x : Circuit) → x ∈ historyStep h a .state .circuits → historyStep h a .result .number ≡ 0 → Ends (x .source) (x .channel) a → ⊥
+lasted h a x m e z = ended h a x (rw (history-step h a .accepted e) at m) z
 
 -- an open of a list is one of the list with a call in front
-pub opened-later : (h : History) (a : Call) (more : List Call) (x : Circuit) → OpenedBy (entered h a .state) more x → OpenedBy h (a ∷ more) x
+pub opened-later : (h : History) (a : Call) (more : List Call) (x : Circuit) → OpenedBy (historyStep h a .state) more x → OpenedBy h (a ∷ more) x
 unfolding leaves
 opened-later h a more x z =
-    record { before = a ∷ z .before; type = z .type; vector = z .vector; after = z .after; split = ap (a ∷_) (z .split); passes = z .passes; acknowledges = z .acknowledges; lasts = z .lasts }
+    record { before = a ∷ z .before; type = z .type; vector = z .vector; after = z .after; split = ap (a ∷_) (z .split); onPathOf = z .onPathOf; acknowledges = z .acknowledges; lasts = z .lasts }
 
 -- any list: what is listed after it was listed before and nothing has ended it, or was opened by it
 pub listed-by : (calls : List Call) (h : History) (x : Circuit) → x ∈ historyAfter h calls .circuits
-    → ((x ∈ h .circuits) × Lasts (x .source) (x .channel) (numbered calls (historyGives h calls))) ⊎ OpenedBy h calls x
+    → ((x ∈ h .circuits) × Lasts (x .source) (x .channel) (numbered calls (historyResults h calls))) ⊎ OpenedBy h calls x
 unfolding leaves answers numbered Lasts
 listed-by [] h x m = inl (m, λ a k z. List·Memᴰ·not-nil k)
 listed-by (a ∷ more) h x m =
-    ⊎-elim (λ k. ⊎-elim (λ i. inl (i, later (k .0) (k .1))) (λ z. inr (now z (k .1))) (step h a x (k .0))) (λ z. inr (opened-later h a more x z)) (listed-by more (entered h a .state) x m)
+    ⊎-elim (λ k. ⊎-elim (λ i. inl (i, later (k .0) (k .1))) (λ z. inr (now z (k .1))) (step h a x (k .0))) (λ z. inr (opened-later h a more x z)) (listed-by more (historyStep h a .state) x m)
   where
-    later : x ∈ entered h a .state .circuits → Lasts (x .source) (x .channel) (numbered more (historyGives (entered h a .state) more)) → Lasts (x .source) (x .channel) ((a, entered h a .given .answer .number) ∷ numbered more (historyGives (entered h a .state) more))
+    later : x ∈ historyStep h a .state .circuits → Lasts (x .source) (x .channel) (numbered more (historyResults (historyStep h a .state) more)) → Lasts (x .source) (x .channel) ((a, historyStep h a .result .number) ∷ numbered more (historyResults (historyStep h a .state) more))
     later k l b i z =
         ⊎-elim (λ e. lasted h a x k (sym (ap (λ (u : Call × ℕ). u .1) e)) (subst (Ends (x .source) (x .channel)) (ap (λ (u : Call × ℕ). u .0) e) z)) (λ j. l b j z) (List·Memᴰ·cases-cons i)
 
-    now : (stoppedOn h a ≡ 0) × New h a x → Lasts (x .source) (x .channel) (numbered more (historyGives (entered h a .state) more)) → OpenedBy h (a ∷ more) x
+    now : (stoppedOn h a ≡ 0) × New h a x → Lasts (x .source) (x .channel) (numbered more (historyResults (historyStep h a .state) more)) → OpenedBy h (a ∷ more) x
     now z l =
         let e = z .1 .is-open in
         record {
@@ -87,7 +85,7 @@ listed-by (a ∷ more) h x m =
           vector = z .1 .vector;
           after = more;
           split = ap (_∷ more) e;
-          passes = subst (λ (u : Call). stoppedOn h u ≡ 0) e (z .0);
+          onPathOf = subst (λ (u : Call). stoppedOn h u ≡ 0) e (z .0);
           acknowledges = z .1 .acknowledges;
-          lasts = subst (λ (u : Call). Lasts (x .source) (x .channel) (numbered more (historyGives (entered h u .state) more))) e l;
+          lasts = subst (λ (u : Call). Lasts (x .source) (x .channel) (numbered more (historyResults (historyStep h u .state) more))) e l;
         }

@@ -14,7 +14,7 @@ use Rattle.common.specs.Tests.{Test, test, refusal}
 use Rattle.common.proofs.Tests.{both, and, either, or-left, or-right}
 use Rattle.cube.specs.Bits.{has}
 use Rattle.cube.proofs.Bits.{has-room, has-bit-above}
-use Rattle.ownership.specs.Calls.{Call, making, blocking, unblocking, opening, closing, tracing, Asked, callTests}
+use Rattle.ownership.specs.Calls.{Call, making, blocking, unblocking, opening, closing, tracing, CallFacts, callTests}
 use Rattle.ownership.specs.Reasons.{Reason, making-dimension, blocking-node, blocking-port, blocking-held, unblocking-node, unblocking-port, opening-node, opening-channel, opening-type, opening-vector, opening-in-use, closing-node, closing-channel, closing-none, tracing-node, tracing-channel, tracing-none, tracing-short}
 
 -- Of any list of tests: where each test that applies has a reason, the number answered has one.
@@ -98,7 +98,7 @@ bit-above D v = (λ e. has-bit-above D v (not-below v _ .0 e), λ h. not-below v
 no-vector : (D v : ℕ) → (eqb v 0 || not (ltb v (2 ^ D)) ≡ true) ↔ ((v ≡ 0) ⊎ ((p : ℕ) × (D ≤ p) × (has v p ≡ true)))
 no-vector D v = one-of _ _ (eqb-true v 0, eq-eqb v 0) (bit-above D v)
 
-module _ (a : Asked) where
+module _ (a : CallFacts) where
   absent : (s t : ℕ) → (not (ltb s (2 ^ a .dimension)) || not (ltb t (2 ^ a .dimension)) ≡ true) ↔ ((2 ^ a .dimension ≤ s) ⊎ (2 ^ a .dimension ≤ t))
   absent s t = one-of _ _ (not-below s _) (not-below t _)
 

@@ -10,42 +10,43 @@ use native.Mathlib.Omega.{arith}
 use lib.Dec.{eqb}
 use lib.ListN.{length}
 use borrow.Author.Tests.{eqb-true, eqb-false, eq-eqb, ne-eqb}
-use Rattle.common.specs.Lists.{_∈_, keep, from, Sorted}
-use Rattle.common.proofs.Lists.{mem-keep, keep-shorter, mem-from, from-sorted, length-from, from-below}
+use Rattle.common.specs.Lists.{_∈_, keep, from, Pairwise}
+use Rattle.common.proofs.Lists.{mem-keep, keep-shorter}
+use Rattle.common.proofs.From.{mem-from, from-pairwise, length-from, from-below}
 use Rattle.common.proofs.Tests.{same?, avoids, avoiding, never-answered}
 use Rattle.cube.specs.Cube.{next, sourceOf}
 use Rattle.cube.specs.Axes.{axis}
 use Rattle.cube.proofs.Bits.{flip-back}
 use Rattle.paths.specs.Network.{Path, end, links}
 use Rattle.paths.specs.Permitted.{Permitted}
-use Rattle.paths.specs.Send.{all-held, Outcome, acknowledged, route-rejected, receive-rejected, Acknowledged, answered}
-use Rattle.paths.specs.Sentences.{Free, AnswerSays, says-acknowledged, says-receive-rejected, says-route-rejected}
-use Rattle.paths.specs.CubeNetwork.{Shape, ports, network, sendPorts, otherPorts}
+use Rattle.paths.specs.Send.{all-held, Outcome, acknowledged, route-rejected, receive-rejected}
+use Rattle.paths.specs.Sentences.{Free, AttemptsSay}
+use Rattle.paths.specs.CubeNetwork.{Shape, ports, network, attempts}
 use Rattle.paths.proofs.Links.{On, on-first, on-later}
 use Rattle.paths.proofs.Apart.{permitted-inside}
 use Rattle.paths.proofs.Sentences.{permitted-end}
-use Rattle.paths.proofs.CubeNetwork.{unfolded-port, send-port, other-port}
-use Rattle.paths.proofs.Words.{free-links, free-link}
-use Rattle.table.specs.View.{View, view, available, receive}
+use Rattle.paths.proofs.CubeNetwork.{unfolded-port}
+use Rattle.paths.proofs.Send.{said-by, receive-rejected-says, tries-permitted}
+use Rattle.paths.proofs.Words.{free-links}
+use Rattle.table.specs.View.{View, view, available, receive, shapeOf, net, heldBy}
 use Rattle.table.proofs.Receives.{none-chosen}
-use Rattle.soundness.specs.Sound.{shapeOf, net, heldBy, Stands, Sound}
+use Rattle.soundness.specs.Sound.{CircuitSound, Sound}
 use Rattle.soundness.specs.SoundTest.{pathOf, tableTests}
 use Rattle.soundness.proofs.Soundness.{path-is, receive-stands}
-use Rattle.search.specs.Settle.{freeIn, Settled, settled}
-use Rattle.search.specs.Sent.{sentOn}
-use Rattle.search.specs.SendSays.{PassesSay, one-acknowledged, only-one, two}
-use Rattle.ownership.specs.Calls.{Call, making, blocking, unblocking, opening, closing, tracing, callTests, After}
-use Rattle.ownership.specs.OnTable.{askedOf, lentTests, stoppedAt, givesIn, carriedOut, called}
-use Rattle.ownership.proofs.Carried.{called-carried, called-stopped}
+use Rattle.search.specs.PassAnswer.{freeIn, PassAnswer, pass-answer}
+use Rattle.search.specs.SendAnswer.{answerOfOutcome, sendAnswer}
+use Rattle.search.proofs.PassAnswer.{free-owner}
+use Rattle.ownership.specs.Calls.{Call, making, blocking, unblocking, opening, closing, tracing, callTests, resultOf}
+use Rattle.ownership.specs.OnTable.{factsOf, lentTests, stoppedAt, tableStep}
+use Rattle.ownership.proofs.Steps.{table-step}
 use Rattle.ownership.specs.Allowed.{Allowed}
-use Rattle.ownership.proofs.Acknowledged.{wider}
 use Rattle.ownership.proofs.Allowed.{allowed}
 use Rattle.ownership.proofs.Stops.{none-stops, none-stops-lent, pass-tests}
 use Rattle.ownership.proofs.OnSound.{open-answers}
 
 -- a list without repetition is no longer than one that has all its members
-fits : (xs ys : List ℕ) → Sorted _≢_ xs → ((x : ℕ) → x ∈ xs → x ∈ ys) → length xs ≤ length ys
-unfolding Sorted
+fits : (xs ys : List ℕ) → Pairwise _≢_ xs → ((x : ℕ) → x ∈ xs → x ∈ ys) → length xs ≤ length ys
+unfolding Pairwise
 fits [] ys s h = omega arith
 fits (x ∷ xs) ys s h =
     let others : ℕ → Bool = λ y. not (eqb y x) in
@@ -55,10 +56,10 @@ fits (x ∷ xs) ys s h =
 
 -- eight numbers below eight, no two the same, leave none out
 pub all-taken : (g : ℕ → ℕ) → ((j : ℕ) → j < 8 → g j < 8) → ((i j : ℕ) → i < 8 → j < 8 → g i ≡ g j → i ≡ j) → (q : ℕ) → q < 8 → ((j : ℕ) → j < 8 → g j ≢ q) → ⊥
-unfolding Sorted from
+unfolding Pairwise from
 all-taken g small once q h none =
     let long : length (q ∷ map g (from 0 8)) ≡ 9 = refl in
-    omega (arith, long, length-from 0 8, fits (q ∷ map g (from 0 8)) (from 0 8) ((λ x m. away x m), distinct (from 0 8) (from-sorted 0 8) (λ j m. m)) members)
+    omega (arith, long, length-from 0 8, fits (q ∷ map g (from 0 8)) (from 0 8) ((λ x m. away x m), distinct (from 0 8) (from-pairwise 0 8) (λ j m. m)) members)
   where
     below : (j : ℕ) → j ∈ from 0 8 → j < 8
     below j m = from-below 8 j m
@@ -66,14 +67,14 @@ all-taken g small once q h none =
     away : (x : ℕ) → x ∈ map g (from 0 8) → q ≢ x
     away x m e = let r = Memᴰ·of-map g (from 0 8) m in none (r .0) (below (r .0) (r .1)) (r .2 ∙ sym e)
 
-    apart : (x : ℕ) (xs : List ℕ) → Sorted _<_ (x ∷ xs) → ((j : ℕ) → j ∈ (x ∷ xs) → j ∈ from 0 8) → (y : ℕ) → y ∈ map g xs → g x ≢ y
+    apart : (x : ℕ) (xs : List ℕ) → Pairwise _<_ (x ∷ xs) → ((j : ℕ) → j ∈ (x ∷ xs) → j ∈ from 0 8) → (y : ℕ) → y ∈ map g xs → g x ≢ y
     apart x xs s sub y m e =
         let r = Memᴰ·of-map g xs m in
         let l : x < r .0 = s .0 (r .0) (r .1) in
         let same = once x (r .0) (below x (sub x (List·Memᴰ·head refl))) (below (r .0) (sub (r .0) (List·Memᴰ·tail (r .1)))) (e ∙ sym (r .2)) in
         omega (arith, l, same)
 
-    distinct : (xs : List ℕ) → Sorted _<_ xs → ((j : ℕ) → j ∈ xs → j ∈ from 0 8) → Sorted _≢_ (map g xs)
+    distinct : (xs : List ℕ) → Pairwise _<_ xs → ((j : ℕ) → j ∈ xs → j ∈ from 0 8) → Pairwise _≢_ (map g xs)
     distinct [] s sub = tt
     distinct (x ∷ xs) s sub = (apart x xs s sub, distinct xs (s .1) (λ j m. sub j (List·Memᴰ·tail m)))
 
@@ -109,7 +110,7 @@ module _ (v : View) (sound : Sound v) (most : v .dimension ≤ 8) (t : ℕ) wher
     abbrev circuit : ℕ → ℕ
     circuit j = v .receiver t j
 
-    stands : (j : ℕ) → j < 8 → Stands v (circuit j)
+    stands : (j : ℕ) → j < 8 → CircuitSound v (circuit j)
     stands j h = receive-stands v sound t j (full j h)
 
     inside : (j : ℕ) → j < 8 → sourceOf (circuit j) < 2 ^ v .dimension
@@ -142,24 +143,19 @@ module _ (v : View) (sound : Sound v) (most : v .dimension ≤ 8) (t : ℕ) wher
         (λ j l e. full j l (sym (holds j l) ∙ ap (λ p. v .owner (next t p) p) e ∙ z))
 
   -- Where a free permitted path leads to t, a receive channel of t is free.
-  pub receives : (s : ℕ) (ps : List ℕ) (w : Path) → s < 2 ^ v .dimension → ((p : ℕ) → p ∈ ps → p ∈ ports (shapeOf v)) → Permitted (net v) s ps t w → Free (net v) (freeIn v) s w → receive v t ≢ all-held
-  unfolding receive available freeIn
-  receives s ps w i below o free e =
-      let c = comes-in s w i (wider (net v) s ps (ports (shapeOf v)) t w below o) in
-      let z = free-link _ _ .0 (free-links (net v) (freeIn v) s w .0 free _ (c .0)) .1 in
-      no-way-in (λ j h. eqb-false _ 0 (none-chosen _ e j h)) (arrival w) (c .1) z
+  pub receives : (s : ℕ) (w : Path) → s < 2 ^ v .dimension → Permitted (net v) s (ports (shapeOf v)) t w → Free (net v) (freeIn v) s w → receive v t ≢ all-held
+  unfolding receive available
+  receives s w i o free e =
+      let c = comes-in s w i o in
+      no-way-in (λ j h. eqb-false _ 0 (none-chosen _ e j h)) (arrival w) (c .1) (free-owner v _ _ (free-links (net v) (freeIn v) s w .0 free _ (c .0)))
 
-  -- So no pass over ports of the cube, and no send, is receive rejected.
-  pass-receives : (s : ℕ) → s < 2 ^ v .dimension → (ps : List ℕ) → ((p : ℕ) → p ∈ ps → p ∈ ports (shapeOf v)) → (o : Outcome) (n : ℕ) → AnswerSays (net v) (freeIn v) s ps t (receive v t) o n → o ≢ receive-rejected
-  pass-receives s i ps below o n (says-acknowledged e f) q = let z : _≡_ {A = ℕ} 0 1 = cc in omega arith
-  pass-receives s i ps below o n (says-receive-rejected {w} e f) q = receives s ps w i below (f .permitted) (f .is-free) e
-  pass-receives s i ps below o n (says-route-rejected f) q = let z : _≡_ {A = ℕ} 0 1 = cc in omega arith
-
+  -- So no send is receive rejected.
   send-receives : (s : ℕ) → s < 2 ^ v .dimension → (type vector : ℕ) (o : Outcome) (n : ℕ)
-      → PassesSay (net v) (freeIn v) s t (receive v t) type (sendPorts (shapeOf v) vector) (otherPorts (shapeOf v) vector) o n → o ≢ receive-rejected
-  send-receives s i type vector o n (one-acknowledged a z) q = unfold Acknowledged in rw q at z
-  send-receives s i type vector o n (only-one e a) q = pass-receives s i _ (λ p m. send-port (shapeOf v) vector p .0 m .0) o n a q
-  send-receives s i type vector o _ (two e a z a₂) q = pass-receives s i _ (λ p m. other-port (shapeOf v) vector p .0 m .0) o _ a₂ q
+      → AttemptsSay (net v) s t (freeIn v) (receive v t) (attempts (shapeOf v) type vector) o n → o ≢ receive-rejected
+  send-receives s i type vector o n a q =
+      let x = said-by (net v) s t (freeIn v) (receive v t) (attempts (shapeOf v) type vector) receive-rejected n (rw q at a) in
+      let y = receive-rejected-says (net v) s t (freeIn v) (receive v t) (x .0) (x .2 .0) (x .2 .1) in
+      receives s (y .0 .0) i (tries-permitted (shapeOf v) s t type vector (x .0) (x .1) (y .0 .0) (y .0 .1)) (y .0 .2) (y .1)
 
 -- no test has the number 11
 stopped-otherwise : (b : List ℕ) (a : Call) → stoppedAt b a ≢ 11
@@ -171,35 +167,33 @@ stopped-otherwise b (opening s c t y v) = never-answered 11 _ (avoiding 11 _ ref
 stopped-otherwise b (closing s c) = never-answered 11 _ (avoiding 11 _ refl) (λ z. omega arith)
 stopped-otherwise b (tracing s c buffer) = never-answered 11 _ (avoiding 11 _ refl) (λ z. omega arith)
 
--- an outcome that is answered 11
-rejected : (o : Outcome) (n : ℕ) → answered o n .number ≡ 11 → o ≡ receive-rejected
-unfolding answered
-rejected (acknowledged w k) n e = absurd (omega (arith, e))
-rejected route-rejected n e = absurd (omega (arith, e))
-rejected receive-rejected n e = refl
+-- the number that a pass or a send settles on, and the outcome of which it is 11
+answerNumber : PassAnswer → ℕ
+answerNumber (pass-answer x h k n b) = x
 
--- the number that a pass or a send settles on
-settledNumber : Settled → ℕ
-settledNumber (settled x k h n b) = x
+rejected : (o : Outcome) (n : ℕ) (b : List ℕ) → answerNumber (answerOfOutcome o n b) ≡ 11 → o ≡ receive-rejected
+unfolding answerOfOutcome answerNumber
+rejected (acknowledged w k) n b e = absurd (omega (arith, e))
+rejected route-rejected n b e = absurd (omega (arith, e))
+rejected receive-rejected n b e = refl
 
-open-otherwise : (b : List ℕ) (s c t y v : ℕ) → stoppedAt b (opening s c t y v) ≡ 0 → called b (opening s c t y v) .given .answer .number ≢ 11
-unfolding Allowed askedOf view sentOn settledNumber
+open-otherwise : (b : List ℕ) (s c t y v : ℕ) → stoppedAt b (opening s c t y v) ≡ 0 → tableStep b (opening s c t y v) .result .number ≢ 11
+unfolding Allowed factsOf view sendAnswer answerNumber
 open-otherwise b s c t y v z e =
-    let p = pass-tests b (none-stops-lent b (opening s c t y v) (λ D q. let x : _≡_ {A = ℕ} 0 1 = cc in omega arith) z) in
-    let r = allowed (askedOf (view b)) (opening s c t y v) (none-stops b (opening s c t y v) z) in
+    let p = pass-tests b (none-stops-lent b (opening s c t y v) refl z) in
+    let r = allowed (factsOf (view b)) (opening s c t y v) (none-stops b (opening s c t y v) z) in
     let x = open-answers b s c t y v z in
-    send-receives (view b) (p .3) (p .2) t s (r .0) y v (x .outcome) _ (x .says) (rejected (x .outcome) _ (sym (ap settledNumber (x .answer)) ∙ e))
+    send-receives (view b) (p .3) (p .2) t s (r .0) y v (x .outcome) _ (x .says) (rejected (x .outcome) _ _ (sym (ap answerNumber (x .answer)) ∙ e))
 
-carried-otherwise : (b : List ℕ) (a : Call) → stoppedAt b a ≡ 0 → called b a .given .answer .number ≢ 11
-unfolding carriedOut givesIn
-carried-otherwise b (making D) z e = let q = called-carried b (making D) z in omega (arith, ap (λ (d : After (List ℕ)). d .given .answer .number) q, e)
-carried-otherwise b (blocking n p) z e = let q = called-carried b (blocking n p) z in omega (arith, ap (λ (d : After (List ℕ)). d .given .answer .number) q, e)
-carried-otherwise b (unblocking n p) z e = let q = called-carried b (unblocking n p) z in omega (arith, ap (λ (d : After (List ℕ)). d .given .answer .number) q, e)
-carried-otherwise b (opening s c t y v) z e = open-otherwise b s c t y v z e
-carried-otherwise b (closing s c) z e = let q = called-carried b (closing s c) z in omega (arith, ap (λ (d : After (List ℕ)). d .given .answer .number) q, e)
-carried-otherwise b (tracing s c buffer) z e = let q = called-carried b (tracing s c buffer) z in omega (arith, ap (λ (d : After (List ℕ)). d .given .answer .number) q, e)
+passed-otherwise : (b : List ℕ) (a : Call) → stoppedAt b a ≡ 0 → tableStep b a .result .number ≢ 11
+unfolding resultOf
+passed-otherwise b (making D) z e = omega (arith, rw (table-step b (making D) .result z) at e)
+passed-otherwise b (blocking n p) z e = omega (arith, rw (table-step b (blocking n p) .result z) at e)
+passed-otherwise b (unblocking n p) z e = omega (arith, rw (table-step b (unblocking n p) .result z) at e)
+passed-otherwise b (opening s c t y v) z e = open-otherwise b s c t y v z e
+passed-otherwise b (closing s c) z e = omega (arith, rw (table-step b (closing s c) .result z) at e)
+passed-otherwise b (tracing s c buffer) z e = omega (arith, rw (table-step b (tracing s c buffer) .result z) at e)
 
 -- No call answers 11, whatever the bytes of the table are.
-pub never-full : (b : List ℕ) (a : Call) → called b a .given .answer .number ≢ 11
-never-full b a e =
-    ⊎-elim (λ z. carried-otherwise b a z e) (λ z. stopped-otherwise b a (sym (ap (λ (d : After (List ℕ)). d .given .answer .number) (called-stopped b a z)) ∙ e)) (same? (stoppedAt b a) 0)
+pub never-full : (b : List ℕ) (a : Call) → tableStep b a .result .number ≢ 11
+never-full b a e = ⊎-elim (λ z. passed-otherwise b a z e) (λ z. stopped-otherwise b a (rw (table-step b a .stopped z) at e)) (same? (stoppedAt b a) 0)

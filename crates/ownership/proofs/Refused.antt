@@ -1,69 +1,58 @@
 -- A refused call: no byte that it is lent alters, and its answer carries nothing beside its number but the scouts of a rejected search.
 -- Assumes nothing.
 use mathlib.Core.Path.{_≡_, refl, _∙_}
-use mathlib.Core.Logic.{⊎-elim, _≢_}
+use mathlib.Core.Logic.{_⊎_, inl, inr, ⊎-elim, _≢_}
 use mathlib.Core.List.{List, [], _∷_, _++_}
 use Prim.Native.Nat.{ℕ}
-use borrow.Author.Tests.{ne-eqb}
+use lib.ListN.{replicate}
 use Rattle.common.proofs.Tests.{same?}
-use Rattle.paths.specs.Send.{Outcome, acknowledged, route-rejected, receive-rejected, Answer, answered}
-use Rattle.table.specs.View.{View, view}
-use Rattle.ownership.specs.Calls.{Call, making, blocking, unblocking, opening, closing, tracing, lent, After}
-use Rattle.ownership.specs.Update.{sendIn}
-use Rattle.ownership.specs.OnTable.{stoppedAt, givesIn, carriedOut, called}
-use Rattle.ownership.specs.Lists.{tableAfter, leaves}
-use Rattle.ownership.proofs.Carried.{called-carried, called-stopped}
+use Rattle.paths.specs.Send.{Outcome, acknowledged, route-rejected, receive-rejected}
+use Rattle.table.specs.View.{view}
+use Rattle.ownership.specs.Calls.{Call, making, blocking, unblocking, opening, closing, tracing, form, lent, CallResult, scoutsOf, answered, CallFacts, resultOf}
+use Rattle.ownership.specs.OnTable.{factsOf, stoppedAt, tableStep}
+use Rattle.ownership.specs.Agrees.{tableAfter, leaves}
+use Rattle.ownership.proofs.Steps.{table-step}
 
 -- "When refused, all but the number are 0, except that 10 and 11 carry their scouts."
-abbrev pub Zero : Answer → Type 0
-Zero x = (x .hops ≡ 0) × (x .receive ≡ 0) × (x .number ≢ 10 → x .number ≢ 11 → x .scouts ≡ 0)
+abbrev pub Zero : Call → CallResult → Type 0
+Zero a g = (g .values ≡ replicate (form a .values) 0) ⊎ (((g .number ≡ 10) ⊎ (g .number ≡ 11)) × (g .values ≡ 0 ∷ 0 ∷ scoutsOf g ∷ []))
 
--- a call that is refused: the bytes of the table and of what else is lent are as they were, and its answer is so
-Refused : List ℕ → Call → After (List ℕ) → Type 0
-Refused b a x = (x .state ≡ b) × (x .given .buffer ≡ lent a) × Zero (x .given .answer)
-
--- what a call that no test stops gives where it is refused
-send-zero : (o : Outcome) (n : ℕ) → answered o n .number ≢ 0 → Zero (answered o n)
+-- what a call that no test stops gives where it is refused: its buffers as they were lent, and such values
+send-zero : (a : Call) (o : Outcome) (n : ℕ) → answered o n .number ≢ 0 → (answered o n .buffers ≡ []) × Zero a (answered o n)
 unfolding answered
-send-zero (acknowledged w k) n f = absurd (f refl)
-send-zero route-rejected n f = (refl, refl, λ g h. absurd (g refl))
-send-zero receive-rejected n f = (refl, refl, λ g h. absurd (h refl))
+send-zero a (acknowledged w k) n f = absurd (f refl)
+send-zero a route-rejected n f = (refl, inr (inl refl, refl))
+send-zero a receive-rejected n f = (refl, inr (inr refl, refl))
 
-given-refused : (v : View) (a : Call) → givesIn v a .answer .number ≢ 0 → (givesIn v a .buffer ≡ lent a) × Zero (givesIn v a .answer)
-unfolding givesIn lent
-given-refused v (making D) f = absurd (f refl)
-given-refused v (blocking n p) f = absurd (f refl)
-given-refused v (unblocking n p) f = absurd (f refl)
-given-refused v (opening s c t y x) f = (refl, send-zero (sendIn v s t y x .outcome) (sendIn v s t y x .scouts) f)
-given-refused v (closing s c) f = absurd (f refl)
-given-refused v (tracing s c buffer) f = absurd (f refl)
+result-refused : (f : CallFacts) (a : Call) → resultOf f a .number ≢ 0 → (resultOf f a .buffers ≡ lent a) × Zero a (resultOf f a)
+unfolding resultOf
+result-refused f (making D) h = absurd (h refl)
+result-refused f (blocking n p) h = absurd (h refl)
+result-refused f (unblocking n p) h = absurd (h refl)
+result-refused f (opening s c t y v) h = send-zero (opening s c t y v) (f .sends s t y v .outcome) _ h
+result-refused f (closing s c) h = absurd (h refl)
+result-refused f (tracing s c buffer) h = absurd (h refl)
 
-module _ (b : List ℕ) where
-  carried-refused : (a : Call) → carriedOut b a .given .answer .number ≢ 0 → Refused b a (carriedOut b a)
-  unfolding carriedOut Refused
-  carried-refused a f = let r = given-refused (view b) a f in (rw (ne-eqb (givesIn (view b) a .answer .number) 0 f), r .0, r .1)
-
-  refused-call : (a : Call) → called b a .given .answer .number ≢ 0 → Refused b a (called b a)
-  refused-call a f =
-      ⊎-elim (λ z. let e = called-carried b a z in rw e (carried-refused a (rw e at f)))
-      (λ z. rw (called-stopped b a z) (unfold Refused in (refl, refl, (refl, refl, λ g h. refl)))) (same? (stoppedAt b a) 0)
+module _ (b : List ℕ) (a : Call) (f : tableStep b a .result .number ≢ 0) where
+  refused-result : (tableStep b a .result .buffers ≡ lent a) × Zero a (tableStep b a .result)
+  refused-result =
+      ⊎-elim (λ z. let e = table-step b a .result z in rw e (result-refused (factsOf (view b)) a (rw e at f)))
+      (λ z. rw (table-step b a .stopped z) (refl, inl refl)) (same? (stoppedAt b a) 0)
 
   -- "No refusal alters any lent byte": of any call on any bytes.
-  pub refused-leaves : (a : Call) → called b a .given .answer .number ≢ 0 → (called b a .state ≡ b) × (called b a .given .buffer ≡ lent a)
-  unfolding Refused
-  refused-leaves a f = let r = refused-call a f in (r .0, r .1)
+  pub refused-leaves : (tableStep b a .state ≡ b) × (tableStep b a .result .buffers ≡ lent a)
+  refused-leaves = (table-step b a .refused f, refused-result .0)
 
-  -- and its answer is so.
-  pub refused-zero : (a : Call) → called b a .given .answer .number ≢ 0 → Zero (called b a .given .answer)
-  unfolding Refused
-  refused-zero a f = refused-call a f .2
+  -- and its values are so.
+  pub refused-zero : Zero a (tableStep b a .result)
+  refused-zero = refused-result .1
 
 -- so wherever it stands in a list of calls, it leaves the table that it met
-after-all : (before : List Call) (b : List ℕ) (a : Call) → tableAfter b (before ++ a ∷ []) ≡ called (tableAfter b before) a .state
+after-all : (before : List Call) (b : List ℕ) (a : Call) → tableAfter b (before ++ a ∷ []) ≡ tableStep (tableAfter b before) a .state
 unfolding leaves
 after-all [] b a = refl
-after-all (x ∷ before) b a = after-all before (called b x .state) a
+after-all (x ∷ before) b a = after-all before (tableStep b x .state) a
 
-pub refused-within : (before : List Call) (b : List ℕ) (a : Call) → called (tableAfter b before) a .given .answer .number ≢ 0
-    → (tableAfter b (before ++ a ∷ []) ≡ tableAfter b before) × (called (tableAfter b before) a .given .buffer ≡ lent a)
+pub refused-within : (before : List Call) (b : List ℕ) (a : Call) → tableStep (tableAfter b before) a .result .number ≢ 0
+    → (tableAfter b (before ++ a ∷ []) ≡ tableAfter b before) × (tableStep (tableAfter b before) a .result .buffers ≡ lent a)
 refused-within before b a f = let r = refused-leaves (tableAfter b before) a f in (after-all before b a ∙ r .0, r .1)

@@ -7,10 +7,10 @@ use Rattle.common.specs.Tests.{Test}
 use Rattle.soundness.specs.SoundTest.{tableTests}
 use Rattle.table.specs.View.{view}
 use Rattle.ownership.specs.Calls.{Call, making, blocking, unblocking, opening, closing, tracing, callTests}
-use Rattle.ownership.specs.OnTable.{askedOf, lentTests}
+use Rattle.ownership.specs.OnTable.{factsOf, lentTests}
 
 abbrev numbers : List ℕ → Call → List ℕ
-numbers b a = map (λ (t : Test). t .number) (lentTests b a ++ callTests (askedOf (view b)) a)
+numbers b a = map (λ (t : Test). t .number) (lentTests b a ++ callTests (factsOf (view b)) a)
 
 module _ (b : List ℕ) where
   making-numbers : (D : ℕ) → numbers b (making D) ≡ 1 ∷ 2 ∷ []

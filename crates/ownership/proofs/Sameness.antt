@@ -1,28 +1,18 @@
 -- What a table that agrees with the history shows of links and of receive channels is what the history says of them; so a send is the same on both.
 -- Assumes nothing.
-use mathlib.Core.Path.{_≡_, refl, _∙_, ap, fun-ext, sym}
-use mathlib.Core.Bool.{Bool, true, false, cond, _&&_, not, Bool·not-not}
+use mathlib.Core.Path.{_≡_, _∙_, ap, fun-ext, sym}
+use mathlib.Core.Bool.{not, Bool·not-not}
 use Prim.Native.Nat.{ℕ}
 use lib.Dec.{eqb}
-use Rattle.paths.specs.Network.{link-free, link-held, isFree, linkState}
+use Rattle.paths.specs.Network.{isFree, linkState}
 use Rattle.paths.specs.CubeNetwork.{send}
-use Rattle.table.specs.View.{available, receive, lowestOf}
-use Rattle.search.specs.Settle.{freeIn}
+use Rattle.table.specs.View.{heldIn, available, receive}
+use Rattle.paths.specs.Send.{lowestOf}
+use Rattle.search.specs.PassAnswer.{freeIn}
 use Rattle.ownership.specs.Update.{sendIn}
-use Rattle.ownership.specs.OnTable.{heldIn}
 use Rattle.ownership.specs.History.{History, shapeOn, netOn, holdsLink, holdsReceive, enabledOn, heldOn, freeOn, takenOn, receiveOn, sendOn}
-use Rattle.ownership.specs.Lists.{viewOf}
+use Rattle.ownership.specs.HistoryView.{viewOf}
 use Rattle.ownership.proofs.Circuits.{number-any}
-
--- "A link is free if enabled and held by nobody", as one test
-free-state : (e : Bool) (c : ℕ) → isFree (linkState e c) ≡ e && not (not (eqb c 0))
-unfolding isFree linkState
-free-state false c = refl
-free-state true c = go (eqb c 0)
-  where
-    go : (b : Bool) → isFree (cond b link-free link-held) ≡ not (not b)
-    go true = refl
-    go false = refl
 
 module _ (h : History) where
   -- "the link is held"
@@ -32,9 +22,8 @@ module _ (h : History) where
 
   -- free links
   pub free-same : freeIn (viewOf h) ≡ freeOn h
-  unfolding freeIn freeOn heldOn viewOf
-  free-same = fun-ext (λ n. fun-ext (λ p.
-      free-state (enabledOn h n p) (viewOf h .owner n p) ∙ ap (λ (b : Bool). enabledOn h n p && not b) (number-any (holdsLink (netOn h) n p) (h .circuits))))
+  unfolding freeIn freeOn viewOf
+  free-same = λ i n p. isFree (linkState (enabledOn h n p) (held-same i n p))
 
   -- the lowest receive channel of a node that no circuit holds
   available-same : (t : ℕ) → available (viewOf h) t ≡ (λ k. not (takenOn h t k))

@@ -14,14 +14,13 @@ use Rattle.paths.specs.Network.{Path}
 use Rattle.paths.specs.Send.{Outcome, acknowledged, route-rejected, receive-rejected}
 use Rattle.paths.proofs.Apart.{permitted-below}
 use Rattle.table.specs.Layout.{tableLength, putOwner}
-use Rattle.table.specs.View.{View, view, setReceiver, receive}
-use Rattle.soundness.specs.Sound.{shapeOf}
+use Rattle.table.specs.View.{View, view, setReceiver, receive, shapeOf}
 use Rattle.table.proofs.Views.{view-put-owner, view-put-receiver}
-use Rattle.search.specs.Settle.{freeIn, hold}
-use Rattle.search.specs.Sent.{marked}
+use Rattle.search.specs.PassAnswer.{freeIn, holdPath}
+use Rattle.search.specs.SendAnswer.{bytesAfterSend}
 use Rattle.search.proofs.Sends.{receive-small}
-use Rattle.search.proofs.Turns.{owner-length}
-use Rattle.ownership.specs.Update.{sendIn, holdLinks, marking}
+use Rattle.search.proofs.SearchContracts.{owner-length}
+use Rattle.ownership.specs.Update.{sendIn, holdLinks, viewAfterSend}
 use Rattle.ownership.proofs.Acknowledged.{send-taken}
 
 -- the ports of a path are below D
@@ -34,15 +33,15 @@ Fits D (acknowledged w k) = PortsBelow D w × (k < 8)
 Fits D route-rejected = Unit
 Fits D receive-rejected = Unit
 
-pub hold-length : (b : List ℕ) (c n : ℕ) (w : Path) → length (hold b c n w) ≡ length b
-unfolding hold
+pub hold-length : (b : List ℕ) (c n : ℕ) (w : Path) → length (holdPath b c n w) ≡ length b
+unfolding holdPath
 hold-length b c n [] = refl
 hold-length b c n (p ∷ w) = hold-length (putOwner b n p c) c (next n p) w ∙ owner-length b n p c
 
 module _ (c : ℕ) (small : c < 65536) (D : ℕ) (fits : D ≤ 8) where
   -- What the table shows after the links of a path are held.
-  pub view-hold : (b : List ℕ) → length b ≡ tableLength → (s : ℕ) (w : Path) → s < 2 ^ D → PortsBelow D w → view (hold b c s w) ≡ holdLinks (view b) c s w
-  unfolding hold holdLinks PortsBelow
+  pub view-hold : (b : List ℕ) → length b ≡ tableLength → (s : ℕ) (w : Path) → s < 2 ^ D → PortsBelow D w → view (holdPath b c s w) ≡ holdLinks (view b) c s w
+  unfolding holdPath holdLinks PortsBelow
   view-hold b l s [] i h = refl
   view-hold b l s (p ∷ w) i h =
       let here : p < D = h p (List·Memᴰ·head refl) in
@@ -50,13 +49,13 @@ module _ (c : ℕ) (small : c < 65536) (D : ℕ) (fits : D ≤ 8) where
       ∙ ap (λ v. holdLinks v c (next s p) w) (view-put-owner b s p c record { bytes = l; node = below-256 fits i; port = omega arith } small)
 
   -- What it shows after a send.
-  pub view-marked : (b : List ℕ) → length b ≡ tableLength → (s t : ℕ) → s < 2 ^ D → t < 2 ^ D → (o : Outcome) → Fits D o → view (marked b c s t o) ≡ marking (view b) c s t o
-  unfolding marked marking Fits
-  view-marked b l s t i j (acknowledged w k) h =
-      view-put-receiver (hold b c s w) t k c record { bytes = hold-length b c s w ∙ l; node = below-256 fits j; port = h .1 } small
+  pub view-after-send : (b : List ℕ) → length b ≡ tableLength → (s t : ℕ) → s < 2 ^ D → t < 2 ^ D → (o : Outcome) → Fits D o → view (bytesAfterSend b c s t o) ≡ viewAfterSend (view b) c s t o
+  unfolding bytesAfterSend viewAfterSend Fits
+  view-after-send b l s t i j (acknowledged w k) h =
+      view-put-receiver (holdPath b c s w) t k c record { bytes = hold-length b c s w ∙ l; node = below-256 fits j; port = h .1 } small
       ∙ ap (λ v. setReceiver v t k c) (view-hold b l s w i (h .0))
-  view-marked b l s t i j route-rejected h = refl
-  view-marked b l s t i j receive-rejected h = refl
+  view-after-send b l s t i j route-rejected h = refl
+  view-after-send b l s t i j receive-rejected h = refl
 
 -- An acknowledged send's ports are below the dimension, and its receive channel is one of eight.
 pub sent-fits : (v : View) (s t y vector : ℕ) → v .dimension ≤ 8 → s < 2 ^ v .dimension → t < 2 ^ v .dimension → Fits (v .dimension) (sendIn v s t y vector .outcome)

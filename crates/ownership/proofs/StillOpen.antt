@@ -12,13 +12,13 @@ use borrow.Author.Tests.{eqb-true, eq-eqb, not-true}
 use Rattle.common.specs.Lists.{any, keep}
 use Rattle.common.proofs.Tests.{same?, clash, is-false, both, and, either, or-left, or-right}
 use Rattle.common.proofs.Lists.{keep-mem, mem-keep, any-some, some-any}
-use Rattle.paths.specs.Send.{Outcome, acknowledged, route-rejected, receive-rejected, answered}
-use Rattle.ownership.specs.Calls.{Call, making, blocking, unblocking, opening, closing, tracing, After}
-use Rattle.ownership.specs.History.{Circuit, History, belongs, openOn, stoppedOn, sendOn, withCircuits, adds, follows, gives, entered}
-use Rattle.ownership.specs.Lists.{historyAfter, historyGives, leaves, answers}
+use Rattle.paths.specs.Send.{Outcome, acknowledged, route-rejected, receive-rejected}
+use Rattle.ownership.specs.Calls.{Call, making, blocking, unblocking, opening, closing, tracing, CallResult, answered, resultOf}
+use Rattle.ownership.specs.History.{Circuit, History, belongs, openOn, factsOn, stoppedOn, sendOn, withCircuits, withOpened, applied, historyStep}
+use Rattle.ownership.specs.Agrees.{historyAfter, historyResults, leaves, answers}
 use Rattle.ownership.specs.StillOpen.{numbered, Ends, Lasts, StillOpen}
 use Rattle.ownership.proofs.Circuits.{belongs-parts, parts-belong}
-use Rattle.ownership.proofs.Entered.{entered-passed, entered-stopped}
+use Rattle.ownership.proofs.Steps.{history-step}
 
 module _ (s c : ℕ) where
   -- a call that answered n is an acknowledged open of the channel
@@ -40,19 +40,19 @@ module _ (s c : ℕ) where
   step-same h next a n e no-open spare = record { from-next = λ o. inr (sym e ∙ o, spare); opens = λ o. absurd (no-open o); spares = λ o z. e ∙ o }
 
   -- an accepted making
-  step-making : (h : History) (D n : ℕ) → n ≡ 0 → Step h (record { dimension = D; blocked = []; circuits = [] }) (making D) n
+  step-making : (h : History) (D : ℕ) → Step h (record { dimension = D; blocked = []; circuits = [] }) (making D) 0
   unfolding openOn any Ends
-  step-making h D n z =
+  step-making h D =
       record {
         from-next = λ o. absurd (clash o refl);
         opens = λ o. let u : _≡_ {A = ℕ} 0 1 = cc (o .3) in absurd (omega arith);
-        spares = λ o spare. absurd (spare z tt);
+        spares = λ o spare. absurd (spare refl tt);
       }
 
-  -- an open, by its outcome
-  step-opening : (h : History) (m d t y v k : ℕ) (o : Outcome) → Step h (adds h m d t o) (opening m d t y v) (answered o k .number)
-  unfolding adds openOn any belongs answered
-  step-opening h m d t y v k (acknowledged w j) =
+  -- an acknowledged open
+  step-opening : (h : History) (m d t y v k : ℕ) (o : Outcome) → answered o k .number ≡ 0 → Step h (withOpened h m d t o) (opening m d t y v) 0
+  unfolding withOpened openOn any belongs answered
+  step-opening h m d t y v k (acknowledged w j) z =
       record {
         from-next = λ o. ⊎-elim (λ e. inl (new (both (eqb m s) (eqb d c) e))) (λ e. inr (e, λ z ends. unfold Ends in absurd ends)) (either (eqb m s && eqb d c) (any (belongs s c) (h .circuits)) o);
         opens = λ o. let e : m ≡ s = cc (o .3) in let f : d ≡ c = cc (o .3) in or-left _ (and (eq-eqb m s e) (eq-eqb d c f));
@@ -61,13 +61,13 @@ module _ (s c : ℕ) where
     where
       new : (eqb m s ≡ true) × (eqb d c ≡ true) → Opens (opening m d t y v) 0
       new r = (t, y, v, (λ i. opening (eqb-true m s (r .0) i) (eqb-true d c (r .1) i) t y v), refl)
-  step-opening h m d t y v k route-rejected = step-same h h (opening m d t y v) 10 refl (λ o. omega (arith, o .4)) (λ z ends. omega arith)
-  step-opening h m d t y v k receive-rejected = step-same h h (opening m d t y v) 11 refl (λ o. omega (arith, o .4)) (λ z ends. omega arith)
+  step-opening h m d t y v k route-rejected z = absurd (omega (arith, z))
+  step-opening h m d t y v k receive-rejected z = absurd (omega (arith, z))
 
   -- an accepted close
-  step-closing : (h : History) (m d n : ℕ) → n ≡ 0 → Step h (withCircuits h (keep (λ x. not (belongs m d x)) (h .circuits))) (closing m d) n
+  step-closing : (h : History) (m d : ℕ) → Step h (withCircuits h (keep (λ x. not (belongs m d x)) (h .circuits))) (closing m d) 0
   unfolding openOn Ends
-  step-closing h m d n z =
+  step-closing h m d =
       record {
         from-next = λ o.
             let r = any-some (belongs s c) left o in
@@ -76,7 +76,7 @@ module _ (s c : ℕ) where
         opens = λ o. let u : _≡_ {A = ℕ} 0 1 = cc (o .3) in absurd (omega arith);
         spares = λ o spare.
             let r = any-some (belongs s c) (h .circuits) o in
-            some-any (belongs s c) left (mem-keep other (h .circuits) (r .1) (ap not (is-false _ (λ e. spare z (owned (r .0) (r .2) e))))) (r .2);
+            some-any (belongs s c) left (mem-keep other (h .circuits) (r .1) (ap not (is-false _ (λ e. spare refl (owned (r .0) (r .2) e))))) (r .2);
       }
     where
       other : Circuit → Bool
@@ -91,22 +91,21 @@ module _ (s c : ℕ) where
       owned : (x : Circuit) → belongs s c x ≡ true → belongs m d x ≡ true → (m ≡ s) × (d ≡ c)
       owned x e f = let r = belongs-parts s c x e in let q = belongs-parts m d x f in (sym (q .0) ∙ r .0, sym (q .1) ∙ r .1)
 
-  -- any call that no test stops, then any call
-  step-passed : (h : History) (a : Call) → Step h (follows h a) a (gives h a .answer .number)
-  unfolding follows gives Ends openOn
-  step-passed h (making D) = step-making h D 0 refl
-  step-passed h (blocking m p) = step-same h _ (blocking m p) 0 refl (λ o. let u : _≡_ {A = ℕ} 0 1 = cc (o .3) in absurd (omega arith)) (λ z ends. absurd ends)
-  step-passed h (unblocking m p) = step-same h _ (unblocking m p) 0 refl (λ o. let u : _≡_ {A = ℕ} 0 1 = cc (o .3) in absurd (omega arith)) (λ z ends. absurd ends)
-  step-passed h (opening m d t y v) = step-opening h m d t y v (sendOn h m t y v .scouts) (sendOn h m t y v .outcome)
-  step-passed h (closing m d) = step-closing h m d 0 refl
-  step-passed h (tracing m d buffer) = step-same h h (tracing m d buffer) 0 refl (λ o. let u : _≡_ {A = ℕ} 0 1 = cc (o .3) in absurd (omega arith)) (λ z ends. absurd ends)
+  -- any accepted call, then any call
+  step-accepted : (h : History) (a : Call) → resultOf (factsOn h) a .number ≡ 0 → Step h (applied h a) a 0
+  unfolding applied resultOf factsOn Ends openOn
+  step-accepted h (making D) e = step-making h D
+  step-accepted h (blocking m p) e = step-same h _ (blocking m p) 0 refl (λ o. let u : _≡_ {A = ℕ} 0 1 = cc (o .3) in absurd (omega arith)) (λ z ends. absurd ends)
+  step-accepted h (unblocking m p) e = step-same h _ (unblocking m p) 0 refl (λ o. let u : _≡_ {A = ℕ} 0 1 = cc (o .3) in absurd (omega arith)) (λ z ends. absurd ends)
+  step-accepted h (opening m d t y v) e = step-opening h m d t y v _ (sendOn h m t y v .outcome) e
+  step-accepted h (closing m d) e = step-closing h m d
+  step-accepted h (tracing m d buffer) e = step-same h h (tracing m d buffer) 0 refl (λ o. let u : _≡_ {A = ℕ} 0 1 = cc (o .3) in absurd (omega arith)) (λ z ends. absurd ends)
 
-  step-told : (h : History) (a : Call) → Step h (entered h a .state) a (entered h a .given .answer .number)
+  step-told : (h : History) (a : Call) → Step h (historyStep h a .state) a (historyStep h a .result .number)
   step-told h a =
-      ⊎-elim (λ e. subst (λ (x : After History). Step h (x .state) a (x .given .answer .number)) (sym (entered-passed h a e)) (step-passed h a))
-      (λ e. subst (λ (x : After History). Step h (x .state) a (x .given .answer .number)) (sym (entered-stopped h a e))
-      (step-same h h a (stoppedOn h a) refl (λ o. e (o .4)) (λ z ends. e z)))
-      (same? (stoppedOn h a) 0)
+      let g = history-step h a in
+      ⊎-elim (λ e. rw (g .accepted e, e) (step-accepted h a (rw (g .result (g .passed e)) at e))) (λ f. rw (g .refused f) (step-same h h a _ refl (λ o. f (o .4)) (λ z ends. f z)))
+      (same? (historyStep h a .result .number) 0)
 
   -- LISTS, of calls with the numbers that they answered
   lasts-cons : (a : Call) (n : ℕ) (ps : List (Call × ℕ)) → Spares a n → Lasts s c ps → Lasts s c ((a, n) ∷ ps)
@@ -166,25 +165,25 @@ module _ (s c : ℕ) where
 
   -- From any history on:
   pub open-after : (h : History) (calls : List Call)
-      → (openOn (historyAfter h calls) s c ≡ true) ↔ (StillOpen s c (numbered calls (historyGives h calls)) ⊎ ((openOn h s c ≡ true) × Lasts s c (numbered calls (historyGives h calls))))
+      → (openOn (historyAfter h calls) s c ≡ true) ↔ (StillOpen s c (numbered calls (historyResults h calls)) ⊎ ((openOn h s c ≡ true) × Lasts s c (numbered calls (historyResults h calls))))
   unfolding leaves answers numbered Lasts
   open-after h [] = ((λ o. inr (o, λ a m. absurd (List·Memᴰ·not-nil m))), ⊎-elim (λ o. absurd (still-none o)) (λ r. r .0))
   open-after h (a ∷ more) =
-      let ih = open-after (entered h a .state) more in
-      let one = by-one h (entered h a .state) a (entered h a .given .answer .number) (step-told h a) (numbered more (historyGives (entered h a .state) more)) in
+      let ih = open-after (historyStep h a .state) more in
+      let one = by-one h (historyStep h a .state) a (historyStep h a .result .number) (step-told h a) (numbered more (historyResults (historyStep h a .state) more)) in
       ((λ o. one .0 (ih .0 o)), λ r. ih .1 (one .1 r))
 
   -- From an accepted making on: the list has an acknowledged open of the channel, and no accepted making and no accepted close of it afterwards.
   pub open-exactly : (h : History) (D : ℕ) → stoppedOn h (making D) ≡ 0 → (calls : List Call)
-      → (openOn (historyAfter h (making D ∷ calls)) s c ≡ true) ↔ StillOpen s c (numbered (making D ∷ calls) (historyGives h (making D ∷ calls)))
+      → (openOn (historyAfter h (making D ∷ calls)) s c ≡ true) ↔ StillOpen s c (numbered (making D ∷ calls) (historyResults h (making D ∷ calls)))
   open-exactly h D e calls =
       let r = open-after h (making D ∷ calls) in
       ((λ o. ⊎-elim (λ x. x) (λ x. absurd (ended (x .1))) (r .0 o)), λ x. r .1 (inl x))
     where
-      accepted : entered h (making D) .given .answer .number ≡ 0
-      accepted = unfold gives in ap (λ (x : After History). x .given .answer .number) (entered-passed h (making D) e)
+      accepted : historyStep h (making D) .result .number ≡ 0
+      accepted = unfold resultOf in ap (λ (g : CallResult). g .number) (history-step h (making D) .result e)
 
-      ended : Lasts s c (numbered (making D ∷ calls) (historyGives h (making D ∷ calls))) → ⊥
+      ended : Lasts s c (numbered (making D ∷ calls) (historyResults h (making D ∷ calls))) → ⊥
       ended l =
           unfold answers numbered Ends in
-          lasts-first (making D) (entered h (making D) .given .answer .number) (numbered calls (historyGives (entered h (making D) .state) calls)) l .0 accepted tt
+          lasts-first (making D) (historyStep h (making D) .result .number) (numbered calls (historyResults (historyStep h (making D) .state) calls)) l .0 accepted tt

@@ -7,9 +7,9 @@ use mathlib.Core.Bool.{true, false}
 use Prim.Native.Nat.{ℕ, _^_, _≤_, _<_}
 use lib.ListN.{length}
 use Rattle.cube.specs.Bits.{has}
-use Rattle.ownership.specs.Calls.{Call, making, blocking, unblocking, opening, closing, tracing, Asked}
+use Rattle.ownership.specs.Calls.{Call, making, blocking, unblocking, opening, closing, tracing, CallFacts}
 
-unfoldable pub Allowed : Asked → Call → Type 0
+unfoldable pub Allowed : CallFacts → Call → Type 0
 Allowed a (making D) = (1 ≤ D) × (D ≤ 8)
 Allowed a (blocking n p) = (n < 2 ^ a .dimension) × (p < a .dimension) × (a .held n p ≡ false)
 Allowed a (unblocking n p) = (n < 2 ^ a .dimension) × (p < a .dimension)

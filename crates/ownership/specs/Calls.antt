@@ -1,12 +1,14 @@
--- The six calls of document 01 and what they answer.
+-- The six calls of document 01: what each is lent, how it is tested, and what it gives.
 -- Assumes nothing.
-use mathlib.Core.Bool.{Bool, not, _&&_, _||_}
+use mathlib.Core.Bool.{Bool, true, false, cond, not, _&&_, _||_}
 use mathlib.Core.List.{List, [], _∷_}
 use Prim.Native.Nat.{ℕ, _^_}
 use lib.Dec.{eqb, ltb, leb}
-use lib.ListN.{length}
+use lib.ListN.{length, getD, replicate}
 use Rattle.common.specs.Tests.{Test, test}
-use Rattle.paths.specs.Send.{Answer}
+use Rattle.paths.specs.Network.{Path}
+use Rattle.paths.specs.Send.{Outcome, acknowledged, route-rejected, receive-rejected, SendResult}
+use Rattle.soundness.specs.SoundTest.{tracedInto}
 
 -- A call with its arguments. A trace is lent a buffer, which comes with its bytes; the table is not an argument.
 pub data Call : Type 0 where
@@ -17,71 +19,123 @@ pub data Call : Type 0 where
   closing : (source channel : ℕ) → Call
   tracing : (source channel : ℕ) → (buffer : List ℕ) → Call
 
--- what a call gives: its answer, and the bytes of the buffer lent to it afterwards (none where it is lent none)
-pub record Given : Type 0 where
-  pub answer : Answer
-  pub buffer : List ℕ
+-- what a call is, whatever it is made on
+pub record CallForm : Type 0 where
+  -- it makes the table, whatever that stored before
+  pub makes : Bool
+  -- how many values it answers beside its number
+  pub values : ℕ
+  -- the buffers that it is lent beside the table, with their bytes
+  pub buffers : List (List ℕ)
 
--- what a call leaves of what it is made on, the bytes of a table or the history, and what it gives
-pub record After (S : Type 0) : Type 0 where
-  pub state : S
-  pub given : Given
+-- a call on a made table that answers the number alone and is lent nothing else
+abbrev plain : CallForm
+plain = record { makes = false; values = 0; buffers = [] }
 
--- "Success is 0." "Other refused calls return zero beside the number."
-abbrev pub only : ℕ → Answer
-only n = record { number = n; hops = 0; receive = 0; scouts = 0 }
+-- "An open answers number, hops, receive channel, scouts; a trace, number and hops; .. the rest the number alone."
+abbrev pub form : Call → CallForm
+form (making D) = record { makes = true; values = 0; buffers = [] }
+form (blocking n p) = plain
+form (unblocking n p) = plain
+form (opening s c t y v) = record { makes = false; values = 3; buffers = [] }
+form (closing s c) = plain
+form (tracing s c buffer) = record { makes = false; values = 1; buffers = buffer ∷ [] }
 
--- What the tests of a call ask of whatever the call is made on, in document 01's words. Each is read off a table, and off the history.
-pub record Asked : Type 0 where
+abbrev pub lent : Call → List (List ℕ)
+lent a = form a .buffers
+
+-- What a call gives: its number, the values beside it in the order in which it answers them, and the bytes of its buffers afterwards.
+pub record CallResult : Type 0 where
+  pub number : ℕ
+  pub values : List ℕ
+  pub buffers : List (List ℕ)
+
+-- the values of an open; of a trace, its hops and its buffer
+abbrev pub hopsOf : CallResult → ℕ
+hopsOf g = getD (g .values) 0 0
+
+abbrev pub receiveOf : CallResult → ℕ
+receiveOf g = getD (g .values) 1 0
+
+abbrev pub scoutsOf : CallResult → ℕ
+scoutsOf g = getD (g .values) 2 0
+
+abbrev pub bufferOf : CallResult → List ℕ
+bufferOf g = getD (g .buffers) 0 []
+
+-- the number alone; "Success is 0."
+abbrev pub only : ℕ → CallResult
+only n = record { number = n; values = []; buffers = [] }
+
+-- "When refused, all but the number are 0": as many values as the call answers. Its buffers are as they were lent.
+abbrev pub refusedWith : ℕ → Call → CallResult
+refusedWith n a = record { number = n; values = replicate (form a .values) 0; buffers = lent a }
+
+-- What an open answers after the search: ".. except that 10 and 11 carry their scouts."
+unfoldable pub answered : Outcome → ℕ → CallResult
+answered (acknowledged w k) n = record { number = 0; values = length w ∷ k ∷ n ∷ []; buffers = [] }
+answered route-rejected n = record { number = 10; values = 0 ∷ 0 ∷ n ∷ []; buffers = [] }
+answered receive-rejected n = record { number = 11; values = 0 ∷ 0 ∷ n ∷ []; buffers = [] }
+
+-- the numbers that come with the scouts of an open: success, and the two of a rejected search
+unfoldable pub carriesScouts : ℕ → Bool
+carriesScouts n = eqb n 0 || eqb n 10 || eqb n 11
+
+-- What a call asks of whatever it is made on, in document 01's words. Each is read off a table, and off the history.
+pub record CallFacts : Type 0 where
   -- the dimension
   pub dimension : ℕ
   -- "the link is held", by node and port
   pub held : ℕ → ℕ → Bool
   -- "this send channel has an open circuit", by source and channel
   pub isOpen : ℕ → ℕ → Bool
+  -- what a send comes to, by source, target, routing type and send vector
+  pub sends : ℕ → ℕ → ℕ → ℕ → SendResult
+  -- the ports of the circuit of a send channel, by source and channel
+  pub path : ℕ → ℕ → Path
 
 -- "D outside 1 to 8: the one given when making, else the one stored": the one given
 abbrev pub dimensionGiven : ℕ → Test
 dimensionGiven D = test (not (leb 1 D && leb D 8)) 2
 
 -- "a node, source or target, not below 2^D"; "channel above 7"; "port not below D"
-abbrev pub absent : Asked → ℕ → Bool
+abbrev pub absent : CallFacts → ℕ → Bool
 absent a n = not (ltb n (2 ^ a .dimension))
 
-abbrev pub node : Asked → ℕ → Test
+abbrev pub node : CallFacts → ℕ → Test
 node a n = test (absent a n) 4
 
-abbrev pub nodes : Asked → ℕ → ℕ → Test
+abbrev pub nodes : CallFacts → ℕ → ℕ → Test
 nodes a s t = test (absent a s || absent a t) 4
 
 abbrev pub channel : ℕ → Test
 channel c = test (ltb 7 c) 5
 
-abbrev pub port : Asked → ℕ → Test
+abbrev pub port : CallFacts → ℕ → Test
 port a p = test (not (ltb p (a .dimension))) 6
 
 -- "routing type neither 0 nor 4"; "send vector zero, or with a bit at or above D"
 abbrev pub routingType : ℕ → Test
 routingType y = test (not (eqb y 0) && not (eqb y 4)) 7
 
-abbrev pub sendVector : Asked → ℕ → Test
+abbrev pub sendVector : CallFacts → ℕ → Test
 sendVector a v = test (eqb v 0 || not (ltb v (2 ^ a .dimension))) 8
 
 -- "this send channel has an open circuit"; "this channel has no open circuit"; "the link is held"; "buffer shorter than 9 bytes"
-abbrev pub inUse : Asked → ℕ → ℕ → Test
+abbrev pub inUse : CallFacts → ℕ → ℕ → Test
 inUse a s c = test (a .isOpen s c) 9
 
-abbrev pub noCircuit : Asked → ℕ → ℕ → Test
+abbrev pub noCircuit : CallFacts → ℕ → ℕ → Test
 noCircuit a s c = test (not (a .isOpen s c)) 12
 
-abbrev pub linkHeld : Asked → ℕ → ℕ → Test
+abbrev pub linkHeld : CallFacts → ℕ → ℕ → Test
 linkHeld a n p = test (a .held n p) 13
 
 abbrev pub shortBuffer : List ℕ → Test
 shortBuffer buffer = test (ltb (length buffer) 9) 14
 
 -- "Within one call the tests run in rising order of number." Those of each call behind the tests of the lent table:
-unfoldable pub callTests : Asked → Call → List Test
+unfoldable pub callTests : CallFacts → Call → List Test
 callTests a (making D) = dimensionGiven D ∷ []
 callTests a (blocking n p) = node a n ∷ port a p ∷ linkHeld a n p ∷ []
 callTests a (unblocking n p) = node a n ∷ port a p ∷ []
@@ -89,11 +143,22 @@ callTests a (opening s c t y v) = nodes a s t ∷ channel c ∷ routingType y �
 callTests a (closing s c) = node a s ∷ channel c ∷ noCircuit a s c ∷ []
 callTests a (tracing s c buffer) = node a s ∷ channel c ∷ noCircuit a s c ∷ shortBuffer buffer ∷ []
 
--- what a call is lent beside the table
-unfoldable pub lent : Call → List ℕ
-lent (making D) = []
-lent (blocking n p) = []
-lent (unblocking n p) = []
-lent (opening s c t y v) = []
-lent (closing s c) = []
-lent (tracing s c buffer) = buffer
+-- what a call gives where no test applies
+unfoldable pub resultOf : CallFacts → Call → CallResult
+resultOf a (making D) = only 0
+resultOf a (blocking n p) = only 0
+resultOf a (unblocking n p) = only 0
+resultOf a (opening s c t y v) = let x = a .sends s t y v in answered (x .outcome) (x .scouts)
+resultOf a (closing s c) = only 0
+resultOf a (tracing s c buffer) = let w = a .path s c in record { number = 0; values = length w ∷ []; buffers = tracedInto w buffer ∷ [] }
+
+-- what a call leaves of what it is made on, the bytes of a table or the history, and what it gives
+pub record After (S : Type 0) : Type 0 where
+  pub state : S
+  pub result : CallResult
+
+-- A call on a state whose facts are a, and whose tests answer n, 0 where none applies: what it gives, and the state that it leaves. That is `after` where the call
+-- is accepted: "Success is 0". Else it is `before`, also where the search is rejected: "No refusal alters any lent byte."
+unfoldable pub callOn : {S : Type 0} → S → S → CallFacts → ℕ → Call → After S
+callOn before after a n call =
+    let g = cond (eqb n 0) (resultOf a call) (refusedWith n call) in record { state = cond (eqb (g .number) 0) after before; result = g }

@@ -4,15 +4,12 @@ use mathlib.Core.Bool.{Bool, cond, _&&_, not}
 use mathlib.Core.List.{List, [], _∷_}
 use Prim.Native.Nat.{ℕ, _^_}
 use lib.Dec.{eqb, ltb}
-use lib.ListN.{length}
 use Rattle.common.specs.Lists.{keep, any}
 use Rattle.common.specs.Tests.{refusal}
-use Rattle.paths.specs.Network.{Network, Path, Link, links, hasLink}
-use Rattle.paths.specs.Send.{Receive, channel, Outcome, acknowledged, route-rejected, receive-rejected, Sent, answered}
+use Rattle.paths.specs.Network.{Network, Path, Link, links, hasLink, linkState, isFree}
+use Rattle.paths.specs.Send.{Receive, channel, Outcome, acknowledged, route-rejected, receive-rejected, SendResult, lowestOf}
 use Rattle.paths.specs.CubeNetwork.{Shape, network, send}
-use Rattle.table.specs.View.{lowestOf}
-use Rattle.soundness.specs.SoundTest.{written}
-use Rattle.ownership.specs.Calls.{Call, making, blocking, unblocking, opening, closing, tracing, Given, Asked, only, callTests, lent, After}
+use Rattle.ownership.specs.Calls.{Call, making, blocking, unblocking, opening, closing, tracing, CallFacts, callTests, After, callOn}
 
 -- "each open circuit with the links and receive channel it holds": its source and send channel, its path, and the receive channel at the path's end
 pub record Circuit : Type 0 where
@@ -59,7 +56,7 @@ unfoldable pub heldOn : History → ℕ → ℕ → Bool
 heldOn h n p = any (holdsLink (netOn h) n p) (h .circuits)
 
 unfoldable pub freeOn : History → ℕ → ℕ → Bool
-freeOn h n p = enabledOn h n p && not (heldOn h n p)
+freeOn h n p = isFree (linkState (enabledOn h n p) (heldOn h n p))
 
 unfoldable pub takenOn : History → ℕ → ℕ → Bool
 takenOn h n k = any (holdsReceive n k) (h .circuits)
@@ -76,16 +73,16 @@ unfoldable pub listed : List Circuit → ℕ → ℕ → Path
 listed [] s c = []
 listed (x ∷ xs) s c = cond (belongs s c x) (x .ports) (listed xs s c)
 
+-- the send of an open, "by the rules above, read on this record"
+unfoldable pub sendOn : History → ℕ → ℕ → ℕ → ℕ → SendResult
+sendOn h s t y v = send y (shapeOn h) (freeOn h) (receiveOn h t) s v t
+
 -- "The tests are read off it; of 1 to 3, only a making's 2 arises on this table."
-unfoldable pub askedOn : History → Asked
-askedOn h = record { dimension = h .dimension; held = heldOn h; isOpen = openOn h }
+unfoldable pub factsOn : History → CallFacts
+factsOn h = record { dimension = h .dimension; held = heldOn h; isOpen = openOn h; sends = sendOn h; path = listed (h .circuits) }
 
 unfoldable pub stoppedOn : History → Call → ℕ
-stoppedOn h a = refusal (callTests (askedOn h) a)
-
--- the send of an open, "by the rules above, read on this record"
-unfoldable pub sendOn : History → ℕ → ℕ → ℕ → ℕ → Sent
-sendOn h s t y v = send y (shapeOn h) (freeOn h) (receiveOn h t) s v t
+stoppedOn h a = refusal (callTests (factsOn h) a)
 
 -- the history with other blocked links, or with other circuits
 abbrev pub withBlocked : History → List Link → History
@@ -95,31 +92,20 @@ abbrev pub withCircuits : History → List Circuit → History
 withCircuits h xs = record { dimension = h .dimension; blocked = h .blocked; circuits = xs }
 
 -- "an open adds its circuit with path and channel"
-unfoldable pub adds : History → ℕ → ℕ → ℕ → Outcome → History
-adds h s c t (acknowledged w k) = withCircuits h (record { source = s; channel = c; ports = w; target = t; receive = k } ∷ h .circuits)
-adds h s c t route-rejected = h
-adds h s c t receive-rejected = h
+unfoldable pub withOpened : History → ℕ → ℕ → ℕ → Outcome → History
+withOpened h s c t (acknowledged w k) = withCircuits h (record { source = s; channel = c; ports = w; target = t; receive = k } ∷ h .circuits)
+withOpened h s c t route-rejected = h
+withOpened h s c t receive-rejected = h
 
 -- "Else a making sets the dimension and clears the rest; a block adds a link, an unblock drops it; an open adds its circuit ..; a close drops its circuit."
-unfoldable pub follows : History → Call → History
-follows h (making D) = record { dimension = D; blocked = []; circuits = [] }
-follows h (blocking n p) = withBlocked h ((n, p) ∷ h .blocked)
-follows h (unblocking n p) = withBlocked h (keep (λ l. not (eqb (l .0) n && eqb (l .1) p)) (h .blocked))
-follows h (opening s c t y v) = adds h s c t (sendOn h s t y v .outcome)
-follows h (closing s c) = withCircuits h (keep (λ x. not (belongs s c x)) (h .circuits))
-follows h (tracing s c buffer) = h
-
-unfoldable pub gives : History → Call → Given
-gives h (making D) = record { answer = only 0; buffer = [] }
-gives h (blocking n p) = record { answer = only 0; buffer = [] }
-gives h (unblocking n p) = record { answer = only 0; buffer = [] }
-gives h (opening s c t y v) = let x = sendOn h s t y v in record { answer = answered (x .outcome) (x .scouts); buffer = [] }
-gives h (closing s c) = record { answer = only 0; buffer = [] }
-gives h (tracing s c buffer) =
-    let w = listed (h .circuits) s c in record { answer = record { number = 0; hops = length w; receive = 0; scouts = 0 }; buffer = written w buffer }
+unfoldable pub applied : History → Call → History
+applied h (making D) = record { dimension = D; blocked = []; circuits = [] }
+applied h (blocking n p) = withBlocked h ((n, p) ∷ h .blocked)
+applied h (unblocking n p) = withBlocked h (keep (λ l. not (eqb (l .0) n && eqb (l .1) p)) (h .blocked))
+applied h (opening s c t y v) = withOpened h s c t (sendOn h s t y v .outcome)
+applied h (closing s c) = withCircuits h (keep (λ x. not (belongs s c x)) (h .circuits))
+applied h (tracing s c buffer) = h
 
 -- a call entered in the history; "A refused call and a trace change nothing."
-unfoldable pub entered : History → Call → After History
-entered h a =
-    let n = stoppedOn h a in
-    cond (eqb n 0) (record { state = follows h a; given = gives h a }) (record { state = h; given = record { answer = only n; buffer = lent a } })
+unfoldable pub historyStep : History → Call → After History
+historyStep h a = callOn h (applied h a) (factsOn h) (stoppedOn h a) a

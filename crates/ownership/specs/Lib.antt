@@ -5,6 +5,8 @@ pub mod Reasons
 pub mod Update
 pub mod OnTable
 pub mod History
-pub mod Lists
+pub mod HistoryView
+pub mod Invariant
+pub mod Agrees
 pub mod FromTable
 pub mod StillOpen

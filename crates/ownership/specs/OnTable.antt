@@ -5,59 +5,40 @@ use mathlib.Core.List.{List, [], _∷_, _++_}
 use Prim.Native.Nat.{ℕ}
 use lib.Dec.{eqb}
 use lib.ListN.{length}
+use Rattle.common.specs.Lists.{any}
 use Rattle.common.specs.Tests.{Test, test, refusal}
-use Rattle.cube.specs.Cube.{circuitOf}
-use Rattle.paths.specs.Send.{Answer, answered}
+use Rattle.cube.specs.Cube.{circuitOf, sourceOf}
+use Rattle.paths.specs.CubeNetwork.{ports}
 use Rattle.table.specs.Layout.{tableLength}
-use Rattle.table.specs.View.{View, view}
+use Rattle.table.specs.View.{View, view, shapeOf, heldIn, heldBy}
 use Rattle.table.specs.Encode.{encode}
-use Rattle.soundness.specs.SoundTest.{pathOf, isEmpty, tableTests, written}
-use Rattle.ownership.specs.Calls.{Call, making, blocking, unblocking, opening, closing, tracing, Given, Asked, only, callTests, lent, After}
+use Rattle.soundness.specs.SoundTest.{pathOf, tableTests}
+use Rattle.ownership.specs.Calls.{Call, form, CallFacts, callTests, After, callOn}
 use Rattle.ownership.specs.Update.{sendIn, updated}
 
--- "this send channel has an open circuit": the links that its circuit holds make a path
+-- circuit number c is open: it holds a link out of its source
+unfoldable pub isOpenIn : View → ℕ → Bool
+isOpenIn v c = any (heldBy v c (sourceOf c)) (ports (shapeOf v))
+
+-- "this send channel has an open circuit"
 unfoldable pub openIn : View → ℕ → ℕ → Bool
-openIn v s c = not (isEmpty (pathOf v (circuitOf s c)))
+openIn v s c = isOpenIn v (circuitOf s c)
 
--- "the link is held"
-unfoldable pub heldIn : View → ℕ → ℕ → Bool
-heldIn v n p = not (eqb (v .owner n p) 0)
-
-unfoldable pub askedOf : View → Asked
-askedOf v = record { dimension = v .dimension; held = heldIn v; isOpen = openIn v }
+unfoldable pub factsOf : View → CallFacts
+factsOf v = record { dimension = v .dimension; held = heldIn v; isOpen = openIn v; sends = sendIn v; path = λ s c. pathOf v (circuitOf s c) }
 
 -- The tests of the lent table: a making is not stopped by what the table stored before.
 unfoldable pub lentTests : List ℕ → Call → List Test
-lentTests b (making D) = test (not (eqb (length b) tableLength)) 1 ∷ []
-lentTests b (blocking n p) = tableTests b
-lentTests b (unblocking n p) = tableTests b
-lentTests b (opening s c t y v) = tableTests b
-lentTests b (closing s c) = tableTests b
-lentTests b (tracing s c buffer) = tableTests b
+lentTests b a = cond (form a .makes) (test (not (eqb (length b) tableLength)) 1 ∷ []) (tableTests b)
 
 -- all tests of a call, in rising order of number. "The first that applies is the answer": its number, 0 where none does
 unfoldable pub stoppedAt : List ℕ → Call → ℕ
-stoppedAt b a = refusal (lentTests b a ++ callTests (askedOf (view b)) a)
+stoppedAt b a = refusal (lentTests b a ++ callTests (factsOf (view b)) a)
 
--- the table's bytes after a call, its answer and the bytes of its buffer
-abbrev pub done : List ℕ → Answer → List ℕ → After (List ℕ)
-done b answer buffer = record { state = b; given = record { answer = answer; buffer = buffer } }
+-- What a call does to the bytes of a table: where it is accepted, they are those that show the update of what the table showed.
+unfoldable pub tableStep : List ℕ → Call → After (List ℕ)
+tableStep b a = callOn b (encode (updated (view b) a)) (factsOf (view b)) (stoppedAt b a) a
 
--- what a call gives where no test applies, read on what the table shows
-unfoldable pub givesIn : View → Call → Given
-givesIn v (making D) = record { answer = only 0; buffer = [] }
-givesIn v (blocking n p) = record { answer = only 0; buffer = [] }
-givesIn v (unblocking n p) = record { answer = only 0; buffer = [] }
-givesIn v (opening s c t y x) = let r = sendIn v s t y x in record { answer = answered (r .outcome) (r .scouts); buffer = [] }
-givesIn v (closing s c) = record { answer = only 0; buffer = [] }
-givesIn v (tracing s c buffer) =
-    let w = pathOf v (circuitOf s c) in record { answer = record { number = 0; hops = length w; receive = 0; scouts = 0 }; buffer = written w buffer }
-
--- What a call does where no test applies. "Success is 0": its bytes are then those that show the update of what the table showed. A rejected search is a
--- refusal like any other.
-unfoldable pub carriedOut : List ℕ → Call → After (List ℕ)
-carriedOut b a = let g = givesIn (view b) a in record { state = cond (eqb (g .answer .number) 0) (encode (updated (view b) a)) b; given = g }
-
--- and where one does: "No refusal alters any lent byte."
-unfoldable pub called : List ℕ → Call → After (List ℕ)
-called b a = cond (eqb (stoppedAt b a) 0) (carriedOut b a) (done b (only (stoppedAt b a)) (lent a))
+-- as the contracts of the calls say it: the bytes of the table after a call, its number, its values and its buffers
+abbrev pub done : List ℕ → ℕ → List ℕ → List (List ℕ) → After (List ℕ)
+done b number values buffers = record { state = b; result = record { number = number; values = values; buffers = buffers } }

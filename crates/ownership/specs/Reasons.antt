@@ -9,9 +9,9 @@ use mathlib.Core.List.{List}
 use Prim.Native.Nat.{ℕ, _^_, _≤_, _<_}
 use lib.ListN.{length}
 use Rattle.cube.specs.Bits.{has}
-use Rattle.ownership.specs.Calls.{Call, making, blocking, unblocking, opening, closing, tracing, Asked}
+use Rattle.ownership.specs.Calls.{Call, making, blocking, unblocking, opening, closing, tracing, CallFacts}
 
-pub data Reason (a : Asked) : Call → ℕ → Type 0 where
+pub data Reason (a : CallFacts) : Call → ℕ → Type 0 where
   -- make, 2: "D outside 1 to 8: the one given when making"
   making-dimension : {D : ℕ} → (D < 1) ⊎ (8 < D) → Reason a (making D) 2
   -- block, 4: "a node .. not below 2^D"

@@ -5,15 +5,15 @@ use mathlib.Core.List.{List, [], _∷_, _++_}
 use Prim.Native.Nat.{ℕ}
 use Rattle.common.specs.Lists.{_∈_}
 use Rattle.paths.specs.Send.{acknowledged}
-use Rattle.ownership.specs.Calls.{Call, making, blocking, unblocking, opening, closing, tracing, Given}
-use Rattle.ownership.specs.History.{Circuit, History, stoppedOn, sendOn, entered}
-use Rattle.ownership.specs.Lists.{historyAfter, historyGives}
+use Rattle.ownership.specs.Calls.{Call, making, blocking, unblocking, opening, closing, tracing, CallResult}
+use Rattle.ownership.specs.History.{Circuit, History, stoppedOn, sendOn, historyStep}
+use Rattle.ownership.specs.Agrees.{historyAfter, historyResults}
 
 -- the calls of a list, each with the number that it answered; "Success is 0", and an accepted open is an acknowledged one
-unfoldable pub numbered : List Call → List Given → List (Call × ℕ)
+unfoldable pub numbered : List Call → List CallResult → List (Call × ℕ)
 numbered [] gs = []
 numbered (a ∷ more) [] = []
-numbered (a ∷ more) (g ∷ gs) = (a, g .answer .number) ∷ numbered more gs
+numbered (a ∷ more) (g ∷ gs) = (a, g .number) ∷ numbered more gs
 
 -- where it is accepted, the call ends the circuit of send channel c of node s: it is a making, or a close of that channel
 unfoldable pub Ends : ℕ → ℕ → Call → Type 0
@@ -46,6 +46,6 @@ pub record OpenedBy (h : History) (calls : List Call) (x : Circuit) : Type 0 whe
   pub vector : ℕ
   pub after : List Call
   pub split : calls ≡ before ++ opening (x .source) (x .channel) (x .target) type vector ∷ after
-  pub passes : stoppedOn (historyAfter h before) (opening (x .source) (x .channel) (x .target) type vector) ≡ 0
+  pub onPathOf : stoppedOn (historyAfter h before) (opening (x .source) (x .channel) (x .target) type vector) ≡ 0
   pub acknowledges : sendOn (historyAfter h before) (x .source) (x .target) type vector .outcome ≡ acknowledged (x .ports) (x .receive)
-  pub lasts : Lasts (x .source) (x .channel) (numbered after (historyGives (entered (historyAfter h before) (opening (x .source) (x .channel) (x .target) type vector) .state) after))
+  pub lasts : Lasts (x .source) (x .channel) (numbered after (historyResults (historyStep (historyAfter h before) (opening (x .source) (x .channel) (x .target) type vector) .state) after))

@@ -5,15 +5,14 @@ use mathlib.Core.List.{[], _∷_}
 use Prim.Native.Nat.{ℕ}
 use Rattle.cube.specs.Cube.{next, circuitOf}
 use Rattle.paths.specs.Network.{Path}
-use Rattle.paths.specs.Send.{Outcome, acknowledged, route-rejected, receive-rejected, Sent}
+use Rattle.paths.specs.Send.{Outcome, acknowledged, route-rejected, receive-rejected, SendResult}
 use Rattle.paths.specs.CubeNetwork.{send}
-use Rattle.table.specs.View.{View, setOwner, setReceiver, setEnabled, freeing, receive, fresh}
-use Rattle.soundness.specs.Sound.{shapeOf}
-use Rattle.search.specs.Settle.{freeIn}
+use Rattle.table.specs.View.{View, setOwner, setReceiver, setEnabled, withoutCircuit, receive, fresh, shapeOf}
+use Rattle.search.specs.PassAnswer.{freeIn}
 use Rattle.ownership.specs.Calls.{Call, making, blocking, unblocking, opening, closing, tracing}
 
 -- the send of an open, read on what the table shows
-unfoldable pub sendIn : View → ℕ → ℕ → ℕ → ℕ → Sent
+unfoldable pub sendIn : View → ℕ → ℕ → ℕ → ℕ → SendResult
 sendIn v s t y vector = send y (shapeOf v) (freeIn v) (receive v t) s vector t
 
 -- the links of a path from node n given to circuit c, one after another
@@ -22,10 +21,10 @@ holdLinks v c n [] = v
 holdLinks v c n (p ∷ w) = holdLinks (setOwner v n p c) c (next n p) w
 
 -- "An acknowledged send holds each link of the path and that receive channel. Nothing else in the table changes." The circuit is c, its source s, its target t.
-unfoldable pub marking : View → ℕ → ℕ → ℕ → Outcome → View
-marking v c s t (acknowledged w k) = setReceiver (holdLinks v c s w) t k c
-marking v c s t route-rejected = v
-marking v c s t receive-rejected = v
+unfoldable pub viewAfterSend : View → ℕ → ℕ → ℕ → Outcome → View
+viewAfterSend v c s t (acknowledged w k) = setReceiver (holdLinks v c s w) t k c
+viewAfterSend v c s t route-rejected = v
+viewAfterSend v c s t receive-rejected = v
 
 unfoldable pub updated : View → Call → View
 -- "Making a table gives dimension D, all its links enabled, nothing held."
@@ -34,8 +33,8 @@ updated v (making D) = fresh D
 updated v (blocking n p) = setEnabled v n p false
 updated v (unblocking n p) = setEnabled v n p true
 -- the circuit of the send channel holds what its send takes
-updated v (opening s c t y x) = marking v (circuitOf s c) s t (sendIn v s t y x .outcome)
+updated v (opening s c t y x) = viewAfterSend v (circuitOf s c) s t (sendIn v s t y x .outcome)
 -- "Closing frees every link and the receive channel of one circuit and touches nothing else."
-updated v (closing s c) = freeing v (circuitOf s c)
+updated v (closing s c) = withoutCircuit v (circuitOf s c)
 -- "A refused call and a trace change nothing."
 updated v (tracing s c buffer) = v

@@ -81,7 +81,7 @@ onward-climb N t n (p ∷ w) v o = (o .0, o .1, onward-climb N t (N .next n p) w
 
 module _ {N : Network} {t : ℕ} (near : Nearing N t) where
   -- every climb with a hop is one of them, where they may have as many hops as the target is far
-  climb-ways : (k n a : ℕ) (w : Path) → N .far t n ≤ k → Climb N t n w → (w ≡ []) ⊎ (w ∈ ways k N t n a)
+  climb-ways : (k n a : ℕ) (w : Path) → N .distance t n ≤ k → Climb N t n w → (w ≡ []) ⊎ (w ∈ ways k N t n a)
   unfolding Climb
   climb-ways k n a [] h r = inl refl
   climb-ways zero n a (p ∷ w) h r = absurd (omega (arith, near .nearer n p (r .1)))
@@ -91,21 +91,21 @@ module _ {N : Network} {t : ℕ} (near : Nearing N t) where
 
   module _ {Node : ℕ → Type 0} (lead : Leading N t Node) where
     -- a way leads from a node to the target where one does from every node one nearer, and so from every node
-    one-on : (n : ℕ) → Node n → ((m : ℕ) → suc (N .far t m) ≡ N .far t n → Node m → (w : Path) × Onward N t m w) → (w : Path) × Onward N t n w
+    one-on : (n : ℕ) → Node n → ((m : ℕ) → suc (N .distance t m) ≡ N .distance t n → Node m → (w : Path) × Onward N t m w) → (w : Path) × Onward N t n w
     unfolding Onward
     one-on n i on =
         ⊎-elim (λ e. ([], e))
         (λ ne. let r = lead .leads n i ne in let o = on (N .next n (r .0)) (sym (near .nearer n (r .0) (r .1))) (lead .inside n (r .0) i (r .1)) in (r .0 ∷ o .0, (ne, r .1, o .1)))
         (same? n t)
 
-    way-home : (k n : ℕ) → N .far t n ≤ k → Node n → (w : Path) × Onward N t n w
+    way-home : (k n : ℕ) → N .distance t n ≤ k → Node n → (w : Path) × Onward N t n w
     way-home zero n h i = one-on n i (λ m e j. absurd (omega arith))
     way-home (suc k) n h i = one-on n i (λ m e j. way-home k m (omega arith) j)
 
     -- so every climb is the beginning of a way to the target
     climb-onward : (n : ℕ) (w : Path) → Node n → Climb N t n w → (v : Path) × Onward N t n (w ++ v)
     unfolding Climb Onward
-    climb-onward n [] i r = way-home (N .far t n) n (le-refl _) i
+    climb-onward n [] i r = way-home (N .distance t n) n (le-refl _) i
     climb-onward n (p ∷ w) i r = let o = climb-onward (N .next n p) w (lead .inside n p i (r .1)) (r .2) in (o .0, (r .0, r .1, o .1))
 
     -- The list holds the beginnings of the permitted paths and nothing else.
@@ -114,7 +114,7 @@ module _ {N : Network} {t : ℕ} (near : Nearing N t) where
     beginnings-exactly s vector h b = (there b, back b)
       where
         on : ℕ → List Path
-        on p = ways (N .far t (N .next s p)) N t (N .next s p) p
+        on p = ways (N .distance t (N .next s p)) N t (N .next s p) p
 
         there : (b : Path) → b ∈ over on vector → Beginning N s vector t b
         there [] m = absurd (beginning-hop N s vector t m)

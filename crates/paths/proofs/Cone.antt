@@ -13,12 +13,12 @@ use Rattle.common.specs.Lists.{_∈_}
 use Rattle.cube.specs.Helical.{helical}
 use Rattle.cube.proofs.Order.{helical-mem}
 use Rattle.paths.specs.Network.{Network, offered, Nearing}
-use Rattle.paths.specs.Pass.{Pass}
+use Rattle.paths.specs.Pass.{PassResult}
 use Rattle.paths.specs.Search.{trying, arriving, holding}
 use Rattle.paths.proofs.Depth.{trying-cons}
 
 -- trying a list of ports asks only about those ports
-pub trying-same : {f g : ℕ → Bool} {on to : ℕ → ℕ → Pass} (ps : List ℕ)
+pub trying-same : {f g : ℕ → Bool} {on to : ℕ → ℕ → PassResult} (ps : List ℕ)
     → ((p : ℕ) → p ∈ ps → f p ≡ g p) → ((p : ℕ) → p ∈ ps → (c : ℕ) → on p c ≡ to p c) → (c : ℕ) → trying f on ps c ≡ trying g to ps c
 trying-same [] ef eo c = unfold trying in refl
 trying-same {f} {g} {on} {to} (p ∷ ps) ef eo c =
@@ -27,21 +27,21 @@ trying-same {f} {g} {on} {to} (p ∷ ps) ef eo c =
 
 module _ {N : Network} {t : ℕ} (near : Nearing N t) where
   -- an arrival at n asks only about the links offered at nodes no farther than n
-  cone : (f g : ℕ → ℕ → Bool) (d : ℕ) → ((m p : ℕ) → N .far t m ≤ d → p ∈ offered N t m → f m p ≡ g m p)
-      → (k n a c : ℕ) → N .far t n ≤ d → arriving k N f t n a c ≡ arriving k N g t n a c
+  cone : (f g : ℕ → ℕ → Bool) (d : ℕ) → ((m p : ℕ) → N .distance t m ≤ d → p ∈ offered N t m → f m p ≡ g m p)
+      → (k n a c : ℕ) → N .distance t n ≤ d → arriving k N f t n a c ≡ arriving k N g t n a c
   unfolding arriving
   cone f g d e zero n a c i = refl
   cone f g d e (suc k) n a c i =
       rw (trying-same (helical a (offered N t n)) (λ p m. e n p i (helical-mem a _ m)) (λ p m c. cone f g d e k (N .next n p) p c (omega (arith, near .nearer n p (helical-mem a _ m)))) c)
 
   -- So the hop just made is no part of the search behind it: uphill, it leaves a node farther than the one reached, and otherwise it is not offered.
-  pub holding-behind : (f : ℕ → ℕ → Bool) (k n p c : ℕ) → arriving k N (holding f n p) t (N .next n p) p c ≡ arriving k N f t (N .next n p) p c
-  holding-behind f k n p c = cone (holding f n p) f (N .far t (N .next n p)) other k (N .next n p) p c (le-refl _)
+  pub holding-after : (f : ℕ → ℕ → Bool) (k n p c : ℕ) → arriving k N (holding f n p) t (N .next n p) p c ≡ arriving k N f t (N .next n p) p c
+  holding-after f k n p c = cone (holding f n p) f (N .distance t (N .next n p)) other k (N .next n p) p c (le-refl _)
     where
-      other : (m q : ℕ) → N .far t m ≤ N .far t (N .next n p) → q ∈ offered N t m → holding f n p m q ≡ f m q
+      other : (m q : ℕ) → N .distance t m ≤ N .distance t (N .next n p) → q ∈ offered N t m → holding f n p m q ≡ f m q
       other m q i o = unfold holding in go (eqb m n) (eqb q p) refl refl
         where
           go : (a b : Bool) → eqb m n ≡ a → eqb q p ≡ b → f m q && not (a && b) ≡ f m q
-          go true true e h = let x = eqb-true m n e in let y = eqb-true q p h in absurd (omega (arith, near .nearer n p (rw (x, y) at o), ap (N .far t) x))
+          go true true e h = let x = eqb-true m n e in let y = eqb-true q p h in absurd (omega (arith, near .nearer n p (rw (x, y) at o), ap (N .distance t) x))
           go true false e h = and-true (f m q)
           go false b e h = and-true (f m q)

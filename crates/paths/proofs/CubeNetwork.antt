@@ -10,9 +10,10 @@ use lib.Dec.{eqb, ltb}
 use lib.ListN.{length, length-append}
 use lib.Bits.{bitXor, xor-lt}
 use borrow.Author.Tests.{eqb-true, eq-eqb, lt-ltb, le-ltb, not-true, not-false}
-use Rattle.common.specs.Lists.{_∈_, keep, from, Sorted}
+use Rattle.common.specs.Lists.{_∈_, keep, from, Pairwise}
 use Rattle.common.proofs.Tests.{is-false}
-use Rattle.common.proofs.Lists.{keep-yes, keep-no, keep-append, keep-same, keep-all, keep-none, keep-keep, keep-mem, mem-keep, keep-sorted, keep-wider, from-mem, from-sorted, from-split, from-below, below-from, kept-below, below-kept, length-keep, length-parts, length-from}
+use Rattle.common.proofs.Lists.{keep-yes, keep-no, keep-append, keep-same, keep-all, keep-none, keep-keep, keep-mem, mem-keep, keep-pairwise, length-keep, length-parts}
+use Rattle.common.proofs.From.{keep-wider, from-mem, from-pairwise, from-split, from-below, below-from, kept-below, below-kept, length-from}
 use Rattle.cube.specs.Bits.{bitAt, has, flip}
 use Rattle.cube.specs.Cube.{uphill}
 use Rattle.cube.specs.Axes.{axis, present}
@@ -80,9 +81,9 @@ module _ (S : Shape) where
   unfolding ports
   low-port h p l = below-kept (present (S .dimension) (S .fold)) 18 p (omega arith) (present-low (S .dimension) (S .fold) p (omega arith) ∙ lt-ltb p (S .dimension) l)
 
-  ports-rise : Sorted _<_ (ports S)
+  ports-rise : Pairwise _<_ (ports S)
   unfolding ports
-  ports-rise = keep-sorted _ _<_ _ (from-sorted 0 18)
+  ports-rise = keep-pairwise _ _<_ _ (from-pairwise 0 18)
 
   pub ports-few : length (ports S) ≤ 18
   unfolding ports
@@ -104,11 +105,11 @@ module _ (S : Shape) where
   port-offered t n q m u = rw (offered-is t n) (mem-keep (λ q. uphill t n (axis q)) (ports S) m u)
 
   -- A hop over a port of uphill axis comes one nearer, over another it leads one farther.
-  nearer : (t n q : ℕ) → q ∈ ports S → uphill t n (axis q) ≡ true → network S .far t n ≡ suc (network S .far t (network S .next n q))
+  nearer : (t n q : ℕ) → q ∈ ports S → uphill t n (axis q) ≡ true → network S .distance t n ≡ suc (network S .distance t (network S .next n q))
   unfolding network
   nearer t n q m u = one-more (uphill t n) (uphill t (flip n (axis q))) (axis q) (S .dimension) (port-axis q m) u (uphill-flipped t n (axis q) ∙ ap not u) (uphill-kept t n (axis q))
 
-  farther : (t n q : ℕ) → q ∈ ports S → uphill t n (axis q) ≡ false → network S .far t (network S .next n q) ≡ suc (network S .far t n)
+  farther : (t n q : ℕ) → q ∈ ports S → uphill t n (axis q) ≡ false → network S .distance t (network S .next n q) ≡ suc (network S .distance t n)
   unfolding network
   farther t n q m e =
       one-more (uphill t (flip n (axis q))) (uphill t n) (axis q) (S .dimension) (port-axis q m) (uphill-flipped t n (axis q) ∙ ap not e) e (λ a k. sym (uphill-kept t n (axis q) a k))
@@ -132,33 +133,33 @@ module _ (S : Shape) where
       some n i ne [] e = absurd (ne (same-bits (S .dimension) n t i l (λ p k. same-bit t n p (none-uphill n e p k))))
       some n i ne (q ∷ qs) e = (q, rw e (List·Memᴰ·head refl))
 
-  pub far-within : (t n : ℕ) → network S .far t n ≤ S .dimension
+  pub distance-within : (t n : ℕ) → network S .distance t n ≤ S .dimension
   unfolding network
-  far-within t n = omega (arith, length-keep (uphill t n) (from 0 (S .dimension)), length-from 0 (S .dimension))
+  distance-within t n = omega (arith, length-keep (uphill t n) (from 0 (S .dimension)), length-from 0 (S .dimension))
 
   -- With m links to an axis it offers at most m ports for each hop that the target is far.
   pub cube-cubical : {m : ℕ} → LinksEach S m → (t : ℕ) → Cubical (network S) (ports S) (S .dimension) m t
   cube-cubical {m} each t =
       record {
         there = unfold network in ap length (keep-none (uphill t t) (from 0 (S .dimension)) (λ p i. uphill-there t p));
-        within = far-within t;
+        within = distance-within t;
         among = λ n. keep-same _ _ (ports S) (port-offers t n) ∙ sym (offered-is t n);
         degree = λ n. rw (offered-is t n) (unfold network in each .most (uphill t n));
         rest = few;
         away = λ n q i e. farther t n q i (sym (port-offers t n q i) ∙ e);
       }
     where
-      few : (n : ℕ) → length (others (network S) (ports S) t n) ≤ m * (S .dimension - network S .far t n)
+      few : (n : ℕ) → length (others (network S) (ports S) t n) ≤ m * (S .dimension - network S .distance t n)
       few n =
           let down : ℕ → Bool = λ a. not (uphill t n a) in
-          let all : length (keep down (from 0 (S .dimension))) ≡ S .dimension - network S .far t n =
+          let all : length (keep down (from 0 (S .dimension))) ≡ S .dimension - network S .distance t n =
           unfold network in omega (arith, length-parts (uphill t n) (from 0 (S .dimension)), length-from 0 (S .dimension)) in
           rw (keep-same (λ q. not (network S .offers t n q)) (λ q. down (axis q)) (ports S) (λ q i. ap not (port-offers t n q i)), ← all) (each .most down)
 
   -- "So it has 1 to D + 1 hops, 9 at most."
   pub path-hops : (s : ℕ) (vector : List ℕ) (t : ℕ) (w : Path) → Permitted (network S) s vector t w → (1 ≤ length w) × (length w ≤ suc (S .dimension))
   unfolding Permitted
-  path-hops s vector t (p ∷ w) o = (omega arith, omega (arith, permitted-length (cube-nearing t) s vector p w o, far-within t (network S .next s p)))
+  path-hops s vector t (p ∷ w) o = (omega arith, omega (arith, permitted-length (cube-nearing t) s vector p w o, distance-within t (network S .next s p)))
 
   -- a send's ports are those whose axis its vector has, the other ports those whose axis it has not
   pub send-port : (v q : ℕ) → (q ∈ sendPorts S v) ↔ ((q ∈ ports S) × (has v (axis q) ≡ true))
@@ -173,26 +174,20 @@ module _ (S : Shape) where
   )
 
   -- both rise
-  send-ports-rise : (v : ℕ) → Sorted _<_ (sendPorts S v) × Sorted _<_ (otherPorts S v)
+  pub send-ports-rise : (v : ℕ) → Pairwise _<_ (sendPorts S v) × Pairwise _<_ (otherPorts S v)
   unfolding sendPorts otherPorts
-  send-ports-rise v = (keep-sorted _ _<_ _ ports-rise, keep-sorted _ _<_ _ ports-rise)
+  send-ports-rise v = (keep-pairwise _ _<_ _ ports-rise, keep-pairwise _ _<_ _ ports-rise)
 
   -- the vector of the ports below D that are not in another sends over the other ports
   pub other-vector : (v c : ℕ) → ((p : ℕ) → p < S .dimension → has c p ≡ not (has v p)) → sendPorts S c ≡ otherPorts S v
   unfolding sendPorts otherPorts
   other-vector v c h = keep-same _ _ (ports S) (λ q m. h (axis q) (port-axis q m))
 
-  -- What document 01 says of a pass holds in the cube, of the pass with the given vector and of the one with the other ports.
-  ports-say : S .dimension ≤ 8 → (free : ℕ → ℕ → Bool) (s : ℕ) (vector : List ℕ) (t : ℕ) → Node S s → Node S t → Sorted _<_ vector → ((q : ℕ) → q ∈ vector → q ∈ ports S)
+  -- What document 01 says of a pass holds in the cube, over any of its ports that rise.
+  pub cube-says : S .dimension ≤ 8 → (free : ℕ → ℕ → Bool) (s : ℕ) (vector : List ℕ) (t : ℕ) → Node S s → Node S t → Pairwise _<_ vector → ((q : ℕ) → q ∈ vector → q ∈ ports S)
       → Says (network S) free s vector t (pass (network S) free s vector t)
-  ports-say h free s vector t i l rise there =
+  cube-says h free s vector t i l rise there =
       pass-says (cube-nearing t) (cube-leading h t l) s vector rise (λ q m. unfold network in flip-inside (S .dimension) s (axis q) i (port-axis q (there q m))) free _ refl
-
-  pub cube-says : S .dimension ≤ 8 → (free : ℕ → ℕ → Bool) (s v t : ℕ) → Node S s → Node S t → Says (network S) free s (sendPorts S v) t (pass (network S) free s (sendPorts S v) t)
-  cube-says h free s v t i l = ports-say h free s (sendPorts S v) t i l (send-ports-rise v .0) (λ q m. send-port v q .0 m .0)
-
-  pub cube-says-other : S .dimension ≤ 8 → (free : ℕ → ℕ → Bool) (s v t : ℕ) → Node S s → Node S t → Says (network S) free s (otherPorts S v) t (pass (network S) free s (otherPorts S v) t)
-  cube-says-other h free s v t i l = ports-say h free s (otherPorts S v) t i l (send-ports-rise v .1) (λ q m. other-port v q .0 m .0)
 
 -- With fold mask 0 this is the cube of document 01.
 module _ (S : Shape) (h : S .dimension ≤ 8) (z : S .fold ≡ 0) where
@@ -225,13 +220,13 @@ module _ (S : Shape) (h : S .dimension ≤ 8) (z : S .fold ≡ 0) where
   pub unfolded-offered : (t n : ℕ) → offered (network S) t n ≡ keep (uphill t n) (from 0 (S .dimension))
   unfolded-offered t n = offered-is S t n ∙ by-port (uphill t n)
 
-  pub unfolded-send : (v : ℕ) → sendPorts S v ≡ portsOf (S .dimension) v
+  pub unfolded-send-ports : (v : ℕ) → sendPorts S v ≡ portsOf (S .dimension) v
   unfolding sendPorts portsOf
-  unfolded-send v = by-port (has v)
+  unfolded-send-ports v = by-port (has v)
 
-  pub unfolded-other : (v : ℕ) → otherPorts S v ≡ keep (λ p. not (has v p)) (from 0 (S .dimension))
+  pub unfolded-other-ports : (v : ℕ) → otherPorts S v ≡ keep (λ p. not (has v p)) (from 0 (S .dimension))
   unfolding otherPorts
-  unfolded-other v = by-port (λ p. not (has v p))
+  unfolded-other-ports v = by-port (λ p. not (has v p))
 
   -- The ports offered are those of the uphill vector, among however many positions.
   pub unfolded-vector : (w n t : ℕ) → S .dimension ≤ w → Node S n → Node S t → offered (network S) t n ≡ portsOf w (bitXor n t)

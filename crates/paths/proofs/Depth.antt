@@ -7,11 +7,11 @@ use Prim.Native.Nat.{ℕ, zero, suc}
 use lib.Dec.{eqb}
 use Rattle.cube.specs.Helical.{helical}
 use Rattle.paths.specs.Network.{Network, Path, offered, end, freePath}
-use Rattle.paths.specs.Pass.{Pass, none, found, over, ways, beginnings, scan, whole, pass}
+use Rattle.paths.specs.Pass.{PassResult, none, found, over, ways, beginnings, scan, whole, pass}
 use Rattle.paths.specs.Search.{hopOr, trying, arriving, sending}
 
 -- One step of each recursion, to rewrite by: what opens the definition itself takes the calls in its clauses apart too.
-pub trying-cons : (f : ℕ → Bool) (on : ℕ → ℕ → Pass) (p : ℕ) (ps : List ℕ) (c : ℕ)
+pub trying-cons : (f : ℕ → Bool) (on : ℕ → ℕ → PassResult) (p : ℕ) (ps : List ℕ) (c : ℕ)
     → trying f on (p ∷ ps) c ≡ cond (f p) (hopOr p (on p (suc c)) (trying f on ps)) (trying f on ps c)
 unfolding trying
 trying-cons f on p ps c = refl
@@ -25,7 +25,7 @@ scan-cons : (f g : Path → Bool) (w : Path) (ws : List Path) (c : ℕ)
 unfolding scan
 scan-cons f g w ws c = refl
 
-hop-cond : (b : Bool) (p : ℕ) (x y : Pass) (more : ℕ → Pass) → hopOr p (cond b x y) more ≡ cond b (hopOr p x more) (hopOr p y more)
+hop-cond : (b : Bool) (p : ℕ) (x y : PassResult) (more : ℕ → PassResult) → hopOr p (cond b x y) more ≡ cond b (hopOr p x more) (hopOr p y more)
 hop-cond true p x y more = refl
 hop-cond false p x y more = refl
 
@@ -43,7 +43,7 @@ scan-never g [] c = refl
 scan-never g (w ∷ ws) c = scan-never g ws c
 
 -- one port tried: whether its link is free, and whether the target is behind it
-one-port : (free there : Bool) (p : ℕ) (f g : Path → Bool) (ws : List Path) (more : ℕ → Pass) (c : ℕ)
+one-port : (free there : Bool) (p : ℕ) (f g : Path → Bool) (ws : List Path) (more : ℕ → PassResult) (c : ℕ)
     → cond free (hopOr p (cond there (found [] (suc c)) (scan f g (suc c) ws)) more) (more c)
     ≡ cond (free && true) (cond there (found (p ∷ []) (suc c)) (hopOr p (scan (λ w. free && f w) g (suc c) ws) more)) (hopOr p (scan (λ w. free && f w) g c ws) more)
 unfolding hopOr
@@ -52,11 +52,11 @@ one-port true false p f g ws more c = refl
 one-port true true p f g ws more c = refl
 
 -- what an arrival at m comes to where ws are the ways on from it
-abbrev pub arrival : Network → (ℕ → ℕ → Bool) → ℕ → ℕ → List Path → ℕ → Pass
+abbrev pub arrival : Network → (ℕ → ℕ → Bool) → ℕ → ℕ → List Path → ℕ → PassResult
 arrival N free t m ws c = cond (eqb m t) (found [] c) (scan (freePath N free m) (whole N t m) c ws)
 
 -- to try ports in turn is to scan their beginnings, where that holds of the arrival behind each
-trying-scan : (N : Network) (free : ℕ → ℕ → Bool) (t n : ℕ) (on : ℕ → List Path) (go : ℕ → ℕ → Pass)
+trying-scan : (N : Network) (free : ℕ → ℕ → Bool) (t n : ℕ) (on : ℕ → List Path) (go : ℕ → ℕ → PassResult)
     → ((p c : ℕ) → go p c ≡ arrival N free t (N .next n p) (on p) c)
     → (ps : List ℕ) (c : ℕ) → trying (free n) go ps c ≡ scan (freePath N free n) (whole N t n) c (over on ps)
 unfolding freePath whole end
@@ -83,7 +83,7 @@ pub search-is-scan : (N : Network) (free : ℕ → ℕ → Bool) (s : ℕ) (vect
     → sending N free s vector t c ≡ scan (freePath N free s) (whole N t s) c (beginnings N s vector t)
 unfolding sending beginnings
 search-is-scan N free s vector t c =
-    trying-scan N free t s _ _ (λ p. arriving-scan (N .far t (N .next s p)) N free t (N .next s p) p) vector c
+    trying-scan N free t s _ _ (λ p. arriving-scan (N .distance t (N .next s p)) N free t (N .next s p) p) vector c
 
 pub search-is-pass : (N : Network) (free : ℕ → ℕ → Bool) (s : ℕ) (vector : List ℕ) (t : ℕ) → sending N free s vector t 0 ≡ pass N free s vector t
 unfolding pass

@@ -12,3 +12,4 @@ pub mod CubeNetwork
 pub mod Send
 pub mod Apart
 pub mod Recover
+pub mod Walks

@@ -9,7 +9,7 @@ use native.Mathlib.Omega.{arith}
 use lib.Dec.{eqb}
 use lib.ListN.{length}
 use borrow.Author.Tests.{eqb-true, eq-eqb}
-use Rattle.common.specs.Lists.{_∈_, Sorted}
+use Rattle.common.specs.Lists.{_∈_, Pairwise}
 use Rattle.paths.specs.Network.{Network, Path, Link, links, hasLink, Nearing}
 use Rattle.paths.specs.Permitted.{Onward, Permitted}
 
@@ -55,13 +55,13 @@ true-link (l ∷ ls) m q e = go (eqb m (l .0)) (eqb q (l .1)) refl refl e (true-
 
 module _ {N : Network} {t : ℕ} (near : Nearing N t) where
   -- a way on has at most as many hops as the target is far
-  pub onward-length : (n : ℕ) (w : Path) → Onward N t n w → length w ≤ N .far t n
+  pub onward-length : (n : ℕ) (w : Path) → Onward N t n w → length w ≤ N .distance t n
   unfolding Onward
   onward-length n [] o = omega arith
   onward-length n (p ∷ w) o = omega (arith, near .nearer n p (o .1), onward-length (N .next n p) w (o .2))
 
   -- its links leave nodes no farther than its start, and come one nearer
-  pub onward-near : (n : ℕ) (w : Path) → Onward N t n w → (m q : ℕ) → On N n w m q → (N .far t m ≤ N .far t n) × (N .far t m ≡ suc (N .far t (N .next m q)))
+  pub onward-near : (n : ℕ) (w : Path) → Onward N t n w → (m q : ℕ) → On N n w m q → (N .distance t m ≤ N .distance t n) × (N .distance t m ≡ suc (N .distance t (N .next m q)))
   unfolding Onward
   onward-near n [] o m q i = absurd (on-none N n m q i)
   onward-near n (p ∷ w) o m q i =
@@ -77,18 +77,18 @@ module _ {N : Network} {t : ℕ} (near : Nearing N t) where
   pub hop-fresh : (s p : ℕ) (w : Path) → Onward N t (N .next s p) w → On N (N .next s p) w s p → ⊥
   hop-fresh s p w o i = let r = onward-near (N .next s p) w o s p i in omega arith
 
-  onward-distinct : (n : ℕ) (w : Path) → Onward N t n w → Sorted _≢_ (links N n w)
-  unfolding Onward links Sorted On
+  onward-distinct : (n : ℕ) (w : Path) → Onward N t n w → Pairwise _≢_ (links N n w)
+  unfolding Onward links Pairwise On
   onward-distinct n [] o = tt
   onward-distinct n (p ∷ w) o = ((λ l m e. onward-past n p w o p (subst (λ (k : Link). k ∈ links N (N .next n p) w) (sym e) m)), onward-distinct (N .next n p) w (o .2))
 
   -- A permitted path uses no link twice.
-  pub permitted-distinct : (s : ℕ) (vector : List ℕ) (w : Path) → Permitted N s vector t w → Sorted _≢_ (links N s w)
-  unfolding Permitted links Sorted On
+  pub permitted-distinct : (s : ℕ) (vector : List ℕ) (w : Path) → Permitted N s vector t w → Pairwise _≢_ (links N s w)
+  unfolding Permitted links Pairwise On
   permitted-distinct s vector (p ∷ w) o =
       ((λ l m e. hop-fresh s p w (o .1) (subst (λ (k : Link). k ∈ links N (N .next s p) w) (sym e) m)), onward-distinct (N .next s p) w (o .1))
 
   -- It has one hop or more, and behind the first no more than the target is far.
-  pub permitted-length : (s : ℕ) (vector : List ℕ) (p : ℕ) (w : Path) → Permitted N s vector t (p ∷ w) → length (p ∷ w) ≤ suc (N .far t (N .next s p))
+  pub permitted-length : (s : ℕ) (vector : List ℕ) (p : ℕ) (w : Path) → Permitted N s vector t (p ∷ w) → length (p ∷ w) ≤ suc (N .distance t (N .next s p))
   unfolding Permitted
   permitted-length s vector p w o = omega (arith, onward-length (N .next s p) w (o .1))

@@ -1,5 +1,4 @@
--- Walking over owned links gives back the path whose links are exactly those; and whatever it gives, its links are owned and it takes behind
--- its first hop no axis twice.
+-- Walking over owned links gives back the path whose links are exactly those.
 -- Assumes nothing.
 use mathlib.Core.Path.{_≡_, refl, ap, sym, _∙_}
 use mathlib.Core.Logic.{_⊎_, inl, inr, ⊎-elim, _≢_}
@@ -42,13 +41,13 @@ take-front a (x ∷ l) r on m h = rw (h x (List·Memᴰ·head refl))
 take-only : (a : ℕ) (l : List ℕ) (on : ℕ → Path) → a ∈ l → ((x : ℕ) → x ∈ l → x ≡ a) → takeFirst l on ≡ a ∷ on a
 take-only a l on m h = rw (append-nil l) at (take-front a l [] on m h)
 
-take-all : (P : Path → Type 0) (l : List ℕ) (on : ℕ → Path) → P [] → ((p : ℕ) → p ∈ l → P (p ∷ on p)) → P (takeFirst l on)
+pub take-all : (P : Path → Type 0) (l : List ℕ) (on : ℕ → Path) → P [] → ((p : ℕ) → p ∈ l → P (p ∷ on p)) → P (takeFirst l on)
 unfolding takeFirst
 take-all P [] on z h = z
 take-all P (p ∷ l) on z h = h p (List·Memᴰ·head refl)
 
 -- what is left without an axis
-drop-mem : (p : ℕ) (left : List ℕ) {q : ℕ} → q ∈ dropAxis p left → (q ∈ left) × (axis q ≢ axis p)
+pub drop-mem : (p : ℕ) (left : List ℕ) {q : ℕ} → q ∈ dropAxis p left → (q ∈ left) × (axis q ≢ axis p)
 unfolding dropAxis
 drop-mem p left {q} m = let k = keep-mem _ left m in (k .0, eqb-false (axis q) (axis p) (not-true _ (k .1)))
 
@@ -57,7 +56,7 @@ unfolding dropAxis
 mem-drop p left {q} m h = mem-keep _ left m (ap not (ne-eqb (axis q) (axis p) h))
 
 -- fewer ports are left where one was taken
-drop-shorter : (p : ℕ) (left : List ℕ) → p ∈ left → length (dropAxis p left) < length left
+pub drop-shorter : (p : ℕ) (left : List ℕ) → p ∈ left → length (dropAxis p left) < length left
 unfolding dropAxis
 drop-shorter p left m = keep-shorter (λ q. not (eqb (axis q) (axis p))) left p m (ap not (eq-eqb (axis p) (axis p) refl))
 
@@ -195,115 +194,3 @@ path-determined S s t u w v o h e = sym (found t w o ((λ l i. i), (λ l i. i)))
   where
     found : (t : ℕ) (x : Path) → Permitted (network S) s (ports S) t x → SameLinks (network S) s x w → pathOfLinks S (hasLink (links (network S) s w)) s ≡ x
     found t x o e = path-found S _ s t x o record { all = λ m q i. link-true _ m q (e .0 (m, q) i); only = λ m q i. e .1 (m, q) (true-link _ m q i) }
-
--- What holds of the empty path, and carries over from a path to the path with a port in front that was left and whose link is owned, holds
--- of every walk.
-walk-all : (N : Network) (own : ℕ → ℕ → Bool) (P : List ℕ → ℕ → Path → Type 0) → ((left : List ℕ) (n : ℕ) → P left n [])
-    → ((left : List ℕ) (n p : ℕ) (w : Path) → p ∈ left → own n p ≡ true → P (dropAxis p left) (N .next n p) w → P left n (p ∷ w)) → (k : ℕ) (left : List ℕ) (n : ℕ) → P left n (walkFrom k N left own n)
-unfolding walkFrom
-walk-all N own P none more zero left n = none left n
-walk-all N own P none more (suc k) left n =
-    take-all (P left n) (keep (own n) left) _ (none left n) (λ p m. let i = keep-mem (own n) left m in more left n p _ (i .0) (i .1) (walk-all N own P none more k (dropAxis p left) (N .next n p)))
-
--- So, whatever the walk gives, its links are owned,
-abbrev Owned : Network → (ℕ → ℕ → Bool) → ℕ → Path → Type 0
-Owned N own n w = (m q : ℕ) → On N n w m q → own m q ≡ true
-
-owned-none : (N : Network) (own : ℕ → ℕ → Bool) (n : ℕ) → Owned N own n []
-owned-none N own n m q i = absurd (on-none N n m q i)
-
-owned-more : (N : Network) (own : ℕ → ℕ → Bool) (n p : ℕ) (w : Path) → own n p ≡ true → Owned N own (N .next n p) w → Owned N own n (p ∷ w)
-owned-more N own n p w e rest m q i = ⊎-elim (λ here. rw (here .0, here .1) e) (rest m q) (on-cases N n p w m q i)
-
-pub path-owned : (S : Shape) (own : ℕ → ℕ → Bool) (s m q : ℕ) → On (network S) s (pathOfLinks S own s) m q → own m q ≡ true
-unfolding pathOfLinks
-path-owned S own s =
-    take-all (Owned N own s) _ _ (owned-none N own s)
-    (λ b i. owned-more N own s b _ (first-choice N _ own s b i .1) (walk-all N own (λ left. Owned N own) (λ left. owned-none N own) (λ left n p w j. owned-more N own n p w) 18 (ports S) (N .next s b)))
-  where
-    N : Network
-    N = network S
-
--- and it is empty or takes ports of the cube, behind the first no axis twice: so it is a permitted path to its own end.
-walk-apart : (S : Shape) (N : Network) (own : ℕ → ℕ → Bool) (k : ℕ) (left : List ℕ) (n : ℕ)
-    → ((q : ℕ) → q ∈ walkFrom k N left own n → q ∈ left) × (((q : ℕ) → q ∈ left → q ∈ ports S) → Apart S (walkFrom k N left own n))
-unfolding Apart Avoids
-walk-apart S N own =
-    walk-all N own (λ left n w. ((q : ℕ) → q ∈ w → q ∈ left) × (((q : ℕ) → q ∈ left → q ∈ ports S) → Apart S w)) (λ left n. ((λ q m. absurd (List·Memᴰ·not-nil m)), (λ below. tt)))
-    (λ left n p w i e rest. (
-      all-cons (_∈ left) i (λ q m. drop-mem p left (rest .0 q m) .0),
-      (λ there. (there p i, (λ q m. drop-mem p left (rest .0 q m) .1), rest .1 (λ q m. there q (drop-mem p left m .0)))),
-    ))
-
-pub path-apart : (S : Shape) (own : ℕ → ℕ → Bool) (s : ℕ) → pathOfLinks S own s ≢ [] → LaterApart S (pathOfLinks S own s)
-unfolding pathOfLinks LaterApart
-path-apart S own s =
-    take-all (λ v. v ≢ [] → LaterApart S v) _ _ (λ e. absurd (e refl))
-    (λ b i e. (first-choice (network S) _ own s b i .0, walk-apart S (network S) own 18 (ports S) (network S .next s b) .1 (λ q m. m)))
-
--- with no port left the walk is empty
-walk-empty : (N : Network) (own : ℕ → ℕ → Bool) (k : ℕ) (left : List ℕ) (n : ℕ) → length left ≤ 0 → walkFrom k N left own n ≡ []
-unfolding walkFrom takeFirst
-walk-empty N own zero left n h = refl
-walk-empty N own (suc k) [] n h = rw (keep-nil (own n))
-walk-empty N own (suc k) (x ∷ left) n h = absurd (omega arith)
-
--- How many hops the walk may look ahead does not matter, as long as it may take every port left.
-pub walk-fuel : (N : Network) (own : ℕ → ℕ → Bool) (k j : ℕ) (left : List ℕ) (n : ℕ) → length left ≤ k → length left ≤ j → walkFrom k N left own n ≡ walkFrom j N left own n
-unfolding walkFrom takeFirst
-walk-fuel N own zero j left n h l = sym (walk-empty N own j left n h)
-walk-fuel N own (suc k) zero left n h l = walk-empty N own (suc k) left n l
-walk-fuel N own (suc k) (suc j) left n h l = go (keep (own n) left) (λ p m. keep-mem (own n) left m .0) (λ p m. walk-fuel N own k j (dropAxis p left) (N .next n p))
-  where
-    go : (ps : List ℕ) → ((p : ℕ) → p ∈ ps → p ∈ left)
-        → ((p : ℕ) → p ∈ left → length (dropAxis p left) ≤ k → length (dropAxis p left) ≤ j → walkFrom k N (dropAxis p left) own (N .next n p) ≡ walkFrom j N (dropAxis p left) own (N .next n p))
-        → takeFirst ps (λ p. walkFrom k N (dropAxis p left) own (N .next n p)) ≡ takeFirst ps (λ p. walkFrom j N (dropAxis p left) own (N .next n p))
-    go [] s ih = refl
-    go (p ∷ ps) s ih =
-        let m = s p (List·Memᴰ·head refl) in
-        let d = drop-shorter p left m in
-        ap (p ∷_) (ih p m (omega arith) (omega arith))
-
--- The walk where nothing is owned among the ports left, and where p is the first: it may look as far ahead behind the hop as before it.
-pub walk-none : (N : Network) (own : ℕ → ℕ → Bool) (k : ℕ) (left : List ℕ) (n : ℕ) → keep (own n) left ≡ [] → walkFrom k N left own n ≡ []
-unfolding walkFrom takeFirst
-walk-none N own zero left n e = refl
-walk-none N own (suc k) left n e = rw e
-
-pub walk-some : (N : Network) (own : ℕ → ℕ → Bool) (k : ℕ) (left : List ℕ) (n p : ℕ) (ps : List ℕ) → length left ≤ k → keep (own n) left ≡ p ∷ ps
-    → walkFrom k N left own n ≡ p ∷ walkFrom k N (dropAxis p left) own (N .next n p)
-walk-some N own k left n p ps h e = go k h
-  where
-    there : p ∈ left
-    there = let m : p ∈ keep (own n) left = rw e (List·Memᴰ·head refl) in keep-mem (own n) left m .0
-
-    go : (k : ℕ) → length left ≤ k → walkFrom k N left own n ≡ p ∷ walkFrom k N (dropAxis p left) own (N .next n p)
-    go zero h = absurd (omega (arith, drop-shorter p left there))
-    go (suc k) h =
-        let d = drop-shorter p left there in
-        let one : walkFrom (suc k) N left own n ≡ p ∷ walkFrom k N (dropAxis p left) own (N .next n p) = unfold walkFrom takeFirst in rw e in
-        one ∙ ap (p ∷_) (walk-fuel N own k (suc k) (dropAxis p left) (N .next n p) (omega arith) (omega arith))
-
--- As the code meets them, where the ports are those of a vector below 9: a port's way back is over the port itself,
-pub way-back-one : (N : Network) (w v : ℕ) (own : ℕ → ℕ → Bool) (s p : ℕ) → w ≤ 9 → p ∈ portsOf w v → wayBack N (portsOf w v) own s p ≡ own (N .next s p) p
-unfolding wayBack
-way-back-one N w v own s p h m = go (own (N .next s p) p) refl
-  where
-    back : ℕ → Bool
-    back b = eqb (axis b) (axis p) && own (N .next s p) b
-
-    go : (x : Bool) → own (N .next s p) p ≡ x → any back (portsOf w v) ≡ x
-    go true e = some-any back (portsOf w v) m (and (eq-eqb (axis p) (axis p) refl) e)
-    go false e = is-false (any back (portsOf w v)) (λ t. other e (any-some back (portsOf w v) t))
-      where
-        other : own (N .next s p) p ≡ false → (b : ℕ) × (b ∈ portsOf w v) × (back b ≡ true) → ⊥
-        other e r =
-            let k = both (eqb (axis (r .0)) (axis p)) _ (r .2) in
-            let same : r .0 ≡ p = omega (arith, eqb-true (axis (r .0)) (axis p) (k .0), axis-low (r .0) (omega (arith, ports-mem w v (r .1) .0)), axis-low p (omega (arith, ports-mem w v m .0))) in
-            clash (rw same at (k .1)) e
-
--- and what is left without its axis are the ports of the vector without it.
-pub drop-port : (w v p r : ℕ) → w ≤ 9 → p < 9 → Without v p r → dropAxis p (portsOf w v) ≡ portsOf w r
-unfolding dropAxis
-drop-port w v p r h l e =
-    keep-same _ _ (portsOf w v) (λ q m. let k = ports-mem w v m .0 in rw (axis-low q (omega arith), axis-low p l)) ∙ sym (ports-without w v p r e)

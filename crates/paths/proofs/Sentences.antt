@@ -8,11 +8,11 @@ use Prim.Native.Nat.{ℕ, _+_, _<_}
 use native.Mathlib.Omega.{arith}
 use borrow.Author.Tests.{eqb-true, eq-eqb}
 use lib.ListN.{length, length-append}
-use Rattle.common.specs.Lists.{_∈_, keep, Sorted}
-use Rattle.common.proofs.Lists.{all-append, keep-mem, mem-keep, keep-sorted, sorted-append, sorted-at}
+use Rattle.common.specs.Lists.{_∈_, keep, Pairwise}
+use Rattle.common.proofs.Lists.{all-append, keep-mem, mem-keep, keep-pairwise, pairwise-append, pairwise-at}
 use Rattle.paths.specs.Network.{Network, Path, end, freePath, Nearing, Leading}
 use Rattle.paths.specs.Permitted.{Onward, Permitted, Beginning, Sooner, Before, ComesBefore}
-use Rattle.paths.specs.Pass.{Pass, none, found, beginnings, whole, pass}
+use Rattle.paths.specs.Pass.{PassResult, none, found, beginnings, whole, pass}
 use Rattle.paths.specs.Sentences.{UpTo, Free, FoundSays, NoneSays, Says}
 use Rattle.paths.proofs.Scan.{First, Neither, scan-found, scan-none}
 use Rattle.paths.proofs.Beginnings.{Climb, beginning-climb, beginning-hop, beginnings-exactly}
@@ -63,7 +63,7 @@ from-up-to b w (inr ([], e)) = inl (sym (append-nil b) ∙ e)
 from-up-to b w (inr (q ∷ v, e)) = inr (subst (ComesBefore b) e (begins-before _<_ b q v))
 
 module _ {N : Network} {t : ℕ} {Node : ℕ → Type 0} (near : Nearing N t) (lead : Leading N t Node) (s : ℕ) (vector : List ℕ)
-    (rising : Sorted _<_ vector) (starts : (p : ℕ) → p ∈ vector → Node (N .next s p)) (free : ℕ → ℕ → Bool) where
+    (rising : Pairwise _<_ vector) (starts : (p : ℕ) → p ∈ vector → Node (N .next s p)) (free : ℕ → ℕ → Bool) where
   permitted-mem : (v : Path) → Permitted N s vector t v → v ∈ beginnings N s vector t
   unfolding Beginning
   permitted-mem v o = beginnings-exactly near lead s vector starts v .1 (permitted-hops N s vector t v o, ([], subst (Permitted N s vector t) (sym (append-nil v)) o))
@@ -77,7 +77,7 @@ module _ {N : Network} {t : ℕ} {Node : ℕ → Type 0} (near : Nearing N t) (l
             record {
               list = keep (freePath N free s) (beginnings N s vector t);
               holds = λ b. ((λ m. let k = keep-mem _ _ m in (beginnings-exactly near lead s vector starts b .0 (k .0), k .1)), (λ k. mem-keep _ _ (beginnings-exactly near lead s vector starts b .1 (k .0)) (k .1)));
-              once = in-order-once _ (keep-sorted _ ComesBefore _ (beginnings-in-order N s vector t rising));
+              once = in-order-once _ (keep-pairwise _ ComesBefore _ (beginnings-in-order N s vector t rising));
               long = omega (arith, r .1);
             };
       }
@@ -98,7 +98,7 @@ module _ {N : Network} {t : ℕ} {Node : ℕ → Type 0} (near : Nearing N t) (l
               holds = λ b. (sent b, counted b);
               once =
                   in-order-once _
-                  (sorted-append _ _ (keep-sorted _ ComesBefore _ (order .0)) single (λ x y m k. rw (List·Memᴰ·eq-of-singleton k) (order .1 x (keep-mem _ _ m .0))));
+                  (pairwise-append _ _ (keep-pairwise _ ComesBefore _ (order .0)) single (λ x y m k. rw (List·Memᴰ·eq-of-singleton k) (order .1 x (keep-mem _ _ m .0))));
               long = length-append (keep (freePath N free s) (r .before)) (w ∷ []) ∙ omega (arith, r .sent);
             };
       }
@@ -106,11 +106,11 @@ module _ {N : Network} {t : ℕ} {Node : ℕ → Type 0} (near : Nearing N t) (l
       r : First (freePath N free s) (whole N t s) 0 (beginnings N s vector t) w c
       r = scan-found (freePath N free s) (whole N t s) (beginnings N s vector t) 0 e
 
-      order : Sorted ComesBefore (r .before) × ((u : Path) → u ∈ r .before → ComesBefore u w) × ((v : Path) → v ∈ r .after → ComesBefore w v)
-      order = sorted-at ComesBefore (r .before) w (r .after) (rw (r .place) at (beginnings-in-order N s vector t rising))
+      order : Pairwise ComesBefore (r .before) × ((u : Path) → u ∈ r .before → ComesBefore u w) × ((v : Path) → v ∈ r .after → ComesBefore w v)
+      order = pairwise-at ComesBefore (r .before) w (r .after) (rw (r .place) at (beginnings-in-order N s vector t rising))
 
-      single : Sorted ComesBefore (w ∷ [])
-      single = unfold Sorted in ((λ y m. absurd (List·Memᴰ·not-nil m)), tt)
+      single : Pairwise ComesBefore (w ∷ [])
+      single = unfold Pairwise in ((λ y m. absurd (List·Memᴰ·not-nil m)), tt)
 
       -- a member stands before w, is w, or stands after it
       where-is : (v : Path) → v ∈ beginnings N s vector t → (v ∈ r .before) ⊎ ((v ≡ w) ⊎ (v ∈ r .after))
@@ -134,7 +134,7 @@ module _ {N : Network} {t : ℕ} {Node : ℕ → Type 0} (near : Nearing N t) (l
               absurd (⊎-elim (λ h. let c : ComesBefore w w = rw h at after in comes-before-asym w w c c) (λ h. comes-before-asym w b after h) (from-up-to b w (q .2)))
 
   -- The answer of a pass and its scouts are what document 01 says of them.
-  pub pass-says : (x : Pass) → pass N free s vector t ≡ x → Says N free s vector t x
+  pub pass-says : (x : PassResult) → pass N free s vector t ≡ x → Says N free s vector t x
   pass-says (none c) e = none-says c e
   pass-says (found w c) e = found-says w c e
 
@@ -145,6 +145,6 @@ module _ {N : Network} {t : ℕ} {Node : ℕ → Type 0} (near : Nearing N t) (l
       there : (w : Path) × ((c : ℕ) × (pass N free s vector t ≡ found w c)) → (v : Path) × Permitted N s vector t v × Free N free s v
       there r = let f = found-says (r .0) (r .1 .0) (r .1 .1) in (r .0, f .permitted, f .is-free)
 
-      back : (v : Path) → Permitted N s vector t v → Free N free s v → (x : Pass) → pass N free s vector t ≡ x → (w : Path) × ((c : ℕ) × (pass N free s vector t ≡ found w c))
+      back : (v : Path) → Permitted N s vector t v → Free N free s v → (x : PassResult) → pass N free s vector t ≡ x → (w : Path) × ((c : ℕ) × (pass N free s vector t ≡ found w c))
       back v o h (none c) e = absurd (none-says c e .nothing v o h)
       back v o h (found w c) e = (w, (c, e))

@@ -2,14 +2,12 @@
 -- Assumes nothing.
 use mathlib.Core.Path.{_≡_, refl, ap, _∙_, subst}
 use mathlib.Core.Logic.{⊎-elim, _≢_, _↔_}
-use mathlib.Core.Bool.{Bool, true, false, cond, false≢true}
+use mathlib.Core.Bool.{Bool, true, false, false≢true, true≢false}
 use mathlib.Core.List.{List, [], _∷_, _++_, cons≢nil, List·Memᴰ·head, List·Memᴰ·tail, List·Memᴰ·not-nil, List·Memᴰ·cases-cons, Memᴰ·append-left, List·Memᴰ·append-cases, List·Memᴰ·eq-of-singleton}
 use Prim.Native.Nat.{ℕ}
-use lib.Dec.{eqb}
-use borrow.Author.Tests.{eq-eqb, ne-eqb, eqb-true}
 use Rattle.common.specs.Lists.{_∈_}
 use Rattle.common.proofs.Tests.{both, and}
-use Rattle.paths.specs.Network.{Network, Path, Link, link-free, link-held, link-blocked, linkState, isFree, offered, end, links, freePath}
+use Rattle.paths.specs.Network.{Network, Path, Link, link-held, link-blocked, linkState, isFree, offered, end, links, freePath}
 use Rattle.paths.specs.Permitted.{Onward, Permitted, InWords, SameLinks}
 use Rattle.paths.proofs.Sentences.{onward-end}
 
@@ -66,23 +64,20 @@ free-links N free n (p ∷ w) =
     )
 
 -- "A link is free if enabled and held by nobody."
-pub free-link : (enabled : Bool) (owner : ℕ) → (isFree (linkState enabled owner) ≡ true) ↔ ((enabled ≡ true) × (owner ≡ 0))
+pub free-link : (enabled held : Bool) → (isFree (linkState enabled held) ≡ true) ↔ ((enabled ≡ true) × (held ≡ false))
 unfolding isFree linkState
-free-link false owner = ((λ e. absurd (false≢true e)), (λ h. absurd (false≢true (h .0))))
-free-link true owner = ((λ e. (refl, zero-owner (eqb owner 0) refl e)), (λ h. rw (eq-eqb owner 0 (h .1))))
-  where
-    zero-owner : (b : Bool) → eqb owner 0 ≡ b → isFree (cond b link-free link-held) ≡ true → owner ≡ 0
-    zero-owner true e h = eqb-true owner 0 e
-    zero-owner false e h = absurd (false≢true h)
+free-link false held = ((λ e. absurd (false≢true e)), (λ h. absurd (false≢true (h .0))))
+free-link true true = ((λ e. absurd (false≢true e)), (λ h. absurd (true≢false (h .1))))
+free-link true false = ((λ e. (refl, refl)), (λ h. refl))
 
 -- A link that is not free is blocked where it is not enabled, and held where it is and a circuit has it.
-pub blocked-link : (enabled : Bool) (owner : ℕ) → enabled ≡ false → linkState enabled owner ≡ link-blocked
+pub blocked-link : (enabled held : Bool) → enabled ≡ false → linkState enabled held ≡ link-blocked
 unfolding linkState
-blocked-link enabled owner e = rw e
+blocked-link enabled held e = rw e
 
-pub held-link : (enabled : Bool) (owner : ℕ) → enabled ≡ true → owner ≢ 0 → linkState enabled owner ≡ link-held
+pub held-link : (enabled held : Bool) → enabled ≡ true → held ≡ true → linkState enabled held ≡ link-held
 unfolding linkState
-held-link enabled owner e h = rw (e, ne-eqb owner 0 h)
+held-link enabled held e h = rw (e, h)
 
 -- A path has the links that it passes, however often: in the cube of dimension 1, to and fro, and to again.
 pub to-and-fro : (N : Network) → N .next 0 0 ≡ 1 → N .next 1 0 ≡ 0 → SameLinks N 0 (0 ∷ 0 ∷ []) (0 ∷ 0 ∷ 0 ∷ [])

@@ -1,7 +1,7 @@
 -- The cube as a network by axis, the ports of a send vector, and the routing types of document 01.
 -- Assumes nothing.
 use mathlib.Core.Bool.{Bool, cond, not, _&&_}
-use mathlib.Core.List.{List, [], _∷_}
+use mathlib.Core.List.{List, [], _∷_, map}
 use Prim.Native.Nat.{ℕ, _^_, _<_}
 use lib.Dec.{eqb}
 use lib.ListN.{length}
@@ -10,8 +10,7 @@ use Rattle.cube.specs.Bits.{has}
 use Rattle.cube.specs.Cube.{next, uphill}
 use Rattle.cube.specs.Axes.{axis, present}
 use Rattle.paths.specs.Network.{Network}
-use Rattle.paths.specs.Pass.{pass}
-use Rattle.paths.specs.Send.{Receive, Sent, runs}
+use Rattle.paths.specs.Send.{Receive, Attempt, pass-over, attempted, SendResult, runs}
 
 -- what a network is read from: the dimension of the cube and its fold mask. Document 01's cube has fold mask 0.
 pub record Shape : Type 0 where
@@ -31,10 +30,10 @@ ports S = keep (present (S .dimension) (S .fold)) (from 0 18)
 unfoldable pub network : Shape → Network
 network S =
     record {
-      width = 18;
+      portBound = 18;
       next = next;
       offers = λ t n q. present (S .dimension) (S .fold) q && uphill t n (axis q);
-      far = λ t n. length (keep (uphill t n) (from 0 (S .dimension)));
+      distance = λ t n. length (keep (uphill t n) (from 0 (S .dimension)));
     }
 
 -- The ports of a send vector, and "every port below D that was not in the given vector (perhaps none)", both rising. Document 02, (h): a vector
@@ -45,15 +44,11 @@ sendPorts S vector = keep (λ q. has vector (axis q)) (ports S)
 unfoldable pub otherPorts : Shape → ℕ → List ℕ
 otherPorts S vector = keep (λ q. not (has vector (axis q))) (ports S)
 
--- "Routing type 0, maze: one pass, with the send vector given."
-unfoldable pub maze : Shape → (ℕ → ℕ → Bool) → Receive → ℕ → ℕ → ℕ → Sent
-maze S free r s vector t = runs r (pass (network S) free s (sendPorts S vector) t) []
+-- What a routing type tries: "0, maze: one pass, with the send vector given"; "4, alternate maze: a pass with the given vector. If it does not end
+-- in an acknowledgement, a second", over the other ports.
+unfoldable pub attempts : Shape → ℕ → ℕ → List Attempt
+attempts S type vector = pass-over (sendPorts S vector) ∷ cond (eqb type 4) (pass-over (otherPorts S vector) ∷ []) []
 
--- "Routing type 4, alternate maze: a pass with the given vector. If it does not end in an acknowledgement, a second .."
-unfoldable pub alternateMaze : Shape → (ℕ → ℕ → Bool) → Receive → ℕ → ℕ → ℕ → Sent
-alternateMaze S free r s vector t =
-    runs r (pass (network S) free s (sendPorts S vector) t) (pass (network S) free s (otherPorts S vector) t ∷ [])
-
--- the send of a routing type, 0 or 4
-unfoldable pub send : ℕ → Shape → (ℕ → ℕ → Bool) → Receive → ℕ → ℕ → ℕ → Sent
-send type S free r s vector t = cond (eqb type 4) (alternateMaze S free r s vector t) (maze S free r s vector t)
+-- the send of a routing type
+unfoldable pub send : ℕ → Shape → (ℕ → ℕ → Bool) → Receive → ℕ → ℕ → ℕ → SendResult
+send type S free r s vector t = runs r (map (attempted (network S) free s t) (attempts S type vector))

@@ -13,8 +13,8 @@ use Rattle.cube.specs.Cube.{uphill}
 use Rattle.cube.specs.Helical.{helical}
 use Rattle.paths.specs.Network.{Path, Link, offered, end, links, hasLink, freePath}
 use Rattle.paths.specs.Pass.{over, ways, beginnings, scan, whole, pass, scouts}
-use Rattle.paths.specs.Send.{channel, all-held, Outcome, acknowledged, route-rejected, receive-rejected, received, outcome, Sent, goesOn, runs}
-use Rattle.paths.specs.CubeNetwork.{Shape, ports, network, sendPorts, otherPorts, maze, alternateMaze}
+use Rattle.paths.specs.Send.{channel, all-held, Outcome, acknowledged, route-rejected, receive-rejected, received, attempted, outcome, SendResult, goesOn, runs}
+use Rattle.paths.specs.CubeNetwork.{Shape, ports, network, sendPorts, otherPorts, attempts, send}
 use Rattle.paths.specs.Bound.{waysFrom, sendsFrom}
 use Rattle.paths.specs.Recover.{takeFirst, dropAxis, walkFrom, wayBack, firstHopChoices, pathOfLinks}
 
@@ -29,28 +29,28 @@ folded D mask = record { dimension = D; fold = mask }
 abbrev cube : ℕ → Shape
 cube D = folded D 0
 
-abbrev answer : Outcome → ℕ → Sent
+abbrev answer : Outcome → ℕ → SendResult
 answer o c = record { outcome = o; scouts = c }
 
 -- the sends of the examples, with receive channel 0 the lowest at each target
-abbrev sends : List Sent
+abbrev sends : List SendResult
 sends =
     -- 1: D 3, 0 to 7, vector 7, nothing blocked
-    maze (cube 3) (freeBut []) (channel 0) 0 7 7
+    send 0 (cube 3) (freeBut []) (channel 0) 0 7 7
     -- 2: figure 7, links 1 to 5 and 3 to 7 blocked
-    ∷ maze (cube 3) (freeBut ((1, 2) ∷ (3, 2) ∷ [])) (channel 0) 0 7 7
+    ∷ send 0 (cube 3) (freeBut ((1, 2) ∷ (3, 2) ∷ [])) (channel 0) 0 7 7
     -- 3: D 1, node 0 to itself, vector 1
-    ∷ maze (cube 1) (freeBut []) (channel 0) 0 1 0
+    ∷ send 0 (cube 1) (freeBut []) (channel 0) 0 1 0
     -- 4: D 2, 0 to 1, vector 2
-    ∷ maze (cube 2) (freeBut []) (channel 0) 0 2 1
+    ∷ send 0 (cube 2) (freeBut []) (channel 0) 0 2 1
     -- 5: as 4, link 2 to 3 blocked
-    ∷ maze (cube 2) (freeBut ((2, 0) ∷ [])) (channel 0) 0 2 1
+    ∷ send 0 (cube 2) (freeBut ((2, 0) ∷ [])) (channel 0) 0 2 1
     -- 6: D 2, 0 to 1, vector 1, link 0 to 1 blocked; type 0, then type 4
-    ∷ maze (cube 2) (freeBut ((0, 0) ∷ [])) (channel 0) 0 1 1
-    ∷ alternateMaze (cube 2) (freeBut ((0, 0) ∷ [])) (channel 0) 0 1 1
+    ∷ send 0 (cube 2) (freeBut ((0, 0) ∷ [])) (channel 0) 0 1 1
+    ∷ send 4 (cube 2) (freeBut ((0, 0) ∷ [])) (channel 0) 0 1 1
     ∷ []
 
-abbrev answers : List Sent
+abbrev answers : List SendResult
 answers =
     answer (acknowledged (0 ∷ 1 ∷ 2 ∷ []) 0) 3
     ∷ answer (acknowledged (1 ∷ 2 ∷ 0 ∷ []) 0) 5
@@ -62,45 +62,45 @@ answers =
     ∷ []
 
 examples-1-to-6 : sends ≡ answers
-unfolding maze alternateMaze network ports sendPorts otherPorts present axis keep from has flip uphill helical offered end freePath over ways beginnings scan whole pass scouts received outcome goesOn runs
+unfolding send attempts attempted network ports sendPorts otherPorts present axis keep from has flip uphill helical offered end freePath over ways beginnings scan whole pass scouts received outcome goesOn runs
 examples-1-to-6 = refl
 
 -- Two passes that both send scouts: D 2, 0 to 3, vector 1, link 1 to 3 blocked. The first sends one, over port 0; the second two.
-two-passes : alternateMaze (cube 2) (freeBut ((1, 1) ∷ [])) (channel 4) 0 1 3 ≡ answer (acknowledged (1 ∷ 0 ∷ []) 4) 3
-unfolding alternateMaze network ports sendPorts otherPorts present axis keep from has flip uphill helical offered end freePath over ways beginnings scan whole pass scouts received outcome goesOn runs
-two-passes = refl
+acknowledged-second : send 4 (cube 2) (freeBut ((1, 1) ∷ [])) (channel 4) 0 1 3 ≡ answer (acknowledged (1 ∷ 0 ∷ []) 4) 3
+unfolding send attempts attempted network ports sendPorts otherPorts present axis keep from has flip uphill helical offered end freePath over ways beginnings scan whole pass scouts received outcome goesOn runs
+acknowledged-second = refl
 
 -- With all receive channels held: type 0 is receive rejected; type 4 goes on, and its second pass, with no port left, is route rejected.
-receive-rejected-once : maze (cube 1) (freeBut []) all-held 0 1 1 ≡ answer receive-rejected 1
-unfolding maze network ports sendPorts present axis keep from has flip uphill helical offered end freePath over ways beginnings scan whole pass scouts received outcome runs
+receive-rejected-once : send 0 (cube 1) (freeBut []) all-held 0 1 1 ≡ answer receive-rejected 1
+unfolding send attempts attempted network ports sendPorts present axis keep from has flip uphill helical offered end freePath over ways beginnings scan whole pass scouts received outcome runs
 receive-rejected-once = refl
 
-receive-rejected-twice : alternateMaze (cube 1) (freeBut []) all-held 0 1 1 ≡ answer route-rejected 1
-unfolding alternateMaze network ports sendPorts otherPorts present axis keep from has flip uphill helical offered end freePath over ways beginnings scan whole pass scouts received outcome goesOn runs
+receive-rejected-twice : send 4 (cube 1) (freeBut []) all-held 0 1 1 ≡ answer route-rejected 1
+unfolding send attempts attempted network ports sendPorts otherPorts present axis keep from has flip uphill helical offered end freePath over ways beginnings scan whole pass scouts received outcome goesOn runs
 receive-rejected-twice = refl
 
 -- A type 4 send that is acknowledged at once makes no second pass.
-acknowledged-at-once : alternateMaze (cube 2) (freeBut []) (channel 6) 0 1 1 ≡ answer (acknowledged (0 ∷ []) 6) 1
-unfolding alternateMaze network ports sendPorts otherPorts present axis keep from has flip uphill helical offered end freePath over ways beginnings scan whole pass scouts received outcome goesOn runs
+acknowledged-at-once : send 4 (cube 2) (freeBut []) (channel 6) 0 1 1 ≡ answer (acknowledged (0 ∷ []) 6) 1
+unfolding send attempts attempted network ports sendPorts otherPorts present axis keep from has flip uphill helical offered end freePath over ways beginnings scan whole pass scouts received outcome goesOn runs
 acknowledged-at-once = refl
 
 -- Document 02, (h): "Bit p of the fold mask doubles dimension p".
-abbrev foldedSends : List Sent
+abbrev foldedSends : List SendResult
 foldedSends =
     -- D 1, mask 1, 0 to 1, vector 1, so ports 0 and 17
-    maze (folded 1 1) (freeBut []) (channel 0) 0 1 1
+    send 0 (folded 1 1) (freeBut []) (channel 0) 0 1 1
     -- the same with the link over port 0 blocked
-    ∷ maze (folded 1 1) (freeBut ((0, 0) ∷ [])) (channel 0) 0 1 1
+    ∷ send 0 (folded 1 1) (freeBut ((0, 0) ∷ [])) (channel 0) 0 1 1
     -- D 1, mask 1, 0 to itself: a scout that came in on port 0 tries 17 before 0
-    ∷ maze (folded 1 1) (freeBut []) (channel 0) 0 1 0
+    ∷ send 0 (folded 1 1) (freeBut []) (channel 0) 0 1 0
     -- D 2, mask 3, 0 to 3, vector 1, both links from 1 to 3 blocked: type 0, and type 4, whose scout comes in on 1 and tries 17 before 0
-    ∷ maze (folded 2 3) (freeBut ((1, 1) ∷ (1, 16) ∷ [])) (channel 0) 0 1 3
-    ∷ alternateMaze (folded 2 3) (freeBut ((1, 1) ∷ (1, 16) ∷ [])) (channel 0) 0 1 3
+    ∷ send 0 (folded 2 3) (freeBut ((1, 1) ∷ (1, 16) ∷ [])) (channel 0) 0 1 3
+    ∷ send 4 (folded 2 3) (freeBut ((1, 1) ∷ (1, 16) ∷ [])) (channel 0) 0 1 3
     -- D 2, mask 1, 0 to 2, vector 1, link 1 to 3 blocked: out over 0, back over 17, and on
-    ∷ maze (folded 2 1) (freeBut ((1, 1) ∷ [])) (channel 0) 0 1 2
+    ∷ send 0 (folded 2 1) (freeBut ((1, 1) ∷ [])) (channel 0) 0 1 2
     ∷ []
 
-abbrev foldedAnswers : List Sent
+abbrev foldedAnswers : List SendResult
 foldedAnswers =
     answer (acknowledged (0 ∷ []) 0) 1
     ∷ answer (acknowledged (17 ∷ []) 0) 1
@@ -111,13 +111,13 @@ foldedAnswers =
     ∷ []
 
 folded-sends : foldedSends ≡ foldedAnswers
-unfolding maze alternateMaze network ports sendPorts otherPorts present axis keep from has flip uphill helical offered end freePath over ways beginnings scan whole pass scouts received outcome goesOn runs
+unfolding send attempts attempted network ports sendPorts otherPorts present axis keep from has flip uphill helical offered end freePath over ways beginnings scan whole pass scouts received outcome goesOn runs
 folded-sends = refl
 
 -- "The helical order then runs over 18 positions": with D 8 and mask 255, behind port 7 come 10 to 17 and then 0 to 7.
-behind-seven : helical 7 (ports (folded 8 255)) ≡ 10 ∷ 11 ∷ 12 ∷ 13 ∷ 14 ∷ 15 ∷ 16 ∷ 17 ∷ 0 ∷ 1 ∷ 2 ∷ 3 ∷ 4 ∷ 5 ∷ 6 ∷ 7 ∷ []
+after-seven : helical 7 (ports (folded 8 255)) ≡ 10 ∷ 11 ∷ 12 ∷ 13 ∷ 14 ∷ 15 ∷ 16 ∷ 17 ∷ 0 ∷ 1 ∷ 2 ∷ 3 ∷ 4 ∷ 5 ∷ 6 ∷ 7 ∷ []
 unfolding helical ports present axis keep from has
-behind-seven = refl
+after-seven = refl
 
 -- "A vector .. gains the partners of its folded ports": of vector 5 with mask 6, port 15 beside port 2.
 with-fifteen : sendPorts (folded 3 6) 5 ≡ 0 ∷ 2 ∷ 15 ∷ []

@@ -2,7 +2,7 @@
 -- Assumes nothing.
 use mathlib.Core.Path.{_≡_}
 use mathlib.Core.Logic.{_≢_}
-use mathlib.Core.Bool.{Bool, true, false, cond, _&&_, _||_}
+use mathlib.Core.Bool.{Bool, true, false, _&&_, _||_}
 use mathlib.Core.List.{List, [], _∷_}
 use Prim.Native.Nat.{ℕ, suc}
 use lib.Dec.{eqb}
@@ -10,17 +10,17 @@ use Rattle.common.specs.Lists.{_∈_, keep, from}
 
 pub record Network : Type 0 where
   -- ports are numbered below this
-  pub width : ℕ
+  pub portBound : ℕ
   -- the node to which the link out of a port of a node leads
   pub next : ℕ → ℕ → ℕ
   -- whether, towards a target, a node offers a port (in the cube: whether the port is uphill)
   pub offers : ℕ → ℕ → ℕ → Bool
   -- how many hops a target is from a node
-  pub far : ℕ → ℕ → ℕ
+  pub distance : ℕ → ℕ → ℕ
 
 -- the ports that node n offers towards target t, rising
 unfoldable pub offered : Network → ℕ → ℕ → List ℕ
-offered N t n = keep (N .offers t n) (from 0 (N .width))
+offered N t n = keep (N .offers t n) (from 0 (N .portBound))
 
 -- a path is the ports taken, in order; a link is a node and a port of it ("Each direction is a link of its own")
 abbrev pub Path : Type 0
@@ -49,13 +49,14 @@ pub record Exactly (N : Network) (s : ℕ) (w : Path) (own : ℕ → ℕ → Boo
   pub all : (m q : ℕ) → (m, q) ∈ links N s w → own m q ≡ true
   pub only : (m q : ℕ) → own m q ≡ true → (m, q) ∈ links N s w
 
--- The state of a link, from whether it is enabled and which circuit holds it (0: none). "A link is free if enabled and held by nobody."
+-- The state of a link, from whether it is enabled and whether a circuit holds it. "A link is free if enabled and held by nobody."
 pub data LinkState : Type 0 where
   link-free link-held link-blocked : LinkState
 
-unfoldable pub linkState : Bool → ℕ → LinkState
-linkState false owner = link-blocked
-linkState true owner = cond (eqb owner 0) link-free link-held
+unfoldable pub linkState : (enabled held : Bool) → LinkState
+linkState false held = link-blocked
+linkState true true = link-held
+linkState true false = link-free
 
 unfoldable pub isFree : LinkState → Bool
 isFree link-free = true
@@ -69,7 +70,7 @@ freePath N free n (p ∷ w) = free n p && freePath N free (N .next n p) w
 
 -- What the theorems ask of a network, towards a target t. An offered hop comes one nearer;
 pub record Nearing (N : Network) (t : ℕ) : Type 0 where
-  pub nearer : (n p : ℕ) → p ∈ offered N t n → N .far t n ≡ suc (N .far t (N .next n p))
+  pub nearer : (n p : ℕ) → p ∈ offered N t n → N .distance t n ≡ suc (N .distance t (N .next n p))
 
 -- and among its nodes, which an offered hop does not leave, something is offered off the target.
 pub record Leading (N : Network) (t : ℕ) (Node : ℕ → Type 0) : Type 0 where

@@ -1,16 +1,21 @@
--- A send: one pass or two, and what becomes of the path that the last one found.
+-- A send: a list of attempts made in turn, and what becomes of the path that the last one found.
 -- Assumes nothing.
 use mathlib.Core.Bool.{Bool, true, false, cond}
 use mathlib.Core.List.{List, [], _∷_}
 use Prim.Native.Nat.{ℕ, _+_}
-use lib.ListN.{length}
-use Rattle.paths.specs.Network.{Path}
-use Rattle.paths.specs.Pass.{Pass, none, found, scouts}
+use lib.Dec.{eqb}
+use Rattle.common.specs.Lists.{lowest}
+use Rattle.paths.specs.Network.{Network, Path}
+use Rattle.paths.specs.Pass.{PassResult, none, found, pass, scouts}
 
 -- "the target takes its lowest receive channel that no circuit holds": that channel, or none where all are held
 pub data Receive : Type 0 where
   channel : ℕ → Receive
   all-held : Receive
+
+-- the lowest of eight channels that passes a test, if any does
+unfoldable pub lowestOf : (ℕ → Bool) → Receive
+lowestOf f = cond (eqb (lowest f 8 0) 8) all-held (channel (lowest f 8 0))
 
 -- "With none, route rejected. With one, the target takes its lowest receive channel ..; if all are held, receive rejected."
 pub data Outcome : Type 0 where
@@ -28,14 +33,25 @@ unfoldable pub received : Path → Receive → Outcome
 received w (channel c) = acknowledged w c
 received w all-held = receive-rejected
 
-unfoldable pub outcome : Receive → Pass → Outcome
+unfoldable pub outcome : Receive → PassResult → Outcome
 outcome r (none c) = route-rejected
 outcome r (found w c) = received w r
 
--- what a send answers: its outcome and the scouts of all its passes
-pub record Sent : Type 0 where
+-- What a send tries in turn: the permitted paths whose first hop is a port of a list, in one pass.
+pub data Attempt : Type 0 where
+  pass-over : (ports : List ℕ) → Attempt
+
+-- what an attempt from s to t comes to
+unfoldable pub attempted : Network → (ℕ → ℕ → Bool) → ℕ → ℕ → Attempt → PassResult
+attempted N free s t (pass-over ports) = pass N free s ports t
+
+-- what a send answers: its outcome and the scouts of all its attempts
+pub record SendResult : Type 0 where
   pub outcome : Outcome
   pub scouts : ℕ
+
+abbrev pub oneResult : Receive → PassResult → SendResult
+oneResult r x = record { outcome = outcome r x; scouts = scouts x }
 
 -- "If it does not end in an acknowledgement, a second": the outcomes after which the next attempt is made
 unfoldable pub goesOn : Outcome → Bool
@@ -43,23 +59,10 @@ goesOn (acknowledged w c) = false
 goesOn route-rejected = true
 goesOn receive-rejected = true
 
--- A routing type is a list of attempts, made in turn. "The answer is that of the last pass run; scouts of both are added."
-unfoldable pub runs : Receive → Pass → List Pass → Sent
-runs r a [] = record { outcome = outcome r a; scouts = scouts a }
-runs r a (b ∷ bs) =
-    cond (goesOn (outcome r a)) (record { outcome = runs r b bs .outcome; scouts = scouts a + runs r b bs .scouts })
-    (record { outcome = outcome r a; scouts = scouts a })
-
--- What a call answers: "An open answers number, hops, receive channel, scouts; a trace, number and hops; .. the rest the number alone." What a call does
--- not answer is 0 here.
-pub record Answer : Type 0 where
-  pub number : ℕ
-  pub hops : ℕ
-  pub receive : ℕ
-  pub scouts : ℕ
-
--- "Success is 0." "When refused, all but the number are 0, except that 10 and 11 carry their scouts."
-unfoldable pub answered : Outcome → ℕ → Answer
-answered (acknowledged w k) n = record { number = 0; hops = length w; receive = k; scouts = n }
-answered route-rejected n = record { number = 10; hops = 0; receive = 0; scouts = n }
-answered receive-rejected n = record { number = 11; hops = 0; receive = 0; scouts = n }
+-- Attempts made in turn, from what each comes to. "The answer is that of the last pass run; scouts of both are added." Where nothing is tried,
+-- nothing is found.
+unfoldable pub runs : Receive → List PassResult → SendResult
+runs r [] = record { outcome = route-rejected; scouts = 0 }
+runs r (x ∷ []) = oneResult r x
+runs r (x ∷ y ∷ ys) =
+    cond (goesOn (outcome r x)) (record { outcome = runs r (y ∷ ys) .outcome; scouts = scouts x + runs r (y ∷ ys) .scouts }) (oneResult r x)

@@ -1,22 +1,22 @@
--- What document 01 says of a pass, word for word, over the plain predicates. That the computed pass says it is proved (Sentences).
+-- What document 01 says of a pass and of a send, word for word, over the plain predicates. That the computed ones say it is proved (Sentences, Send).
 -- Assumes nothing.
 use mathlib.Core.Path.{_≡_}
 use mathlib.Core.Logic.{_⊎_, _≢_, _↔_}
-use mathlib.Core.Bool.{Bool, true}
-use mathlib.Core.List.{List, _++_}
-use Prim.Native.Nat.{ℕ}
+use mathlib.Core.Bool.{Bool, true, false}
+use mathlib.Core.List.{List, [], _∷_, _++_}
+use Prim.Native.Nat.{ℕ, _+_}
 use lib.ListN.{length}
-use Rattle.common.specs.Lists.{_∈_, Sorted}
+use Rattle.common.specs.Lists.{_∈_, Pairwise}
 use Rattle.paths.specs.Network.{Network, Path, freePath}
 use Rattle.paths.specs.Permitted.{Permitted, Beginning, ComesBefore}
-use Rattle.paths.specs.Pass.{Pass, none, found}
-use Rattle.paths.specs.Send.{Receive, channel, all-held, Outcome, acknowledged, route-rejected, receive-rejected}
+use Rattle.paths.specs.Pass.{PassResult, none, found}
+use Rattle.paths.specs.Send.{Receive, channel, all-held, Outcome, acknowledged, route-rejected, receive-rejected, Attempt, pass-over, goesOn}
 
 -- c is the number of paths with P: a list holds exactly those, each once, and is c long
 pub record Number (P : Path → Type 0) (c : ℕ) : Type 0 where
   pub list : List Path
   pub holds : (b : Path) → (b ∈ list) ↔ P b
-  pub once : Sorted _≢_ list
+  pub once : Pairwise _≢_ list
   pub long : length list ≡ c
 
 -- "that come before the found path or are a beginning of it (itself counted)"
@@ -39,7 +39,7 @@ module _ (N : Network) (free : ℕ → ℕ → Bool) (s : ℕ) (vector : List �
     pub nothing : (v : Path) → Permitted N s vector t v → Free N free s v → ⊥
     pub scouts : Number (λ b. Beginning N s vector t b × Free N free s b) c
 
-  abbrev pub Says : Pass → Type 0
+  abbrev pub Says : PassResult → Type 0
   Says (none c) = NoneSays c
   Says (found w c) = FoundSays w c
 
@@ -49,3 +49,20 @@ module _ (N : Network) (free : ℕ → ℕ → Bool) (s : ℕ) (vector : List �
     says-acknowledged : {w : Path} {k c : ℕ} → r ≡ channel k → FoundSays w c → AnswerSays r (acknowledged w k) c
     says-receive-rejected : {w : Path} {c : ℕ} → r ≡ all-held → FoundSays w c → AnswerSays r receive-rejected c
     says-route-rejected : {c : ℕ} → NoneSays c → AnswerSays r route-rejected c
+
+module _ (N : Network) (s t : ℕ) where
+  -- the paths that an attempt tries
+  unfoldable pub Tries : Attempt → Path → Type 0
+  Tries (pass-over ports) w = Permitted N s ports t w
+
+  module _ (free : ℕ → ℕ → Bool) (r : Receive) where
+    unfoldable pub AttemptSays : Attempt → Outcome → ℕ → Type 0
+    AttemptSays (pass-over ports) o n = AnswerSays N free s ports t r o n
+
+    -- What a send says that makes the attempts of a list in turn. The last attempt, and one that ends the send, give its answer; after any other the
+    -- answer is that of the rest, and the scouts are added.
+    pub data AttemptsSay : List Attempt → Outcome → ℕ → Type 0 where
+      last : {a : Attempt} {o : Outcome} {n : ℕ} → AttemptSays a o n → AttemptsSay (a ∷ []) o n
+      ends : {a : Attempt} {later : List Attempt} {o : Outcome} {n : ℕ} → AttemptSays a o n → goesOn o ≡ false → AttemptsSay (a ∷ later) o n
+      goes-on : {a : Attempt} {later : List Attempt} {o₂ : Outcome} {n₂ : ℕ} (o : Outcome) (n : ℕ) → AttemptSays a o n → goesOn o ≡ true
+          → AttemptsSay later o₂ n₂ → AttemptsSay (a ∷ later) o₂ (n + n₂)

@@ -1,4 +1,4 @@
 -- The laws of the calls' tests.
 pub mod Stopping
-pub mod Called
+pub mod TableStep
 pub mod Releasing

@@ -23,21 +23,22 @@ use Rattle.paths.specs.Send.{acknowledged}
 use Rattle.paths.specs.CubeNetwork.{Shape, network}
 use Rattle.paths.proofs.Links.{link-true, true-link}
 use Rattle.paths.proofs.Apart.{permitted-below, permitted-inside}
-use Rattle.table.specs.Layout.{Within, dimensionAt, receiverAt, putOwner, putReceiver}
-use Rattle.table.specs.View.{View, view, setReceiver, setAt, freeing}
+use Rattle.table.specs.Layout.{dimensionAt, receiverAt, putOwner, putReceiver}
+use Rattle.table.specs.LayoutContracts.{Within}
+use Rattle.table.specs.View.{View, view, setReceiver, setAt, withoutCircuit, shapeOf, net, heldBy}
 use Rattle.table.specs.Encode.{encode, Bytes}
-use Rattle.soundness.specs.Sound.{shapeOf, net, heldBy, endFor, Stands, Sound}
-use Rattle.soundness.specs.SoundTest.{pathOf, isEmpty, written}
+use Rattle.soundness.specs.Sound.{endFor, CircuitSound, Sound}
+use Rattle.soundness.specs.SoundTest.{pathOf, isEmpty, tracedInto}
 use Rattle.soundness.specs.Follow.{HasSource}
 use Rattle.soundness.proofs.Soundness.{path-is}
-use Rattle.search.specs.Settle.{hold}
-use Rattle.search.specs.Sent.{marked}
-use Rattle.search.proofs.Turns.{owner-length}
-use Rattle.ownership.specs.Update.{holdLinks, marking}
+use Rattle.search.specs.PassAnswer.{holdPath}
+use Rattle.search.specs.SendAnswer.{bytesAfterSend}
+use Rattle.search.proofs.SearchContracts.{owner-length}
+use Rattle.ownership.specs.Update.{holdLinks, viewAfterSend}
 use Rattle.ownership.proofs.Shows.{PortsBelow, Fits, hold-length, view-hold}
-use Rattle.ownership.proofs.Written.{marked-encoded}
-use Rattle.ownership.proofs.Followed.{held-path}
-use Rattle.ownership.proofs.OnSound.{path-stands}
+use Rattle.ownership.proofs.BytesAfter.{send-encoded}
+use Rattle.ownership.proofs.Applied.{held-path}
+use Rattle.ownership.proofs.OpenCircuits.{open-path, open-sound}
 use Rattle.router.specs.Release.{MayFree}
 
 -- i of the links are freed, and the next is one of node `at`
@@ -46,21 +47,21 @@ pub record Freeing (N : Network) (b ports : List ℕ) (s hops : ℕ) (now : List
   pub node : at < 256
   pub long : length now ≡ length b
   pub ends : end N at (slice i hops ports) ≡ end N s (take hops ports)
-  pub holds : hold now 0 at (slice i hops ports) ≡ hold b 0 s (take hops ports)
+  pub holds : holdPath now 0 at (slice i hops ports) ≡ holdPath b 0 s (take hops ports)
 
 module _ (S : Shape) {b ports : List ℕ} {s hops : ℕ} where
-  pub freeing-start : s < 256 → Freeing (network S) b ports s hops b s 0
-  freeing-start h = record { most = omega arith; node = h; long = refl; ends = refl; holds = refl }
+  pub without-start : s < 256 → Freeing (network S) b ports s hops b s 0
+  without-start h = record { most = omega arith; node = h; long = refl; ends = refl; holds = refl }
 
-  pub freeing-on : {now after : List ℕ} {at to i p : ℕ} → Freeing (network S) b ports s hops now at i → i < hops → hops ≤ length ports → p ≡ getD ports i 0 → p < 8
+  pub without-on : {now after : List ℕ} {at to i p : ℕ} → Freeing (network S) b ports s hops now at i → i < hops → hops ≤ length ports → p ≡ getD ports i 0 → p < 8
       → after ≡ putOwner now at p 0 → to ≡ next at p → Freeing (network S) b ports s hops after to (i + 1)
-  freeing-on {now} {after} {at} {to} {i} {p} f h room e l q t =
+  without-on {now} {after} {at} {to} {i} {p} f h room e l q t =
       record {
         most = omega arith;
         node = rw t (next-inside 8 at p (omega arith) (f .node) l);
         long = ap length q ∙ owner-length now at p 0 ∙ f .long;
         ends = rw (t, add-one i) (sym (ap (end (network S) at) split ∙ (unfold end network in refl)) ∙ f .ends);
-        holds = rw (q, t, add-one i) (sym (ap (hold now 0 at) split ∙ (unfold hold in refl)) ∙ f .holds);
+        holds = rw (q, t, add-one i) (sym (ap (holdPath now 0 at) split ∙ (unfold holdPath in refl)) ∙ f .holds);
       }
     where
       split : slice i hops ports ≡ p ∷ slice (suc i) hops ports
@@ -73,8 +74,8 @@ module _ (S : Shape) {b ports : List ℕ} {s hops : ℕ} where
     pub freed-end : at ≡ end (network S) s (take hops ports)
     freed-end = sym (ap (end (network S) at) none ∙ (unfold end in refl)) ∙ f .ends
 
-    pub freed-bytes-are : now ≡ hold b 0 s (take hops ports)
-    freed-bytes-are = sym (ap (hold now 0 at) none ∙ (unfold hold in refl)) ∙ f .holds
+    pub freed-bytes-are : now ≡ holdPath b 0 s (take hops ports)
+    freed-bytes-are = sym (ap (holdPath now 0 at) none ∙ (unfold holdPath in refl)) ∙ f .holds
 
 -- the member at a place
 at-member : (w : List ℕ) (i : ℕ) → i < length w → getD w i 0 ∈ w
@@ -84,8 +85,8 @@ at-member (x ∷ w) (suc i) h = List·Memᴰ·tail (at-member w i (omega arith))
 
 -- An open circuit of a sound table.
 module _ {b : List ℕ} {c : ℕ} (known : HasSource b c) (some : not (isEmpty (pathOf (view b) c)) ≡ true) (sound : Sound (view b)) where
-  stands : Stands (view b) c
-  stands = path-stands (view b) sound c (λ z. omega (arith, z, known .circuit)) some
+  stands : CircuitSound (view b) c
+  stands = open-sound (view b) sound c (λ z. omega (arith, z, known .circuit)) (open-path (view b) c ∙ some)
 
   abbrev pub path : Path
   path = pathOf (view b) c
@@ -130,8 +131,8 @@ module _ {b : List ℕ} {c : ℕ} (known : HasSource b c) (some : not (isEmpty (
           eqb-false _ c e (subst (λ (x : ℕ). view b .receiver x k ≡ c) (sym (eqb-true m target (r .0))) (subst (λ (x : ℕ). view b .receiver target x ≡ c) (sym (eqb-true k _ (r .1))) receives)))
 
   -- so what the table shows once both are nobody's is what it shows once every entry of the circuit is freed
-  shown-freed : marking (view b) 0 (sourceOf c) target (acknowledged path (stands .channel)) ≡ freeing (view b) c
-  unfolding marking freeing setReceiver setAt
+  shown-freed : viewAfterSend (view b) 0 (sourceOf c) target (acknowledged path (stands .channel)) ≡ withoutCircuit (view b) c
+  unfolding viewAfterSend withoutCircuit setReceiver setAt
   shown-freed =
       ap (λ (v : View). setReceiver v target (stands .channel) 0) (held-path (view b) (shapeOf (view b)) 0 (sourceOf c) path) ∙ λ i.
       record {
@@ -141,20 +142,20 @@ module _ {b : List ℕ} {c : ℕ} (known : HasSource b c) (some : not (isEmpty (
         receiver = λ m k. cond (channel-held m k i) 0 (view b .receiver m k);
       }
 
-  bytes-freed : Bytes b → putReceiver (hold b 0 (sourceOf c) path) target (stands .channel) 0 ≡ encode (freeing (view b) c)
-  unfolding marked
+  bytes-freed : Bytes b → putReceiver (holdPath b 0 (sourceOf c) path) target (stands .channel) 0 ≡ encode (withoutCircuit (view b) c)
+  unfolding bytesAfterSend
   bytes-freed bytes =
       let fits : Fits (dimensionAt b) (acknowledged path (stands .channel)) = unfold Fits in (ports-below, stands .small) in
-      marked-encoded b bytes 0 (sourceOf c) target (acknowledged path (stands .channel)) (known .fits) (lit< tt) (known .source) target-inside fits ∙ ap encode shown-freed
+      send-encoded b bytes 0 (sourceOf c) target (acknowledged path (stands .channel)) (known .fits) (lit< tt) (known .source) target-inside fits ∙ ap encode shown-freed
 
   -- Of what the code has: the ports of the path in a buffer of nine, how many they are, and the source.
-  module _ (buffer : List ℕ) {ports : List ℕ} {hops s : ℕ} (room : 9 ≤ length buffer) (count : hops ≡ length path) (e : ports ≡ written path buffer) (q : s ≡ sourceOf c) where
+  module _ (buffer : List ℕ) {ports : List ℕ} {hops s : ℕ} (room : 9 ≤ length buffer) (count : hops ≡ length path) (e : ports ≡ tracedInto path buffer) (q : s ≡ sourceOf c) where
     taken : take hops ports ≡ path
-    unfolding written
+    unfolding tracedInto
     taken = rw (count, e) (take-append-seam path (drop (length path) buffer))
 
     pub may-free : MayFree b s ports hops
-    unfolding written PortsBelow
+    unfolding tracedInto PortsBelow
     may-free =
         record {
           bytes = known .bytes;
@@ -167,11 +168,11 @@ module _ {b : List ℕ} {c : ℕ} (known : HasSource b c) (some : not (isEmpty (
               omega (arith, p, known .fits);
         }
 
-    module _ {t : ℕ} {b₁ : List ℕ} (ends : t ≡ end (net (view b)) s (take hops ports)) (holds : b₁ ≡ hold b 0 s (take hops ports)) where
+    module _ {t : ℕ} {b₁ : List ℕ} (ends : t ≡ end (net (view b)) s (take hops ports)) (holds : b₁ ≡ holdPath b 0 s (take hops ports)) where
       at-target : t ≡ target
       at-target = ends ∙ rw (taken, q)
 
-      held : b₁ ≡ hold b 0 (sourceOf c) path
+      held : b₁ ≡ holdPath b 0 (sourceOf c) path
       held = holds ∙ rw (taken, q)
 
       pub target-within : Within b₁ t 0
@@ -182,7 +183,7 @@ module _ {b : List ℕ} {c : ℕ} (known : HasSource b c) (some : not (isEmpty (
       unfolding view
       received j = ap (λ x. eqb x c) (ap (λ x. receiverAt x t j) held ∙ ap (λ (v : View). v .receiver t j) (shown ∙ held-path (view b) (shapeOf (view b)) 0 (sourceOf c) path) ∙ ap (λ x. receiverAt b x j) at-target)
         where
-          shown : view (hold b 0 (sourceOf c) path) ≡ holdLinks (view b) 0 (sourceOf c) path
+          shown : view (holdPath b 0 (sourceOf c) path) ≡ holdLinks (view b) 0 (sourceOf c) path
           shown = view-hold 0 (lit< tt) (dimensionAt b) (known .fits) b (known .bytes) (sourceOf c) path (known .source) ports-below
 
       module _ {k : ℕ} (found : k ≡ lowest (λ j. eqb (receiverAt b₁ t j) c) 8 0) where
@@ -197,5 +198,5 @@ module _ {b : List ℕ} {c : ℕ} (known : HasSource b c) (some : not (isEmpty (
         pub channel-within : Within b₁ t k
         channel-within = record { bytes = target-within .bytes; node = target-within .node; port = omega (arith, the-channel, stands .small) }
 
-        pub all-freed : Bytes b → putReceiver b₁ t k 0 ≡ encode (freeing (view b) c)
+        pub all-freed : Bytes b → putReceiver b₁ t k 0 ≡ encode (withoutCircuit (view b) c)
         all-freed bytes = rw (held, at-target, the-channel) (bytes-freed bytes)

@@ -9,8 +9,9 @@ use native.Mathlib.Omega.{arith}
 use lib.ListN.{length}
 use lib.Pow.{pow-mono}
 use Rattle.common.specs.Tests.{Test, test, refusal}
-use Rattle.common.proofs.Tests.{neither, refused, passed, accepted, refusal-behind, refusal-both, refusal-before}
-use Rattle.table.specs.Layout.{tableLength, dimensionAt, Within}
+use Rattle.common.proofs.Tests.{neither, refused, passed, accepted, refusal-after, refusal-before}
+use Rattle.table.specs.Layout.{tableLength, dimensionAt}
+use Rattle.table.specs.LayoutContracts.{Within}
 use Rattle.table.specs.View.{view}
 use Rattle.cube.specs.Cube.{circuitOf}
 use Rattle.cube.proofs.Bits.{no-bit-above}
@@ -19,11 +20,12 @@ use Rattle.cube.proofs.Ports.{most-nodes, below-256}
 use Rattle.soundness.specs.Sound.{Sound}
 use Rattle.soundness.specs.SoundTest.{pathOf, isEmpty, tableTests}
 use Rattle.soundness.specs.Follow.{HasSource}
-use Rattle.ownership.specs.Calls.{Call, absent, blocking, unblocking, opening, closing, tracing}
+use Rattle.ownership.specs.Calls.{Call, form, absent, blocking, unblocking, opening, closing, tracing}
 use Rattle.ownership.specs.Allowed.{Allowed}
-use Rattle.ownership.specs.OnTable.{openIn, askedOf, lentTests, stoppedAt}
+use Rattle.ownership.specs.OnTable.{isOpenIn, openIn, factsOf, stoppedAt}
 use Rattle.ownership.proofs.Allowed.{below, allowed}
-use Rattle.ownership.proofs.Stops.{pass-tests, lent-numbered, table-numbered}
+use Rattle.ownership.proofs.OpenCircuits.{open-path}
+use Rattle.ownership.proofs.Stops.{pass-tests, table-numbered, none-stops, none-stops-lent}
 
 -- What a call answers at each return of its tests: a test of the lent table stops it;
 pub by-table : (b : List ℕ) (ts : List Test) {n : ℕ} → n ≡ refusal (tableTests b) → n ≢ 0 → n ≡ refusal (tableTests b ++ ts)
@@ -31,7 +33,7 @@ by-table b ts e f = e ∙ sym (refusal-before (tableTests b) ts (λ z. f (e ∙ 
 
 -- or none does, and those of the call decide:
 pub by-call : (b : List ℕ) (ts : List Test) {n m : ℕ} → n ≡ refusal (tableTests b) → n ≡ 0 → m ≡ refusal ts → m ≡ refusal (tableTests b ++ ts)
-by-call b ts e z q = q ∙ sym (refusal-behind (tableTests b) ts (table-numbered b) (sym e ∙ z))
+by-call b ts e z q = q ∙ sym (refusal-after (tableTests b) ts (table-numbered b) (sym e ∙ z))
 
 -- the first of them applies, as the code found; or it does not, and those behind it decide;
 module _ {w found : Bool} (m : ℕ) (ts : List Test) (e : found ≡ w) where
@@ -69,7 +71,7 @@ or-second {u} {w} e f = f ∙ sym (ap (_|| w) e)
 -- With these `search` proves what each return of a call's tests answers, in whatever order they stand, and what a test asks of those before it.
 pub ruleset stops = (by-table, by-call, here, past, here-not, past-not, none)
 
-pub ruleset passes = (table-passed, not-found)
+pub ruleset onPathOf = (table-passed, not-found)
 
 -- What is known of a table and the nodes of a call that no test stops.
 pub record Inside (b : List ℕ) (s t : ℕ) : Type 0 where
@@ -84,39 +86,36 @@ inside : (b : List ℕ) → refusal (tableTests b) ≡ 0 → {s t : ℕ} → s <
 inside b e h l = let r = pass-tests b e in record { long = r .0; least = r .1; most = r .2; sound = r .3; source = h; target = l }
 
 -- a node that the code found not to be absent
-pub node-passed : (b : List ℕ) (s : ℕ) → refusal (tableTests b) ≡ 0 → absent (askedOf (view b)) s ≡ false → Inside b s s
-unfolding askedOf view
+pub node-passed : (b : List ℕ) (s : ℕ) → refusal (tableTests b) ≡ 0 → absent (factsOf (view b)) s ≡ false → Inside b s s
+unfolding factsOf view
 node-passed b s e f = let h = below s (2 ^ dimensionAt b) f in inside b e h h
 
 -- a call that no test stops: the table passes its tests, and the arguments are allowed
-none-applies : (b : List ℕ) (a : Call) → lentTests b a ≡ tableTests b → {n : ℕ} → n ≡ stoppedAt b a → n ≡ 0 → (refusal (tableTests b) ≡ 0) × Allowed (askedOf (view b)) a
-unfolding stoppedAt
-none-applies b a q e z =
-    let r = refusal-both (lentTests b a) _ (lent-numbered b a) (sym e ∙ z) in
-    (rw q at (r .0), allowed (askedOf (view b)) a (r .1))
+none-applies : (b : List ℕ) (a : Call) → form a .makes ≡ false → {n : ℕ} → n ≡ stoppedAt b a → n ≡ 0 → (refusal (tableTests b) ≡ 0) × Allowed (factsOf (view b)) a
+none-applies b a q e z = (none-stops-lent b a q (sym e ∙ z), allowed (factsOf (view b)) a (none-stops b a (sym e ∙ z)))
 
 module _ {b : List ℕ} {m p n : ℕ} where
   pub link-passed : n ≡ stoppedAt b (unblocking m p) → n ≡ 0 → Inside b m m × (p < dimensionAt b)
-  unfolding lentTests Allowed askedOf view
+  unfolding Allowed factsOf view
   link-passed e z = let r = none-applies b (unblocking m p) refl e z in (inside b (r .0) (r .1 .0) (r .1 .0), r .1 .1)
 
   pub block-passed : n ≡ stoppedAt b (blocking m p) → n ≡ 0 → Inside b m m × (p < dimensionAt b)
-  unfolding lentTests Allowed askedOf view
+  unfolding Allowed factsOf view
   block-passed e z = let r = none-applies b (blocking m p) refl e z in (inside b (r .0) (r .1 .0) (r .1 .0), r .1 .1)
 
 pub open-passed : {b : List ℕ} {s c t : ℕ} (y : ℕ) {v n : ℕ} → n ≡ stoppedAt b (opening s c t y v) → n ≡ 0 → Inside b s t × (c < 8) × (v < 2 ^ dimensionAt b)
-unfolding lentTests Allowed askedOf view
+unfolding Allowed factsOf view
 open-passed {b} {s} {c} {t} y {v} e z =
     let r = none-applies b (opening s c t y v) refl e z in
     (inside b (r .0) (r .1 .0) (r .1 .1), r .1 .2, no-bit-above (dimensionAt b) v (r .1 .4))
 
 module _ {b : List ℕ} {s c : ℕ} where
   pub close-passed : {n : ℕ} → n ≡ stoppedAt b (closing s c) → n ≡ 0 → Inside b s s × (c < 8) × (openIn (view b) s c ≡ true)
-  unfolding lentTests Allowed askedOf view
+  unfolding Allowed factsOf view
   close-passed e z = let r = none-applies b (closing s c) refl e z in (inside b (r .0) (r .1 .0) (r .1 .0), r .1 .1, r .1 .2)
 
   pub trace-passed : (buffer : List ℕ) {n : ℕ} → n ≡ stoppedAt b (tracing s c buffer) → n ≡ 0 → (Inside b s s × (c < 8) × (openIn (view b) s c ≡ true)) × (9 ≤ length buffer)
-  unfolding lentTests Allowed askedOf view
+  unfolding Allowed factsOf view
   trace-passed buffer e z = let r = none-applies b (tracing s c buffer) refl e z in ((inside b (r .0) (r .1 .0) (r .1 .0), r .1 .1, r .1 .2), r .1 .3)
 
 -- A cube has 2 to 256 nodes.
@@ -136,6 +135,6 @@ module _ {b : List ℕ} {s t c : ℕ} (h : Inside b s t) (l : c < 8) where
   has-source e = rw e record { bytes = h .long; fits = h .most; circuit = omega arith; source = rw (source-of-circuit s c l) (h .source) }
 
 -- That circuit has a path where the channel has an open circuit.
-pub circuit-open : (b : List ℕ) (s c : ℕ) {k : ℕ} {o : Bool} → k ≡ circuitOf s c → o ≡ not (isEmpty (pathOf (view b) k)) → o ≡ openIn (view b) s c
+pub channel-path : (b : List ℕ) (s c : ℕ) {k : ℕ} → k ≡ circuitOf s c → not (isEmpty (pathOf (view b) k)) ≡ openIn (view b) s c
 unfolding openIn
-circuit-open b s c q r = r ∙ ap (λ i. not (isEmpty (pathOf (view b) i))) q
+channel-path b s c q = sym (open-path (view b) _) ∙ ap (isOpenIn (view b)) q

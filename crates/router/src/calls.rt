@@ -1,17 +1,18 @@
 // The calls: the tests in rising order of their numbers, and then what the call does. A refused call changes no byte.
 ghost use mathlib.Core.Path.{_≡_};
-ghost use mathlib.Core.List.{[]};
-ghost use Rattle.ownership.specs.Calls.{only, making, blocking, unblocking, opening, closing, tracing};
-ghost use Rattle.ownership.specs.OnTable.{called, done};
+ghost use mathlib.Core.List.{[], _∷_};
+ghost use Rattle.ownership.specs.Calls.{making, blocking, unblocking, opening, closing, tracing};
+ghost use Rattle.ownership.specs.OnTable.{tableStep, done};
 use crate::release;
-use crate::stopped;
+use crate::tests;
 use common::refusal;
 use cube::Node;
 use cube::Port;
+use search::Opened;
 
 // Makes a table of a dimension: all its links enabled, nothing held. What the bytes were before does not matter.
 pub fn make(t: &mut [u8], dimension: u16) -> u16
-    ensures { λ r. ⌜ done (now (t .exit)) (only r) [] ≡ called (now (t .entry)) (making dimension) ⌝ }
+    ensures { λ r. ⌜ done (now (t .exit)) r [] [] ≡ tableStep (now (t .entry)) (making dimension) ⌝ }
 {
     if t.len() != table::BYTES {
         return refusal::TABLE_LENGTH;
@@ -28,9 +29,9 @@ pub fn make(t: &mut [u8], dimension: u16) -> u16
 
 // Blocks a link that nobody holds. Blocking a blocked link changes nothing.
 pub fn block(t: &mut [u8], node: Node, port: Port) -> u16
-    ensures { λ r. ⌜ done (now (t .exit)) (only r) [] ≡ called (now (t .entry)) (blocking (node .0) (port .0)) ⌝ }
+    ensures { λ r. ⌜ done (now (t .exit)) r [] [] ≡ tableStep (now (t .entry)) (blocking (node .0) (port .0)) ⌝ }
 {
-    let refused = stopped::block(t, node, port);
+    let refused = tests::block(t, node, port);
     if refused != refusal::ACCEPTED {
         return refused;
     }
@@ -40,23 +41,14 @@ pub fn block(t: &mut [u8], node: Node, port: Port) -> u16
 
 // Enables a link. Unblocking an enabled link changes nothing.
 pub fn unblock(t: &mut [u8], node: Node, port: Port) -> u16
-    ensures { λ r. ⌜ done (now (t .exit)) (only r) [] ≡ called (now (t .entry)) (unblocking (node .0) (port .0)) ⌝ }
+    ensures { λ r. ⌜ done (now (t .exit)) r [] [] ≡ tableStep (now (t .entry)) (unblocking (node .0) (port .0)) ⌝ }
 {
-    let refused = stopped::unblock(t, node, port);
+    let refused = tests::unblock(t, node, port);
     if refused != refusal::ACCEPTED {
         return refused;
     }
     table::enable(t, node, port);
     refusal::ACCEPTED
-}
-
-// What an open answers: 0 with the hops of its path and the receive channel taken, or the refusal; and the scouts sent.
-#[repr(C)]
-pub struct Opened {
-    pub number: u16,
-    pub hops: u16,
-    pub receive: u16,
-    pub scouts: u32,
 }
 
 // Opens a circuit from a send channel of a node to a target.
@@ -68,9 +60,9 @@ pub fn open(
     routing: u16,
     vector: u16,
 ) -> Opened
-    ensures { λ r. ⌜ done (now (t .exit)) (record { number = r .number; hops = r .hops; receive = r .receive; scouts = r .scouts }) [] ≡ called (now (t .entry)) (opening (source .0) channel (target .0) routing vector) ⌝ }
+    ensures { λ r. ⌜ done (now (t .exit)) (r .number) (r .hops ∷ r .receive ∷ r .scouts ∷ []) [] ≡ tableStep (now (t .entry)) (opening (source .0) channel (target .0) routing vector) ⌝ }
 {
-    let refused = stopped::open(t, source, channel, target, routing, vector);
+    let refused = tests::open(t, source, channel, target, routing, vector);
     if refused != refusal::ACCEPTED {
         return Opened {
             number: refused,
@@ -80,20 +72,14 @@ pub fn open(
         };
     }
     let c = cube::circuit_of(source, channel);
-    let got = search::send(t, source, target, c, routing, vector);
-    Opened {
-        number: got.refused,
-        hops: got.hops,
-        receive: got.channel,
-        scouts: got.scouts,
-    }
+    search::send(t, source, target, c, routing, vector)
 }
 
 // Closes the circuit of a send channel: it frees its links and its receive channel, and nothing else.
 pub fn close(t: &mut [u8], source: Node, channel: u16) -> u16
-    ensures { λ r. ⌜ done (now (t .exit)) (only r) [] ≡ called (now (t .entry)) (closing (source .0) channel) ⌝ }
+    ensures { λ r. ⌜ done (now (t .exit)) r [] [] ≡ tableStep (now (t .entry)) (closing (source .0) channel) ⌝ }
 {
-    let refused = stopped::close(t, source, channel);
+    let refused = tests::close(t, source, channel);
     if refused != refusal::ACCEPTED {
         return refused;
     }
@@ -110,9 +96,9 @@ pub struct Traced {
 
 // Writes the ports of a send channel's circuit to a buffer, one byte a hop in path order from its start. Later bytes keep their content.
 pub fn trace(t: &[u8], source: Node, channel: u16, buffer: &mut [u8]) -> Traced
-    ensures { λ r. ⌜ done (now (t .exit)) (record { number = r .number; hops = r .hops; receive = 0; scouts = 0 }) (now (buffer .exit)) ≡ called (now (t .entry)) (tracing (source .0) channel (now (buffer .entry))) ⌝ }
+    ensures { λ r. ⌜ done (now (t .exit)) (r .number) (r .hops ∷ []) (now (buffer .exit) ∷ []) ≡ tableStep (now (t .entry)) (tracing (source .0) channel (now (buffer .entry))) ⌝ }
 {
-    let refused = stopped::trace(t, source, channel, buffer);
+    let refused = tests::trace(t, source, channel, buffer);
     if refused != refusal::ACCEPTED {
         return Traced {
             number: refused,

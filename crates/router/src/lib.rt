@@ -1,9 +1,8 @@
 // The six calls on a lent table.
 mod calls;
 mod release;
-mod stopped;
+mod tests;
 
-pub use calls::Opened;
 pub use calls::Traced;
 pub use calls::block;
 pub use calls::close;
@@ -11,3 +10,4 @@ pub use calls::make;
 pub use calls::open;
 pub use calls::trace;
 pub use calls::unblock;
+pub use search::Opened;

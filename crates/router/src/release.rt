@@ -3,12 +3,12 @@ ghost use mathlib.Core.Path.{_≡_};
 ghost use mathlib.Core.Bool.{true, not};
 ghost use lib.ListN.{take};
 ghost use Rattle.paths.specs.Network.{end};
-ghost use Rattle.table.specs.View.{view, freeing};
+ghost use Rattle.table.specs.View.{view, withoutCircuit, net};
 ghost use Rattle.table.specs.Encode.{encode};
-ghost use Rattle.soundness.specs.Sound.{net, Sound};
+ghost use Rattle.soundness.specs.Sound.{Sound};
 ghost use Rattle.soundness.specs.SoundTest.{pathOf, isEmpty};
 ghost use Rattle.soundness.specs.Follow.{HasSource};
-ghost use Rattle.search.specs.Settle.{hold};
+ghost use Rattle.search.specs.PassAnswer.{holdPath};
 ghost use Rattle.router.specs.Release.{MayFree};
 use cube::Circuit;
 use cube::Node;
@@ -18,7 +18,7 @@ use cube::Port;
 fn free_links(t: &mut [u8], source: Node, ports: &[u8], hops: u16) -> Node
     requires { ⌜ MayFree (now t) (source .0) (now ports) hops ⌝ }
     ensures { λ r. ⌜ r .0 ≡ end (net (view (now (t .entry)))) (source .0) (take hops (now (ports .entry))) ⌝ }
-    ensures { λ _. ⌜ now (t .exit) ≡ hold (now (t .entry)) 0 (source .0) (take hops (now (ports .entry))) ⌝ }
+    ensures { λ _. ⌜ now (t .exit) ≡ holdPath (now (t .entry)) 0 (source .0) (take hops (now (ports .entry))) ⌝ }
 {
     let mut at = source;
     let mut i: u16 = 0;
@@ -37,7 +37,7 @@ pub fn release(t: &mut [u8], c: Circuit)
     requires { ⌜ HasSource (now t) (c .0) ⌝ }
     requires { ⌜ not (isEmpty (pathOf (view (now t)) (c .0))) ≡ true ⌝ }
     requires { ⌜ Sound (view (now t)) ⌝ }
-    ensures { λ _. ⌜ now (t .exit) ≡ encode (freeing (view (now (t .entry))) (c .0)) ⌝ }
+    ensures { λ _. ⌜ now (t .exit) ≡ encode (withoutCircuit (view (now (t .entry))) (c .0)) ⌝ }
 {
     let mut ports = [0u8; 9];
     let hops = soundness::write_path(t, c, &mut ports);

@@ -1,6 +1,6 @@
 -- The laws of a pass on the bytes of a table.
-pub mod Settle
+pub mod PassAnswer
 pub mod Narrow
-pub mod Turns
+pub mod SearchContracts
 pub mod Sends
 pub mod SendSays

@@ -13,19 +13,19 @@ use Rattle.cube.specs.Bits.{has}
 use Rattle.cube.specs.Helical.{helical, portsOf}
 use Rattle.cube.proofs.Bits.{has-and}
 use Rattle.cube.proofs.Order.{helical-keep, helical-mem, ports-mem, mem-ports}
-use Rattle.paths.specs.Pass.{Pass}
+use Rattle.paths.specs.Pass.{PassResult}
 use Rattle.paths.specs.Search.{trying}
 use Rattle.paths.proofs.Depth.{trying-cons}
-use Rattle.table.specs.Layout.{Within, enableBits}
-use Rattle.table.specs.View.{View, view, receive}
-use Rattle.soundness.specs.Sound.{net}
+use Rattle.table.specs.Layout.{enableBits}
+use Rattle.table.specs.LayoutContracts.{Within}
+use Rattle.table.specs.View.{View, view, receive, net}
 use Rattle.table.proofs.Entries.{enabled-has}
-use Rattle.search.specs.Settle.{freeIn, settle, behindPort}
-use Rattle.search.specs.Turns.{Narrowed, Enabled, tries}
-use Rattle.search.proofs.Settle.{free-off}
+use Rattle.search.specs.PassAnswer.{freeIn, answerOfPass, arrivalAfter}
+use Rattle.search.specs.SearchContracts.{Narrowed, Enabled, tryAnswer}
+use Rattle.search.proofs.PassAnswer.{free-off}
 
 -- trying the ports of a list that pass a test, where those that do not pass are not free
-trying-kept : (f free : ℕ → Bool) (on : ℕ → ℕ → Pass) (ps : List ℕ) → ((p : ℕ) → p ∈ ps → f p ≡ false → free p ≡ false) → (s : ℕ)
+trying-kept : (f free : ℕ → Bool) (on : ℕ → ℕ → PassResult) (ps : List ℕ) → ((p : ℕ) → p ∈ ps → f p ≡ false → free p ≡ false) → (s : ℕ)
     → trying free on (keep f ps) s ≡ trying free on ps s
 trying-kept f free on [] h s = unfold keep in refl
 trying-kept f free on (p ∷ ps) h s = go (f p) refl (trying-kept f free on ps (λ q m. h q (List·Memᴰ·tail m)))
@@ -51,11 +51,11 @@ module _ {v : View} {n vector left : ℕ} (narrow : Narrowed v n vector left) wh
   narrow-mem p m = let r = ports-mem 8 left m in mem-ports 8 vector p (r .0) (narrow .among p (r .1))
 
 -- the answer is that of the whole vector
-pub narrow-tries : (b : List ℕ) (t c a h s : ℕ) {n vector left : ℕ} → Narrowed (view b) n vector left → tries b t c n left a h s ≡ tries b t c n vector a h s
-unfolding tries
+pub narrow-tries : (b : List ℕ) (t c a h s : ℕ) {n vector left : ℕ} → Narrowed (view b) n vector left → tryAnswer b t c n left a h s ≡ tryAnswer b t c n vector a h s
+unfolding tryAnswer
 narrow-tries b t c a h s {n} {vector} {left} narrow =
-    let on : ℕ → ℕ → Pass = behindPort (net (view b)) (freeIn (view b)) t n in
-    ap (settle b c n h (receive (view b) t))
+    let on : ℕ → ℕ → PassResult = arrivalAfter (net (view b)) (freeIn (view b)) t n in
+    ap (answerOfPass b c n h (receive (view b) t))
     (ap (λ ps. trying (freeIn (view b) n) on (helical a ps) s) (ports-kept narrow)
     ∙ ap (λ ps. trying (freeIn (view b) n) on ps s) (helical-keep a (has left) (portsOf 8 vector))
     ∙ trying-kept (has left) (freeIn (view b) n) on (helical a (portsOf 8 vector))
@@ -75,7 +75,7 @@ module _ (b : List ℕ) (n vector x : ℕ) (within : Within b n 0) (byte : x ≡
       record {
         most = and-le-l vector x;
         among = λ p e. in-both p e .0;
-        dropped = λ p l e f. sym (free-off (view b) n p (has x p) (sym (read p l)) (is-false (has x p) (λ y. clash (has-and vector x p ∙ (rw (e, y))) f)));
+        dropped = λ p l e f. free-off (view b) n p (read p l ∙ is-false (has x p) (λ y. clash (has-and vector x p ∙ (rw (e, y))) f));
       }
 
   pub enabled-all : Enabled (view b) n (bitAnd vector x)

@@ -2,7 +2,7 @@
 -- Assumes nothing.
 use mathlib.Core.Path.{_≡_, refl, ap, ap₂, sym, _∙_}
 use mathlib.Core.Logic.{_≢_}
-use mathlib.Core.Bool.{Bool, true, false, not}
+use mathlib.Core.Bool.{true, false, not}
 use mathlib.Core.List.{List}
 use Prim.Native.Nat.{ℕ, _+_, _-_, _^_, _≤_, _<_}
 use native.Mathlib.Omega.{arith}
@@ -11,62 +11,57 @@ use lib.Dec.{eqb, lit<}
 use lib.ListN.{length}
 use lib.Pow.{pow-pos}
 use lib.Bits.{bitXor, xor-lt}
-use borrow.Author.Tests.{eq-eqb, ne-eqb, lt-ltb}
+use borrow.Author.Tests.{ne-eqb, lt-ltb}
 use Rattle.cube.specs.Bits.{bitAt, has}
 use Rattle.cube.specs.Cube.{NodeCount}
 use Rattle.cube.proofs.Bits.{one-bit, bit-lt, bit-xor, has-bit}
 use Rattle.cube.specs.Helical.{portsOf}
 use Rattle.cube.proofs.Order.{helical-last, ports-wider, ports-mem, length-ports}
-use Rattle.paths.specs.Pass.{Pass, none, found, pass, scouts}
+use Rattle.paths.specs.Pass.{PassResult, none, found, pass, scouts}
 use Rattle.paths.specs.Search.{trying, sending}
-use Rattle.paths.specs.Send.{Receive, channel, all-held, Outcome, acknowledged, route-rejected, receive-rejected, Sent, received, outcome, goesOn, answered}
-use Rattle.paths.specs.CubeNetwork.{Shape, network, sendPorts, otherPorts, maze, send}
+use Rattle.paths.specs.Send.{Receive, channel, all-held, Outcome, acknowledged, route-rejected, receive-rejected, oneResult, received, outcome, goesOn}
+use Rattle.paths.specs.CubeNetwork.{Shape, network, sendPorts, otherPorts, attempts, send}
 use Rattle.paths.proofs.Depth.{search-is-pass}
-use Rattle.paths.proofs.CubeNetwork.{far-within, unfolded-send, scouts-bound, other-vector}
+use Rattle.paths.proofs.CubeNetwork.{distance-within, unfolded-send-ports, scouts-bound, other-vector}
 use Rattle.paths.proofs.Send.{maze-answers, alternate-stops, alternate-goes-on}
 use Rattle.paths.specs.Bound.{waysFrom}
 use Rattle.paths.proofs.Bound.{ways-more}
 use Rattle.table.specs.Layout.{dimensionAt, putReceiver}
-use Rattle.table.specs.View.{View, view, receive, available}
-use Rattle.soundness.specs.Sound.{net, shapeOf}
+use Rattle.table.specs.View.{View, view, receive, available, net, shapeOf}
 use Rattle.table.proofs.Made.{ones}
 use Rattle.table.proofs.Receives.{chosen}
-use Rattle.search.specs.Settle.{freeIn, hold, Settled, settled, settle, behindPort}
-use Rattle.search.specs.Turns.{reach, tries, Narrowed, MayTry}
-use Rattle.search.specs.Sent.{marked, sentOn, sendsMaze, sendsAlternate, sends, MaySend}
+use Rattle.search.specs.PassAnswer.{freeIn, holdPath, pass-answer, answerOfPass, arrivalAfter}
+use Rattle.search.specs.SearchContracts.{farthestAfter, tryAnswer, Narrowed, MayTry}
+use Rattle.search.specs.SendAnswer.{bytesAfterSend, answerOfOutcome, sendAnswer, sends, MaySend}
 use Rattle.search.proofs.Narrow.{narrow-tries}
-use Rattle.search.proofs.Turns.{farthest-most}
-
--- what one pass comes to for a send
-abbrev oneOf : Receive → Pass → Sent
-oneOf r x = record { outcome = outcome r x; scouts = scouts x }
+use Rattle.search.proofs.SearchContracts.{farthest-most}
 
 -- the pass of a send over the ports of a vector
-abbrev passOf : List ℕ → ℕ → ℕ → ℕ → Pass
+abbrev passOf : List ℕ → ℕ → ℕ → ℕ → PassResult
 passOf b s t vector = pass (net (view b)) (freeIn (view b)) s (sendPorts (shapeOf (view b)) vector) t
 
 module _ {b : List ℕ} {s t c vector : ℕ} (may : MaySend b s t c vector) where
   ports-listed : portsOf 8 vector ≡ sendPorts (shapeOf (view b)) vector
-  ports-listed = (unfold view in ports-wider (dimensionAt b) 8 vector (may .fits) (may .ports) ∙ sym (unfolded-send (shapeOf (view b)) (may .fits) refl vector))
+  ports-listed = (unfold view in ports-wider (dimensionAt b) 8 vector (may .fits) (may .ports) ∙ sym (unfolded-send-ports (shapeOf (view b)) (may .fits) refl vector))
 
   -- ports after arrival port 7 are tried from 0 upward: the search is the pass
-  pub tries-pass : tries b t c s vector 7 0 0 ≡ settle b c s 0 (receive (view b) t) (passOf b s t vector)
-  unfolding tries
+  pub tries-pass : tryAnswer b t c s vector 7 0 0 ≡ answerOfPass b c s 0 (receive (view b) t) (passOf b s t vector)
+  unfolding tryAnswer
   tries-pass =
-      ap (settle b c s 0 (receive (view b) t))
-      (ap (λ ps. trying (freeIn (view b) s) (behindPort (net (view b)) (freeIn (view b)) t s) ps 0) (helical-last 7 (portsOf 8 vector) (λ p m. let r = ports-mem 8 vector m in omega arith) ∙ ports-listed)
-      ∙ (unfold sending behindPort in search-is-pass (net (view b)) (freeIn (view b)) s (sendPorts (shapeOf (view b)) vector) t))
+      ap (answerOfPass b c s 0 (receive (view b) t))
+      (ap (λ ps. trying (freeIn (view b) s) (arrivalAfter (net (view b)) (freeIn (view b)) t s) ps 0) (helical-last 7 (portsOf 8 vector) (λ p m. let r = ports-mem 8 vector m in omega arith) ∙ ports-listed)
+      ∙ (unfold sending arrivalAfter in search-is-pass (net (view b)) (freeIn (view b)) s (sendPorts (shapeOf (view b)) vector) t))
 
-  near : reach b t s vector ≤ 8
-  unfolding reach
-  near = farthest-most (net (view b)) t s 8 (portsOf 8 vector) (λ p m. let f : shapeOf (view b) .dimension ≤ 8 = unfold view in may .fits in omega (arith, f, far-within (shapeOf (view b)) t (net (view b) .next s p)))
+  near : farthestAfter b t s vector ≤ 8
+  unfolding farthestAfter
+  near = farthest-most (net (view b)) t s 8 (portsOf 8 vector) (λ p m. let f : shapeOf (view b) .dimension ≤ 8 = unfold view in may .fits in omega (arith, f, distance-within (shapeOf (view b)) t (net (view b) .next s p)))
 
   -- there is room for the hops and the scouts of a pass
   pub may-try : MayTry b t c s vector 7 0 0
   may-try =
-      let more : waysFrom 1 (reach b t s vector) ≤ waysFrom 1 8 = ways-more 1 (reach b t s vector) 8 near in
+      let more : waysFrom 1 (farthestAfter b t s vector) ≤ waysFrom 1 8 = ways-more 1 (farthestAfter b t s vector) 8 near in
       let most : waysFrom 1 8 ≡ 109600 = unfold waysFrom in refl in
-      let all = mul-le-mul-right (1 + waysFrom 1 (reach b t s vector)) (length-ports 8 vector) in
+      let all = mul-le-mul-right (1 + waysFrom 1 (farthestAfter b t s vector)) (length-ports 8 vector) in
       record {
         here = record { bytes = may .bytes; fits = may .fits; node = may .source; target = may .target; port = lit< tt; circuit = may .circuit; small = may .small };
         ports = may .ports;
@@ -81,62 +76,62 @@ receive-small v t k e = chosen (available v t) k e .0
 
 -- The answer of a pass that was acknowledged, with the receive channel taken; and of one that was not.
 module _ (b : List ℕ) (c s t : ℕ) (r : Receive) where
-  pub pass-channel : (p : Pass) {x k h n : ℕ} {b₁ : List ℕ} → settled x k h n b₁ ≡ settle b c s 0 r p → x ≡ 0 → r ≡ channel k
-  unfolding settle
+  pub pass-channel : (p : PassResult) {x h k n : ℕ} {b₁ : List ℕ} → pass-answer x h k n b₁ ≡ answerOfPass b c s 0 r p → x ≡ 0 → r ≡ channel k
+  unfolding answerOfPass
   pass-channel (none m) {x} q z = let y : x ≡ 10 = cc in absurd (omega arith)
-  pass-channel (found w m) {x} {k} {h} {n} {b₁} q z = go r q
+  pass-channel (found w m) {x} {h} {k} {n} {b₁} q z = go r q
     where
-      go : (r : Receive) → settled x k h n b₁ ≡ settle b c s 0 r (found w m) → r ≡ channel k
+      go : (r : Receive) → pass-answer x h k n b₁ ≡ answerOfPass b c s 0 r (found w m) → r ≡ channel k
       go all-held u = let y : x ≡ 11 = cc in absurd (omega arith)
       go (channel j) u = let i : j ≡ k = cc in ap channel i
 
-  pub pass-taken : (p : Pass) {x k h n : ℕ} {b₁ b₂ : List ℕ} → settled x k h n b₁ ≡ settle b c s 0 r p → x ≡ 0 → b₂ ≡ putReceiver b₁ t k c → settled x k h n b₂ ≡ sentOn b c s t (oneOf r p)
-  unfolding settle sentOn marked answered outcome received scouts
+  pub pass-taken : (p : PassResult) {x h k n : ℕ} {b₁ b₂ : List ℕ} → pass-answer x h k n b₁ ≡ answerOfPass b c s 0 r p → x ≡ 0 → b₂ ≡ putReceiver b₁ t k c → pass-answer x h k n b₂ ≡ sendAnswer b c s t (oneResult r p)
+  unfolding answerOfPass sendAnswer bytesAfterSend answerOfOutcome outcome received scouts
   pass-taken (none m) {x} q z e = let y : x ≡ 10 = cc in absurd (omega arith)
-  pass-taken (found w m) {x} {k} {h} {n} {b₁} {b₂} q z e = go r q
+  pass-taken (found w m) {x} {h} {k} {n} {b₁} {b₂} q z e = go r q
     where
-      go : (r : Receive) → settled x k h n b₁ ≡ settle b c s 0 r (found w m) → settled x k h n b₂ ≡ sentOn b c s t (oneOf r (found w m))
+      go : (r : Receive) → pass-answer x h k n b₁ ≡ answerOfPass b c s 0 r (found w m) → pass-answer x h k n b₂ ≡ sendAnswer b c s t (oneResult r (found w m))
       go all-held u = let y : x ≡ 11 = cc in absurd (omega arith)
       go (channel j) u =
           let i : k ≡ j = cc in
           let l₀ : h ≡ 0 + length w = cc in
           let l : h ≡ length w = omega arith in
           let o : n ≡ m = cc in
-          let d : b₁ ≡ hold b c s w = cc in
+          let d : b₁ ≡ holdPath b c s w = cc in
           rw (z, l, o, e, d, i) refl
 
-  pub pass-rejected : (p : Pass) {x k h n : ℕ} {b₁ : List ℕ} → settled x k h n b₁ ≡ settle b c s 0 r p → x ≢ 0 → settled x k h n b₁ ≡ sentOn b c s t (oneOf r p)
-  unfolding settle sentOn marked answered outcome received scouts
+  pub pass-rejected : (p : PassResult) {x h k n : ℕ} {b₁ : List ℕ} → pass-answer x h k n b₁ ≡ answerOfPass b c s 0 r p → x ≢ 0 → pass-answer x h k n b₁ ≡ sendAnswer b c s t (oneResult r p)
+  unfolding answerOfPass sendAnswer bytesAfterSend answerOfOutcome outcome received scouts
   pass-rejected (none m) q f = q
-  pass-rejected (found w m) {x} {k} {h} {n} {b₁} q f = go r q
+  pass-rejected (found w m) {x} {h} {k} {n} {b₁} q f = go r q
     where
-      go : (r : Receive) → settled x k h n b₁ ≡ settle b c s 0 r (found w m) → settled x k h n b₁ ≡ sentOn b c s t (oneOf r (found w m))
+      go : (r : Receive) → pass-answer x h k n b₁ ≡ answerOfPass b c s 0 r (found w m) → pass-answer x h k n b₁ ≡ sendAnswer b c s t (oneResult r (found w m))
       go all-held u = u
       go (channel j) u = let y : x ≡ 0 = cc in absurd (f y)
 
 -- What the answer of a send tells: whether another pass follows, that a rejection leaves each byte as it was, and its scouts.
 module _ (b : List ℕ) (c s t : ℕ) where
-  pub sent-stops : (o : Outcome) (m : ℕ) {x k h n : ℕ} {b₁ : List ℕ} → settled x k h n b₁ ≡ sentOn b c s t (record { outcome = o; scouts = m }) → x ≡ 0 → goesOn o ≡ false
-  unfolding sentOn marked answered goesOn
+  pub sent-stops : (o : Outcome) (m : ℕ) {x h k n : ℕ} {b₁ : List ℕ} → pass-answer x h k n b₁ ≡ sendAnswer b c s t (record { outcome = o; scouts = m }) → x ≡ 0 → goesOn o ≡ false
+  unfolding sendAnswer bytesAfterSend answerOfOutcome goesOn
   sent-stops (acknowledged w j) m q z = refl
   sent-stops route-rejected m {x} q z = let y : x ≡ 10 = cc in absurd (omega arith)
   sent-stops receive-rejected m {x} q z = let y : x ≡ 11 = cc in absurd (omega arith)
 
-  pub sent-goes-on : (o : Outcome) (m : ℕ) {x k h n : ℕ} {b₁ : List ℕ} → settled x k h n b₁ ≡ sentOn b c s t (record { outcome = o; scouts = m }) → x ≢ 0 → (goesOn o ≡ true) × (b₁ ≡ b)
-  unfolding sentOn marked answered goesOn
+  pub sent-goes-on : (o : Outcome) (m : ℕ) {x h k n : ℕ} {b₁ : List ℕ} → pass-answer x h k n b₁ ≡ sendAnswer b c s t (record { outcome = o; scouts = m }) → x ≢ 0 → (goesOn o ≡ true) × (b₁ ≡ b)
+  unfolding sendAnswer bytesAfterSend answerOfOutcome goesOn
   sent-goes-on (acknowledged w j) m {x} q f = let y : x ≡ 0 = cc in absurd (f y)
   sent-goes-on route-rejected m q f = (refl, cc)
   sent-goes-on receive-rejected m q f = (refl, cc)
 
-  pub sent-scouts : (o : Outcome) (m : ℕ) {x k h n : ℕ} {b₁ : List ℕ} → settled x k h n b₁ ≡ sentOn b c s t (record { outcome = o; scouts = m }) → n ≡ m
-  unfolding sentOn marked answered
+  pub sent-scouts : (o : Outcome) (m : ℕ) {x h k n : ℕ} {b₁ : List ℕ} → pass-answer x h k n b₁ ≡ sendAnswer b c s t (record { outcome = o; scouts = m }) → n ≡ m
+  unfolding sendAnswer bytesAfterSend answerOfOutcome
   sent-scouts (acknowledged w j) m q = cc
   sent-scouts route-rejected m q = cc
   sent-scouts receive-rejected m q = cc
 
   -- the same answer with other scouts
-  pub sent-counted : (o : Outcome) (m j : ℕ) {x k h n : ℕ} {b₁ : List ℕ} → settled x k h n b₁ ≡ sentOn b c s t (record { outcome = o; scouts = m }) → settled x k h j b₁ ≡ sentOn b c s t (record { outcome = o; scouts = j })
-  unfolding sentOn marked answered
+  pub sent-counted : (o : Outcome) (m j : ℕ) {x h k n : ℕ} {b₁ : List ℕ} → pass-answer x h k n b₁ ≡ sendAnswer b c s t (record { outcome = o; scouts = m }) → pass-answer x h k j b₁ ≡ sendAnswer b c s t (record { outcome = o; scouts = j })
+  unfolding sendAnswer bytesAfterSend answerOfOutcome
   sent-counted (acknowledged w i) m j q = cc
   sent-counted route-rejected m j q = cc
   sent-counted receive-rejected m j q = cc
@@ -147,55 +142,52 @@ module _ (D vector : ℕ) (h : D ≤ 8) where
   unfolding has
   other-has p i = rw (bit-xor (2 ^ D - 1) vector p, has-bit (2 ^ D - 1) p (ones D p (omega arith) (omega arith) ∙ lt-ltb p D i)) (one-bit (λ x. eqb (bitXor 1 x) 1 ≡ not (eqb x 1)) refl refl (bitAt vector p) (bit-lt vector p))
 
--- A send of routing type 0, from the ports that are left of its vector.
-module _ {b : List ℕ} {s t c vector left : ℕ} (may : MaySend b s t c vector) (narrow : Narrowed (view b) s vector left) {x k h n : ℕ} {b₁ : List ℕ}
-    (got : settled x k h n b₁ ≡ tries b t c s left 7 0 0) where
-  passed : settled x k h n b₁ ≡ settle b c s 0 (receive (view b) t) (passOf b s t vector)
-  passed = got ∙ narrow-tries b t c 7 0 0 narrow ∙ tries-pass may
+-- one pass is a send of routing type 0
+one-pass : (b : List ℕ) (s t c vector : ℕ) → sends b s t c 0 vector ≡ sendAnswer b c s t (oneResult (receive (view b) t) (passOf b s t vector))
+unfolding sends
+one-pass b s t c vector = ap (sendAnswer b c s t) (maze-answers (shapeOf (view b)) (freeIn (view b)) (receive (view b) t) s vector t)
 
-  as-maze : sentOn b c s t (oneOf (receive (view b) t) (passOf b s t vector)) ≡ sendsMaze b s t c vector
-  unfolding sendsMaze
-  as-maze = ap (sentOn b c s t) (sym (maze-answers (shapeOf (view b)) (freeIn (view b)) (receive (view b) t) s vector t))
+-- A send of routing type 0, from the ports that are left of its vector.
+module _ {b : List ℕ} {s t c vector left : ℕ} (may : MaySend b s t c vector) (narrow : Narrowed (view b) s vector left) {x h k n : ℕ} {b₁ : List ℕ}
+    (got : pass-answer x h k n b₁ ≡ tryAnswer b t c s left 7 0 0) where
+  passed : pass-answer x h k n b₁ ≡ answerOfPass b c s 0 (receive (view b) t) (passOf b s t vector)
+  passed = got ∙ narrow-tries b t c 7 0 0 narrow ∙ tries-pass may
 
   pub maze-channel : x ≡ 0 → k < 8
   maze-channel z = receive-small (view b) t k (pass-channel b c s t (receive (view b) t) (passOf b s t vector) passed z)
 
-  pub maze-taken : x ≡ 0 → {b₂ : List ℕ} → b₂ ≡ putReceiver b₁ t k c → settled x k h n b₂ ≡ sendsMaze b s t c vector
-  maze-taken z e = pass-taken b c s t (receive (view b) t) (passOf b s t vector) passed z e ∙ as-maze
+  pub maze-taken : x ≡ 0 → {b₂ : List ℕ} → b₂ ≡ putReceiver b₁ t k c → pass-answer x h k n b₂ ≡ sends b s t c 0 vector
+  maze-taken z e = pass-taken b c s t (receive (view b) t) (passOf b s t vector) passed z e ∙ sym (one-pass b s t c vector)
 
-  pub maze-rejected : x ≢ 0 → settled x k h n b₁ ≡ sendsMaze b s t c vector
-  maze-rejected f = pass-rejected b c s t (receive (view b) t) (passOf b s t vector) passed f ∙ as-maze
+  pub maze-rejected : x ≢ 0 → pass-answer x h k n b₁ ≡ sends b s t c 0 vector
+  maze-rejected f = pass-rejected b c s t (receive (view b) t) (passOf b s t vector) passed f ∙ sym (one-pass b s t c vector)
 
 -- A rejected pass leaves each byte of the table as it was: so does the first pass of a type 4 send, before the second begins.
-pub first-pass-leaves : (b : List ℕ) (s t c vector : ℕ) {x k h n : ℕ} {b₁ : List ℕ} → settled x k h n b₁ ≡ sendsMaze b s t c vector → x ≢ 0 → b₁ ≡ b
-unfolding sendsMaze
-first-pass-leaves b s t c vector q f =
-    let sent : Sent = maze (shapeOf (view b)) (freeIn (view b)) (receive (view b) t) s vector t in sent-goes-on b c s t (sent .outcome) (sent .scouts) q f .1
+pub first-pass-leaves : (b : List ℕ) (s t c vector : ℕ) {x h k n : ℕ} {b₁ : List ℕ} → pass-answer x h k n b₁ ≡ sends b s t c 0 vector → x ≢ 0 → b₁ ≡ b
+first-pass-leaves b s t c vector q f = sent-goes-on b c s t _ _ (q ∙ one-pass b s t c vector) f .1
 
 -- A send of routing type 4: after a rejection, a second pass over the other ports on the same bytes.
-module _ {b : List ℕ} {s t c vector : ℕ} (may : MaySend b s t c vector) {x k h n : ℕ} {b₁ : List ℕ} (got : settled x k h n b₁ ≡ sendsMaze b s t c vector) where
+module _ {b : List ℕ} {s t c vector : ℕ} (may : MaySend b s t c vector) {x h k n : ℕ} {b₁ : List ℕ} (got : pass-answer x h k n b₁ ≡ sends b s t c 0 vector) where
   S : Shape
   S = shapeOf (view b)
-
-  free : ℕ → ℕ → Bool
-  free = freeIn (view b)
 
   r : Receive
   r = receive (view b) t
 
-  first : Pass
-  first = pass (network S) free s (sendPorts S vector) t
+  first : PassResult
+  first = passOf b s t vector
 
-  second : Pass
-  second = pass (network S) free s (otherPorts S vector) t
+  second : PassResult
+  second = pass (network S) (freeIn (view b)) s (otherPorts S vector) t
 
-  first-is : settled x k h n b₁ ≡ sentOn b c s t (oneOf r first)
-  unfolding sendsMaze S free r first
-  first-is = got ∙ ap (sentOn b c s t) (maze-answers S free r s vector t)
+  first-is : pass-answer x h k n b₁ ≡ sendAnswer b c s t (oneResult r first)
+  unfolding r first
+  first-is = got ∙ one-pass b s t c vector
 
-  pub alternate-taken : x ≡ 0 → settled x k h n b₁ ≡ sendsAlternate b s t c vector
-  unfolding sendsAlternate S free r first
-  alternate-taken z = first-is ∙ ap (sentOn b c s t) (sym (alternate-stops S free r s vector t (sent-stops b c s t (outcome r first) (scouts first) first-is z)))
+  pub alternate-taken : x ≡ 0 → pass-answer x h k n b₁ ≡ sends b s t c 4 vector
+  unfolding sends r first
+  alternate-taken z =
+      first-is ∙ ap (sendAnswer b c s t) (sym (alternate-stops (shapeOf (view b)) (freeIn (view b)) r s vector t (sent-stops b c s t (outcome r first) (scouts first) first-is z)))
 
   -- the vector of the second pass, from the nodes of the cube
   module _ {d nodes : ℕ} (read : d ≡ dimensionAt b) (counted : NodeCount d nodes) (f : x ≢ 0) where
@@ -225,32 +217,27 @@ module _ {b : List ℕ} {s t c vector : ℕ} (may : MaySend b s t c vector) {x k
     unfolding S view
     ports-other = rw others-are (other-vector S vector _ (other-has (dimensionAt b) vector (may .fits)))
 
-    module _ {x₂ k₂ h₂ n₂ : ℕ} {b₂ : List ℕ} (again : settled x₂ k₂ h₂ n₂ b₂ ≡ sendsMaze b₁ s t c others) where
-      second-is : settled x₂ k₂ h₂ n₂ b₂ ≡ sentOn b c s t (oneOf r second)
-      unfolding sendsMaze S free r second
+    module _ {x₂ h₂ k₂ n₂ : ℕ} {b₂ : List ℕ} (again : pass-answer x₂ h₂ k₂ n₂ b₂ ≡ sends b₁ s t c 0 others) where
+      second-is : pass-answer x₂ h₂ k₂ n₂ b₂ ≡ sendAnswer b c s t (oneResult r second)
+      unfolding S r second
       second-is =
-          again ∙ ap (λ u. sentOn u c s t (maze (shapeOf (view u)) (freeIn (view u)) (receive (view u) t) s others t)) same-bytes
-          ∙ ap (sentOn b c s t) (maze-answers S free r s others t ∙ ap (λ ps. oneOf r (pass (network S) free s ps t)) ports-other)
+          again ∙ ap (λ u. sends u s t c 0 others) same-bytes ∙ one-pass b s t c others
+          ∙ ap (λ ps. sendAnswer b c s t (oneResult r (pass (network S) (freeIn (view b)) s ps t))) ports-other
 
       pub few-scouts : n + n₂ ≤ 123300
       unfolding S first second view
       few-scouts =
-          omega (arith, sent-scouts b c s t (outcome r first) (scouts first) first-is, sent-scouts b c s t (outcome r second) (scouts second) second-is, scouts-bound S (may .fits) refl s t vector free free)
+          omega (arith, sent-scouts b c s t (outcome r first) (scouts first) first-is, sent-scouts b c s t (outcome r second) (scouts second) second-is, scouts-bound S (may .fits) refl s t vector (freeIn (view b)) (freeIn (view b)))
 
-      pub alternate-again : settled x₂ k₂ h₂ (n + n₂) b₂ ≡ sendsAlternate b s t c vector
-      unfolding sendsAlternate S free r first second
+      pub alternate-again : pass-answer x₂ h₂ k₂ (n + n₂) b₂ ≡ sends b s t c 4 vector
+      unfolding sends S r first second
       alternate-again =
           sent-counted b c s t (outcome r second) (scouts second) (n + n₂) second-is
-          ∙ ap (λ m. sentOn b c s t (record { outcome = outcome r second; scouts = m }))
+          ∙ ap (λ m. sendAnswer b c s t (record { outcome = outcome r second; scouts = m }))
           (ap₂ _+_ (sent-scouts b c s t (outcome r first) (scouts first) first-is) (sent-scouts b c s t (outcome r second) (scouts second) second-is))
-          ∙ ap (sentOn b c s t) (sym (alternate-goes-on S free r s vector t (sent-goes-on b c s t (outcome r first) (scouts first) first-is f .0)))
+          ∙ ap (sendAnswer b c s t) (sym (alternate-goes-on S (freeIn (view b)) r s vector t (sent-goes-on b c s t (outcome r first) (scouts first) first-is f .0)))
 
--- Either type, from the number that names it.
-module _ (b : List ℕ) (s t c type vector : ℕ) where
-  pub send-alternate : type ≡ 4 → {y : Settled} → y ≡ sendsAlternate b s t c vector → y ≡ sends b s t c type vector
-  unfolding sendsAlternate sends send
-  send-alternate e q = q ∙ ap (sentOn b c s t) (sym (rw (eq-eqb type 4 e)))
-
-  pub send-maze : type ≢ 4 → {y : Settled} → y ≡ sendsMaze b s t c vector → y ≡ sends b s t c type vector
-  unfolding sendsMaze sends send
-  send-maze e q = q ∙ ap (sentOn b c s t) (sym (rw (ne-eqb type 4 e)))
+-- Another type than 4 makes one pass.
+pub send-maze : (b : List ℕ) (s t c type vector : ℕ) → type ≢ 4 → sends b s t c 0 vector ≡ sends b s t c type vector
+unfolding sends send attempts
+send-maze b s t c type vector e = rw (ne-eqb type 4 e)

@@ -1,12 +1,12 @@
 // The search for a free permitted path on a lent table.
 ghost use mathlib.Core.Path.{_≡_};
 ghost use mathlib.Core.Bool.{true};
-ghost use Rattle.table.specs.Layout.{Within};
+ghost use Rattle.table.specs.LayoutContracts.{Within};
 ghost use Rattle.table.specs.View.{view};
 ghost use Rattle.cube.specs.Helical.{FirstPorts};
-ghost use Rattle.search.specs.Settle.{freeIn, settled};
-ghost use Rattle.search.specs.Turns.{Narrowed, Enabled, tries, arrived, MayTry, MayArrive};
-ghost use Rattle.search.specs.Sent.{MaySend, sendsMaze, sendsAlternate, sends};
+ghost use Rattle.search.specs.PassAnswer.{freeIn, pass-answer};
+ghost use Rattle.search.specs.SearchContracts.{Narrowed, Enabled, tryAnswer, arriveAnswer, MayTry, MayArrive};
+ghost use Rattle.search.specs.SendAnswer.{MaySend, sends};
 use common::refusal;
 use cube::Circuit;
 use cube::Node;
@@ -29,11 +29,12 @@ fn is_free(t: &[u8], n: Node, p: Port) -> bool
     table::owner(t, n, p).0 == 0
 }
 
-// What a pass comes to: 0 with the receive channel and the hops, or the refusal; and the scouts sent.
-pub struct Pass {
-    pub refused: u16,
-    pub channel: u16,
+// What a pass, a send and an open answer: 0 with the hops of the path and the receive channel taken, or the refusal; and the scouts sent.
+#[repr(C)]
+pub struct Opened {
+    pub number: u16,
     pub hops: u16,
+    pub receive: u16,
     pub scouts: u32,
 }
 
@@ -48,17 +49,17 @@ fn try_ports(
     hops: u16,
     scouts: u32,
     first: &[u8; 2048],
-) -> Pass
+) -> Opened
     requires { ⌜ FirstPorts (now first) ⌝ }
     requires { ⌜ MayTry (now t) (target .0) (c .0) (at .0) vector (arrival .0) hops scouts ⌝ }
     requires { ⌜ Enabled (view (now t)) (at .0) vector ⌝ }
-    ensures { λ r. ⌜ settled (r .refused) (r .channel) (r .hops) (r .scouts) (now (t .exit)) ≡ tries (now (t .entry)) (target .0) (c .0) (at .0) vector (arrival .0) hops scouts ⌝ }
+    ensures { λ r. ⌜ pass-answer (r .number) (r .hops) (r .receive) (r .scouts) (now (t .exit)) ≡ tryAnswer (now (t .entry)) (target .0) (c .0) (at .0) vector (arrival .0) hops scouts ⌝ }
 {
     if vector == 0 {
-        return Pass {
-            refused: refusal::ROUTE_REJECTED,
-            channel: 0,
+        return Opened {
+            number: refusal::ROUTE_REJECTED,
             hops: 0,
+            receive: 0,
             scouts,
         };
     }
@@ -77,11 +78,11 @@ fn try_in_turn(
     hops: u16,
     scouts: u32,
     first: &[u8; 2048],
-) -> Pass
+) -> Opened
     requires { ⌜ FirstPorts (now first) ⌝ }
     requires { ⌜ MayTry (now t) (target .0) (c .0) (at .0) vector (arrival .0) hops scouts ⌝ }
     requires { ⌜ Enabled (view (now t)) (at .0) vector ⌝ }
-    ensures { λ r. ⌜ settled (r .refused) (r .channel) (r .hops) (r .scouts) (now (t .exit)) ≡ tries (now (t .entry)) (target .0) (c .0) (at .0) vector (arrival .0) hops scouts ⌝ }
+    ensures { λ r. ⌜ pass-answer (r .number) (r .hops) (r .receive) (r .scouts) (now (t .exit)) ≡ tryAnswer (now (t .entry)) (target .0) (c .0) (at .0) vector (arrival .0) hops scouts ⌝ }
 {
     let mut left = vector;
     let mut sent = scouts;
@@ -100,20 +101,20 @@ fn try_in_turn(
                 sent + 1,
                 first,
             );
-            if got.refused == refusal::ACCEPTED {
+            if got.number == refusal::ACCEPTED {
                 return got;
             }
             table::set_owner(t, at, p, Circuit(0));
-            if got.refused == refusal::RECEIVE_REJECTED {
+            if got.number == refusal::RECEIVE_REJECTED {
                 return got;
             }
             sent = got.scouts;
         }
     }
-    Pass {
-        refused: refusal::ROUTE_REJECTED,
-        channel: 0,
+    Opened {
+        number: refusal::ROUTE_REJECTED,
         hops: 0,
+        receive: 0,
         scouts: sent,
     }
 }
@@ -129,25 +130,25 @@ fn arrive(
     hops: u16,
     scouts: u32,
     first: &[u8; 2048],
-) -> Pass
+) -> Opened
     requires { ⌜ FirstPorts (now first) ⌝ }
     requires { ⌜ MayArrive (now t) (target .0) (c .0) (at .0) (arrival .0) hops scouts ⌝ }
-    ensures { λ r. ⌜ settled (r .refused) (r .channel) (r .hops) (r .scouts) (now (t .exit)) ≡ arrived (now (t .entry)) (target .0) (c .0) (at .0) (arrival .0) hops scouts ⌝ }
+    ensures { λ r. ⌜ pass-answer (r .number) (r .hops) (r .receive) (r .scouts) (now (t .exit)) ≡ arriveAnswer (now (t .entry)) (target .0) (c .0) (at .0) (arrival .0) hops scouts ⌝ }
 {
     if at.0 == target.0 {
-        let channel = table::free_channel(t, at);
-        if channel == 8 {
-            Pass {
-                refused: refusal::RECEIVE_REJECTED,
-                channel: 0,
+        let receive = table::free_channel(t, at);
+        if receive == 8 {
+            Opened {
+                number: refusal::RECEIVE_REJECTED,
                 hops: 0,
+                receive: 0,
                 scouts,
             }
         } else {
-            Pass {
-                refused: refusal::ACCEPTED,
-                channel,
+            Opened {
+                number: refusal::ACCEPTED,
                 hops,
+                receive,
                 scouts,
             }
         }
@@ -166,15 +167,15 @@ fn maze(
     c: Circuit,
     vector: u16,
     first: &[u8; 2048],
-) -> Pass
+) -> Opened
     requires { ⌜ FirstPorts (now first) ⌝ }
     requires { ⌜ MaySend (now t) (source .0) (target .0) (c .0) vector ⌝ }
-    ensures { λ r. ⌜ settled (r .refused) (r .channel) (r .hops) (r .scouts) (now (t .exit)) ≡ sendsMaze (now (t .entry)) (source .0) (target .0) (c .0) vector ⌝ }
+    ensures { λ r. ⌜ pass-answer (r .number) (r .hops) (r .receive) (r .scouts) (now (t .exit)) ≡ sends (now (t .entry)) (source .0) (target .0) (c .0) 0 vector ⌝ }
 {
     let ports = enabled_ports(t, source, vector);
     let got = try_in_turn(t, source, target, c, ports, Port(7), 0, 0, first);
-    if got.refused == refusal::ACCEPTED {
-        table::set_receiver(t, target, got.channel, c);
+    if got.number == refusal::ACCEPTED {
+        table::set_receiver(t, target, got.receive, c);
     }
     got
 }
@@ -188,30 +189,37 @@ fn alternate_maze(
     c: Circuit,
     vector: u16,
     first: &[u8; 2048],
-) -> Pass
+) -> Opened
     requires { ⌜ FirstPorts (now first) ⌝ }
     requires { ⌜ MaySend (now t) (source .0) (target .0) (c .0) vector ⌝ }
-    ensures { λ r. ⌜ settled (r .refused) (r .channel) (r .hops) (r .scouts) (now (t .exit)) ≡ sendsAlternate (now (t .entry)) (source .0) (target .0) (c .0) vector ⌝ }
+    ensures { λ r. ⌜ pass-answer (r .number) (r .hops) (r .receive) (r .scouts) (now (t .exit)) ≡ sends (now (t .entry)) (source .0) (target .0) (c .0) 4 vector ⌝ }
 {
     let others = (cube::node_count(table::dimension(t)) - 1) ^ vector;
     let got = maze(t, source, target, c, vector, first);
-    if got.refused == refusal::ACCEPTED {
+    if got.number == refusal::ACCEPTED {
         return got;
     }
     let again = maze(t, source, target, c, others, first);
     let scouts = got.scouts + again.scouts;
-    Pass {
-        refused: again.refused,
-        channel: again.channel,
+    Opened {
+        number: again.number,
         hops: again.hops,
+        receive: again.receive,
         scouts,
     }
 }
 
 // A send of routing type 0 or 4. The table of first ports is built once for all its hops.
-pub fn send(t: &mut [u8], source: Node, target: Node, c: Circuit, routing: u16, vector: u16) -> Pass
+pub fn send(
+    t: &mut [u8],
+    source: Node,
+    target: Node,
+    c: Circuit,
+    routing: u16,
+    vector: u16,
+) -> Opened
     requires { ⌜ MaySend (now t) (source .0) (target .0) (c .0) vector ⌝ }
-    ensures { λ r. ⌜ settled (r .refused) (r .channel) (r .hops) (r .scouts) (now (t .exit)) ≡ sends (now (t .entry)) (source .0) (target .0) (c .0) routing vector ⌝ }
+    ensures { λ r. ⌜ pass-answer (r .number) (r .hops) (r .receive) (r .scouts) (now (t .exit)) ≡ sends (now (t .entry)) (source .0) (target .0) (c .0) routing vector ⌝ }
 {
     let first = cube::first_ports();
     if routing == 4 {

@@ -13,7 +13,8 @@ use borrow.Author.Tests.{ltb-true, ltb-false, lt-ltb, le-ltb, le-leb, lt-leb, eq
 use Rattle.common.specs.Lists.{_∈_, keep, from, lowest}
 use Rattle.common.proofs.Every.{decide}
 use Rattle.common.proofs.Lowest.{lowest-most, lowest-passes, lowest-found}
-use Rattle.common.proofs.Lists.{mem-keep, mem-from, keep-same, keep-wider, keep-all, length-from, from-below}
+use Rattle.common.proofs.Lists.{mem-keep, keep-same, keep-all}
+use Rattle.common.proofs.From.{mem-from, keep-wider, length-from, from-below}
 use Rattle.cube.specs.Bits.{has}
 use Rattle.cube.specs.Cube.{NodeCount, next, sourceOf}
 use Rattle.cube.specs.Helical.{portsOf}
@@ -23,12 +24,14 @@ use Rattle.paths.specs.Network.{end, links, hasLink}
 use Rattle.paths.specs.CubeNetwork.{network}
 use Rattle.paths.specs.Recover.{takeFirst, walkFrom, firstHopChoices, pathOfLinks}
 use Rattle.paths.proofs.CubeNetwork.{unfolded-ports}
-use Rattle.paths.proofs.Recover.{walk-fuel}
-use Rattle.table.specs.Layout.{Within, dimensionAt, HeldBy}
-use Rattle.table.specs.View.{View, view, linksHeld, channelsHeld}
-use Rattle.soundness.specs.Sound.{shapeOf, net, heldBy, endFor}
-use Rattle.soundness.specs.SoundTest.{pathOf, isEmpty, reaches, passes, Reached, linkTest, receiveTest, ReceivesPass, Receives, PathsMarked}
-use Rattle.soundness.specs.Marks.{marked, marking, Adds}
+use Rattle.paths.proofs.Walks.{walk-fuel}
+use Rattle.table.specs.Layout.{dimensionAt}
+use Rattle.table.specs.LayoutContracts.{Within, HeldBy}
+use Rattle.table.specs.View.{View, view, linksHeld, channelsHeld, shapeOf, net, heldBy}
+use Rattle.soundness.specs.Sound.{endFor}
+use Rattle.soundness.specs.SoundTest.{pathOf, isEmpty, reaches, onPathOf, linkTest, receiveTest}
+use Rattle.soundness.specs.TestContracts.{Reached, ReceivesPass, ReceivesDecided, AllPathsMarked}
+use Rattle.soundness.specs.Marks.{marked, withMark, Adds}
 use Rattle.soundness.specs.Follow.{takes, followed, firstHop, Follows, HasSource}
 use Rattle.common.proofs.Tests.{below-or, clash, both}
 use Rattle.soundness.proofs.Soundness.{Framed, kept-one}
@@ -89,11 +92,11 @@ module _ (v : View) (h : v .dimension < 9) (c : ℕ) where
         not-empty : isEmpty (pathOf v c) ≡ false
         not-empty = rw (path-first e g) (unfold isEmpty in refl)
 
-    path-passes : (x y : ℕ) → passes v c x y ≡ ((eqb x (sourceOf c) && eqb y a) || hasLink (links (net v) (next (sourceOf c) a) (followed v c (next (sourceOf c) a) (allPorts v))) x y)
-    unfolding passes links hasLink network
+    path-passes : (x y : ℕ) → onPathOf v c x y ≡ ((eqb x (sourceOf c) && eqb y a) || hasLink (links (net v) (next (sourceOf c) a) (followed v c (next (sourceOf c) a) (allPorts v))) x y)
+    unfolding onPathOf links hasLink network
     path-passes x y = rw (path-first e g)
 
-    path-marks : {m₀ : List ℕ} → Adds (λ x y. eqb x (sourceOf c) && eqb y a) m₀ m₁ → Adds (passes v c) m₀ m₂
+    path-marks : {m₀ : List ℕ} → Adds (λ x y. eqb x (sourceOf c) && eqb y a) m₀ m₁ → Adds (onPathOf v c) m₀ m₂
     path-marks {m₀} first =
         record {
           adds = λ x y h l.
@@ -127,8 +130,8 @@ module _ (v : View) (c : ℕ) {D nodes : ℕ} (d : D ≡ v .dimension) (h : D < 
       go false l = rw (path-none v below c (every-port q e) (ltb-false a 8 l))
 
   -- and its path is that hop and what is followed behind it
-  pub path-behind : {s a start : ℕ} → s ≡ sourceOf c → a ≡ firstHop v c s (nodes - 1) → a < 8 → start ≡ next s a → pathOf v c ≡ a ∷ followed v c start (nodes - 1)
-  path-behind {s} {a} q e g to =
+  pub path-after : {s a start : ℕ} → s ≡ sourceOf c → a ≡ firstHop v c s (nodes - 1) → a < 8 → start ≡ next s a → pathOf v c ≡ a ∷ followed v c start (nodes - 1)
+  path-after {s} {a} q e g to =
       path-first v below c (every-port q e) g ∙ ap (a ∷_) (ap₂ (followed v c) (sym (to ∙ ap (λ x. next x a) q)) (sym (ap (_- 1) (count-of d m))))
 
   pub looked-large : {n : ℕ} {before after : List ℕ} → 8 * nodes < c → Reached v c n before after false
@@ -141,7 +144,7 @@ module _ (v : View) (c : ℕ) {D nodes : ℕ} (d : D ≡ v .dimension) (h : D < 
     on-all : Follows v c (next (sourceOf c) a) (allPorts v) m₁ m₂ at
     on-all = transport (ap₂ (λ x y. Follows v c x y m₁ m₂ at) (to ∙ ap (λ x. next x a) q) (ap (_- 1) (count-of d m))) f
 
-    pub looked-here : {n count : ℕ} {m₀ : List ℕ} → c ≤ 8 * nodes → s < 256 → length m₀ ≡ 256 → m₁ ≡ marking m₀ s a → n ≡ at → count ≡ channelsHeld v c at → Reached v c n m₀ m₂ (eqb count 1)
+    pub looked-here : {n count : ℕ} {m₀ : List ℕ} → c ≤ 8 * nodes → s < 256 → length m₀ ≡ 256 → m₁ ≡ withMark m₀ s a → n ≡ at → count ≡ channelsHeld v c at → Reached v c n m₀ m₂ (eqb count 1)
     looked-here {m₀ = m₀} l small size mark here k =
         reached-here v below c (every-port q e) g on-all (omega (arith, count-of d m)) here k
         record { adds = λ x y h i. ap (λ m. marked m x y) mark ∙ mark-one m₀ s a x y size small ∙ ap (λ z. marked m₀ x y || (eqb x z && eqb y a)) q }
@@ -215,7 +218,7 @@ module _ (v : View) (n p : ℕ) {D c : ℕ} {b : Bool} (d : D ≡ v .dimension) 
   unfolding linkTest
   outside e = rw (sym (ap (λ x. ltb n (2 ^ x) && ltb p x) d) ∙ sym q ∙ e, held)
 
-  within : b ≡ true → (eqb c 0 || (v .enabled n p && (reaches v c && passes v c n p))) ≡ linkTest v n p
+  within : b ≡ true → (eqb c 0 || (v .enabled n p && (reaches v c && onPathOf v c n p))) ≡ linkTest v n p
   unfolding linkTest
   within e = rw (sym (ap (λ x. ltb n (2 ^ x) && ltb p x) d) ∙ sym q ∙ e, held)
 
@@ -231,8 +234,8 @@ module _ (v : View) (n p : ℕ) {D c : ℕ} {b : Bool} (d : D ≡ v .dimension) 
   pub link-disabled : b ≡ true → c ≢ 0 → v .enabled n p ≡ false → false ≡ linkTest v n p
   link-disabled e z a = rw (← within e, ne-eqb c 0 z, a)
 
-  pub link-marked : {m : List ℕ} → Framed v → PathsMarked v m → n < 256 → p < 8 → b ≡ true → c ≢ 0 → v .enabled n p ≡ true → marked m n p ≡ linkTest v n p
-  link-marked {m} framed marks h l e z a = marked-is v m framed marks n p h l (λ y. z (held ∙ y)) ∙ ap (λ x. reaches v x && passes v x n p) (sym held) ∙ rw (← within e, ne-eqb c 0 z, a)
+  pub link-marked : {m : List ℕ} → Framed v → AllPathsMarked v m → n < 256 → p < 8 → b ≡ true → c ≢ 0 → v .enabled n p ≡ true → marked m n p ≡ linkTest v n p
+  link-marked {m} framed marks h l e z a = marked-is v m framed marks n p h l (λ y. z (held ∙ y)) ∙ ap (λ x. reaches v x && onPathOf v x n p) (sym held) ∙ rw (← within e, ne-eqb c 0 z, a)
 
 -- a receive channel that fails the test
 one-fails : (v : View) (n k : ℕ) → receiveTest v n k ≡ false → ReceivesPass v n (n + 1) k (k + 1) → ⊥
@@ -256,7 +259,7 @@ module _ (v : View) (n k : ℕ) {D c nodes : ℕ} (d : D ≡ v .dimension) (held
   receive-ends l z x = x .ends-here ∙ rw (← present l, ne-eqb c 0 z)
 
   -- what the code finds of the channel, and what it answers for it
-  pub channel-free : {m : List ℕ} → c ≡ 0 → Receives v n (n + 1) k (k + 1) m m true
+  pub channel-free : {m : List ℕ} → c ≡ 0 → ReceivesDecided v n (n + 1) k (k + 1) m m true
   channel-free {m} z =
       received-yes (received-free v m n (n + 1) k (k + 1)
       (λ a b i. here i (λ x y. receiveTest v x y ≡ true) free) (λ a b i. here i (λ x y. v .receiver x y ≡ 0) (sym held ∙ z)))
@@ -264,10 +267,10 @@ module _ (v : View) (n k : ℕ) {D c nodes : ℕ} (d : D ≡ v .dimension) (held
       free : receiveTest v n k ≡ true
       free = ⊎-elim (λ l. sym (receive-free l z)) (λ l. sym (receive-absent l) ∙ eq-eqb c 0 z) (below-or nodes n)
 
-  pub channel-absent : {m : List ℕ} → nodes ≤ n → c ≢ 0 → Receives v n (n + 1) k (k + 1) m m false
+  pub channel-absent : {m : List ℕ} → nodes ≤ n → c ≢ 0 → ReceivesDecided v n (n + 1) k (k + 1) m m false
   channel-absent l z = received-no (one-fails v n k (sym (receive-absent l) ∙ ne-eqb c 0 z)) (omega arith) (omega arith) (omega arith) (omega arith)
 
-  pub channel-held : {before after : List ℕ} {answer : Bool} → n < nodes → c ≢ 0 → Reached v c n before after answer → Receives v n (n + 1) k (k + 1) before after answer
+  pub channel-held : {before after : List ℕ} {answer : Bool} → n < nodes → c ≢ 0 → Reached v c n before after answer → ReceivesDecided v n (n + 1) k (k + 1) before after answer
   channel-held {before} {after} l z x =
       record {
         holds = λ e. received-one v before c n k after held (sym (receive-ends l z x) ∙ e) (both (reaches v c) _ (sym (x .ends-here) ∙ e) .0) (x .marks e);

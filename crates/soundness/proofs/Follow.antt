@@ -11,7 +11,8 @@ use lib.Dec.{eqb}
 use lib.ListN.{length}
 use borrow.Author.Tests.{eq-eqb, ne-eqb}
 use Rattle.common.specs.Lists.{_∈_, keep, from, lowest}
-use Rattle.common.proofs.Lists.{mem-keep, mem-from, keep-none, keep-yes, keep-no, keep-nil, keep-mem, keep-keep, keep-same, from-below}
+use Rattle.common.proofs.Lists.{mem-keep, keep-none, keep-yes, keep-no, keep-nil, keep-mem, keep-keep, keep-same}
+use Rattle.common.proofs.From.{mem-from, from-below}
 use Rattle.cube.specs.Bits.{bitAt, has}
 use Rattle.cube.specs.Cube.{next, Without}
 use Rattle.cube.specs.Helical.{portsOf, firstOr}
@@ -19,10 +20,10 @@ use Rattle.cube.proofs.Order.{ports-mem, length-ports}
 use Rattle.paths.specs.Network.{end, links, hasLink}
 use Rattle.paths.specs.CubeNetwork.{network}
 use Rattle.paths.specs.Recover.{dropAxis, walkFrom, wayBack, firstHopChoices}
-use Rattle.paths.proofs.Recover.{first-choice, walk-none, walk-some, drop-port, way-back-one}
-use Rattle.table.specs.View.{View}
-use Rattle.soundness.specs.Sound.{net, heldBy}
-use Rattle.soundness.specs.Marks.{marked, marking}
+use Rattle.paths.proofs.Recover.{first-choice}
+use Rattle.paths.proofs.Walks.{walk-none, walk-some, drop-port, way-back-one}
+use Rattle.table.specs.View.{View, net, heldBy}
+use Rattle.soundness.specs.Marks.{marked, withMark}
 use Rattle.soundness.proofs.Marks.{mark-one}
 use Rattle.soundness.specs.Follow.{takes, comesBack, followed, firstHop}
 
@@ -179,12 +180,12 @@ module _ (v : View) (c n vector q rest m : ℕ) (e : q ≡ lowest (takes v c n v
   unfolding end network
   hop-ends = rw (follow-on v c n vector q rest e h w, to)
 
-  pub hop-links : (a b : ℕ) (passes x : Bool) → x ≡ (eqb a n && eqb b q)
-      → ((passes || x) || hasLink (links (net v) m (followed v c m rest)) a b) ≡ (passes || hasLink (links (net v) n (followed v c n vector)) a b)
+  pub hop-links : (a b : ℕ) (onPathOf x : Bool) → x ≡ (eqb a n && eqb b q)
+      → ((onPathOf || x) || hasLink (links (net v) m (followed v c m rest)) a b) ≡ (onPathOf || hasLink (links (net v) n (followed v c n vector)) a b)
   unfolding links hasLink network
-  hop-links a b passes x f = rw (follow-on v c n vector q rest e h w, to, f) (or-assoc passes (eqb a n && eqb b q) _)
+  hop-links a b onPathOf x f = rw (follow-on v c n vector q rest e h w, to, f) (or-assoc onPathOf (eqb a n && eqb b q) _)
 
-  pub hop-marks : (marks after : List ℕ) → length marks ≡ 256 → n < 256 → after ≡ marking marks n q → (a b : ℕ)
+  pub hop-marks : (marks after : List ℕ) → length marks ≡ 256 → n < 256 → after ≡ withMark marks n q → (a b : ℕ)
       → (marked after a b || hasLink (links (net v) m (followed v c m rest)) a b) ≡ (marked marks a b || hasLink (links (net v) n (followed v c n vector)) a b)
   hop-marks marks after size small on a b =
       ap (_|| hasLink (links (net v) m (followed v c m rest)) a b) (ap (λ x. marked x a b) on ∙ mark-one marks n q a b size small) ∙ hop-links a b (marked marks a b) (eqb a n && eqb b q) refl
@@ -193,9 +194,9 @@ pub walk-ends : (v : View) (c n vector q : ℕ) → q ≡ lowest (takes v c n ve
 unfolding end
 walk-ends v c n vector q e h = rw (follow-end v c n vector q e h)
 
-pub walk-links : (v : View) (c n vector q a b : ℕ) (passes : Bool) → q ≡ lowest (takes v c n vector) 8 0 → 8 ≤ q → passes ≡ (passes || hasLink (links (net v) n (followed v c n vector)) a b)
+pub walk-links : (v : View) (c n vector q a b : ℕ) (onPathOf : Bool) → q ≡ lowest (takes v c n vector) 8 0 → 8 ≤ q → onPathOf ≡ (onPathOf || hasLink (links (net v) n (followed v c n vector)) a b)
 unfolding links hasLink
-walk-links v c n vector q a b passes e h = rw (follow-end v c n vector q e h) (sym (or-false passes))
+walk-links v c n vector q a b onPathOf e h = rw (follow-end v c n vector q e h) (sym (or-false onPathOf))
 
 pub hop-port : (v : View) (c n vector p : ℕ) → p ∈ firstHopChoices (net v) (portsOf 8 vector) (heldBy v c) n → p < 8
 hop-port v c n vector p m = ports-mem 8 vector (first-choice (net v) (portsOf 8 vector) (heldBy v c) n p m .0) .0

@@ -16,9 +16,11 @@ use Rattle.common.proofs.Every.{at₂, all}
 use Rattle.common.proofs.Tests.{same?, clash, is-false, both, and, either, or-left, or-right}
 use Rattle.cube.specs.Bits.{has}
 use Rattle.cube.proofs.Bits.{has-and, has-or, has-bit, same-bits}
-use Rattle.table.specs.Layout.{dimensionAt, enableBits, enabledAt, ownerAt, enableLimit, HeldBy}
+use Rattle.table.specs.Layout.{dimensionAt, enableBits, enabledAt, ownerAt}
+use Rattle.table.specs.LayoutContracts.{enableLimit, HeldBy}
 use Rattle.table.specs.View.{view}
-use Rattle.soundness.specs.SoundTest.{linkTest, LinksPass, PathsMarked}
+use Rattle.soundness.specs.SoundTest.{linkTest}
+use Rattle.soundness.specs.TestContracts.{LinksPass, AllPathsMarked}
 use Rattle.soundness.specs.Marks.{marked}
 use Rattle.table.proofs.Entries.{enabled-has}
 use Rattle.table.proofs.Made.{ones}
@@ -43,7 +45,7 @@ low-bits D x h l none =
         go p k true e = refl
         go p k false e = ap not (none p k (ltb-false p D e))
 
-module _ (b : List ℕ) {m : List ℕ} {D n : ℕ} (d : D ≡ dimensionAt b) (most : D < 9) (i : n < 256) (small : enableBits b n < 256) (marks : PathsMarked (view b) m) where
+module _ (b : List ℕ) {m : List ℕ} {D n : ℕ} (d : D ≡ dimensionAt b) (most : D < 9) (i : n < 256) (small : enableBits b n < 256) (marks : AllPathsMarked (view b) m) where
   -- what the test of a link says where it passes: an absent link is off, and a held one is on and marked
   module _ (p : ℕ) (l : p < 8) (t : linkTest (view b) n p ≡ true) where
     absent-off : (ltb n (2 ^ D) && ltb p D) ≡ false → enabledAt b n p ≡ false

@@ -16,10 +16,12 @@ use Rattle.common.specs.Lists.{every}
 use Rattle.common.proofs.Every.{at, all}
 use Rattle.cube.specs.Bits.{has}
 use Rattle.cube.proofs.Bits.{high-has}
-use Rattle.table.specs.Layout.{dimensionAt, enabledAt, enableBits, enableLimit, EnablesFit, ownerAt, receiverAt, entryAt, inTable, tableLength}
+use Rattle.table.specs.Layout.{dimensionAt, enabledAt, enableBits, ownerAt, receiverAt, entryAt, inTable, tableLength}
+use Rattle.table.specs.LayoutContracts.{enableLimit, EnablesFit}
 use Rattle.table.specs.View.{View, view}
 use Rattle.soundness.specs.Sound.{Sound}
-use Rattle.soundness.specs.SoundTest.{linkTest, receiveTest, soundTest, LinksPass, ReceivesPass, Received, tableTests, TableAnswer}
+use Rattle.soundness.specs.SoundTest.{linkTest, receiveTest, soundTest, tableTests}
+use Rattle.soundness.specs.TestContracts.{LinksPass, ReceivesPass, ReceivesTested, TableAnswer}
 use Rattle.soundness.proofs.Marks.{received-free}
 use Rattle.soundness.proofs.Soundness.{Framed, sound-entries, entries-sound}
 use Rattle.soundness.proofs.Examine.{link-free, link-held-outside, receive-free, receive-absent}
@@ -43,7 +45,7 @@ module _ (b : List ℕ) {D : ℕ} (d : D ≡ dimensionAt b) where
       go true e = sym (link-free (view b) n p d (sym (free n p g h l)) (sym e) refl refl)
       go false e = sym (link-held-outside (view b) n p d (sym (free n p g h l)) (sym e) refl (off b D n p (omega arith) (fit n (omega arith)) e))
 
-  pub idle-receives : {m : List ℕ} {n₀ n₁ : ℕ} → ((n k : ℕ) → n₀ ≤ n → n < n₁ → k < 8 → receiverAt b n k ≡ 0) → Received (view b) n₀ n₁ 0 8 m m
+  pub idle-receives : {m : List ℕ} {n₀ n₁ : ℕ} → ((n k : ℕ) → n₀ ≤ n → n < n₁ → k < 8 → receiverAt b n k ≡ 0) → ReceivesTested (view b) n₀ n₁ 0 8 m m
   unfolding view
   idle-receives {m} {n₀} {n₁} free = received-free (view b) m n₀ n₁ 0 8 (λ n k i. go n k i (ltb n (2 ^ D)) refl) (λ n k i. free n k (i .0) (i .1) (i .3))
     where

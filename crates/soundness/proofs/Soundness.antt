@@ -9,22 +9,24 @@ use native.Mathlib.Omega.{arith}
 use lib.Dec.{eqb, ltb, leb}
 use lib.ListN.{length}
 use borrow.Author.Tests.{eqb-true, eq-eqb, ne-eqb, not-true, ltb-true, lt-ltb, leb-true, le-leb}
-use Rattle.common.specs.Lists.{_∈_, keep, from, Sorted}
+use Rattle.common.specs.Lists.{_∈_, keep, from, Pairwise}
 use Rattle.common.proofs.Tests.{same?, clash, is-false, both-below, both, and, or-left, or-right}
 use Rattle.common.proofs.Every.{decide₂}
-use Rattle.common.proofs.Lists.{keep-mem, mem-keep, keep-sorted, from-mem, mem-from, from-sorted, from-below, below-from}
+use Rattle.common.proofs.Lists.{keep-mem, mem-keep, keep-pairwise}
+use Rattle.common.proofs.From.{from-mem, mem-from, from-pairwise, from-below, below-from}
 use Rattle.cube.specs.Cube.{sourceOf}
 use Rattle.cube.proofs.Ports.{most-nodes}
 use Rattle.paths.specs.Network.{Network, Path, links}
 use Rattle.paths.specs.Permitted.{Permitted}
 use Rattle.paths.proofs.Links.{On, link-true, true-link}
 use Rattle.paths.proofs.Apart.{apart-permitted}
-use Rattle.paths.proofs.Recover.{path-found, path-owned, path-apart}
+use Rattle.paths.proofs.Recover.{path-found}
+use Rattle.paths.proofs.Walks.{path-owned, path-apart}
 use Rattle.table.specs.Layout.{inTable}
-use Rattle.table.specs.View.{View, fresh, channelsHeld}
+use Rattle.table.specs.View.{View, fresh, channelsHeld, shapeOf, net, heldBy}
 use Rattle.paths.specs.CubeNetwork.{ports}
-use Rattle.soundness.specs.Sound.{shapeOf, net, heldBy, endFor, Stands, Nowhere, Sound}
-use Rattle.soundness.specs.SoundTest.{pathOf, isEmpty, reaches, linkTest, receiveTest, passes}
+use Rattle.soundness.specs.Sound.{endFor, CircuitSound, Nowhere, Sound}
+use Rattle.soundness.specs.SoundTest.{pathOf, isEmpty, reaches, linkTest, receiveTest, onPathOf}
 
 -- a table shows nothing at a place that it has no room for
 pub record Framed (v : View) : Type 0 where
@@ -38,12 +40,12 @@ pub record EntriesPass (v : View) : Type 0 where
 
 -- one number below 8 passes a test, and no other, exactly where one is kept
 one-kept : (f : ℕ → Bool) (k : ℕ) → k < 8 → f k ≡ true → ((j : ℕ) → j < 8 → f j ≡ true → j ≡ k) → length (keep f (from 0 8)) ≡ 1
-one-kept f k h e u = only (keep f (from 0 8)) (keep-sorted f _<_ (from 0 8) (from-sorted 0 8)) (mem-keep f (from 0 8) (below-from 8 k h) e) (λ j m. let r = keep-mem f (from 0 8) m in u j (let b = from-mem 0 8 (r .0) in omega arith) (r .1))
+one-kept f k h e u = only (keep f (from 0 8)) (keep-pairwise f _<_ (from 0 8) (from-pairwise 0 8)) (mem-keep f (from 0 8) (below-from 8 k h) e) (λ j m. let r = keep-mem f (from 0 8) m in u j (let b = from-mem 0 8 (r .0) in omega arith) (r .1))
   where
-    only : (xs : List ℕ) → Sorted _<_ xs → k ∈ xs → ((j : ℕ) → j ∈ xs → j ≡ k) → length xs ≡ 1
+    only : (xs : List ℕ) → Pairwise _<_ xs → k ∈ xs → ((j : ℕ) → j ∈ xs → j ≡ k) → length xs ≡ 1
     only [] s m g = absurd (List·Memᴰ·not-nil m)
     only (x ∷ []) s m g = refl
-    only (x ∷ y ∷ xs) s m g = unfold Sorted in absurd (omega (arith, s .0 y (List·Memᴰ·head refl), g x (List·Memᴰ·head refl), g y (List·Memᴰ·tail (List·Memᴰ·head refl))))
+    only (x ∷ y ∷ xs) s m g = unfold Pairwise in absurd (omega (arith, s .0 y (List·Memᴰ·head refl), g x (List·Memᴰ·head refl), g y (List·Memᴰ·tail (List·Memᴰ·head refl))))
 
 pub kept-one : (f : ℕ → Bool) → length (keep f (from 0 8)) ≡ 1 → (k : ℕ) × (k < 8) × (f k ≡ true) × ((j : ℕ) → j < 8 → f j ≡ true → j ≡ k)
 kept-one f e = go (keep f (from 0 8)) refl e
@@ -84,11 +86,11 @@ passing false e = absurd (false≢true e)
 
 module _ (v : View) where
   -- the path recovered is the one on which a circuit stands
-  pub path-is : (c : ℕ) (s : Stands v c) → pathOf v c ≡ s .path
+  pub path-is : (c : ℕ) (s : CircuitSound v c) → pathOf v c ≡ s .path
   unfolding pathOf
   path-is c s = path-found (shapeOf v) (heldBy v c) (sourceOf c) (endFor v c (s .path)) (s .path) (s .permitted) (s .exactly)
 
-  reaches-passes : (c : ℕ) → c ≤ 8 * 2 ^ v .dimension → Stands v c → reaches v c ≡ true
+  reaches-passes : (c : ℕ) → c ≤ 8 * 2 ^ v .dimension → CircuitSound v c → reaches v c ≡ true
   unfolding reaches channelsHeld
   reaches-passes c h s =
       and (le-leb c _ h)
@@ -97,10 +99,10 @@ module _ (v : View) where
       (eq-eqb _ 1 (one-kept (λ k. eqb (v .receiver (endFor v c (s .path)) k) c) (s .channel) (s .small) (eq-eqb _ c (s .receives)) (λ j l e. s .once (endFor v c (s .path)) j (eqb-true _ c e) .1)))))
 
   -- a number that occurs stands
-  pub link-stands : Sound v → (n p : ℕ) → v .owner n p ≢ 0 → Stands v (v .owner n p)
+  pub link-stands : Sound v → (n p : ℕ) → v .owner n p ≢ 0 → CircuitSound v (v .owner n p)
   link-stands sound n p h = ⊎-elim (λ z. absurd (z .0 n p refl)) (λ s. s) (sound .numbers (v .owner n p) h)
 
-  pub receive-stands : Sound v → (n k : ℕ) → v .receiver n k ≢ 0 → Stands v (v .receiver n k)
+  pub receive-stands : Sound v → (n k : ℕ) → v .receiver n k ≢ 0 → CircuitSound v (v .receiver n k)
   receive-stands sound n k h = ⊎-elim (λ z. absurd (z .1 n k refl)) (λ s. s) (sound .numbers (v .receiver n k) h)
 
   -- what is left of a test outside the cube, where it passes for an entry that is zero and for no other
@@ -130,7 +132,7 @@ module _ (v : View) where
           let s = link-stands sound n p h in
           rw e
           (or-right (eqb (v .owner n p) 0) (and (sound .held-enabled n p h) (and (reaches-passes _ (sound .link-number n p) s)
-          (unfold passes in rw (path-is _ s) (link-true _ n p (s .exactly .only n p (eq-eqb (v .owner n p) _ refl)))))))
+          (unfold onPathOf in rw (path-is _ s) (link-true _ n p (s .exactly .only n p (eq-eqb (v .owner n p) _ refl)))))))
       go false e z = let h = beyond e in absent-passes n p h (sound .absent-link n p h)
 
   -- a receive channel that nobody holds passes wherever it is
@@ -180,7 +182,7 @@ module _ (v : View) where
 
   module _ (links-pass : (n p : ℕ) → linkTest v n p ≡ true) (receives-pass : (n k : ℕ) → receiveTest v n k ≡ true) (framed : Framed v) (c : ℕ) (some : c ≢ 0) where
     held-link : (n p : ℕ) → v .owner n p ≡ c → LinkFacts n p c
-    unfolding linkTest passes
+    unfolding linkTest onPathOf
     held-link n p x =
         let a = both (v .enabled n p) _ (passing (ltb n (2 ^ v .dimension) && ltb p (v .dimension)) (rw (x, ne-eqb c 0 some, and-false (not (v .enabled n p))) at (links-pass n p))) in
         let b = both (reaches v c) _ (a .1) in
@@ -194,7 +196,7 @@ module _ (v : View) where
         (a .0, eqb-true n _ (a .1))
 
     -- a number that reaches its end stands
-    reached-stands : reaches v c ≡ true → Stands v c
+    reached-stands : reaches v c ≡ true → CircuitSound v c
     reached-stands e =
         let r = reach-facts c e in
         record {
@@ -214,11 +216,11 @@ module _ (v : View) where
               (ends, r .once k inside (rw (← ends) x));
         }
 
-    number-stands : Nowhere v c ⊎ Stands v c
+    number-stands : Nowhere v c ⊎ CircuitSound v c
     number-stands = go (decide₂ 256 8 (λ n p. eqb (v .owner n p) c)) (decide₂ 256 8 (λ n k. eqb (v .receiver n k) c))
       where
         go : ((i : ℕ) × (j : ℕ) × (eqb (v .owner i j) c ≡ true)) ⊎ ((i j : ℕ) → i < 256 → j < 8 → eqb (v .owner i j) c ≡ false)
-            → ((i : ℕ) × (j : ℕ) × (eqb (v .receiver i j) c ≡ true)) ⊎ ((i j : ℕ) → i < 256 → j < 8 → eqb (v .receiver i j) c ≡ false) → Nowhere v c ⊎ Stands v c
+            → ((i : ℕ) × (j : ℕ) × (eqb (v .receiver i j) c ≡ true)) ⊎ ((i j : ℕ) → i < 256 → j < 8 → eqb (v .receiver i j) c ≡ false) → Nowhere v c ⊎ CircuitSound v c
         go (inl s) r = inr (reached-stands (held-link (s .0) (s .1) (eqb-true _ c (s .2)) .reaches-end))
         go (inr f) (inl s) = inr (reached-stands (held-receive (s .0) (s .1) (eqb-true _ c (s .2)) .0))
         go (inr f) (inr g) =
@@ -249,7 +251,7 @@ module _ (v : View) where
       receives n k = ⊎-elim (λ i. pass .receives-pass n k (i .0) (i .1)) (λ o. free-receive n k (framed .no-receive n k o)) (placed n k)
 
   -- In a sound table a circuit that occurs has exactly one path and one receive channel.
-  pub stands-once : (c : ℕ) (s r : Stands v c) → (s .path ≡ r .path) × (s .channel ≡ r .channel)
+  pub stands-once : (c : ℕ) (s r : CircuitSound v c) → (s .path ≡ r .path) × (s .channel ≡ r .channel)
   stands-once c s r = (sym (path-is c s) ∙ path-is c r, r .once (endFor v c (s .path)) (s .channel) (s .receives) .1)
 
 -- A made table is sound.

@@ -19,10 +19,10 @@ use Rattle.paths.specs.Network.{Network, Path}
 use Rattle.paths.specs.Recover.{takeFirst, dropAxis, walkFrom}
 use Rattle.table.specs.Layout.{dimensionAt}
 use Rattle.table.specs.View.{View, view}
-use Rattle.soundness.specs.SoundTest.{pathOf, isEmpty, written}
+use Rattle.soundness.specs.SoundTest.{pathOf, isEmpty, tracedInto}
 use Rattle.soundness.specs.Follow.{takes, followed, firstHop, HasSource}
 use Rattle.soundness.proofs.Follow.{follow-on, follow-end, follow-port}
-use Rattle.soundness.proofs.Examine.{opened, path-behind, source-within}
+use Rattle.soundness.proofs.Examine.{opened, path-after, source-within}
 
 -- a walk is no longer than its fuel
 take-short : (k : ℕ) (ps : List ℕ) (on : ℕ → Path) → ((p : ℕ) → length (on p) ≤ k) → length (takeFirst ps on) ≤ suc k
@@ -41,8 +41,8 @@ unfolding followed
 followed-short v c n left = walk-short 8 _ _ _ n
 
 -- writing from place 0 on leaves the path, and what was there behind it
-pub written-whole : (w : Path) (buffer : List ℕ) → length w ≤ length buffer → sets buffer 0 w ≡ written w buffer
-unfolding written
+pub written-whole : (w : Path) (buffer : List ℕ) → length w ≤ length buffer → sets buffer 0 w ≡ tracedInto w buffer
+unfolding tracedInto
 written-whole w buffer h = sets-eq w buffer 0 (omega arith) ∙ ap (λ i. w ++ drop i buffer) (zero-add (length w))
 
 -- What holds while the ports are written: from node n on, the hops to come and those written are as many as the path has, and writing the ports to
@@ -96,7 +96,7 @@ module _ {b : List ℕ} {c D nodes s a : ℕ} (known : HasSource b c) (d : D ≡
 
   module _ {start : ℕ} (to : start ≡ next s a) where
     path-is : pathOf (view b) c ≡ a ∷ followed (view b) c start (nodes - 1)
-    path-is = path-behind (view b) c shown fits (m .value) q e first-below to
+    path-is = path-after (view b) c shown fits (m .value) q e first-below to
 
     pub whole-count : {answer : ℕ} → answer ≡ 1 + length (followed (view b) c start (nodes - 1)) → answer ≡ length (pathOf (view b) c)
     whole-count k = omega (arith, k, ap length path-is)
@@ -111,7 +111,7 @@ module _ {b : List ℕ} {c D nodes s a : ℕ} (known : HasSource b c) (d : D ≡
           long = refl;
         }
 
-    pub whole-bytes : (buffer : List ℕ) {after : List ℕ} → 9 ≤ length buffer → after ≡ sets (set buffer 0 a) 1 (followed (view b) c start (nodes - 1)) → after ≡ written (pathOf (view b) c) buffer
+    pub whole-bytes : (buffer : List ℕ) {after : List ℕ} → 9 ≤ length buffer → after ≡ sets (set buffer 0 a) 1 (followed (view b) c start (nodes - 1)) → after ≡ tracedInto (pathOf (view b) c) buffer
     whole-bytes buffer room k =
         let short : length (pathOf (view b) c) ≤ length buffer = omega (arith, ap length path-is, followed-short (view b) c start (nodes - 1)) in
         k ∙ ap (sets buffer 0) (sym path-is) ∙ written-whole (pathOf (view b) c) buffer short

@@ -11,8 +11,7 @@ use Rattle.cube.specs.Helical.{portsOf, firstOr}
 use Rattle.paths.specs.Network.{Path, end, links, hasLink}
 use Rattle.paths.specs.Recover.{walkFrom, firstHopChoices}
 use Rattle.table.specs.Layout.{tableLength, dimensionAt}
-use Rattle.table.specs.View.{View}
-use Rattle.soundness.specs.Sound.{net, heldBy}
+use Rattle.table.specs.View.{View, net, heldBy}
 use Rattle.soundness.specs.Marks.{Adds}
 
 -- port p is in the vector, and circuit c holds the link out of it

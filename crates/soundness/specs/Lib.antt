@@ -2,4 +2,5 @@
 pub mod Sound
 pub mod Marks
 pub mod SoundTest
+pub mod TestContracts
 pub mod Follow

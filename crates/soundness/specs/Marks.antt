@@ -15,8 +15,8 @@ unfoldable pub marked : List ℕ → ℕ → ℕ → Bool
 marked m n p = has (getD m n 0) p
 
 -- the marks after one link is marked
-unfoldable pub marking : List ℕ → ℕ → ℕ → List ℕ
-marking m n p = set m n (withBit (getD m n 0) p true)
+unfoldable pub withMark : List ℕ → ℕ → ℕ → List ℕ
+withMark m n p = set m n (withBit (getD m n 0) p true)
 
 -- the marks after some more links are marked
 pub record Adds (more : ℕ → ℕ → Bool) (before after : List ℕ) : Type 0 where

@@ -2,25 +2,13 @@
 -- Assumes nothing.
 use mathlib.Core.Path.{_≡_}
 use mathlib.Core.Logic.{_⊎_, _≢_}
-use mathlib.Core.Bool.{Bool, true, false}
+use mathlib.Core.Bool.{true, false}
 use Prim.Native.Nat.{ℕ, _*_, _^_, _≤_, _<_}
-use lib.Dec.{eqb}
 use Rattle.cube.specs.Cube.{sourceOf}
-use Rattle.paths.specs.Network.{Network, Path, Exactly, end}
+use Rattle.paths.specs.Network.{Path, Exactly, end}
 use Rattle.paths.specs.Permitted.{Permitted}
-use Rattle.paths.specs.CubeNetwork.{Shape, ports, network}
-use Rattle.table.specs.View.{View}
-
--- what the network of a table is read from
-abbrev pub shapeOf : View → Shape
-shapeOf v = record { dimension = v .dimension; fold = 0 }
-
-abbrev pub net : View → Network
-net v = network (shapeOf v)
-
--- the link out of port q of node m is held by circuit c
-abbrev pub heldBy : View → ℕ → ℕ → ℕ → Bool
-heldBy v c m q = eqb (v .owner m q) c
+use Rattle.paths.specs.CubeNetwork.{ports}
+use Rattle.table.specs.View.{View, shapeOf, net, heldBy}
 
 -- where a path from the source of circuit c ends
 abbrev pub endFor : View → ℕ → Path → ℕ
@@ -28,7 +16,7 @@ endFor v c w = end (net v) (sourceOf c) w
 
 -- circuit number c "stands on exactly the links of one permitted path from its source, and on exactly one receive channel, at that path's end".
 -- The path is permitted for some send vector, so its first hop is any port of the cube, and its target is its end.
-pub record Stands (v : View) (c : ℕ) : Type 0 where
+pub record CircuitSound (v : View) (c : ℕ) : Type 0 where
   pub path : Path
   pub permitted : Permitted (net v) (sourceOf c) (ports (shapeOf v)) (endFor v c path) path
   pub exactly : Exactly (net v) (sourceOf c) path (heldBy v c)
@@ -52,4 +40,4 @@ pub record Sound (v : View) : Type 0 where
   pub link-number : (n p : ℕ) → v .owner n p ≤ 8 * 2 ^ v .dimension
   pub receive-number : (n k : ℕ) → v .receiver n k ≤ 8 * 2 ^ v .dimension
   -- "each circuit number either occurs nowhere or stands on .."
-  pub numbers : (c : ℕ) → c ≢ 0 → Nowhere v c ⊎ Stands v c
+  pub numbers : (c : ℕ) → c ≢ 0 → Nowhere v c ⊎ CircuitSound v c

@@ -1,7 +1,7 @@
 // Whether a lent table may be used, and the path of a circuit from the links that it holds.
 mod sound;
-mod trail;
+mod circuit_path;
 
 pub use sound::check;
-pub use trail::is_open;
-pub use trail::write_path;
+pub use circuit_path::is_open;
+pub use circuit_path::write_path;

@@ -3,11 +3,12 @@ ghost use mathlib.Core.Path.{_≡_};
 ghost use Prim.Native.Nat.{_+_, _<_, _≤_};
 ghost use lib.ListN.{length};
 ghost use Rattle.common.specs.Decides.{Decides};
-ghost use Rattle.table.specs.Layout.{Within, enableLimit};
+ghost use Rattle.table.specs.LayoutContracts.{Within, enableLimit};
 ghost use Rattle.table.specs.View.{view};
 ghost use Rattle.soundness.specs.Follow.{firstHop};
-ghost use Rattle.soundness.specs.SoundTest.{Reached, Receives, LinksPass, soundTest, PathsMarked, Marked, TableAnswer, Usable};
-use crate::trail;
+ghost use Rattle.soundness.specs.SoundTest.{soundTest};
+ghost use Rattle.soundness.specs.TestContracts.{Reached, ReceivesDecided, LinksPass, AllPathsMarked, LinkTestPre, TableAnswer, Usable};
+use crate::circuit_path;
 use common::refusal;
 use cube::Circuit;
 use cube::Node;
@@ -24,9 +25,9 @@ fn leaves_by(t: &[u8], c: Circuit, s: Node, vector: u16, end: Node) -> Port
     ensures { λ r. ⌜ r .0 ≡ firstHop (view (now (t .entry))) (c .0) (s .0) vector ⌝ }
 {
     if table::links_held(t, c, s) == 1 {
-        return trail::only_port(t, c, s, vector, end);
+        return circuit_path::only_port(t, c, s, vector, end);
     }
-    trail::first_hop(t, c, s, vector)
+    circuit_path::first_hop(t, c, s, vector)
 }
 
 // Whether the path of a circuit ends at a node, on one receive channel; its links are marked then.
@@ -43,8 +44,8 @@ fn ends_at(t: &[u8], dimension: u16, c: Circuit, n: Node, marks: &mut [u8]) -> b
     if first.0 >= 8 {
         return false;
     }
-    trail::mark(source, first, marks);
-    let end = trail::follow(t, c, cube::neighbour(source, first), nodes - 1, n, marks);
+    circuit_path::mark(source, first, marks);
+    let end = circuit_path::follow(t, c, cube::neighbour(source, first), nodes - 1, n, marks);
     if n.0 == end.0 {
         table::channels_held(t, c, end) == 1
     } else {
@@ -55,7 +56,7 @@ fn ends_at(t: &[u8], dimension: u16, c: Circuit, n: Node, marks: &mut [u8]) -> b
 // The test of one receive channel.
 fn receive_sound(t: &[u8], dimension: u16, n: Node, channel: u16, marks: &mut [u8]) -> bool
     requires { ⌜ Within (now t) (n .0) channel × Usable (now t) dimension × (length (now marks) ≡ 256) ⌝ }
-    ensures { λ r. ⌜ Receives (view (now (t .entry))) (n .0) (n .0 + 1) channel (channel + 1) (now (marks .entry)) (now (marks .exit)) r ⌝ }
+    ensures { λ r. ⌜ ReceivesDecided (view (now (t .entry))) (n .0) (n .0 + 1) channel (channel + 1) (now (marks .entry)) (now (marks .exit)) r ⌝ }
 {
     let c = table::receiver(t, n, channel);
     if c.0 == 0 {
@@ -72,7 +73,7 @@ fn receive_sound(t: &[u8], dimension: u16, n: Node, channel: u16, marks: &mut [u
 // The tests of a node's receive channels.
 fn receives_sound(t: &[u8], dimension: u16, n: Node, marks: &mut [u8]) -> bool
     requires { ⌜ Within (now t) (n .0) 0 × Usable (now t) dimension × (length (now marks) ≡ 256) ⌝ }
-    ensures { λ r. ⌜ Receives (view (now (t .entry))) (n .0) (n .0 + 1) 0 8 (now (marks .entry)) (now (marks .exit)) r ⌝ }
+    ensures { λ r. ⌜ ReceivesDecided (view (now (t .entry))) (n .0) (n .0 + 1) 0 8 (now (marks .entry)) (now (marks .exit)) r ⌝ }
 {
     let mut k: u16 = 0;
     while k < 8 {
@@ -88,7 +89,7 @@ fn receives_sound(t: &[u8], dimension: u16, n: Node, marks: &mut [u8]) -> bool
 // Most nodes of most tables hold nothing: they are passed over, in groups or else one by one.
 fn receives_of(t: &[u8], dimension: u16, n: Node, marks: &mut [u8]) -> bool
     requires { ⌜ Within (now t) (n .0) 0 × Usable (now t) dimension × (length (now marks) ≡ 256) ⌝ }
-    ensures { λ r. ⌜ Receives (view (now (t .entry))) (n .0) (n .0 + 1) 0 8 (now (marks .entry)) (now (marks .exit)) r ⌝ }
+    ensures { λ r. ⌜ ReceivesDecided (view (now (t .entry))) (n .0) (n .0 + 1) 0 8 (now (marks .entry)) (now (marks .exit)) r ⌝ }
 {
     if table::receives_clear(t, n, 1) {
         return true;
@@ -98,7 +99,7 @@ fn receives_of(t: &[u8], dimension: u16, n: Node, marks: &mut [u8]) -> bool
 
 fn receives_from(t: &[u8], dimension: u16, from: Node, marks: &mut [u8]) -> bool
     requires { ⌜ (from .0 + 16 ≤ 256) × Usable (now t) dimension × (length (now marks) ≡ 256) ⌝ }
-    ensures { λ r. ⌜ Receives (view (now (t .entry))) (from .0) (from .0 + 16) 0 8 (now (marks .entry)) (now (marks .exit)) r ⌝ }
+    ensures { λ r. ⌜ ReceivesDecided (view (now (t .entry))) (from .0) (from .0 + 16) 0 8 (now (marks .entry)) (now (marks .exit)) r ⌝ }
 {
     let first = from.0;
     let mut i: u16 = 0;
@@ -115,7 +116,7 @@ fn receives_from(t: &[u8], dimension: u16, from: Node, marks: &mut [u8]) -> bool
 
 fn receive_group(t: &[u8], dimension: u16, from: Node, marks: &mut [u8]) -> bool
     requires { ⌜ (from .0 + 16 ≤ 256) × Usable (now t) dimension × (length (now marks) ≡ 256) ⌝ }
-    ensures { λ r. ⌜ Receives (view (now (t .entry))) (from .0) (from .0 + 16) 0 8 (now (marks .entry)) (now (marks .exit)) r ⌝ }
+    ensures { λ r. ⌜ ReceivesDecided (view (now (t .entry))) (from .0) (from .0 + 16) 0 8 (now (marks .entry)) (now (marks .exit)) r ⌝ }
 {
     if table::receives_clear(t, from, GROUP) {
         return true;
@@ -126,7 +127,7 @@ fn receive_group(t: &[u8], dimension: u16, from: Node, marks: &mut [u8]) -> bool
 // The tests of all receive channels.
 fn all_receives(t: &[u8], dimension: u16, marks: &mut [u8]) -> bool
     requires { ⌜ Usable (now t) dimension × (length (now marks) ≡ 256) ⌝ }
-    ensures { λ r. ⌜ Receives (view (now (t .entry))) 0 256 0 8 (now (marks .entry)) (now (marks .exit)) r ⌝ }
+    ensures { λ r. ⌜ ReceivesDecided (view (now (t .entry))) 0 256 0 8 (now (marks .entry)) (now (marks .exit)) r ⌝ }
 {
     let mut i: u16 = 0;
     while i < GROUPS {
@@ -151,7 +152,7 @@ fn enable_limit(dimension: u16, n: Node) -> u16
 
 // The tests of a node's links, all in one go: each is free, or enabled and on a path that was followed.
 fn links_sound(t: &[u8], dimension: u16, n: Node, marks: &[u8]) -> bool
-    requires { ⌜ Within (now t) (n .0) 0 × Usable (now t) dimension × PathsMarked (view (now t)) (now marks) ⌝ }
+    requires { ⌜ Within (now t) (n .0) 0 × Usable (now t) dimension × AllPathsMarked (view (now t)) (now marks) ⌝ }
     ensures { λ r. ⌜ Decides (LinksPass (view (now (t .entry))) (n .0) (n .0 + 1) 0 8) r ⌝ }
 {
     let enabled = table::enable_bits(t, n);
@@ -164,7 +165,7 @@ fn links_sound(t: &[u8], dimension: u16, n: Node, marks: &[u8]) -> bool
 }
 
 fn links_from(t: &[u8], dimension: u16, from: Node, marks: &[u8]) -> bool
-    requires { ⌜ (from .0 + 16 ≤ 256) × Usable (now t) dimension × PathsMarked (view (now t)) (now marks) ⌝ }
+    requires { ⌜ (from .0 + 16 ≤ 256) × Usable (now t) dimension × AllPathsMarked (view (now t)) (now marks) ⌝ }
     ensures { λ r. ⌜ Decides (LinksPass (view (now (t .entry))) (from .0) (from .0 + 16) 0 8) r ⌝ }
 {
     let first = from.0;
@@ -182,7 +183,7 @@ fn links_from(t: &[u8], dimension: u16, from: Node, marks: &[u8]) -> bool
 
 // A group of which no link is held, and none is enabled that the cube lacks, is passed over.
 fn link_group(t: &[u8], dimension: u16, fits: bool, from: Node, marks: &[u8]) -> bool
-    requires { ⌜ (from .0 + 16 ≤ 256) × Marked (now t) dimension fits (now marks) ⌝ }
+    requires { ⌜ (from .0 + 16 ≤ 256) × LinkTestPre (now t) dimension fits (now marks) ⌝ }
     ensures { λ r. ⌜ Decides (LinksPass (view (now (t .entry))) (from .0) (from .0 + 16) 0 8) r ⌝ }
 {
     if fits {
@@ -195,7 +196,7 @@ fn link_group(t: &[u8], dimension: u16, fits: bool, from: Node, marks: &[u8]) ->
 
 // The tests of all links.
 fn all_links(t: &[u8], dimension: u16, fits: bool, marks: &[u8]) -> bool
-    requires { ⌜ Marked (now t) dimension fits (now marks) ⌝ }
+    requires { ⌜ LinkTestPre (now t) dimension fits (now marks) ⌝ }
     ensures { λ r. ⌜ Decides (LinksPass (view (now (t .entry))) 0 256 0 8) r ⌝ }
 {
     let mut i: u16 = 0;

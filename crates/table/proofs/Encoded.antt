@@ -12,7 +12,7 @@ use lib.Dec.{lit<}
 use lib.ListN.{length, getD, length-append, length-map, List·getD-append}
 use lib.Seq.{getD-append-add}
 use Rattle.common.specs.Lists.{from}
-use Rattle.common.proofs.Lists.{length-from}
+use Rattle.common.proofs.From.{length-from}
 use Rattle.common.proofs.Tests.{same?}
 use Rattle.cube.specs.Bits.{has, flip, withBit}
 use Rattle.cube.proofs.Bits.{zero-has, with-bit-same, with-bit-other, with-bit-inside}

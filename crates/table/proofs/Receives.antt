@@ -8,8 +8,7 @@ use lib.Dec.{eqb}
 use borrow.Author.Tests.{eqb-true, eqb-false}
 use Rattle.common.specs.Lists.{lowest}
 use Rattle.common.proofs.Lowest.{lowest-most, lowest-passes, lowest-before}
-use Rattle.paths.specs.Send.{channel, all-held}
-use Rattle.table.specs.View.{lowestOf}
+use Rattle.paths.specs.Send.{channel, all-held, lowestOf}
 
 -- it is one of eight, passes, and none below it does
 pub chosen : (f : ℕ → Bool) (k : ℕ) → lowestOf f ≡ channel k → (k < 8) × (f k ≡ true) × ((j : ℕ) → j < k → f j ≡ false)

@@ -14,12 +14,14 @@ use lib.Pow.{pow-mono}
 use borrow.Author.Count.{below-more}
 use borrow.Author.Tests.{eq-eqb, ne-eqb}
 use Rattle.common.specs.Lists.{from, lowest}
-use Rattle.common.proofs.Lists.{keep-same, from-below}
+use Rattle.common.proofs.Lists.{keep-same}
+use Rattle.common.proofs.From.{from-below}
 use Rattle.common.proofs.Lowest.{lowest-same}
 use Rattle.cube.specs.Bits.{has, flip}
 use Rattle.cube.proofs.Bits.{has-no-bit, high-has, bit-flipped, bit-kept, flip-xor, flip-inside}
 use Rattle.cube.proofs.Ports.{port-bit}
-use Rattle.table.specs.Layout.{entryPlace, linkPart, receivePart, wordAt, entryAt, ownerAt, receiverAt, RowVector, rowCount, HeldBy}
+use Rattle.table.specs.Layout.{entryPlace, linkPart, receivePart, wordAt, entryAt, ownerAt, receiverAt}
+use Rattle.table.specs.LayoutContracts.{RowVector, rowCount, HeldBy}
 use Rattle.table.specs.View.{view, linksHeld, channelsHeld}
 use Rattle.table.proofs.Entries.{entry-is}
 

@@ -13,7 +13,8 @@ use borrow.Author.Tests.{ltb-true, ltb-false, eqb-true, eqb-false}
 use Rattle.common.proofs.Tests.{both-below}
 use Rattle.cube.specs.Bits.{has, withBit}
 use Rattle.cube.proofs.Bits.{with-bit-same, with-bit-other}
-use Rattle.table.specs.Layout.{inTable, dimensionAt, enablePlace, entryPlace, linkPart, receivePart, wordAt, putWord, enabledAt, entryAt, ownerAt, receiverAt, putEntry, putOwner, putReceiver, putEnabled, Within}
+use Rattle.table.specs.Layout.{inTable, dimensionAt, enablePlace, entryPlace, linkPart, receivePart, wordAt, putWord, enabledAt, entryAt, ownerAt, receiverAt, putEntry, putOwner, putReceiver, putEnabled}
+use Rattle.table.specs.LayoutContracts.{Within}
 use Rattle.table.specs.View.{view, setAt, setOwner, setReceiver, setEnabled}
 use Rattle.table.proofs.Entries.{within}
 

@@ -1,13 +1,15 @@
 -- What a table shows, whatever the layout of its bytes: its dimension, which links are enabled, and who holds links and receive channels.
 -- It is changed only through the functions below.
 -- Assumes nothing.
-use mathlib.Core.Bool.{Bool, cond, _&&_}
+use mathlib.Core.Bool.{Bool, cond, not, _&&_}
 use mathlib.Core.List.{List}
 use Prim.Native.Nat.{ℕ, _^_}
 use lib.Dec.{eqb, ltb}
 use lib.ListN.{length}
 use Rattle.common.specs.Lists.{keep, from, lowest}
-use Rattle.paths.specs.Send.{Receive, channel, all-held}
+use Rattle.paths.specs.Network.{Network}
+use Rattle.paths.specs.Send.{Receive, lowestOf}
+use Rattle.paths.specs.CubeNetwork.{Shape, network}
 use Rattle.table.specs.Layout.{dimensionAt, enabledAt, ownerAt, receiverAt}
 
 pub record View : Type 0 where
@@ -18,6 +20,21 @@ pub record View : Type 0 where
 
 unfoldable pub view : List ℕ → View
 view b = record { dimension = dimensionAt b; enabled = enabledAt b; owner = ownerAt b; receiver = receiverAt b }
+
+-- what the network of a table is read from
+abbrev pub shapeOf : View → Shape
+shapeOf v = record { dimension = v .dimension; fold = 0 }
+
+abbrev pub net : View → Network
+net v = network (shapeOf v)
+
+-- "the link is held": its entry is not "zero", which "means no circuit"
+unfoldable pub heldIn : View → ℕ → ℕ → Bool
+heldIn v n p = not (eqb (v .owner n p) 0)
+
+-- the link out of port q of node m is held by circuit c
+abbrev pub heldBy : View → ℕ → ℕ → ℕ → Bool
+heldBy v c m q = eqb (v .owner m q) c
 
 -- a function of a node and a port or channel, changed at one place
 unfoldable pub setAt : {A : Type 0} → (ℕ → ℕ → A) → ℕ → ℕ → A → ℕ → ℕ → A
@@ -40,8 +57,8 @@ unfoldable pub channelsHeld : View → ℕ → ℕ → ℕ
 channelsHeld v c n = length (keep (λ k. eqb (v .receiver n k) c) (from 0 8))
 
 -- every entry of a circuit freed
-unfoldable pub freeing : View → ℕ → View
-freeing v c =
+unfoldable pub withoutCircuit : View → ℕ → View
+withoutCircuit v c =
     record {
       dimension = v .dimension;
       enabled = v .enabled;
@@ -56,10 +73,6 @@ available v n k = eqb (v .receiver n k) 0
 -- "its lowest receive channel that no circuit holds", 8 where all are held
 unfoldable pub lowestChannel : View → ℕ → ℕ
 lowestChannel v n = lowest (available v n) 8 0
-
--- the lowest of eight channels that passes a test, if any does
-unfoldable pub lowestOf : (ℕ → Bool) → Receive
-lowestOf f = cond (eqb (lowest f 8 0) 8) all-held (channel (lowest f 8 0))
 
 unfoldable pub receive : View → ℕ → Receive
 receive v n = lowestOf (available v n)

@@ -5,7 +5,8 @@ ghost use Prim.Native.Nat.{ℕ, _+_, _*_, _<_, _≤_};
 ghost use lib.Dec.{eqb};
 ghost use lib.ListN.{length};
 ghost use Rattle.common.specs.Lists.{lowest};
-ghost use Rattle.table.specs.Layout.{Within, enableBits, wordAt, putWord, enablePlace, linkPlace, receivePlace, RowVector, rowCount, HeldBy, dimensionAt, enabledAt, ownerAt, receiverAt, putOwner, putReceiver, putEnabled, changed, filled, made, Gathered, EnablesFit};
+ghost use Rattle.table.specs.Layout.{enableBits, wordAt, putWord, enablePlace, linkPlace, receivePlace, dimensionAt, enabledAt, ownerAt, receiverAt, putOwner, putReceiver, putEnabled, changed, filled, made};
+ghost use Rattle.table.specs.LayoutContracts.{Within, RowVector, rowCount, HeldBy, NoneAbove, EnablesFit};
 ghost use Rattle.table.specs.View.{view, linksHeld, channelsHeld, lowestChannel};
 use cube::Circuit;
 use cube::Node;
@@ -95,9 +96,9 @@ pub fn enable_bits(t: &[u8], n: Node) -> u16
 }
 
 // The or of some bytes: none of them is above it, so all are 0 where it is. It has no early exit, so that many can be read in one go.
-fn gathered(t: &[u8], from: usize, count: usize) -> u8
+fn or_bytes(t: &[u8], from: usize, count: usize) -> u8
     requires { ⌜ from + count ≤ length (now t) ⌝ }
-    ensures { λ r. ⌜ Gathered (now (t .entry)) from count r ⌝ }
+    ensures { λ r. ⌜ NoneAbove (now (t .entry)) from count r ⌝ }
 {
     let mut all: u8 = 0;
     let mut i: usize = 0;
@@ -115,8 +116,8 @@ pub fn enables_fit(t: &[u8], dimension: u16) -> bool
 {
     let nodes = cube::node_count(dimension);
     let count = nodes as usize;
-    if wide(gathered(t, ENABLE, count)) < nodes {
-        gathered(t, ENABLE + count, NODES - count) == 0
+    if wide(or_bytes(t, ENABLE, count)) < nodes {
+        or_bytes(t, ENABLE + count, NODES - count) == 0
     } else {
         false
     }
@@ -127,14 +128,14 @@ pub fn links_clear(t: &[u8], n: Node, nodes: u16) -> bool
     requires { ⌜ (length (now t) ≡ 8449) × (n .0 + nodes ≤ 256) × (0 < nodes) ⌝ }
     ensures { λ r. ⌜ (r ≡ true → (m p : ℕ) → n .0 ≤ m → m < n .0 + nodes → p < 8 → ownerAt (now (t .entry)) m p ≡ 0) ⌝ }
 {
-    gathered(t, link_place(n, Port(0)), ROW * (nodes as usize)) == 0
+    or_bytes(t, link_place(n, Port(0)), ROW * (nodes as usize)) == 0
 }
 
 pub fn receives_clear(t: &[u8], n: Node, nodes: u16) -> bool
     requires { ⌜ (length (now t) ≡ 8449) × (n .0 + nodes ≤ 256) × (0 < nodes) ⌝ }
     ensures { λ r. ⌜ (r ≡ true → (m k : ℕ) → n .0 ≤ m → m < n .0 + nodes → k < 8 → receiverAt (now (t .entry)) m k ≡ 0) ⌝ }
 {
-    gathered(t, receive_place(n, 0), ROW * (nodes as usize)) == 0
+    or_bytes(t, receive_place(n, 0), ROW * (nodes as usize)) == 0
 }
 
 // Changes one enable bit.

@@ -14,16 +14,16 @@ use Rattle.common.proofs.Tests.{below-or, both}
 use Rattle.text.specs.Text.{digit, isDigit, decimal, allDigits, value, leadingZero, largest, number}
 use Rattle.text.proofs.Digits.{decimal-short, decimal-long}
 
-value-behind : (xs : List ℕ) (n x : ℕ) → value n (xs ++ x ∷ []) ≡ 10 * value n xs + (x - 48)
+value-after : (xs : List ℕ) (n x : ℕ) → value n (xs ++ x ∷ []) ≡ 10 * value n xs + (x - 48)
 unfolding value
-value-behind [] n x = refl
-value-behind (y ∷ xs) n x = value-behind xs (10 * n + (y - 48)) x
+value-after [] n x = refl
+value-after (y ∷ xs) n x = value-after xs (10 * n + (y - 48)) x
 
-digits-behind : (xs : List ℕ) (x : ℕ) → allDigits xs ≡ true → 48 ≤ x → x ≤ 57 → allDigits (xs ++ x ∷ []) ≡ true
+digits-after : (xs : List ℕ) (x : ℕ) → allDigits xs ≡ true → 48 ≤ x → x ≤ 57 → allDigits (xs ++ x ∷ []) ≡ true
 unfolding allDigits
-digits-behind [] x e h l = rw (le-leb 48 x h, le-leb x 57 l)
-digits-behind (y ∷ xs) x e h l =
-    let r = both (isDigit y) (allDigits xs) e in rw (r .0) (digits-behind xs x (r .1) h l)
+digits-after [] x e h l = rw (le-leb 48 x h, le-leb x 57 l)
+digits-after (y ∷ xs) x e h l =
+    let r = both (isDigit y) (allDigits xs) e in rw (r .0) (digits-after xs x (r .1) h l)
 
 -- what holds of the digits of n: they are digits, they say n, and their first is a zero only where n is
 record Says (n : ℕ) (xs : List ℕ) : Type 0 where
@@ -36,13 +36,13 @@ says-digit : (n : ℕ) → n < 10 → Says n (digit n ∷ [])
 unfolding allDigits value
 says-digit n h = record { some-digit = omega arith; all-digits = rw (le-leb 48 (48 + n) (omega arith), le-leb (48 + n) 57 (omega arith)); says = omega arith; first = λ p e. omega arith }
 
-says-behind : (n : ℕ) (xs : List ℕ) → 10 ≤ n → Says (n / 10) xs → Says n (xs ++ (digit (n % 10) ∷ []))
-says-behind n [] h s = absurd (let p = s .some-digit in omega arith)
-says-behind n (y ∷ xs) h s =
+says-after : (n : ℕ) (xs : List ℕ) → 10 ≤ n → Says (n / 10) xs → Says n (xs ++ (digit (n % 10) ∷ []))
+says-after n [] h s = absurd (let p = s .some-digit in omega arith)
+says-after n (y ∷ xs) h s =
     record {
       some-digit = omega arith;
-      all-digits = digits-behind (y ∷ xs) (digit (n % 10)) (s .all-digits) (omega arith) (omega arith);
-      says = value-behind (y ∷ xs) 0 (digit (n % 10)) ∙ (let e = s .says in omega arith);
+      all-digits = digits-after (y ∷ xs) (digit (n % 10)) (s .all-digits) (omega arith) (omega arith);
+      says = value-after (y ∷ xs) 0 (digit (n % 10)) ∙ (let e = s .says in omega arith);
       first = λ p. s .first (omega arith);
     }
 
@@ -52,7 +52,7 @@ says-decimal (suc k) n h = go (below-or 10 n) (says-decimal k (n / 10))
   where
     go : (n < 10) ⊎ (10 ≤ n) → (n / 10 ≤ k → Says (n / 10) (decimal (n / 10))) → Says n (decimal n)
     go (inl s) ih = rw (decimal-short n s) (says-digit n s)
-    go (inr l) ih = rw (decimal-long n l) (says-behind n (decimal (n / 10)) l (ih (omega arith)))
+    go (inr l) ih = rw (decimal-long n l) (says-after n (decimal (n / 10)) l (ih (omega arith)))
 
 no-zero : (xs : List ℕ) → getD xs 0 0 ≢ 48 → leadingZero xs ≡ false
 unfolding leadingZero

@@ -8,7 +8,7 @@ use Prim.Native.Nat.{ℕ, _+_}
 use lib.Dec.{eqb, leb}
 use lib.ListN.{length, take}
 use lib.Seq.{sets}
-use Rattle.text.specs.declared.row.Field.{Field as Given}
+use Rattle.text.specs.declared.row.Field.{Field as CallResult}
 use Rattle.text.specs.declared.row.Field.the-variants.{Nothing, Number, Letter, Path}
 use Rattle.text.specs.declared.row.Row.{Row as GivenRow}
 use Rattle.text.specs.Text.{allDigits, value, largest}
@@ -34,7 +34,7 @@ unfoldable pub said : ℕ → List ℕ → ℕ
 said n xs = cond (allDigits xs && leb (value n xs) largest) (value n xs) 65536
 
 -- what a field shows that was given beside a buffer of ports: a path is as many of them as it says
-abbrev pub fieldOf : List ℕ → Given → Field
+abbrev pub fieldOf : List ℕ → CallResult → Field
 fieldOf ports Nothing = nothing
 fieldOf ports (Number n) = shows n
 fieldOf ports (Letter x) = letter x

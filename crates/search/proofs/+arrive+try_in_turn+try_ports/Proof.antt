@@ -7,8 +7,8 @@ use Prim.Native.Nat.{ℕ, _+_, _*_, _<_}
 use lib.Dec.{lit<}
 use lib.ListN.{length}
 use lib.Pow.{pow-pos}
-use Rattle.search.specs.Turns.{distance, reach}
-use Rattle.search.proofs.Turns.{Turn, first-turn, byte-vector, here-tried, now-within, now-enabled, here-room, here-arrives, here-falls, turn-busy, turn-acknowledged, turn-full, turn-next, turn-over, arrive-receives, arrive-full, arrive-tries, arrive-may, arrive-falls}
+use Rattle.search.specs.SearchContracts.{hopsLeft, farthestAfter}
+use Rattle.search.proofs.SearchContracts.{Turn, first-turn, byte-vector, here-tried, now-within, now-enabled, here-room, here-arrives, here-falls, turn-busy, turn-acknowledged, turn-full, turn-next, turn-over, arrive-receives, arrive-full, arrive-tries, arrive-may, arrive-falls}
 use borrow.Fn.Kinds.{In, Out}
 use borrow.Fn.PlainCycle.{Measures, is, falls, and}
 use Rattle.search.proofs.arrive.Reads as arrive
@@ -32,13 +32,13 @@ use Rattle.search.proofs.+arrive+try_in_turn+try_ports.{statement}
 use Rattle.search.proofs.+arrive+try_in_turn+try_ports.Tie.{close}
 
 abbrev μ-arrive : Measures 2 arrive-kinds.ps ℕ
-μ-arrive κs a = 3 * distance (a .0 .now) (a .1 .1 .0 .0) (a .1 .0 .0)
+μ-arrive κs a = 3 * hopsLeft (a .0 .now) (a .1 .1 .0 .0) (a .1 .0 .0)
 
 abbrev μ-try-in-turn : Measures 2 try-in-turn-kinds.ps ℕ
-μ-try-in-turn κs a = 3 * reach (a .0 .now) (a .1 .1 .0 .0) (a .1 .0 .0) (a .1 .1 .1 .1 .0) + 1
+μ-try-in-turn κs a = 3 * farthestAfter (a .0 .now) (a .1 .1 .0 .0) (a .1 .0 .0) (a .1 .1 .1 .1 .0) + 1
 
 abbrev μ-try-ports : Measures 2 try-ports-kinds.ps ℕ
-μ-try-ports κs a = 3 * reach (a .0 .now) (a .1 .1 .0 .0) (a .1 .0 .0) (a .1 .1 .1 .1 .0) + 2
+μ-try-ports κs a = 3 * farthestAfter (a .0 .now) (a .1 .1 .0 .0) (a .1 .0 .0) (a .1 .1 .1 .1 .0) + 2
 
 abbrev arrive-at : ℕ → In 2 arrive-kinds.ps
 arrive-at t = and 2 arrive-kinds.ps (is 2 arrive-kinds.ps μ-arrive t) arrive.Pre

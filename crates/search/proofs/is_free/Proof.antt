@@ -1,8 +1,7 @@
 -- `search::is_free` meets its contract: the link is enabled, and nobody holds it.
 -- Assumes nothing.
-use mathlib.Core.Path.{refl}
 use Rattle.table.specs.View.{view}
-use Rattle.search.proofs.Settle.{free-on}
+use Rattle.search.proofs.PassAnswer.{free-on}
 use borrow.Author.Needs.{needs}
 use Rattle.search.proofs.is_free.Statement.{statement}
 use Rattle.search.proofs.is_free.Tie as tie
@@ -14,7 +13,7 @@ returns : tie.Need-returns
 returns c =
     let o = c .before in
     let s = o .before .before in
-    unfold view in free-on (view (s .args .t .now)) (s .args .n .0) (s .args .p .0) (view (s .args .t .now) .enabled (s .args .n .0) (s .args .p .0)) (o .owner .result .0) refl (s .pre .1) (o .owner .ensures)
+    unfold view in free-on (view (s .args .t .now)) (s .args .n .0) (s .args .p .0) (s .pre .1) (o .owner .ensures)
 
 pub is-free-spec : {M : Type 1} → statement M
 is-free-spec = tie.close (tie.spec owner-requires returns)

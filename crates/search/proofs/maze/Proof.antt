@@ -2,7 +2,7 @@
 -- Assumes nothing.
 use mathlib.Core.Path.{_∙_}
 use lib.Dec.{lit<}
-use Rattle.search.proofs.Turns.{byte-vector, narrow-may}
+use Rattle.search.proofs.SearchContracts.{byte-vector, narrow-may}
 use Rattle.search.proofs.Sends.{may-try, maze-channel, maze-taken, maze-rejected}
 use borrow.Author.Needs.{needs}
 use Rattle.search.proofs.maze.Statement.{statement}

@@ -1,6 +1,8 @@
 -- `search::send` meets its contract: the passes of its routing type.
 -- Assumes nothing.
-use Rattle.search.proofs.Sends.{send-alternate, send-maze}
+use mathlib.Core.Path.{_∙_, ap, sym}
+use Rattle.search.specs.SendAnswer.{sends}
+use Rattle.search.proofs.Sends.{send-maze}
 use borrow.Author.Needs.{needs}
 use Rattle.search.proofs.send.Statement.{statement}
 use Rattle.search.proofs.send.Tie as tie
@@ -21,7 +23,7 @@ returns : tie.Need-returns
 returns c =
     let g = c .before .before in
     let s = g .before .before .before .before .before .before in
-    send-alternate (s .args .t .now) (s .args .source .0) (s .args .target .0) (s .args .c .0) (s .args .routing) (s .args .vector) (g .before .before .before .if1 .taken) (g .alternate-maze .ensures)
+    g .alternate-maze .ensures ∙ ap (λ y. sends (s .args .t .now) (s .args .source .0) (s .args .target .0) (s .args .c .0) y (s .args .vector)) (sym (g .before .before .before .if1 .taken))
 
 same-length-2 : tie.Need-same-length-2
 same-length-2 c = search needs
@@ -30,7 +32,7 @@ returns-2 : tie.Need-returns-2
 returns-2 c =
     let g = c .before .before in
     let s = g .before .before .before .before .before .before in
-    send-maze (s .args .t .now) (s .args .source .0) (s .args .target .0) (s .args .c .0) (s .args .routing) (s .args .vector) (g .before .before .before .if1 .left) (g .maze .ensures)
+    g .maze .ensures ∙ send-maze (s .args .t .now) (s .args .source .0) (s .args .target .0) (s .args .c .0) (s .args .routing) (s .args .vector) (g .before .before .before .if1 .left)
 
 pub send-spec : {M : Type 1} → statement M
 send-spec = tie.close (tie.spec first-ports-requires alternate-maze-requires maze-requires same-length returns same-length-2 returns-2)

@@ -1,19 +1,24 @@
 -- `listing::call::scouts_of` meets its contract.
 -- Assumes nothing.
+use Rattle.ownership.specs.Calls.{carriesScouts}
 use borrow.Author.Tests.{ne-eqb}
 use Rattle.listing.proofs.call.scouts_of.Statement.{statement}
 use Rattle.listing.proofs.call.scouts_of.Tie as tie
 
 returns : tie.Need-returns
+unfolding carriesScouts
 returns c = λ w. rw (c .if1 .taken)
 
 returns-2 : tie.Need-returns-2
+unfolding carriesScouts
 returns-2 c = λ w. rw (c .if2 .taken)
 
 returns-3 : tie.Need-returns-3
+unfolding carriesScouts
 returns-3 c = λ w. rw (c .if3 .taken)
 
 returns-4 : tie.Need-returns-4
+unfolding carriesScouts
 returns-4 c = λ w. rw (ne-eqb _ 0 (c .before .before .if1 .left), ne-eqb _ 10 (c .before .if2 .left), ne-eqb _ 11 (c .if3 .left))
 
 pub scouts-of-spec : {M : Type 1} → statement M

@@ -13,13 +13,13 @@ use Rattle.listing.specs.Listing.{rows}
 use Rattle.listing.proofs.Remaining.{line-fits, left-bytes, left-place, left-none}
 use Rattle.listing.proofs.whole.rows.Statement.{statement}
 use Rattle.listing.proofs.whole.rows.Tie as tie
-use Rattle.ownership.specs.OnTable.{called}
+use Rattle.ownership.specs.OnTable.{tableStep}
 
 abbrev Inv-loop : tie.InvT-loop
 Inv-loop input t₀ out₀ at place₀ from₀ line₀ t out place from line =
     (from ≤ length input + 1) × (line ≤ from + 1) × (length t ≡ length t₀) × (length out ≡ length out₀)
-    × (sets out place (rowsText (rows called t line (lines (drop from input)))) ≡ sets out₀ at (rowsText (rows called t₀ 1 (lines input))))
-    × (place + length (rowsText (rows called t line (lines (drop from input)))) ≡ at + length (rowsText (rows called t₀ 1 (lines input))))
+    × (sets out place (rowsText (rows tableStep t line (lines (drop from input)))) ≡ sets out₀ at (rowsText (rows tableStep t₀ 1 (lines input))))
+    × (place + length (rowsText (rows tableStep t line (lines (drop from input)))) ≡ at + length (rowsText (rows tableStep t₀ 1 (lines input))))
 
 abbrev μ-loop : tie.MeasureT-loop
 μ-loop input t₀ out₀ at place₀ from₀ line₀ t out place from line = length input + 1 - from

@@ -1,7 +1,7 @@
 -- `router::calls::block` meets its contract: its tests, then the enable bit.
 -- Assumes nothing.
 use Rattle.router.proofs.Stopping.{block-passed, link-within}
-use Rattle.router.proofs.Called.{call-blocks, block-refused}
+use Rattle.router.proofs.TableStep.{call-blocks, call-stopped}
 use native.Mathlib.Omega.{arith}
 use borrow.Author.Needs.{needs}
 use Rattle.router.proofs.calls.block.Statement.{statement}
@@ -14,7 +14,7 @@ same-length : tie.Need-same-length
 same-length c = search needs
 
 returns : tie.Need-returns
-returns c = block-refused _ _ _ (c .before .block .ensures) (c .if1 .taken)
+returns c = call-stopped _ _ (c .before .block .ensures) (c .if1 .taken)
 
 disable-requires : tie.Need-disable-requires
 disable-requires c κs = link-within (block-passed (c .before .before .block .ensures) (c .before .if1 .left))

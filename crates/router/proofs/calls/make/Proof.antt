@@ -1,6 +1,6 @@
 -- `router::calls::make` meets its contract: the tests of a making, then the made bytes.
 -- Assumes nothing.
-use Rattle.router.proofs.Called.{dimension-zero, dimension-large, dimension-is, make-length, make-dimension, make-made}
+use Rattle.router.proofs.TableStep.{dimension-zero, dimension-large, dimension-is, make-length, make-dimension, make-made}
 use native.Mathlib.Omega.{arith}
 use borrow.Author.Needs.{needs}
 use Rattle.router.proofs.calls.make.Statement.{statement}

@@ -2,7 +2,7 @@
 -- Assumes nothing.
 use native.Mathlib.Omega.{arith}
 use Rattle.router.proofs.Stopping.{open-passed, small-source, node-room}
-use Rattle.router.proofs.Called.{open-refused, call-opens}
+use Rattle.router.proofs.TableStep.{call-stopped, call-opens}
 use borrow.Author.Needs.{needs}
 use Rattle.router.proofs.calls.open.Statement.{statement}
 use Rattle.router.proofs.calls.open.Tie as tie
@@ -14,7 +14,7 @@ same-length : tie.Need-same-length
 same-length c = search needs
 
 returns : tie.Need-returns
-returns c = open-refused _ _ _ _ _ _ (c .before .«open» .ensures) (c .if1 .taken)
+returns c = call-stopped _ _ (c .before .«open» .ensures) (c .if1 .taken)
 
 circuit-of-requires : tie.Need-circuit-of-requires
 circuit-of-requires c κs =

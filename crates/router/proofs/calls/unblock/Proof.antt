@@ -1,7 +1,7 @@
 -- `router::calls::unblock` meets its contract: its tests, then the enable bit.
 -- Assumes nothing.
 use Rattle.router.proofs.Stopping.{link-passed, link-within}
-use Rattle.router.proofs.Called.{call-unblocks, unblock-refused}
+use Rattle.router.proofs.TableStep.{call-unblocks, call-stopped}
 use native.Mathlib.Omega.{arith}
 use borrow.Author.Needs.{needs}
 use Rattle.router.proofs.calls.unblock.Statement.{statement}
@@ -14,7 +14,7 @@ same-length : tie.Need-same-length
 same-length c = search needs
 
 returns : tie.Need-returns
-returns c = unblock-refused _ _ _ (c .before .unblock .ensures) (c .if1 .taken)
+returns c = call-stopped _ _ (c .before .unblock .ensures) (c .if1 .taken)
 
 enable-requires : tie.Need-enable-requires
 enable-requires c κs = link-within (link-passed (c .before .before .unblock .ensures) (c .before .if1 .left))

@@ -3,9 +3,8 @@
 use mathlib.Core.Path.{refl, _∙_}
 use Prim.Native.Nat.{_-_}
 use native.Mathlib.Omega.{arith}
-use Rattle.table.specs.View.{view}
-use Rattle.soundness.specs.Sound.{shapeOf, net}
-use Rattle.router.proofs.Releasing.{Freeing, freeing-start, freeing-on, freed-end, freed-bytes-are}
+use Rattle.table.specs.View.{view, shapeOf, net}
+use Rattle.router.proofs.Releasing.{Freeing, without-start, without-on, freed-end, freed-bytes-are}
 use Rattle.router.proofs.release.free_links.Statement.{statement}
 use Rattle.router.proofs.release.free_links.Tie as tie
 
@@ -16,7 +15,7 @@ abbrev μ-loop : tie.MeasureT-loop
 μ-loop t₀ ports hops at₀ i₀ t at i = hops - i
 
 loop-holds : tie.Need-loop-holds Inv-loop μ-loop
-loop-holds c = let s = c .before .before in freeing-start (shapeOf (view (s .args .t .now))) (s .pre .node)
+loop-holds c = let s = c .before .before in without-start (shapeOf (view (s .args .t .now))) (s .pre .node)
 
 cast-hop : tie.Need-cast-hop Inv-loop μ-loop
 cast-hop c = omega arith
@@ -59,7 +58,7 @@ loop-again c =
     let i = o .before .before .before in
     let l = i .before in
     let s = l .before .before .before in
-    freeing-on (shapeOf (view (s .args .t .now))) (l .loop .inv) (i .loop-test .taken) (s .pre .room) refl
+    without-on (shapeOf (view (s .args .t .now))) (l .loop .inv) (i .loop-test .taken) (s .pre .room) refl
     (s .pre .below (l .loop .i) (i .loop-test .taken)) (o .set-owner .ensures) (c .neighbour .ensures)
 
 same-length : tie.Need-same-length Inv-loop μ-loop

@@ -3,7 +3,7 @@
 use Prim.Native.Nat.{_-_, _*_, _≤_}
 use native.Mathlib.Omega.{arith}
 use Rattle.table.specs.View.{view}
-use Rattle.soundness.specs.SoundTest.{LinksPass}
+use Rattle.soundness.specs.TestContracts.{LinksPass}
 use Rattle.soundness.proofs.Passing.{no-links, more-links, links-all, links-fail}
 use Rattle.soundness.proofs.sound.all_links.Statement.{statement}
 use Rattle.soundness.proofs.sound.all_links.Tie as tie

@@ -5,13 +5,13 @@ use Prim.Native.Nat.{_-_, _*_, _≤_}
 use native.Mathlib.Omega.{arith}
 use lib.ListN.{length}
 use Rattle.table.specs.View.{view}
-use Rattle.soundness.specs.SoundTest.{Received}
+use Rattle.soundness.specs.TestContracts.{ReceivesTested}
 use Rattle.soundness.proofs.Marks.{more-nodes, received-none, received-all, received-no}
 use Rattle.soundness.proofs.sound.all_receives.Statement.{statement}
 use Rattle.soundness.proofs.sound.all_receives.Tie as tie
 
 abbrev Inv-loop : tie.InvT-loop
-Inv-loop t dimension marks₀ i₀ marks i = (i ≤ 16) × (length marks ≡ 256) × Received (view t) 0 (16 * i) 0 8 marks₀ marks
+Inv-loop t dimension marks₀ i₀ marks i = (i ≤ 16) × (length marks ≡ 256) × ReceivesTested (view t) 0 (16 * i) 0 8 marks₀ marks
 
 abbrev μ-loop : tie.MeasureT-loop
 μ-loop t dimension marks₀ i₀ marks i = 16 - i

@@ -2,7 +2,7 @@
 -- Assumes nothing.
 use borrow.Author.Needs.{needs}
 use borrow.Author.Tests.{lt-ltb, le-ltb}
-use Rattle.table.specs.Layout.{enableLimit}
+use Rattle.table.specs.LayoutContracts.{enableLimit}
 use Rattle.soundness.proofs.sound.enable_limit.Statement.{statement}
 use Rattle.soundness.proofs.sound.enable_limit.Tie as tie
 

@@ -7,7 +7,7 @@ use lib.Dec.{lit<}
 use lib.ListN.{length}
 use Rattle.cube.proofs.Axes.{next-inside}
 use Rattle.table.specs.View.{view}
-use Rattle.soundness.proofs.Marks.{marking-length}
+use Rattle.soundness.proofs.Marks.{with-mark-length}
 use Rattle.soundness.proofs.Examine.{looked-large, looked-none, looked-here, looked-elsewhere}
 use borrow.Author.Needs.{needs}
 use Rattle.soundness.proofs.sound.ends_at.Statement.{statement}
@@ -64,7 +64,7 @@ follow-requires c κs =
     let small : g .source-of .result .0 < 256 = omega (arith, m .node-count .ensures .most, g .source-of .ensures, s .pre .0, g .before .if1 .left) in (
       omega (arith, m .node-count .ensures .most),
       record { bytes = s .pre .1 .bytes; node = rw (n .neighbour .ensures) (next-inside 8 (g .source-of .result .0) (h .leaves-by .result .0) (omega arith) small (e .if2 .left)); port = lit< tt },
-      ap length (f .mark .ensures) ∙ marking-length (s .args .marks .now) _ _ ∙ s .pre .2,
+      ap length (f .mark .ensures) ∙ with-mark-length (s .args .marks .now) _ _ ∙ s .pre .2,
     )
 
 channels-held-requires : tie.Need-channels-held-requires

@@ -6,13 +6,13 @@ use native.Mathlib.Omega.{arith}
 use native.Mathlib.Nat.{not-suc-le-zero}
 use lib.ListN.{length}
 use Rattle.table.specs.View.{view}
-use Rattle.soundness.specs.SoundTest.{Received}
+use Rattle.soundness.specs.TestContracts.{ReceivesTested}
 use Rattle.soundness.proofs.Marks.{more-channels, received-none, received-all, received-no}
 use Rattle.soundness.proofs.sound.receives_sound.Statement.{statement}
 use Rattle.soundness.proofs.sound.receives_sound.Tie as tie
 
 abbrev Inv-loop : tie.InvT-loop
-Inv-loop t dimension n marks₀ k₀ marks k = (k ≤ 8) × (length marks ≡ 256) × Received (view t) (n .0) (n .0 + 1) 0 k marks₀ marks
+Inv-loop t dimension n marks₀ k₀ marks k = (k ≤ 8) × (length marks ≡ 256) × ReceivesTested (view t) (n .0) (n .0 + 1) 0 k marks₀ marks
 
 abbrev μ-loop : tie.MeasureT-loop
 μ-loop t dimension n marks₀ k₀ marks k = 8 - k

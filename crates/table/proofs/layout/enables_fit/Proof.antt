@@ -1,10 +1,10 @@
--- `table::layout::enables_fit` meets its contract: no byte of either run is above what was gathered of it.
+-- `table::layout::enables_fit` meets its contract: no byte of either run is above what was or-bytes of it.
 -- Assumes nothing.
 use mathlib.Core.Bool.{false≢true}
 use native.Mathlib.Omega.{arith}
 use borrow.Author.Needs.{needs}
 use borrow.Author.Tests.{eqb-true}
-use Rattle.table.proofs.Gathered.{enables-fit}
+use Rattle.table.proofs.NoneAbove.{enables-fit}
 use Rattle.table.proofs.layout.enables_fit.Statement.{statement}
 use Rattle.table.proofs.layout.enables_fit.Tie as tie
 
@@ -14,20 +14,20 @@ node-count-requires c κs = search needs
 cast-count : tie.Need-cast-count
 cast-count c = search needs
 
-gathered-requires : tie.Need-gathered-requires
-gathered-requires c κs = search needs
+or-bytes-requires : tie.Need-or-bytes-requires
+or-bytes-requires c κs = search needs
 
 wide-requires : tie.Need-wide-requires
 wide-requires c κs = search needs
 
-add-gathered : tie.Need-add-gathered
-add-gathered c = search needs
+add-or-bytes : tie.Need-add-or-bytes
+add-or-bytes c = search needs
 
-sub-gathered : tie.Need-sub-gathered
-sub-gathered c = search needs
+sub-or-bytes : tie.Need-sub-or-bytes
+sub-or-bytes c = search needs
 
-gathered-requires-2 : tie.Need-gathered-requires-2
-gathered-requires-2 c κs = search needs
+or-bytes-requires-2 : tie.Need-or-bytes-requires-2
+or-bytes-requires-2 c κs = search needs
 
 returns : tie.Need-returns
 returns c e =
@@ -36,7 +36,7 @@ returns c e =
     let g = w .before in
     let n = g .before in
     let s = n .before .before in
-    enables-fit (s .args .t .now) (s .args .dimension) (n .node-count .result) (g .gathered .result) (c .gathered2 .result) (n .node-count .ensures .value) (g .gathered .ensures) (omega (arith, w .wide .ensures .0, t .if1 .taken)) (c .gathered2 .ensures) (eqb-true _ 0 e)
+    enables-fit (s .args .t .now) (s .args .dimension) (n .node-count .result) (g .or-bytes .result) (c .or-bytes2 .result) (n .node-count .ensures .value) (g .or-bytes .ensures) (omega (arith, w .wide .ensures .0, t .if1 .taken)) (c .or-bytes2 .ensures) (eqb-true _ 0 e)
 
 returns-2 : tie.Need-returns-2
 returns-2 c e = absurd (false≢true e)
@@ -47,10 +47,10 @@ enables-fit-spec =
     (tie.spec
     node-count-requires
     cast-count
-    gathered-requires
+    or-bytes-requires
     wide-requires
-    add-gathered
-    sub-gathered
-    gathered-requires-2
+    add-or-bytes
+    sub-or-bytes
+    or-bytes-requires-2
     returns
     returns-2)

@@ -1,4 +1,4 @@
--- `table::layout::links_clear` meets its contract: the bytes of the rows are 0 where what was gathered of them is.
+-- `table::layout::links_clear` meets its contract: the bytes of the rows are 0 where what was or-bytes of them is.
 -- Assumes nothing.
 use mathlib.Core.Path.{_≡_, subst}
 use Prim.Native.Nat.{ℕ, _+_, _*_}
@@ -7,18 +7,18 @@ use borrow.Author.Needs.{needs}
 use borrow.Author.Tests.{eqb-true}
 use Rattle.table.specs.Layout.{linkPart, ownerAt}
 use Rattle.table.proofs.Entries.{rows-zero}
-use Rattle.table.proofs.Gathered.{gathered-zero}
+use Rattle.table.proofs.NoneAbove.{or-bytes-zero}
 use Rattle.table.proofs.layout.links_clear.Statement.{statement}
 use Rattle.table.proofs.layout.links_clear.Tie as tie
 
 link-place-requires : tie.Need-link-place-requires
 link-place-requires c κs = search needs
 
-mul-gathered : tie.Need-mul-gathered
-mul-gathered c = search needs
+mul-or-bytes : tie.Need-mul-or-bytes
+mul-or-bytes c = search needs
 
-gathered-requires : tie.Need-gathered-requires
-gathered-requires c κs = search needs
+or-bytes-requires : tie.Need-or-bytes-requires
+or-bytes-requires c κs = search needs
 
 returns : tie.Need-returns
 unfolding ownerAt
@@ -27,13 +27,13 @@ returns c e =
     let s = l .before .before in
     let b = s .args .t .now in
     rows-zero b linkPart (s .args .n .0) (s .args .nodes)
-    (λ i h. subst (λ (x : ℕ). getD b (x + i) 0 ≡ 0) (l .link-place .ensures .0) (gathered-zero b (l .link-place .result) (16 * s .args .nodes) (c .gathered .result) (c .gathered .ensures) (eqb-true _ 0 e) i h))
+    (λ i h. subst (λ (x : ℕ). getD b (x + i) 0 ≡ 0) (l .link-place .ensures .0) (or-bytes-zero b (l .link-place .result) (16 * s .args .nodes) (c .or-bytes .result) (c .or-bytes .ensures) (eqb-true _ 0 e) i h))
 
 pub links-clear-spec : {M : Type 1} → statement M
 links-clear-spec =
     tie.close
     (tie.spec
     link-place-requires
-    mul-gathered
-    gathered-requires
+    mul-or-bytes
+    or-bytes-requires
     returns)

@@ -9,8 +9,9 @@ use lib.Dec.{eqb}
 use lib.ListN.{length}
 use borrow.Author.Tests.{eq-eqb, ne-eqb}
 use Rattle.common.specs.Lists.{keep, from}
-use Rattle.common.proofs.Lists.{count-none, count-yes, count-no}
-use Rattle.table.specs.Layout.{wordAt, rowCount}
+use Rattle.common.proofs.From.{count-none, count-yes, count-no}
+use Rattle.table.specs.Layout.{wordAt}
+use Rattle.table.specs.LayoutContracts.{rowCount}
 use Rattle.table.proofs.layout.row_count.Statement.{statement}
 use Rattle.table.proofs.layout.row_count.Tie as tie
 

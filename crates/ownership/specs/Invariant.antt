@@ -1,0 +1,42 @@
+-- What always holds of a history that begins with an accepted making, and when a table's bytes represent a history.
+-- Assumes nothing.
+use mathlib.Core.Path.{_≡_}
+use mathlib.Core.Bool.{true}
+use mathlib.Core.List.{List}
+use Prim.Native.Nat.{ℕ, _^_, _≤_, _<_}
+use Rattle.common.specs.Lists.{_∈_, Pairwise}
+use Rattle.paths.specs.CubeNetwork.{ports}
+use Rattle.paths.specs.Network.{Network, Link}
+use Rattle.paths.specs.Permitted.{Permitted}
+use Rattle.table.specs.View.{view}
+use Rattle.table.specs.Encode.{Bytes}
+use Rattle.ownership.specs.History.{Circuit, History, shapeOn, netOn, linksOf, enabledOn}
+use Rattle.ownership.specs.HistoryView.{viewOf}
+
+-- What holds of each listed circuit: it is a send channel's of the cube, its path is permitted and ends on its target, and its links are not blocked.
+pub record CircuitValid (h : History) (x : Circuit) : Type 0 where
+  pub source : x .source < 2 ^ h .dimension
+  pub channel : x .channel < 8
+  pub permitted : Permitted (netOn h) (x .source) (ports (shapeOn h)) (x .target) (x .ports)
+  pub enabled : (l : Link) → l ∈ linksOf (netOn h) x → enabledOn h (l .0) (l .1) ≡ true
+  pub receive : x .receive < 8
+
+-- two circuits have no link, no receive channel and no send channel in common
+pub record Disjoint (N : Network) (x y : Circuit) : Type 0 where
+  pub send : x .source ≡ y .source → x .channel ≡ y .channel → ⊥
+  pub link : (l : Link) → l ∈ linksOf N x → l ∈ linksOf N y → ⊥
+  pub receives : x .target ≡ y .target → x .receive ≡ y .receive → ⊥
+
+-- what always holds of a history that begins with an accepted making
+pub record Valid (h : History) : Type 0 where
+  pub least : 1 ≤ h .dimension
+  pub most : h .dimension ≤ 8
+  pub blocked : (l : Link) → l ∈ h .blocked → (l .0 < 2 ^ h .dimension) × (l .1 < h .dimension)
+  pub stands : (x : Circuit) → x ∈ h .circuits → CircuitValid h x
+  pub apart : Pairwise (Disjoint (netOn h)) (h .circuits)
+
+-- These bytes represent this history. A list of calls can go on from any such table, however it came to do so.
+pub record Represents (b : List ℕ) (h : History) : Type 0 where
+  pub bytes : Bytes b
+  pub shows : view b ≡ viewOf h
+  pub valid : Valid h

@@ -1,0 +1,189 @@
+// Which test stops a call: the refusal of the first that applies, 0 where none does. First the tests, each a function that says whether it applies, and
+// then a function for each call, with its tests in the order of its list.
+ghost use mathlib.Core.Path.{_≡_};
+ghost use mathlib.Core.Bool.{false};
+ghost use Rattle.common.specs.Tests.{refusal};
+ghost use Rattle.table.specs.View.{view, heldIn};
+ghost use Rattle.soundness.specs.SoundTest.{tableTests};
+ghost use Rattle.ownership.specs.Calls.{blocking, unblocking, opening, closing, tracing, absent, nodes, channel, port, routingType, sendVector, shortBuffer};
+ghost use Rattle.ownership.specs.OnTable.{openIn, factsOf, stoppedAt};
+use common::refusal;
+use cube::Node;
+use cube::Port;
+
+// The tests. One that reads the table asks that the table passed its own tests, and where it reads an entry, that the entry is there.
+fn is_absent(t: &[u8], n: Node) -> bool
+    requires { ⌜ refusal (tableTests (now t)) ≡ 0 ⌝ }
+    ensures { λ r. ⌜ r ≡ absent (factsOf (view (now (t .entry)))) (n .0) ⌝ }
+{
+    !(n.0 < cube::node_count(table::dimension(t)))
+}
+
+fn one_is_absent(t: &[u8], source: Node, target: Node) -> bool
+    requires { ⌜ refusal (tableTests (now t)) ≡ 0 ⌝ }
+    ensures { λ r. ⌜ r ≡ nodes (factsOf (view (now (t .entry)))) (source .0) (target .0) .when ⌝ }
+{
+    if is_absent(t, source) {
+        return true;
+    }
+    is_absent(t, target)
+}
+
+fn no_channel(c: u16) -> bool
+    ensures { λ r. ⌜ r ≡ channel c .when ⌝ }
+{
+    c > 7
+}
+
+fn no_port(t: &[u8], p: Port) -> bool
+    requires { ⌜ refusal (tableTests (now t)) ≡ 0 ⌝ }
+    ensures { λ r. ⌜ r ≡ port (factsOf (view (now (t .entry)))) (p .0) .when ⌝ }
+{
+    !(p.0 < table::dimension(t))
+}
+
+fn no_type(routing: u16) -> bool
+    ensures { λ r. ⌜ r ≡ routingType routing .when ⌝ }
+{
+    if routing == 0 {
+        return false;
+    }
+    routing != 4
+}
+
+fn no_vector(t: &[u8], vector: u16) -> bool
+    requires { ⌜ refusal (tableTests (now t)) ≡ 0 ⌝ }
+    ensures { λ r. ⌜ r ≡ sendVector (factsOf (view (now (t .entry)))) vector .when ⌝ }
+{
+    if vector == 0 {
+        return true;
+    }
+    !(vector < cube::node_count(table::dimension(t)))
+}
+
+// Whether a send channel of a node has an open circuit.
+fn has_circuit(t: &[u8], s: Node, c: u16) -> bool
+    requires { ⌜ refusal (tableTests (now t)) ≡ 0 ⌝ }
+    requires { ⌜ absent (factsOf (view (now t))) (s .0) ≡ false ⌝ }
+    requires { ⌜ channel c .when ≡ false ⌝ }
+    ensures { λ r. ⌜ r ≡ openIn (view (now (t .entry))) (s .0) c ⌝ }
+{
+    soundness::is_open(t, cube::circuit_of(s, c))
+}
+
+fn is_held(t: &[u8], n: Node, p: Port) -> bool
+    requires { ⌜ refusal (tableTests (now t)) ≡ 0 ⌝ }
+    requires { ⌜ absent (factsOf (view (now t))) (n .0) ≡ false ⌝ }
+    requires { ⌜ port (factsOf (view (now t))) (p .0) .when ≡ false ⌝ }
+    ensures { λ r. ⌜ r ≡ heldIn (view (now (t .entry))) (n .0) (p .0) ⌝ }
+{
+    table::owner(t, n, p).0 != 0
+}
+
+fn is_short(buffer: &[u8]) -> bool
+    ensures { λ r. ⌜ r ≡ shortBuffer (now (buffer .entry)) .when ⌝ }
+{
+    buffer.len() < 9
+}
+
+// The calls.
+pub fn block(t: &[u8], node: Node, port: Port) -> u16
+    ensures { λ r. ⌜ r ≡ stoppedAt (now (t .entry)) (blocking (node .0) (port .0)) ⌝ }
+{
+    let refused = soundness::check(t);
+    if refused != refusal::ACCEPTED {
+        return refused;
+    }
+    if is_absent(t, node) {
+        return refusal::NODE;
+    }
+    if no_port(t, port) {
+        return refusal::PORT;
+    }
+    if is_held(t, node, port) {
+        return refusal::LINK_HELD;
+    }
+    refusal::ACCEPTED
+}
+
+pub fn unblock(t: &[u8], node: Node, port: Port) -> u16
+    ensures { λ r. ⌜ r ≡ stoppedAt (now (t .entry)) (unblocking (node .0) (port .0)) ⌝ }
+{
+    let refused = soundness::check(t);
+    if refused != refusal::ACCEPTED {
+        return refused;
+    }
+    if is_absent(t, node) {
+        return refusal::NODE;
+    }
+    if no_port(t, port) {
+        return refusal::PORT;
+    }
+    refusal::ACCEPTED
+}
+
+pub fn open(t: &[u8], source: Node, channel: u16, target: Node, routing: u16, vector: u16) -> u16
+    ensures { λ r. ⌜ r ≡ stoppedAt (now (t .entry)) (opening (source .0) channel (target .0) routing vector) ⌝ }
+{
+    let refused = soundness::check(t);
+    if refused != refusal::ACCEPTED {
+        return refused;
+    }
+    if one_is_absent(t, source, target) {
+        return refusal::NODE;
+    }
+    if no_channel(channel) {
+        return refusal::CHANNEL;
+    }
+    if no_type(routing) {
+        return refusal::ROUTING_TYPE;
+    }
+    if no_vector(t, vector) {
+        return refusal::SEND_VECTOR;
+    }
+    if has_circuit(t, source, channel) {
+        return refusal::CHANNEL_IN_USE;
+    }
+    refusal::ACCEPTED
+}
+
+pub fn close(t: &[u8], source: Node, channel: u16) -> u16
+    ensures { λ r. ⌜ r ≡ stoppedAt (now (t .entry)) (closing (source .0) channel) ⌝ }
+{
+    let refused = soundness::check(t);
+    if refused != refusal::ACCEPTED {
+        return refused;
+    }
+    if is_absent(t, source) {
+        return refusal::NODE;
+    }
+    if no_channel(channel) {
+        return refusal::CHANNEL;
+    }
+    if !has_circuit(t, source, channel) {
+        return refusal::NO_CIRCUIT; // nothing to close
+    }
+    refusal::ACCEPTED
+}
+
+pub fn trace(t: &[u8], source: Node, channel: u16, buffer: &[u8]) -> u16
+    ensures { λ r. ⌜ r ≡ stoppedAt (now (t .entry)) (tracing (source .0) channel (now (buffer .entry))) ⌝ }
+{
+    let refused = soundness::check(t);
+    if refused != refusal::ACCEPTED {
+        return refused;
+    }
+    if is_absent(t, source) {
+        return refusal::NODE;
+    }
+    if no_channel(channel) {
+        return refusal::CHANNEL;
+    }
+    if !has_circuit(t, source, channel) {
+        return refusal::NO_CIRCUIT;
+    }
+    if is_short(buffer) {
+        return refusal::BUFFER_SHORT;
+    }
+    refusal::ACCEPTED
+}

@@ -1,0 +1,350 @@
+-- The turns of the search as the code makes them: what each asks of the next, and what it makes of the answer.
+-- Assumes nothing.
+use mathlib.Core.Path.{_≡_, refl, ap, ap₂, sym, _∙_}
+use mathlib.Core.Logic.{⊎-elim, _≢_}
+use mathlib.Core.Bool.{Bool, true, false, cond}
+use mathlib.Core.List.{List, [], _∷_, List·Memᴰ·head, List·Memᴰ·tail, List·Memᴰ·not-nil, List·Memᴰ·cases-cons}
+use Prim.Native.Nat.{ℕ, zero, suc, _+_, _-_, _*_, _/_, _%_, _^_, _≤_, _<_}
+use native.Mathlib.Omega.{arith}
+use native.Mathlib.Numerals.{add-one}
+use native.Mathlib.Nat.{le-trans, le-refl, mul-le-mul, lt-of-lt-of-le}
+use lib.Dec.{leb, ltb}
+use lib.ListN.{length, set, length-set}
+use lib.Pow.{pow-mono}
+use lib.Bits.{xor-lt}
+use borrow.Author.Tests.{leb-true, leb-false, ltb-true, ltb-false}
+use Rattle.common.specs.Lists.{_∈_}
+use Rattle.common.proofs.Tests.{clash}
+use Rattle.cube.specs.Bits.{has}
+use Rattle.cube.specs.Cube.{next, UphillVector, Without}
+use Rattle.cube.proofs.Bits.{high-has}
+use Rattle.cube.specs.Helical.{helical, portsOf, firstPort, FirstTried}
+use Rattle.cube.proofs.Order.{first-tried, mem-ports, ports-mem, length-helical, helical-mem, mem-helical, helical-zero}
+use Rattle.cube.proofs.Axes.{next-inside}
+use Rattle.paths.specs.Network.{Network, offered}
+use Rattle.paths.specs.CubeNetwork.{network}
+use Rattle.paths.specs.Search.{trying, arriving}
+use Rattle.paths.specs.Pass.{PassResult, found, scouts}
+use Rattle.paths.proofs.CubeNetwork.{cube-nearing, one-link, cube-cubical, cube-leading, unfolded-vector}
+use Rattle.paths.specs.Bound.{waysFrom}
+use Rattle.paths.proofs.Bound.{arriving-sends, ways-more}
+use Rattle.table.specs.Layout.{dimensionAt, putOwner, putEntry, entryPlace, linkPart}
+use Rattle.table.specs.LayoutContracts.{Within}
+use Rattle.table.specs.View.{view, setOwner, receive, lowestChannel, net, shapeOf}
+use Rattle.table.proofs.Views.{view-put-owner}
+use Rattle.search.specs.PassAnswer.{freeIn, PassAnswer, pass-answer, answerOfPass, arrivalAfter}
+use Rattle.search.specs.SearchContracts.{farthest, hopsLeft, farthestAfter, tryAnswer, arriveAnswer, Narrowed, Enabled, SearchPre, MayTry, MayArrive}
+use Rattle.search.proofs.PassAnswer.{at-target, arrives, target-receives, target-full, behind, receive-same, given-back, free-owner, port-busy, port-acknowledged, port-receive-rejected, port-route-rejected, three-answers, answer-scouts, ports-over}
+use Rattle.search.proofs.Narrow.{narrow-fewer, narrow-mem, narrow-tries}
+
+-- neither of two numbers is above the larger
+larger : (a b : ℕ) → (a ≤ cond (leb a b) b a) × (b ≤ cond (leb a b) b a)
+larger a b = go (leb a b) refl
+  where
+    go : (x : Bool) → leb a b ≡ x → (a ≤ cond x b a) × (b ≤ cond x b a)
+    go true e = (leb-true a b e, le-refl b)
+    go false e = (le-refl a, omega (arith, leb-false a b e))
+
+-- every node behind a port of the list is within the farthest
+pub farthest-mem : (N : Network) (t n : ℕ) (ps : List ℕ) (p : ℕ) → p ∈ ps → N .distance t (N .next n p) ≤ farthest N t n ps
+unfolding farthest
+farthest-mem N t n [] p m = absurd (List·Memᴰ·not-nil m)
+farthest-mem N t n (q ∷ ps) p m =
+    let most = larger (farthest N t n ps) (N .distance t (N .next n q)) in
+    ⊎-elim (λ e. rw e (most .1)) (λ k. le-trans (farthest-mem N t n ps p k) (most .0)) (List·Memᴰ·cases-cons m)
+
+pub farthest-most : (N : Network) (t n m : ℕ) (ps : List ℕ) → ((p : ℕ) → p ∈ ps → N .distance t (N .next n p) ≤ m) → farthest N t n ps ≤ m
+unfolding farthest
+farthest-most N t n m [] h = omega arith
+farthest-most N t n m (q ∷ ps) h = go (leb (farthest N t n ps) (N .distance t (N .next n q))) (farthest-most N t n m ps (λ p k. h p (List·Memᴰ·tail k)))
+  where
+    go : (x : Bool) → farthest N t n ps ≤ m → cond x (N .distance t (N .next n q)) (farthest N t n ps) ≤ m
+    go true k = h q (List·Memᴰ·head refl)
+    go false k = k
+
+-- the ports of a node that is k hops away, each with the ways on from one hop nearer
+one-further : (m j k : ℕ) → suc j ≤ k → m ≤ 1 * k → m * (1 + waysFrom 1 j) ≤ waysFrom 1 k
+unfolding waysFrom
+one-further m j zero h l = absurd (omega arith)
+one-further m j (suc k) h l = mul-le-mul l (let r = ways-more 1 j k (omega arith) in omega arith)
+
+-- a hop held: as many bytes, the same cube
+pub owner-length : (b : List ℕ) (n p c : ℕ) → length (putOwner b n p c) ≡ length b
+unfolding putOwner putEntry
+owner-length b n p c = length-set (set b (entryPlace linkPart n p) (c % 256)) (entryPlace linkPart n p + 1) (c / 256) ∙ length-set b (entryPlace linkPart n p) (c % 256)
+
+module _ (b : List ℕ) (n p c : ℕ) (w : Within b n p) (small : c < 65536) where
+  pub held-dimension : dimensionAt (putOwner b n p c) ≡ dimensionAt b
+  held-dimension = unfold view setOwner in ap (λ v. v .dimension) (view-put-owner b n p c w small)
+
+  pub held-net : net (view (putOwner b n p c)) ≡ net (view b)
+  held-net = ap (λ D. network record { dimension = D; fold = 0 }) (unfold view in held-dimension)
+
+-- an arrival on the table with the hop held, read on the table before it
+pub handed-on : (b : List ℕ) (t c n p h s : ℕ) → Within b n p → c < 65536 → c ≢ 0 → {b₁ : List ℕ} {n₁ : ℕ} → b₁ ≡ putOwner b n p c → n₁ ≡ next n p
+    → arriveAnswer b₁ t c n₁ p (h + 1) (s + 1) ≡ answerOfPass (putOwner b n p c) c (next n p) (h + 1) (receive (view b) t) (arrivalAfter (net (view b)) (freeIn (view b)) t n p (suc s))
+unfolding arriveAnswer hopsLeft arrivalAfter network
+handed-on b t c n p h s w small z e q =
+    let B = putOwner b n p c in
+    let m = next n p in
+    let near = cube-nearing (shapeOf (view b)) t in
+    rw (e, q)
+    (ap₂ (λ N r. answerOfPass B c m (h + 1) r (arriving (N .distance t m) N (freeIn (view B)) t m p (s + 1))) (held-net b n p c w small) (receive-same (net (view b)) t near b n p c w small z t)
+    ∙ ap (answerOfPass B c m (h + 1) (receive (view b) t))
+    (ap (arriving (net (view b) .distance t m) (net (view b)) (freeIn (view B)) t m p) (add-one s) ∙ behind (net (view b)) t near b n p c w small z (net (view b) .distance t m) (suc s)))
+
+-- a number of a cube of dimension 8 or less is a byte
+pub byte-vector : {D x : ℕ} → D ≤ 8 → x < 2 ^ D → x < 256
+byte-vector h l = lt-of-lt-of-le l (pow-mono h)
+
+-- the port tried first
+pub port-tried : (D v a p : ℕ) → D ≤ 8 → v < 2 ^ D → v ≢ 0 → p ≡ firstPort v a → FirstTried 8 v a p
+unfolding firstPort
+port-tried D v a p h l z e = rw e (first-tried 8 8 v a (byte-vector h l) z)
+
+pub low-port : (D v p : ℕ) → v < 2 ^ D → has v p ≡ true → p < D
+low-port D v p l e = go (ltb p D) refl
+  where
+    go : (x : Bool) → ltb p D ≡ x → p < D
+    go true f = ltb-true p D f
+    go false f = absurd (clash e (high-has D v p l (ltb-false p D f)))
+
+-- what holds at each turn of the trying of ports: the bytes are those at the start, the ports left are ports of the vector, there is room for
+-- the scouts still to be sent, and what is left to do gives the whole
+pub record Turn (b : List ℕ) (t c n vector a h s : ℕ) (now : List ℕ) (left sent : ℕ) : Type 0 where
+  pub same : now ≡ b
+  pub ports : left < 2 ^ dimensionAt b
+  pub sub : (p : ℕ) → p ∈ portsOf 8 left → p ∈ portsOf 8 vector
+  pub room : sent + length (portsOf 8 left) * (1 + waysFrom 1 (farthestAfter b t n vector)) < 2 ^ 32
+  pub rest : tryAnswer b t c n left a h sent ≡ tryAnswer b t c n vector a h s
+
+pub first-turn : {b : List ℕ} {t c n v a h s : ℕ} → MayTry b t c n v a h s → Turn b t c n v a h s b v s
+first-turn may = record { same = refl; ports = may .ports; sub = λ p m. m; room = may .room; rest = refl }
+
+-- the answer of a node once it has tried the ports of a list
+abbrev tried : List ℕ → ℕ → ℕ → ℕ → ℕ → List ℕ → ℕ → PassAnswer
+tried b t c n h ps s = answerOfPass b c n h (receive (view b) t) (trying (freeIn (view b) n) (arrivalAfter (net (view b)) (freeIn (view b)) t n) ps s)
+
+-- what a node trying its ports may do with the first of those left
+module _ {b now : List ℕ} {t c n a h v left p sent s : ℕ} (may : MayTry b t c n v a h s) (inv : Turn b t c n v a h s now left sent) (some : left ≢ 0) (first : p ≡ firstPort left a) where
+  pub here-tried : FirstTried 8 left a p
+  here-tried = port-tried (dimensionAt b) left a p (may .here .fits) (inv .ports) some first
+
+  here-port : p < dimensionAt b
+  here-port = low-port (dimensionAt b) left p (inv .ports) (here-tried .offered)
+
+  here-within : Within b n p
+  here-within = record { bytes = may .here .bytes; node = byte-vector (may .here .fits) (may .here .node); port = here-tried .small }
+
+  pub now-within : Within now n p
+  now-within = rw (inv .same) here-within
+
+  here-member : p ∈ portsOf 8 left
+  here-member = mem-ports 8 left p (here-tried .small) (here-tried .offered)
+
+  pub now-enabled : Enabled (view b) n v → view now .enabled n p ≡ true
+  now-enabled on = let m = ports-mem 8 v (inv .sub p here-member) in rw (inv .same) (on p (m .0) (m .1))
+
+  here-reach : hopsLeft b t (next n p) ≤ farthestAfter b t n v
+  unfolding hopsLeft farthestAfter network
+  here-reach = farthest-mem (net (view b)) t n (portsOf 8 v) p (inv .sub p here-member)
+
+  -- one port fewer
+  here-fewer : length (portsOf 8 left) ≡ suc (length (portsOf 8 (left - 2 ^ p)))
+  here-fewer = sym (length-helical a (portsOf 8 left)) ∙ ap length (here-tried .rest) ∙ ap suc (length-helical a (portsOf 8 (left - 2 ^ p)))
+
+  pub here-room : sent + (1 + waysFrom 1 (farthestAfter b t n v)) + length (portsOf 8 (left - 2 ^ p)) * (1 + waysFrom 1 (farthestAfter b t n v)) < 2 ^ 32
+  here-room = let e = rw here-fewer at (inv .room) in omega (arith, e)
+
+  now-held : {b₁ : List ℕ} → b₁ ≡ putOwner now n p c → b₁ ≡ putOwner b n p c
+  now-held held = held ∙ ap (λ x. putOwner x n p c) (inv .same)
+
+  -- the arrival behind that port, on the table with the hop held
+  module _ {b₁ : List ℕ} {n₁ : ℕ} (held : b₁ ≡ putOwner now n p c) (to : n₁ ≡ next n p) where
+    held-distance : hopsLeft b₁ t n₁ ≡ hopsLeft b t (next n p)
+    unfolding hopsLeft
+    held-distance = rw (now-held held, to) (ap (λ N. N .distance t (next n p)) (held-net b n p c here-within (may .here .small)))
+
+    held-here : SearchPre b₁ t c n₁ p
+    held-here =
+        let D : dimensionAt b₁ ≡ dimensionAt b = rw (now-held held) (held-dimension b n p c here-within (may .here .small)) in
+        record {
+          bytes = rw (now-held held) (owner-length b n p c ∙ may .here .bytes);
+          fits = rw D (may .here .fits);
+          node = rw (D, to) (next-inside (dimensionAt b) n p (may .here .fits) (may .here .node) here-port);
+          target = rw D (may .here .target);
+          port = here-tried .small;
+          circuit = may .here .circuit;
+          small = may .here .small;
+        }
+
+    pub here-arrives : MayArrive b₁ t c n₁ p (h + 1) (sent + 1)
+    here-arrives =
+        let distance = held-distance in
+        let less = here-reach in
+        let more = ways-more 1 (hopsLeft b t (next n p)) (farthestAfter b t n v) here-reach in
+        record { here = held-here; hops = rw distance (omega (arith, may .hops)); room = rw distance (omega (arith, here-room)) }
+
+    pub here-falls : hopsLeft b₁ t n₁ ≤ farthestAfter b t n v
+    here-falls = omega (arith, held-distance, here-reach)
+
+  -- the vector without that port
+  left-over : {r : ℕ} → Without left p r → r ≡ left - 2 ^ p
+  left-over less = omega (arith, less .value)
+
+  tail-ports : (q : ℕ) → q ∈ portsOf 8 (left - 2 ^ p) → q ∈ portsOf 8 v
+  tail-ports q m = inv .sub q (helical-mem a (portsOf 8 left) (rw (here-tried .rest) (List·Memᴰ·tail (mem-helical a (portsOf 8 (left - 2 ^ p)) m))))
+
+  abbrev others : List ℕ
+  others = helical a (portsOf 8 (left - 2 ^ p))
+
+  all-tries : tried b t c n h (p ∷ others) sent ≡ tryAnswer b t c n v a h s
+  unfolding tryAnswer
+  all-tries = ap (λ ps. tried b t c n h ps sent) (sym (here-tried .rest)) ∙ inv .rest
+
+  abbrev on : ℕ → ℕ → PassResult
+  on = arrivalAfter (net (view b)) (freeIn (view b)) t n
+
+  -- the link is not free: on with the other ports
+  pub turn-busy : freeIn (view now) n p ≡ false → {r : ℕ} → Without left p r → Turn b t c n v a h s now r sent
+  unfolding tryAnswer
+  turn-busy e less =
+      rw (left-over less)
+      record {
+        same = inv .same;
+        ports = (let l = inv .ports in omega arith);
+        sub = tail-ports;
+        room = omega (arith, here-room);
+        rest = port-busy (freeIn (view b) n) on b c n h (receive (view b) t) p others sent (rw (← inv .same) e) ∙ all-tries;
+      }
+
+  -- the link is free: the arrival behind it answers
+  module _ (free-now : freeIn (view now) n p ≡ true) {b₁ b₂ : List ℕ} {n₁ x k g d : ℕ} (held : b₁ ≡ putOwner now n p c) (to : n₁ ≡ next n p)
+      (arrival : pass-answer x g k d b₂ ≡ arriveAnswer b₁ t c n₁ p (h + 1) (sent + 1)) where
+    free : freeIn (view b) n p ≡ true
+    free = rw (← inv .same) free-now
+
+    -- its answer, on the table before the hop
+    answer : pass-answer x g k d b₂ ≡ answerOfPass (putOwner b n p c) c (next n p) (h + 1) (receive (view b) t) (on p (suc sent))
+    answer = arrival ∙ handed-on b t c n p h sent here-within (may .here .small) (may .here .circuit) (now-held held) to
+
+    pub turn-acknowledged : x ≡ 0 → pass-answer x g k d b₂ ≡ tryAnswer b t c n v a h s
+    turn-acknowledged z =
+        ap (λ y. pass-answer y g k d b₂) z
+        ∙ port-acknowledged (freeIn (view b) n) on b c n h (receive (view b) t) p others sent free k g d b₂ (ap (λ y. pass-answer y g k d b₂) (sym z) ∙ answer)
+        ∙ all-tries
+
+    restored : b₂ ≡ putOwner b n p c → {b₃ : List ℕ} → b₃ ≡ putOwner b₂ n p 0 → b₃ ≡ b
+    restored e q = q ∙ ap (λ y. putOwner y n p 0) e ∙ given-back b n p c here-within (unfold view in free-owner (view b) n p free)
+
+    pub turn-full : x ≡ 11 → {b₃ : List ℕ} → b₃ ≡ putOwner b₂ n p 0 → pass-answer x g k d b₃ ≡ tryAnswer b t c n v a h s
+    turn-full z q =
+        let r = port-receive-rejected (freeIn (view b) n) on b c n h (receive (view b) t) p others sent free k g d b₂ (ap (λ y. pass-answer y g k d b₂) (sym z) ∙ answer) in
+        ap₂ (λ y u. pass-answer y g k d u) z (restored (r .0) q) ∙ r .1 ∙ all-tries
+
+    few-scouts : d ≤ suc sent + waysFrom 1 (farthestAfter b t n v)
+    unfolding arrivalAfter hopsLeft network
+    few-scouts =
+        let m = ways-more 1 (hopsLeft b t (next n p)) (farthestAfter b t n v) here-reach in
+        let all = arriving-sends (cube-nearing (shapeOf (view b)) t) (cube-cubical (shapeOf (view b)) (one-link (shapeOf (view b)) (unfold view in may .here .fits) refl) t) (freeIn (view b)) (next n p) p (suc sent) in
+        let same : d ≡ scouts (on p (suc sent)) = answer-scouts (putOwner b n p c) c (next n p) (h + 1) (receive (view b) t) (on p (suc sent)) x k g d b₂ answer in
+        omega (arith, all, m, same)
+
+    pub turn-next : x ≢ 0 → x ≢ 11 → {r : ℕ} → Without left p r → {b₃ : List ℕ} → b₃ ≡ putOwner b₂ n p 0 → Turn b t c n v a h s b₃ r d
+    unfolding tryAnswer
+    turn-next f e less u =
+        let z : x ≡ 10 = three-answers (putOwner b n p c) c (next n p) (h + 1) (receive (view b) t) (on p (suc sent)) x k g d b₂ answer f e in
+        let w = port-route-rejected (freeIn (view b) n) on b c n h (receive (view b) t) p others sent free k g d b₂ (ap (λ y. pass-answer y g k d b₂) (sym z) ∙ answer) in
+        rw (left-over less)
+        record {
+          same = restored (w .0) u;
+          ports = (let l = inv .ports in omega arith);
+          sub = tail-ports;
+          room = (let m = few-scouts in omega (arith, here-room));
+          rest = w .1 ∙ all-tries;
+        }
+
+-- no port left
+pub turn-over : {b : List ℕ} {t c n v a h s : ℕ} {now : List ℕ} {left sent : ℕ} → Turn b t c n v a h s now left sent → left ≡ 0 → pass-answer 10 0 0 sent now ≡ tryAnswer b t c n v a h s
+unfolding tryAnswer
+turn-over {b} {t} {c} {n} {v} {a} {h} {s} {now} {left} {sent} inv z =
+    let none : helical a (portsOf 8 left) ≡ [] = ap (λ x. helical a (portsOf 8 x)) z ∙ helical-zero 8 a in
+    rw (inv .same) (ports-over (freeIn (view b) n) (arrivalAfter (net (view b)) (freeIn (view b)) t n) b c n h (receive (view b) t) sent) ∙ ap (λ ps. tried b t c n h ps sent) (sym none) ∙ inv .rest
+
+-- ports that are not free are dropped from a vector: there is room for the rest
+narrow-reach : (b : List ℕ) (t : ℕ) {n v left : ℕ} → Narrowed (view b) n v left → farthestAfter b t n left ≤ farthestAfter b t n v
+unfolding farthestAfter
+narrow-reach b t {n} {v} {left} narrow =
+    farthest-most (net (view b)) t n (farthest (net (view b)) t n (portsOf 8 v)) (portsOf 8 left) (λ p m. farthest-mem (net (view b)) t n (portsOf 8 v) p (narrow-mem narrow p m))
+
+pub narrow-may : {b : List ℕ} {t c n v left a h s : ℕ} → MayTry b t c n v a h s → Narrowed (view b) n v left → MayTry b t c n left a h s
+narrow-may {b} {t} {c} {n} {v} {left} may narrow =
+    let near = narrow-reach b t narrow in
+    let ways = ways-more 1 (farthestAfter b t n left) (farthestAfter b t n v) near in
+    let all : length (portsOf 8 left) * (1 + waysFrom 1 (farthestAfter b t n left)) ≤ length (portsOf 8 v) * (1 + waysFrom 1 (farthestAfter b t n v)) = mul-le-mul (narrow-fewer narrow) (let w = ways in omega arith) in
+    record {
+      here = may .here;
+      ports = (let l = narrow .most in omega (arith, may .ports));
+      hops = omega (arith, may .hops, near);
+      room = omega (arith, may .room, all);
+    }
+
+-- An arrival.
+module _ {b : List ℕ} {t c n a h s : ℕ} (may : MayArrive b t c n a h s) where
+  at-goal : n ≡ t → answerOfPass b c n h (receive (view b) n) (found [] s) ≡ arriveAnswer b t c n a h s
+  unfolding arriveAnswer
+  at-goal e = ap₂ (λ m w. answerOfPass b c n h (receive (view b) m) w) e (sym (at-target (net (view b)) (freeIn (view b)) t n a s (hopsLeft b t n) e))
+
+  pub arrive-receives : {k : ℕ} → n ≡ t → k ≡ lowestChannel (view b) n → k ≢ 8 → pass-answer 0 h k s b ≡ arriveAnswer b t c n a h s
+  arrive-receives e q g = target-receives (view b) b c n h s q g ∙ at-goal e
+
+  pub arrive-full : {k : ℕ} → n ≡ t → k ≡ lowestChannel (view b) n → k ≡ 8 → pass-answer 11 0 0 s b ≡ arriveAnswer b t c n a h s
+  arrive-full e q g = target-full (view b) b c n h s q g ∙ at-goal e
+
+  module _ (away : n ≢ t) {v : ℕ} (uphill : UphillVector n t v) where
+    offers : offered (net (view b)) t n ≡ portsOf 8 v
+    unfolding view
+    offers = unfolded-vector (shapeOf (view b)) (may .here .fits) refl 8 n t (may .here .fits) (may .here .node) (may .here .target) ∙ ap (portsOf 8) (sym (uphill .value))
+
+    all-tried : tryAnswer b t c n v a h s ≡ arriveAnswer b t c n a h s
+    unfolding tryAnswer arriveAnswer hopsLeft
+    all-tried =
+        ap (answerOfPass b c n h (receive (view b) t))
+        (ap (λ ps. trying (freeIn (view b) n) (arrivalAfter (net (view b)) (freeIn (view b)) t n) (helical a ps) s) (sym offers) ∙ arrives (net (view b)) (freeIn (view b)) t n a s (cube-nearing (shapeOf (view b)) t) away)
+
+    nearer : (p : ℕ) → p ∈ portsOf 8 v → hopsLeft b t n ≡ suc (net (view b) .distance t (net (view b) .next n p))
+    unfolding hopsLeft
+    nearer p m = cube-nearing (shapeOf (view b)) t .nearer n p (rw offers m)
+
+    pub arrive-reach : suc (farthestAfter b t n v) ≤ hopsLeft b t n
+    arrive-reach =
+        let goal : t < 2 ^ shapeOf (view b) .dimension = unfold view in may .here .target in
+        let start : n < 2 ^ shapeOf (view b) .dimension = unfold view in may .here .node in
+        let some = cube-leading (shapeOf (view b)) (unfold view in may .here .fits) t goal .leads n start away in
+        let e = nearer (some .0) (rw offers at (some .1)) in
+        let most : farthestAfter b t n v ≤ net (view b) .distance t (net (view b) .next n (some .0)) = unfold farthestAfter in
+        farthest-most (net (view b)) t n _ (portsOf 8 v) (λ p m. let z = nearer p m in omega (arith, e)) in
+        omega (arith, e, most)
+
+    all-may : MayTry b t c n v a h s
+    unfolding hopsLeft network
+    all-may =
+        let degree : length (portsOf 8 v) ≤ 1 * hopsLeft b t n = rw (← offers) (cube-cubical (shapeOf (view b)) (one-link (shapeOf (view b)) (unfold view in may .here .fits) refl) t .degree n) in
+        let ports = one-further (length (portsOf 8 v)) (farthestAfter b t n v) (hopsLeft b t n) arrive-reach (omega (arith, degree)) in
+        record {
+          here = may .here;
+          ports = rw (uphill .value) (xor-lt (dimensionAt b) n t (may .here .node) (may .here .target));
+          hops = omega (arith, may .hops, arrive-reach);
+          room = omega (arith, may .room, ports);
+        }
+
+    -- those of them that are left
+    module _ {left : ℕ} (narrow : Narrowed (view b) n v left) where
+      pub arrive-may : MayTry b t c n left a h s
+      arrive-may = narrow-may all-may narrow
+
+      pub arrive-tries : tryAnswer b t c n left a h s ≡ arriveAnswer b t c n a h s
+      arrive-tries = narrow-tries b t c a h s narrow ∙ all-tried
+
+      pub arrive-falls : farthestAfter b t n left < hopsLeft b t n
+      arrive-falls = omega (arith, arrive-reach, narrow-reach b t narrow)
