@@ -1,7 +1,7 @@
 -- `table::layout::free_channel` meets its contract: the lowest of the channels that are nobody's and armed.
 -- Assumes nothing.
 use mathlib.Core.Path.{refl, _∙_, ap}
-use native.Mathlib.Omega.{arith}
+use native.Mathlib.Nat.{lt-of-le-of-lt}
 use lib.Bits.{and-le-l}
 use lib.ListN.{getD}
 use borrow.Author.Needs.{needs}
@@ -25,9 +25,7 @@ wide-requires : tie.Need-wide-requires
 wide-requires c κs = search needs
 
 lowest-bit-requires : tie.Need-lowest-bit-requires
-lowest-bit-requires c κs =
-    let r = c .before .before .before in
-    omega (arith, and-le-l (r .row-vector .result) (c .wide .result), r .row-vector .ensures .small)
+lowest-bit-requires c κs = lt-of-le-of-lt (and-le-l _ _) (c .before .before .before .row-vector .ensures .small)
 
 returns : tie.Need-returns
 returns c =
