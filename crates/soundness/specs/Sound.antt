@@ -1,10 +1,10 @@
--- Document 01, "The cube and its table": when a table is sound.
+-- Document 01, "The cube and its table", and document 02, (a): when a table is sound.
 -- Assumes nothing.
 use mathlib.Core.Path.{_≡_}
 use mathlib.Core.Logic.{_⊎_, _≢_}
 use mathlib.Core.Bool.{true, false}
 use Prim.Native.Nat.{ℕ, _*_, _^_, _≤_, _<_}
-use Rattle.cube.specs.Cube.{sourceOf}
+use Rattle.cube.specs.Cube.{channels, sourceOf}
 use Rattle.paths.specs.Network.{Path, Exactly, end}
 use Rattle.paths.specs.Permitted.{Permitted}
 use Rattle.paths.specs.CubeNetwork.{ports}
@@ -21,7 +21,7 @@ pub record CircuitSound (v : View) (c : ℕ) : Type 0 where
   pub permitted : Permitted (net v) (sourceOf c) (ports (shapeOf v)) (endFor v c path) path
   pub exactly : Exactly (net v) (sourceOf c) path (heldBy v c)
   pub channel : ℕ
-  pub small : channel < 8
+  pub small : channel < channels
   pub receives : v .receiver (endFor v c path) channel ≡ c
   pub once : (n k : ℕ) → v .receiver n k ≡ c → (n ≡ endFor v c path) × (k ≡ channel)
 
@@ -34,8 +34,11 @@ pub record Sound (v : View) : Type 0 where
   -- "everything for absent nodes and ports is zero"
   pub absent-link : (n p : ℕ) → ((n < 2 ^ v .dimension) × (p < v .dimension) → ⊥) → (v .enabled n p ≡ false) × (v .owner n p ≡ 0)
   pub absent-receive : (n k : ℕ) → (n < 2 ^ v .dimension → ⊥) → v .receiver n k ≡ 0
+  pub absent-armed : (n k : ℕ) → (n < 2 ^ v .dimension → ⊥) → v .armed n k ≡ false
   -- "held links are enabled"
   pub held-enabled : (n p : ℕ) → v .owner n p ≢ 0 → v .enabled n p ≡ true
+  -- "In a sound table every held channel is armed."
+  pub held-armed : (n k : ℕ) → v .receiver n k ≢ 0 → v .armed n k ≡ true
   -- "circuit numbers are at most 8·2^D"
   pub link-number : (n p : ℕ) → v .owner n p ≤ 8 * 2 ^ v .dimension
   pub receive-number : (n k : ℕ) → v .receiver n k ≤ 8 * 2 ^ v .dimension

@@ -9,10 +9,10 @@ use lib.Dec.{eqb, ltb, leb}
 use lib.ListN.{length, drop}
 use Rattle.common.specs.Lists.{every}
 use Rattle.common.specs.Tests.{Test, test}
-use Rattle.cube.specs.Cube.{sourceOf}
+use Rattle.cube.specs.Cube.{largestDimension, channels, sourceOf}
 use Rattle.paths.specs.Network.{Path, links, hasLink}
 use Rattle.paths.specs.Recover.{pathOfLinks}
-use Rattle.table.specs.Layout.{tableLength, dimensionAt}
+use Rattle.table.specs.Layout.{tableLength, portCount, dimensionAt}
 use Rattle.table.specs.View.{View, view, channelsHeld, shapeOf, net, heldBy}
 use Rattle.soundness.specs.Sound.{endFor}
 
@@ -46,17 +46,17 @@ linkTest v n p =
 unfoldable pub receiveTest : View → ℕ → ℕ → Bool
 receiveTest v n k =
     cond (ltb n (2 ^ v .dimension))
-    (eqb (v .receiver n k) 0 || (reaches v (v .receiver n k) && eqb n (endFor v (v .receiver n k) (pathOf v (v .receiver n k)))))
-    (eqb (v .receiver n k) 0)
+    (eqb (v .receiver n k) 0 || (v .armed n k && (reaches v (v .receiver n k) && eqb n (endFor v (v .receiver n k) (pathOf v (v .receiver n k))))))
+    (not (v .armed n k) && eqb (v .receiver n k) 0)
 
 -- the test of a whole table
 unfoldable pub soundTest : View → Bool
-soundTest v = every 256 (λ n. every 8 (linkTest v n) && every 8 (receiveTest v n))
+soundTest v = every 256 (λ n. every portCount (linkTest v n) && every channels (receiveTest v n))
 
--- The tests of a lent table: its length is not 8,449; the dimension that it stores is outside 1 to 8; it is not sound.
+-- The tests of a lent table: its length is not 8,705; the dimension that it stores is outside 1 to 8; it is not sound.
 unfoldable pub tableTests : List ℕ → List Test
 tableTests b =
     test (not (eqb (length b) tableLength)) 1
-    ∷ test (not (leb 1 (dimensionAt b) && leb (dimensionAt b) 8)) 2
+    ∷ test (not (leb 1 (dimensionAt b) && leb (dimensionAt b) largestDimension)) 2
     ∷ test (not (soundTest (view b))) 3
     ∷ []

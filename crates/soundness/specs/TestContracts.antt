@@ -9,7 +9,7 @@ use lib.Dec.{eqb}
 use lib.ListN.{length}
 use Rattle.common.specs.Tests.{refusal}
 use Rattle.table.specs.Layout.{tableLength, dimensionAt}
-use Rattle.table.specs.LayoutContracts.{EnablesFit}
+use Rattle.table.specs.LayoutContracts.{EnablesFit, ArmsFit}
 use Rattle.table.specs.View.{View, view}
 use Rattle.soundness.specs.Sound.{endFor, Sound}
 use Rattle.soundness.specs.Marks.{markCount, marked, Adds}
@@ -52,6 +52,12 @@ pub record ReceivesTested (v : View) (n₀ n₁ k₀ k₁ : ℕ) (before after :
 pub record ReceivesDecided (v : View) (n₀ n₁ k₀ k₁ : ℕ) (before after : List ℕ) (answer : Bool) : Type 0 where
   pub holds : answer ≡ true → ReceivesTested v n₀ n₁ k₀ k₁ before after
   pub fails : answer ≡ false → ReceivesPass v n₀ n₁ k₀ k₁ → ⊥
+
+-- what the tests of receive channels ask: the bytes of a table, no channel armed at a node that the cube lacks, and marks
+pub record ReceiveTestPre (b : List ℕ) (dimension : ℕ) (m : List ℕ) : Type 0 where
+  pub usable : Usable b dimension
+  pub arms : ArmsFit b dimension
+  pub size : length m ≡ markCount
 
 -- marks of exactly the paths of all circuits that hold receive channels
 pub record AllPathsMarked (v : View) (m : List ℕ) : Type 0 where
