@@ -22,12 +22,12 @@ use Rattle.paths.specs.Permitted.{Permitted}
 use Rattle.paths.proofs.Links.{link-true, true-link}
 use Rattle.table.specs.View.{View, view}
 use Rattle.soundness.specs.Sound.{endFor, CircuitSound, Sound}
-use Rattle.soundness.specs.SoundTest.{pathOf, isEmpty, tableTests}
+use Rattle.soundness.specs.SoundTest.{pathOf, tableTests}
 use Rattle.soundness.proofs.Soundness.{path-is, link-stands, receive-stands}
 use Rattle.paths.specs.CubeNetwork.{ports}
 use Rattle.ownership.specs.Calls.{Call}
 use Rattle.ownership.specs.Update.{updated}
-use Rattle.ownership.specs.OnTable.{stoppedAt, tableStep}
+use Rattle.ownership.specs.OnTable.{isOpenIn, stoppedAt, tableStep}
 use Rattle.ownership.specs.History.{Circuit, History, shapeOn, netOn, linksOf, holdsLink, holdsReceive, enabledOn, historyStep}
 use Rattle.ownership.specs.Agrees.{Agrees}
 use Rattle.ownership.specs.Invariant.{CircuitValid, Disjoint, Valid, Represents}
@@ -36,7 +36,7 @@ use Rattle.ownership.specs.FromTable.{linksOut, circuitAt, openNumbers, 
 use Rattle.ownership.proofs.Circuits.{numberFor, number-none, Once, number-at}
 use Rattle.ownership.proofs.CircuitValid.{holds-link, link-holds, holds-receive, receive-holds, links-once, receives-once}
 use Rattle.ownership.proofs.Stops.{pass-tests}
-use Rattle.ownership.proofs.OnSound.{path-stands, stands-path}
+use Rattle.ownership.proofs.OpenCircuits.{open-sound, sound-open}
 use Rattle.ownership.proofs.Applied.{follows-view}
 use Rattle.ownership.proofs.Steps.{table-step, history-step}
 use Rattle.ownership.proofs.TableEffect.{rejected-same}
@@ -74,15 +74,15 @@ module _ (v : View) (sound : Sound v) where
   open-number : (c : ℕ) → c ∈ openNumbers v → Open c
   unfolding openNumbers
   open-number c m =
-      let r = keep-mem (λ c. not (isEmpty (pathOf v c))) (from 1 (8 * 2 ^ D)) m in
+      let r = keep-mem (isOpenIn v) (from 1 (8 * 2 ^ D)) m in
       let i = from-mem 1 (8 * 2 ^ D) (r .0) in
-      record { positive = omega arith; most = omega arith; stands = path-stands v sound c (λ z. omega arith) (r .1) }
+      record { positive = omega arith; most = omega arith; stands = open-sound v sound c (λ z. omega arith) (r .1) }
 
   number-open : (c : ℕ) → Open c → c ∈ openNumbers v
   unfolding openNumbers
   number-open c o =
-      mem-keep (λ c. not (isEmpty (pathOf v c))) (from 1 (8 * 2 ^ D)) (mem-from 1 (8 * 2 ^ D) c (o .positive) (omega (arith, o .most)))
-      (stands-path v sound c (λ z. omega (arith, o .positive)) (o .stands))
+      mem-keep (isOpenIn v) (from 1 (8 * 2 ^ D)) (mem-from 1 (8 * 2 ^ D) c (o .positive) (omega (arith, o .most)))
+      (sound-open v c (o .stands))
 
   -- the circuit of such a number has its number, and holds what the number stands on
   module _ (c : ℕ) (o : Open c) where
@@ -142,7 +142,7 @@ module _ (v : View) (sound : Sound v) where
       unfold historyOf in
       pairwise-map (λ c d. Open c × Open d × (c < d)) (Disjoint (netOn h)) (circuitAt v) (openNumbers v) (λ c d r. separate c d (r .0) (r .1) (λ e. omega (arith, r .2)))
       (pairwise-imp _<_ (λ c d. Open c × Open d × (c < d)) (openNumbers v) (λ c d m k l. (open-number c m, open-number d k, l))
-      (unfold openNumbers in keep-pairwise (λ c. not (isEmpty (pathOf v c))) _<_ (from 1 (8 * 2 ^ D)) (from-pairwise 1 (8 * 2 ^ D))))
+      (unfold openNumbers in keep-pairwise (isOpenIn v) _<_ (from 1 (8 * 2 ^ D)) (from-pairwise 1 (8 * 2 ^ D))))
 
   -- what the history shows is what the table shows: its links' states
   enabled-same : (n p : ℕ) → v .enabled n p ≡ enabledOn h n p

@@ -2,27 +2,23 @@
 -- Assumes nothing.
 use mathlib.Core.Path.{_≡_, refl, ap, sym, _∙_, subst}
 use mathlib.Core.Logic.{⊎-elim, _≢_, _↔_}
-use mathlib.Core.Bool.{true, false, not, false≢true}
+use mathlib.Core.Bool.{true, false, not}
 use mathlib.Core.List.{List, [], _∷_}
 use Prim.Native.Nat.{ℕ, _^_, _<_}
 use native.Mathlib.Omega.{arith}
 use lib.Dec.{eqb, ltb}
 use lib.ListN.{length, getD}
-use borrow.Author.Tests.{eqb-true, eq-eqb, lt-ltb}
+use borrow.Author.Tests.{eq-eqb, lt-ltb}
 use Rattle.common.specs.Tests.{test, refusal}
 use Rattle.common.proofs.Tests.{clash, same?, passed, accepted, refusal-before, refusal-after, Avoids, avoids, avoiding, never-answered}
-use Rattle.cube.specs.Cube.{circuitOf, sourceOf}
+use Rattle.cube.specs.Cube.{circuitOf}
 use Rattle.cube.proofs.Bits.{no-bit-above}
-use Rattle.paths.specs.Network.{Path}
 use Rattle.paths.specs.Send.{Outcome, acknowledged, route-rejected, receive-rejected}
-use Rattle.paths.proofs.Links.{on-first}
-use Rattle.paths.proofs.Walks.{path-owned}
 use Rattle.table.specs.Layout.{tableLength, dimensionAt, enabledAt, ownerAt}
-use Rattle.table.specs.View.{View, view, shapeOf, net, heldIn, heldBy}
+use Rattle.table.specs.View.{View, view, heldIn}
 use Rattle.table.specs.Encode.{Bytes}
 use Rattle.soundness.specs.Sound.{CircuitSound, Sound}
-use Rattle.soundness.specs.SoundTest.{pathOf, isEmpty, tableTests}
-use Rattle.soundness.proofs.Soundness.{path-is, some-hop}
+use Rattle.soundness.specs.SoundTest.{tableTests}
 use Rattle.soundness.proofs.Passing.{answers}
 use Rattle.search.specs.PassAnswer.{pass-answer}
 use Rattle.search.specs.SendAnswer.{answerOfOutcome, sendAnswer, sends, MaySend}
@@ -34,6 +30,7 @@ use Rattle.ownership.specs.OnTable.{openIn, factsOf, lentTests, stoppedA
 use Rattle.ownership.specs.Allowed.{Allowed}
 use Rattle.ownership.proofs.Allowed.{allowed}
 use Rattle.ownership.proofs.Stops.{lent-both, lent-numbered, none-stops, none-stops-lent, pass-tests, stopped-is}
+use Rattle.ownership.proofs.OpenCircuits.{open-sound, sound-open}
 use Rattle.ownership.proofs.Steps.{table-step}
 use Rattle.cube.proofs.Ports.{most-nodes}
 use Rattle.ownership.proofs.TableEffect.{blocking-again, unblocking-again}
@@ -77,26 +74,10 @@ module _ (b : List ℕ) (s c t y v : ℕ) (e : stoppedAt b (opening s c t y v) �
       → SendSays b s t (circuitOf s c) y v (gives .number) (hopsOf gives) (receiveOf gives) (scoutsOf gives) (tableStep b (opening s c t y v) .state)
   open-says small = rw (sym (written-bytes b small (opening s c t y v) e)) at open-answers
 
--- On a sound table a number whose links make a path stands.
-module _ (w : View) (sound : Sound w) (c : ℕ) (some : c ≢ 0) where
-  first-held : (p : ℕ) (u : Path) → pathOf w c ≡ p ∷ u → heldBy w c (sourceOf c) p ≡ true
-  unfolding pathOf
-  first-held p u q = path-owned (shapeOf w) (heldBy w c) (sourceOf c) (sourceOf c) p (rw q (on-first (net w) (sourceOf c) p u))
-
-  pub path-stands : not (isEmpty (pathOf w c)) ≡ true → CircuitSound w c
-  path-stands e = go (pathOf w c) refl
-    where
-      go : (u : Path) → pathOf w c ≡ u → CircuitSound w c
-      go [] q = unfold isEmpty in absurd (false≢true (sym (ap (λ x. not (isEmpty x)) q) ∙ e))
-      go (p ∷ u) q = ⊎-elim (λ z. absurd (z .0 (sourceOf c) p (eqb-true _ c (first-held p u q)))) (λ z. z) (sound .numbers c some)
-
-  pub stands-path : CircuitSound w c → not (isEmpty (pathOf w c)) ≡ true
-  stands-path k = rw (path-is w c k) (some-hop (net w) (sourceOf c) _ _ (k .path) (k .permitted))
-
--- So a send channel has an open circuit exactly where its number stands on a path and a receive channel.
+-- On a sound table a send channel has an open circuit exactly where its number stands on a path and a receive channel.
 pub open-stands : (w : View) → Sound w → (s c : ℕ) → (openIn w s c ≡ true) ↔ CircuitSound w (circuitOf s c)
 unfolding openIn
-open-stands w sound s c = (path-stands w sound (circuitOf s c) (λ z. omega arith), stands-path w sound (circuitOf s c) (λ z. omega arith))
+open-stands w sound s c = (open-sound w sound (circuitOf s c) (λ z. omega arith), sound-open w (circuitOf s c))
 
 -- Number 3 says that the table is not sound, of every call that is stopped by it.
 no-three : (b : List ℕ) (a : Call) → refusal (callTests (factsOf (view b)) a) ≢ 3

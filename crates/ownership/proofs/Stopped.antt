@@ -11,23 +11,21 @@ use borrow.Author.Tests.{eqb-true}
 use Rattle.common.specs.Lists.{_∈_, any}
 use Rattle.common.proofs.Lists.{any-some, some-any}
 use Rattle.common.specs.Tests.{Test, test, refusal}
-use Rattle.common.proofs.Tests.{clash, refused, passed}
+use Rattle.common.proofs.Tests.{clash, is-false, refused, passed}
 use Rattle.cube.specs.Cube.{circuitOf, sourceOf}
-use Rattle.paths.specs.Network.{Path}
-use Rattle.paths.proofs.Links.{on-first}
 use Rattle.paths.specs.CubeNetwork.{ports}
-use Rattle.paths.proofs.Walks.{path-owned}
-use Rattle.table.specs.View.{shapeOf, net, heldBy}
-use Rattle.soundness.specs.SoundTest.{pathOf, isEmpty}
-use Rattle.soundness.proofs.Soundness.{path-is, some-hop}
+use Rattle.table.specs.View.{shapeOf, heldBy}
+use Rattle.soundness.specs.SoundTest.{pathOf}
+use Rattle.soundness.proofs.Soundness.{path-is}
 use Rattle.ownership.specs.Calls.{Call, making, blocking, unblocking, opening, closing, tracing, channel, callTests}
-use Rattle.ownership.specs.OnTable.{openIn, factsOf}
-use Rattle.ownership.specs.History.{Circuit, History, shapeOn, netOn, belongs, openOn, listed, factsOn, stoppedOn}
+use Rattle.ownership.specs.OnTable.{isOpenIn, openIn, factsOf}
+use Rattle.ownership.specs.History.{Circuit, History, belongs, openOn, listed, factsOn, stoppedOn}
 use Rattle.ownership.specs.Invariant.{Valid}
 use Rattle.ownership.specs.HistoryView.{viewOf}
 use Rattle.ownership.proofs.Allowed.{channel-small}
 use Rattle.ownership.proofs.Circuits.{numberFor, circuit-parts, belongs-parts, parts-belong}
 use Rattle.ownership.proofs.Sameness.{held-same}
+use Rattle.ownership.proofs.OpenCircuits.{sound-open}
 use Rattle.ownership.proofs.CircuitValid.{link-held, valid-stands, stands-path}
 
 -- the listed path is that of a circuit that belongs to the send channel
@@ -42,40 +40,30 @@ listed-some s c (x ∷ xs) e = go (belongs s c x) refl (listed-some s c xs)
     go false f ih = let r = ih (rw f at e) in (r .0, List·Memᴰ·tail (r .1), r .2, rw f (r .3))
 
 module _ (h : History) (valid : Valid h) (s c : ℕ) (small : c < 8) where
-  -- a listed circuit of the send channel has its number, and its path is the one recovered
-  found : (x : Circuit) → x ∈ h .circuits → belongs s c x ≡ true → pathOf (viewOf h) (circuitOf s c) ≡ x .ports
-  found x m e =
-      let r = belongs-parts s c x e in
-      let same : numberFor x ≡ circuitOf s c = rw (r .0, r .1) in
-      sym (ap (pathOf (viewOf h)) same) ∙ path-is (viewOf h) (numberFor x) (valid-stands h valid x m) ∙ stands-path h valid x m .0
+  -- a listed circuit of the send channel has its number
+  number-is : (x : Circuit) → belongs s c x ≡ true → numberFor x ≡ circuitOf s c
+  number-is x e = let r = belongs-parts s c x e in rw (r .0, r .1)
 
   -- Tracing by the table gives the ports that the history keeps.
   pub path-listed : openOn h s c ≡ true → pathOf (viewOf h) (circuitOf s c) ≡ listed (h .circuits) s c
   unfolding openOn
-  path-listed e = let r = listed-some s c (h .circuits) e in found (r .0) (r .1) (r .2) ∙ sym (r .3)
+  path-listed e =
+      let (x, m, f, q) = listed-some s c (h .circuits) e in
+      sym (ap (pathOf (viewOf h)) (number-is x f)) ∙ path-is (viewOf h) (numberFor x) (valid-stands h valid x m) ∙ stands-path h valid x m .0 ∙ sym q
 
   -- "this send channel has an open circuit"
-  shut : openOn h s c ≡ false → (w : Path) → pathOf (viewOf h) (circuitOf s c) ≡ w → isEmpty w ≡ true
-  unfolding isEmpty openOn pathOf
-  shut e [] q = refl
-  shut e (p ∷ w) q =
-      let k : numberFor′ ≡ circuitOf s c = eqb-true _ _ (path-owned (shapeOf (viewOf h)) (heldBy (viewOf h) (circuitOf s c)) (sourceOf (circuitOf s c)) _ p (rw q (on-first (net (viewOf h)) (sourceOf (circuitOf s c)) p w))) in
-      let r = link-held h valid (sourceOf (circuitOf s c)) p (λ z. omega (arith, k, z)) in
-      let b = circuit-parts (r .0 .source) (r .0 .channel) s c (valid .stands (r .0) (r .1) .channel) small (sym (r .3) ∙ k) in
-      absurd (clash (some-any (belongs s c) (h .circuits) (r .1) (parts-belong s c (r .0) (b .0) (b .1))) e)
-    where
-      numberFor′ : ℕ
-      numberFor′ = viewOf h .owner (sourceOf (circuitOf s c)) p
-
   pub open-same : openIn (viewOf h) s c ≡ openOn h s c
-  unfolding openIn
+  unfolding openIn isOpenIn openOn
   open-same = go (openOn h s c) refl
     where
-      go : (b : Bool) → openOn h s c ≡ b → not (isEmpty (pathOf (viewOf h) (circuitOf s c))) ≡ b
-      go true e =
-          let r = any-some (belongs s c) (h .circuits) (unfold openOn in e) in
-          ap (λ (w : Path). not (isEmpty w)) (found (r .0) (r .1) (r .2)) ∙ some-hop (netOn h) (r .0 .source) (ports (shapeOn h)) (r .0 .target) (r .0 .ports) (valid .stands (r .0) (r .1) .permitted)
-      go false e = ap not (shut e (pathOf (viewOf h) (circuitOf s c)) refl)
+      go : (b : Bool) → openOn h s c ≡ b → isOpenIn (viewOf h) (circuitOf s c) ≡ b
+      go true e = let (x, m, f) = any-some (belongs s c) (h .circuits) e in rw (sym (number-is x f)) (sound-open (viewOf h) (numberFor x) (valid-stands h valid x m))
+      go false e = is-false _ (λ t.
+          let (p, m, f) = any-some (heldBy (viewOf h) (circuitOf s c) (sourceOf (circuitOf s c))) (ports (shapeOf (viewOf h))) t in
+          let k = eqb-true _ _ f in
+          let r = link-held h valid (sourceOf (circuitOf s c)) p (λ z. omega (arith, k, z)) in
+          let b = circuit-parts (r .0 .source) (r .0 .channel) s c (valid .stands (r .0) (r .1) .channel) small (sym (r .3) ∙ k) in
+          clash (some-any (belongs s c) (h .circuits) (r .1) (parts-belong s c (r .0) (b .0) (b .1))) e)
 
 -- a list of tests, by what comes behind its first; behind the test of the channel that is below 8
 past : (t : Test) (ts us : List Test) → refusal ts ≡ refusal us → refusal (t ∷ ts) ≡ refusal (t ∷ us)

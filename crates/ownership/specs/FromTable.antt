@@ -9,7 +9,8 @@ use Rattle.cube.specs.Cube.{sourceOf, channelOf}
 use Rattle.paths.specs.Network.{Link}
 use Rattle.table.specs.View.{View}
 use Rattle.soundness.specs.Sound.{endFor}
-use Rattle.soundness.specs.SoundTest.{pathOf, isEmpty}
+use Rattle.soundness.specs.SoundTest.{pathOf}
+use Rattle.ownership.specs.OnTable.{isOpenIn}
 use Rattle.ownership.specs.History.{Circuit, History}
 
 -- the links out of some ports of some nodes
@@ -28,9 +29,9 @@ circuitAt v c =
       receive = lowest (λ k. eqb (v .receiver (endFor v c (pathOf v c)) k) c) 8 0;
     }
 
--- the numbers whose links make a path, rising
+-- the numbers of the open circuits, rising
 unfoldable pub openNumbers : View → List ℕ
-openNumbers v = keep (λ c. not (isEmpty (pathOf v c))) (from 1 (8 * 2 ^ v .dimension))
+openNumbers v = keep (isOpenIn v) (from 1 (8 * 2 ^ v .dimension))
 
 unfoldable pub historyOf : View → History
 historyOf v =

@@ -5,18 +5,24 @@ use mathlib.Core.List.{List, [], _∷_, _++_}
 use Prim.Native.Nat.{ℕ}
 use lib.Dec.{eqb}
 use lib.ListN.{length}
+use Rattle.common.specs.Lists.{any}
 use Rattle.common.specs.Tests.{Test, test, refusal}
-use Rattle.cube.specs.Cube.{circuitOf}
+use Rattle.cube.specs.Cube.{circuitOf, sourceOf}
+use Rattle.paths.specs.CubeNetwork.{ports}
 use Rattle.table.specs.Layout.{tableLength}
-use Rattle.table.specs.View.{View, view, heldIn}
+use Rattle.table.specs.View.{View, view, shapeOf, heldIn, heldBy}
 use Rattle.table.specs.Encode.{encode}
-use Rattle.soundness.specs.SoundTest.{pathOf, isEmpty, tableTests}
+use Rattle.soundness.specs.SoundTest.{pathOf, tableTests}
 use Rattle.ownership.specs.Calls.{Call, form, CallFacts, callTests, After, callOn}
 use Rattle.ownership.specs.Update.{sendIn, updated}
 
--- "this send channel has an open circuit": the links that its circuit holds make a path
+-- circuit number c is open: it holds a link out of its source
+unfoldable pub isOpenIn : View → ℕ → Bool
+isOpenIn v c = any (heldBy v c (sourceOf c)) (ports (shapeOf v))
+
+-- "this send channel has an open circuit"
 unfoldable pub openIn : View → ℕ → ℕ → Bool
-openIn v s c = not (isEmpty (pathOf v (circuitOf s c)))
+openIn v s c = isOpenIn v (circuitOf s c)
 
 unfoldable pub factsOf : View → CallFacts
 factsOf v = record { dimension = v .dimension; held = heldIn v; isOpen = openIn v; sends = sendIn v; path = λ s c. pathOf v (circuitOf s c) }

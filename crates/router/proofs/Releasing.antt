@@ -38,7 +38,7 @@ use Rattle.ownership.specs.Update.{holdLinks, viewAfterSend}
 use Rattle.ownership.proofs.Shows.{PortsBelow, Fits, hold-length, view-hold}
 use Rattle.ownership.proofs.BytesAfter.{send-encoded}
 use Rattle.ownership.proofs.Applied.{held-path}
-use Rattle.ownership.proofs.OnSound.{path-stands}
+use Rattle.ownership.proofs.OpenCircuits.{open-path, open-sound}
 use Rattle.router.specs.Release.{MayFree}
 
 -- i of the links are freed, and the next is one of node `at`
@@ -86,7 +86,7 @@ at-member (x ∷ w) (suc i) h = List·Memᴰ·tail (at-member w i (omega arith))
 -- An open circuit of a sound table.
 module _ {b : List ℕ} {c : ℕ} (known : HasSource b c) (some : not (isEmpty (pathOf (view b) c)) ≡ true) (sound : Sound (view b)) where
   stands : CircuitSound (view b) c
-  stands = path-stands (view b) sound c (λ z. omega (arith, z, known .circuit)) some
+  stands = open-sound (view b) sound c (λ z. omega (arith, z, known .circuit)) (open-path (view b) c ∙ some)
 
   abbrev pub path : Path
   path = pathOf (view b) c

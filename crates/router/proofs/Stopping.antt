@@ -22,8 +22,9 @@ use Rattle.soundness.specs.SoundTest.{pathOf, isEmpty, tableTests}
 use Rattle.soundness.specs.Follow.{HasSource}
 use Rattle.ownership.specs.Calls.{Call, form, absent, blocking, unblocking, opening, closing, tracing}
 use Rattle.ownership.specs.Allowed.{Allowed}
-use Rattle.ownership.specs.OnTable.{openIn, factsOf, stoppedAt}
+use Rattle.ownership.specs.OnTable.{isOpenIn, openIn, factsOf, stoppedAt}
 use Rattle.ownership.proofs.Allowed.{below, allowed}
+use Rattle.ownership.proofs.OpenCircuits.{open-path}
 use Rattle.ownership.proofs.Stops.{pass-tests, table-numbered, none-stops, none-stops-lent}
 
 -- What a call answers at each return of its tests: a test of the lent table stops it;
@@ -134,6 +135,6 @@ module _ {b : List ℕ} {s t c : ℕ} (h : Inside b s t) (l : c < 8) where
   has-source e = rw e record { bytes = h .long; fits = h .most; circuit = omega arith; source = rw (source-of-circuit s c l) (h .source) }
 
 -- That circuit has a path where the channel has an open circuit.
-pub circuit-open : (b : List ℕ) (s c : ℕ) {k : ℕ} {o : Bool} → k ≡ circuitOf s c → o ≡ not (isEmpty (pathOf (view b) k)) → o ≡ openIn (view b) s c
+pub channel-path : (b : List ℕ) (s c : ℕ) {k : ℕ} → k ≡ circuitOf s c → not (isEmpty (pathOf (view b) k)) ≡ openIn (view b) s c
 unfolding openIn
-circuit-open b s c q r = r ∙ ap (λ i. not (isEmpty (pathOf (view b) i))) q
+channel-path b s c q = sym (open-path (view b) _) ∙ ap (isOpenIn (view b)) q

@@ -16,12 +16,12 @@ use Rattle.paths.specs.Send.{Outcome, acknowledged, route-rejected, receive-rej
 use Rattle.table.specs.Layout.{tableLength, made, putEnabled}
 use Rattle.table.specs.View.{view, withoutCircuit}
 use Rattle.table.specs.Encode.{encode}
-use Rattle.soundness.specs.SoundTest.{pathOf, isEmpty, tracedInto}
+use Rattle.soundness.specs.SoundTest.{pathOf, tracedInto}
 use Rattle.ownership.specs.Calls.{Call, making, blocking, unblocking, opening, closing, tracing, CallResult, refusedWith, answered, callTests, resultOf, After}
 use Rattle.search.specs.PassAnswer.{PassAnswer, pass-answer}
 use Rattle.search.specs.SendAnswer.{answerOfOutcome, sendAnswer, sends}
 use Rattle.ownership.specs.Update.{sendIn}
-use Rattle.ownership.specs.OnTable.{openIn, factsOf, lentTests, stoppedAt, tableStep, done}
+use Rattle.ownership.specs.OnTable.{factsOf, lentTests, stoppedAt, tableStep, done}
 use Rattle.ownership.proofs.Stops.{making-stopped}
 use Rattle.ownership.proofs.Steps.{table-step}
 use Rattle.ownership.proofs.BytesAfter.{writtenBy, written-bytes}
@@ -90,8 +90,3 @@ module _ (b : List ℕ) where
       → h ≡ length (pathOf (view b) k) → after ≡ tracedInto (pathOf (view b) k) buffer → done b 0 (h ∷ []) (after ∷ []) ≡ tableStep b (tracing s c buffer)
   unfolding writtenBy resultOf factsOf
   call-traces s c buffer e z small q l w = call-passed b (tracing s c buffer) e z small refl (rw (l, w, q))
-
-  -- the circuit of a channel that is open has a path
-  pub open-path : (s c : ℕ) → openIn (view b) s c ≡ true → {k : ℕ} → k ≡ circuitOf s c → not (isEmpty (pathOf (view b) k)) ≡ true
-  unfolding openIn
-  open-path s c e q = ap (λ i. not (isEmpty (pathOf (view b) i))) q ∙ e

@@ -1,7 +1,8 @@
 -- `router::calls::close` meets its contract: its tests, then every entry of the circuit freed.
 -- Assumes nothing.
-use Rattle.router.proofs.Stopping.{close-passed, small-source, has-source}
-use Rattle.router.proofs.TableStep.{call-stopped, call-closes, open-path}
+use mathlib.Core.Path.{_∙_}
+use Rattle.router.proofs.Stopping.{close-passed, small-source, has-source, channel-path}
+use Rattle.router.proofs.TableStep.{call-stopped, call-closes}
 use native.Mathlib.Omega.{arith}
 use borrow.Author.Needs.{needs}
 use Rattle.router.proofs.calls.close.Statement.{statement}
@@ -26,7 +27,7 @@ release-requires c κs =
     let e = c .before .before in
     let r = close-passed (e .before .close .ensures) (e .if1 .left) in (
       has-source (r .0) (r .1) (c .circuit-of .ensures),
-      (open-path _ _ _ (r .2) (c .circuit-of .ensures), r .0 .sound),
+      (channel-path _ _ _ (c .circuit-of .ensures) ∙ r .2, r .0 .sound),
     )
 
 same-length-2 : tie.Need-same-length-2

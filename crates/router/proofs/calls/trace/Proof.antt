@@ -1,7 +1,8 @@
 -- `router::calls::trace` meets its contract: its tests, then the path of the circuit written.
 -- Assumes nothing.
-use Rattle.router.proofs.Stopping.{trace-passed, small-source, has-source}
-use Rattle.router.proofs.TableStep.{call-stopped, call-traces, open-path}
+use mathlib.Core.Path.{_∙_}
+use Rattle.router.proofs.Stopping.{trace-passed, small-source, has-source, channel-path}
+use Rattle.router.proofs.TableStep.{call-stopped, call-traces}
 use native.Mathlib.Omega.{arith}
 use borrow.Author.Needs.{needs}
 use Rattle.router.proofs.calls.trace.Statement.{statement}
@@ -26,7 +27,7 @@ write-path-requires c κs =
     let m = c .before in
     let r = trace-passed _ (m .before .before .trace .ensures) (m .before .if1 .left) in (
       has-source (r .0 .0) (r .0 .1) (m .circuit-of .ensures),
-      (open-path _ _ _ (r .0 .2) (m .circuit-of .ensures), r .1),
+      (channel-path _ _ _ (m .circuit-of .ensures) ∙ r .0 .2, r .1),
     )
 
 same-length-2 : tie.Need-same-length-2

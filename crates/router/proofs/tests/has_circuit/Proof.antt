@@ -1,7 +1,8 @@
 -- `router::stopped::has_circuit` meets its contract: the circuit of the channel has a path or not.
 -- Assumes nothing.
+use mathlib.Core.Path.{_∙_}
 use Rattle.ownership.proofs.Allowed.{channel-small}
-use Rattle.router.proofs.Stopping.{node-passed, small-source, has-source, circuit-open}
+use Rattle.router.proofs.Stopping.{node-passed, small-source, has-source, channel-path}
 use Rattle.router.proofs.tests.has_circuit.Statement.{statement}
 use Rattle.router.proofs.tests.has_circuit.Tie as tie
 
@@ -12,7 +13,7 @@ is-open-requires : tie.Need-is-open-requires
 is-open-requires c κs = let p = c .before .before .pre in has-source (node-passed _ _ (p .0) (p .1 .0)) (channel-small _ (p .1 .1)) (c .circuit-of .ensures)
 
 returns : tie.Need-returns
-returns c = circuit-open _ _ _ (c .before .circuit-of .ensures) (c .is-open .ensures)
+returns c = c .is-open .ensures ∙ channel-path _ _ _ (c .before .circuit-of .ensures)
 
 pub has-circuit-spec : {M : Type 1} → statement M
 has-circuit-spec = tie.close (tie.spec circuit-of-requires is-open-requires returns)
