@@ -49,9 +49,7 @@ unfolding listing
 list-alike b h input k = ap (λ (rs : List Row). cond (ltb inputLimit (length input)) tooLong (header ++ rowsText rs)) (rows-alike (lines input) b h 1 k)
 
 start-represents : Represents (made 1) (record { dimension = 1; blocked = []; circuits = [] })
-start-represents =
-    let b = made-bytes 1 (lit≤ tt) in
-    record { length = b .long; bytes = b .small; shows = view-made 1 (lit≤ tt) ∙ sym (made-view 1); valid = made-valid 1 (lit≤ tt) (lit≤ tt) }
+start-represents = record { bytes = made-bytes 1 (lit≤ tt); shows = view-made 1 (lit≤ tt) ∙ sym (made-view 1); valid = made-valid 1 (lit≤ tt) (lit≤ tt) }
 
 -- Demand 3, of the list: what is printed is what the ownership history says.
 pub prints-history : (input : List ℕ) → printed input ≡ recorded input

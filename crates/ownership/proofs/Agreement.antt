@@ -30,7 +30,7 @@ use Rattle.ownership.specs.HistoryView.{viewOf, bytesOf}
 use Rattle.ownership.specs.Allowed.{Allowed}
 use Rattle.ownership.proofs.Allowed.{allowed-on}
 use Rattle.ownership.proofs.Stops.{none-stops, making-stopped, tests-pass, stopped-is}
-use Rattle.ownership.proofs.TableEffect.{made-shows}
+use Rattle.ownership.proofs.StepBytes.{made-shows}
 use Rattle.ownership.proofs.Range.{sound-fits}
 use Rattle.ownership.proofs.Refused.{refused-within}
 use Rattle.ownership.proofs.Sameness.{send-same}
@@ -44,8 +44,7 @@ bytes-represent : (h : History) → Valid h → Represents (bytesOf h) h
 unfolding bytesOf
 bytes-represent h valid =
     let fits = sound-fits (viewOf h) (unfold viewOf in valid .most) (valid-sound h valid) in
-    let bytes = encode-bytes (viewOf h) fits in
-    record { length = bytes .long; bytes = bytes .small; shows = view-encode (viewOf h) fits; valid = valid }
+    record { bytes = encode-bytes (viewOf h) fits; shows = view-encode (viewOf h) fits; valid = valid }
 
 -- what a covered table is
 module _ (b : List ℕ) (h : History) (k : Represents b h) where
@@ -63,11 +62,11 @@ module _ (b : List ℕ) (h : History) (k : Represents b h) where
   represents-sound = rw (k .shows) (valid-sound h (k .valid))
 
   pub represents-not-stopped : refusal (tableTests b) ≡ 0
-  represents-not-stopped = tests-pass b (k .length) least most represents-sound
+  represents-not-stopped = tests-pass b (k .bytes .long) least most represents-sound
 
   -- a call is stopped on the table where the history stops it, by the same test
   pub stops-alike : (a : Call) → stoppedAt b a ≡ stoppedOn h a
-  stops-alike a = stopped-is b (k .length) least most represents-sound a ∙ ap (λ v. refusal (callTests (factsOf v) a)) (k .shows) ∙ stopped-same h (k .valid) a
+  stops-alike a = stopped-is b (k .bytes .long) least most represents-sound a ∙ ap (λ v. refusal (callTests (factsOf v) a)) (k .shows) ∙ stopped-same h (k .valid) a
 
   -- and where no test does, it gives what the history says
   results-alike : (a : Call) → stoppedOn h a ≡ 0 → resultOf (factsOf (view b)) a ≡ resultOf (factsOn h) a
@@ -113,7 +112,7 @@ module _ (b : List ℕ) (h : History) (k : Represents b h) where
 -- A covered table's bytes are those of its history.
 pub represents-bytes : (b : List ℕ) (h : History) → Represents b h → b ≡ bytesOf h
 unfolding bytesOf
-represents-bytes b h k = sym (encode-view b (k .length) (k .bytes)) ∙ ap encode (k .shows)
+represents-bytes b h k = sym (encode-view b (k .bytes .long) (k .bytes .small)) ∙ ap encode (k .shows)
 
 -- From any covered table, a list of calls agrees with the history and leaves the table covered.
 pub represents-run : (calls : List Call) (b : List ℕ) (h : History) → Represents b h → Represents (tableAfter b calls) (historyAfter h calls)
@@ -157,7 +156,7 @@ module _ (b : List ℕ) (h : History) (D : ℕ) (e : Accepted b (making D)) wher
   pub made-represents : Represents (tableStep b (making D) .state) (historyStep h (making D) .state)
   made-represents =
       let m = made-shows b D e in
-      rw made-history record { length = m .bytes .long; bytes = m .bytes .small; shows = m .shows ∙ sym (made-view D); valid = made-valid D (m .least) (m .most) }
+      rw made-history record { bytes = m .bytes; shows = m .shows ∙ sym (made-view D); valid = made-valid D (m .least) (m .most) }
 
 -- The users' third demand. From any bytes, after an accepted making and any list of calls, refused ones included.
 pub demand-3 : (b : List ℕ) (h : History) (D : ℕ) → Accepted b (making D) → (calls : List Call) → Agrees b h (making D ∷ calls)

@@ -19,7 +19,7 @@ use Rattle.paths.specs.Send.{Outcome, acknowledged, route-rejected, receive-rej
 use Rattle.table.specs.Layout.{dimensionAt, enablePlace, entryPlace, linkPart, receivePart, putWord, putEntry, putOwner, putReceiver, putEnabled, made}
 use Rattle.table.specs.LayoutContracts.{Within}
 use Rattle.table.specs.View.{view, setEnabled, withoutCircuit, fresh}
-use Rattle.table.specs.Encode.{encode, Bytes}
+use Rattle.table.specs.Encode.{encode, AllBytes, Bytes}
 use Rattle.table.proofs.Encode.{encode-view}
 use Rattle.table.proofs.Encoded.{encode-shown}
 use Rattle.table.proofs.Views.{view-put-enabled}
@@ -33,7 +33,7 @@ use Rattle.ownership.specs.OnTable.{factsOf, stoppedAt, tableStep}
 use Rattle.ownership.proofs.Allowed.{allowed}
 use Rattle.ownership.proofs.Shows.{Fits, view-after-send, sent-fits}
 use Rattle.ownership.proofs.Stops.{none-stops, none-stops-lent, none-stops-length, pass-tests}
-use Rattle.ownership.proofs.TableEffect.{step-encoded}
+use Rattle.ownership.proofs.StepBytes.{step-encoded}
 
 -- one byte written, an entry, the links of a path, a send's marks: bytes stay bytes
 set-bytes : (b : List ℕ) (i x : ℕ) → Bytes b → x < 256 → Bytes (set b i x)
@@ -78,7 +78,7 @@ writtenBy b (opening s c t y v) = bytesAfterSend b (circuitOf s c) s t (sendIn (
 writtenBy b (closing s c) = encode (withoutCircuit (view b) (circuitOf s c))
 writtenBy b (tracing s c buffer) = b
 
-module _ (b : List ℕ) (small : (i : ℕ) → getD b i 0 < 256) (a : Call) (e : stoppedAt b a ≡ 0) where
+module _ (b : List ℕ) (small : AllBytes b) (a : Call) (e : stoppedAt b a ≡ 0) where
   bytes : Bytes b
   bytes = record { long = none-stops-length b a e; small = small }
 

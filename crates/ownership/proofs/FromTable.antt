@@ -7,7 +7,7 @@ use mathlib.Core.List.{List, _∷_, map, Memᴰ·map, Memᴰ·of-map, Memᴰ·ap
 use Prim.Native.Nat.{ℕ, _*_, _^_, _≤_, _<_}
 use native.Mathlib.Omega.{arith}
 use lib.Dec.{eqb, ltb}
-use lib.ListN.{length, getD}
+use lib.ListN.{length}
 use borrow.Author.Tests.{eqb-true, eq-eqb, lt-ltb, not-true}
 use Rattle.common.specs.Lists.{_∈_, keep, from, lowest, Pairwise}
 use Rattle.common.specs.Tests.{refusal}
@@ -21,6 +21,7 @@ use Rattle.paths.specs.Network.{Link, hasLink}
 use Rattle.paths.specs.Permitted.{Permitted}
 use Rattle.paths.proofs.Links.{link-true, true-link}
 use Rattle.table.specs.View.{View, view}
+use Rattle.table.specs.Encode.{AllBytes}
 use Rattle.soundness.specs.Sound.{endFor, CircuitSound, Sound}
 use Rattle.soundness.specs.SoundTest.{pathOf, tableTests}
 use Rattle.soundness.proofs.Soundness.{path-is, link-stands, receive-stands}
@@ -39,7 +40,7 @@ use Rattle.ownership.proofs.Stops.{pass-tests}
 use Rattle.ownership.proofs.OpenCircuits.{open-sound, sound-open}
 use Rattle.ownership.proofs.Applied.{follows-view}
 use Rattle.ownership.proofs.Steps.{table-step, history-step}
-use Rattle.ownership.proofs.TableEffect.{rejected-same}
+use Rattle.ownership.proofs.StepBytes.{rejected-same}
 use Rattle.ownership.proofs.Agreement.{represents-not-stopped, represents-step, represents-agrees}
 
 -- the links out of some ports of some nodes
@@ -213,20 +214,20 @@ module _ (v : View) (sound : Sound v) where
       }
 
 -- Every table that passes the tests of a lent table shows what its history says.
-pub sound-represents : (b : List ℕ) → ((i : ℕ) → getD b i 0 < 256) → refusal (tableTests b) ≡ 0 → Represents b (historyOf (view b))
+pub sound-represents : (b : List ℕ) → AllBytes b → refusal (tableTests b) ≡ 0 → Represents b (historyOf (view b))
 sound-represents b small e =
-    let p = pass-tests b e in record { length = p .0; bytes = small; shows = shows-same (view b) (p .3); valid = table-valid (view b) (p .3) (unfold view in p .1) (unfold view in p .2) }
+    let p = pass-tests b e in record { bytes = record { long = p .0; small = small }; shows = shows-same (view b) (p .3); valid = table-valid (view b) (p .3) (unfold view in p .1) (unfold view in p .2) }
 
 -- So lists of calls agree with that history from there on,
-pub sound-agrees : (b : List ℕ) → ((i : ℕ) → getD b i 0 < 256) → refusal (tableTests b) ≡ 0 → (calls : List Call) → Agrees b (historyOf (view b)) calls
+pub sound-agrees : (b : List ℕ) → AllBytes b → refusal (tableTests b) ≡ 0 → (calls : List Call) → Agrees b (historyOf (view b)) calls
 sound-agrees b small e calls = represents-agrees calls b (historyOf (view b)) (sound-represents b small e)
 
 -- and no call, accepted or refused, leaves a table that the next would refuse as a whole.
-pub keeps-sound : (b : List ℕ) → ((i : ℕ) → getD b i 0 < 256) → refusal (tableTests b) ≡ 0 → (a : Call) → refusal (tableTests (tableStep b a .state)) ≡ 0
+pub keeps-sound : (b : List ℕ) → AllBytes b → refusal (tableTests b) ≡ 0 → (a : Call) → refusal (tableTests (tableStep b a .state)) ≡ 0
 keeps-sound b small e a = represents-not-stopped (tableStep b a .state) _ (represents-step b (historyOf (view b)) (sound-represents b small e) a .covered)
 
 -- What a table shows after a call that no test stops is the update of what it showed: the definition of the bytes says what it seems to say.
-pub shows-update : (b : List ℕ) → ((i : ℕ) → getD b i 0 < 256) → refusal (tableTests b) ≡ 0 → (a : Call) → stoppedAt b a ≡ 0 → view (tableStep b a .state) ≡ updated (view b) a
+pub shows-update : (b : List ℕ) → AllBytes b → refusal (tableTests b) ≡ 0 → (a : Call) → stoppedAt b a ≡ 0 → view (tableStep b a .state) ≡ updated (view b) a
 shows-update b small e a z =
     let f = table-step b a in
     ⊎-elim shown (λ r. ap view (f .refused r) ∙ sym (rejected-same (view b) a (rw (f .result z) at r))) (same? (tableStep b a .result .number) 0)

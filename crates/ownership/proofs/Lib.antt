@@ -15,7 +15,7 @@ pub mod OpenedBy
 pub mod Shows
 pub mod Range
 pub mod Stops
-pub mod TableEffect
+pub mod StepBytes
 pub mod BytesAfter
 pub mod Refused
 pub mod Agreement

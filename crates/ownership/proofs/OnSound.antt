@@ -7,7 +7,7 @@ use mathlib.Core.List.{List, [], _∷_}
 use Prim.Native.Nat.{ℕ, _^_, _<_}
 use native.Mathlib.Omega.{arith}
 use lib.Dec.{eqb, ltb}
-use lib.ListN.{length, getD}
+use lib.ListN.{length}
 use borrow.Author.Tests.{eq-eqb, lt-ltb}
 use Rattle.common.specs.Tests.{test, refusal}
 use Rattle.common.proofs.Tests.{clash, same?, passed, accepted, refusal-before, refusal-after, Avoids, avoids, avoiding, never-answered}
@@ -16,7 +16,7 @@ use Rattle.cube.proofs.Bits.{no-bit-above}
 use Rattle.paths.specs.Send.{Outcome, acknowledged, route-rejected, receive-rejected}
 use Rattle.table.specs.Layout.{tableLength, dimensionAt, enabledAt, ownerAt}
 use Rattle.table.specs.View.{View, view, heldIn}
-use Rattle.table.specs.Encode.{Bytes}
+use Rattle.table.specs.Encode.{AllBytes, Bytes}
 use Rattle.soundness.specs.Sound.{CircuitSound, Sound}
 use Rattle.soundness.specs.SoundTest.{tableTests}
 use Rattle.soundness.proofs.Passing.{answers}
@@ -33,7 +33,7 @@ use Rattle.ownership.proofs.Stops.{lent-both, lent-numbered, none-stops
 use Rattle.ownership.proofs.OpenCircuits.{open-sound, sound-open}
 use Rattle.ownership.proofs.Steps.{table-step}
 use Rattle.cube.proofs.Ports.{most-nodes}
-use Rattle.ownership.proofs.TableEffect.{blocking-again, unblocking-again}
+use Rattle.ownership.proofs.StepBytes.{blocking-again, unblocking-again}
 use Rattle.ownership.proofs.BytesAfter.{writtenBy, written-bytes}
 
 -- what the tests that have passed say of an open
@@ -70,8 +70,7 @@ module _ (b : List ℕ) (s c t y v : ℕ) (e : stoppedAt b (opening s c t y v) �
   open-answers = rw (table-step b (opening s c t y v) .result e) (demand-2 b s t (circuitOf s c) y v (may-open b s c t y v e) _ _ _ _ _ (answer-same _ _ _))
 
   -- The users' second demand of the open call: it says what a send says, in its answer and in every byte.
-  pub open-says : ((i : ℕ) → getD b i 0 < 256)
-      → SendSays b s t (circuitOf s c) y v (gives .number) (hopsOf gives) (receiveOf gives) (scoutsOf gives) (tableStep b (opening s c t y v) .state)
+  pub open-says : AllBytes b → SendSays b s t (circuitOf s c) y v (gives .number) (hopsOf gives) (receiveOf gives) (scoutsOf gives) (tableStep b (opening s c t y v) .state)
   open-says small = rw (sym (written-bytes b small (opening s c t y v) e)) at open-answers
 
 -- On a sound table a send channel has an open circuit exactly where its number stands on a path and a receive channel.
@@ -102,7 +101,7 @@ stopped-three b a e sound =
     lent = lent-both (λ ts. refusal ts ≢ 3) b a (never-answered 3 _ (avoiding 3 _ refl) (λ z. omega arith)) (λ q. answers b .not-sound q sound)
 
 -- Blocking a blocked link, or unblocking an enabled one, succeeds and changes nothing, on any table that passes its tests.
-module _ (b : List ℕ) (small : (i : ℕ) → getD b i 0 < 256) (pass : refusal (tableTests b) ≡ 0) (n p : ℕ) (i : n < 2 ^ dimensionAt b) (l : p < dimensionAt b) where
+module _ (b : List ℕ) (small : AllBytes b) (pass : refusal (tableTests b) ≡ 0) (n p : ℕ) (i : n < 2 ^ dimensionAt b) (l : p < dimensionAt b) where
   node-there : not (ltb n (2 ^ dimensionAt b)) ≡ false
   node-there = ap not (lt-ltb n (2 ^ dimensionAt b) i)
 

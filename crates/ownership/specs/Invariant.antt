@@ -4,13 +4,12 @@ use mathlib.Core.Path.{_≡_}
 use mathlib.Core.Bool.{true}
 use mathlib.Core.List.{List}
 use Prim.Native.Nat.{ℕ, _^_, _≤_, _<_}
-use lib.ListN.{length, getD}
 use Rattle.common.specs.Lists.{_∈_, Pairwise}
 use Rattle.paths.specs.CubeNetwork.{ports}
 use Rattle.paths.specs.Network.{Network, Link}
 use Rattle.paths.specs.Permitted.{Permitted}
-use Rattle.table.specs.Layout.{tableLength}
 use Rattle.table.specs.View.{view}
+use Rattle.table.specs.Encode.{Bytes}
 use Rattle.ownership.specs.History.{Circuit, History, shapeOn, netOn, linksOf, enabledOn}
 use Rattle.ownership.specs.HistoryView.{viewOf}
 
@@ -38,7 +37,6 @@ pub record Valid (h : History) : Type 0 where
 
 -- These bytes represent this history. A list of calls can go on from any such table, however it came to do so.
 pub record Represents (b : List ℕ) (h : History) : Type 0 where
-  pub length : length b ≡ tableLength
-  pub bytes : (i : ℕ) → getD b i 0 < 256
+  pub bytes : Bytes b
   pub shows : view b ≡ viewOf h
   pub valid : Valid h

@@ -7,7 +7,7 @@ use mathlib.Core.List.{List, [], _∷_}
 use Prim.Native.Nat.{ℕ, _≤_, _<_}
 use native.Mathlib.Omega.{arith}
 use lib.Dec.{leb}
-use lib.ListN.{length, getD}
+use lib.ListN.{length}
 use borrow.Author.Tests.{ne-eqb, le-leb, lt-leb}
 use Rattle.common.specs.Tests.{refusal}
 use Rattle.common.proofs.Tests.{refused, passed, accepted}
@@ -15,7 +15,7 @@ use Rattle.cube.specs.Cube.{circuitOf}
 use Rattle.paths.specs.Send.{Outcome, acknowledged, route-rejected, receive-rejected}
 use Rattle.table.specs.Layout.{tableLength, made, putEnabled}
 use Rattle.table.specs.View.{view, withoutCircuit}
-use Rattle.table.specs.Encode.{encode}
+use Rattle.table.specs.Encode.{encode, AllBytes}
 use Rattle.soundness.specs.SoundTest.{pathOf, tracedInto}
 use Rattle.ownership.specs.Calls.{Call, making, blocking, unblocking, opening, closing, tracing, CallResult, refusedWith, answered, callTests, resultOf, After}
 use Rattle.search.specs.PassAnswer.{PassAnswer, pass-answer}
@@ -41,7 +41,7 @@ module _ (b : List ℕ) (a : Call) {n : ℕ} (e : n ≡ stoppedAt b a) where
   pub call-stopped : n ≢ 0 → record { state = b; result = refusedWith n a } ≡ tableStep b a
   call-stopped f = sym (table-step b a .stopped (λ z. f (e ∙ z)) ∙ ap (λ i. record { state = b; result = refusedWith i a }) (sym e))
 
-  pub call-passed : n ≡ 0 → ((i : ℕ) → getD b i 0 < 256) → {b₁ : List ℕ} {g : CallResult} → b₁ ≡ writtenBy b a → g ≡ resultOf (factsOf (view b)) a → record { state = b₁; result = g } ≡ tableStep b a
+  pub call-passed : n ≡ 0 → AllBytes b → {b₁ : List ℕ} {g : CallResult} → b₁ ≡ writtenBy b a → g ≡ resultOf (factsOf (view b)) a → record { state = b₁; result = g } ≡ tableStep b a
   call-passed z small q r = let s = sym e ∙ z in λ i. record { state = (q ∙ sym (written-bytes b small a s)) i; result = (r ∙ sym (table-step b a .result s)) i }
 
 module _ (b : List ℕ) where
@@ -54,25 +54,25 @@ module _ (b : List ℕ) where
     unfolding callTests
     make-dimension e f = call-stopped b (making D) {n = 2} (sym (making-stopped b e D ∙ refused 2 [] (ap not f))) (λ z. omega arith)
 
-    pub make-made : length b ≡ tableLength → ((i : ℕ) → getD b i 0 < 256) → (leb 1 D && leb D 8) ≡ true → {b₁ : List ℕ} → b₁ ≡ made D → done b₁ 0 [] [] ≡ tableStep b (making D)
+    pub make-made : length b ≡ tableLength → AllBytes b → (leb 1 D && leb D 8) ≡ true → {b₁ : List ℕ} → b₁ ≡ made D → done b₁ 0 [] [] ≡ tableStep b (making D)
     unfolding callTests writtenBy resultOf
     make-made e small f q = call-passed b (making D) {n = 0} (sym (making-stopped b e D ∙ passed 2 [] (ap not f) ∙ accepted)) refl small q refl
 
   -- a block, an unblock and a close
-  pub call-blocks : (n p : ℕ) {m : ℕ} → m ≡ stoppedAt b (blocking n p) → m ≡ 0 → ((i : ℕ) → getD b i 0 < 256) → {b₁ : List ℕ} → b₁ ≡ putEnabled b n p false → done b₁ 0 [] [] ≡ tableStep b (blocking n p)
+  pub call-blocks : (n p : ℕ) {m : ℕ} → m ≡ stoppedAt b (blocking n p) → m ≡ 0 → AllBytes b → {b₁ : List ℕ} → b₁ ≡ putEnabled b n p false → done b₁ 0 [] [] ≡ tableStep b (blocking n p)
   unfolding writtenBy resultOf
   call-blocks n p e z small q = call-passed b (blocking n p) e z small q refl
 
-  pub call-unblocks : (n p : ℕ) {m : ℕ} → m ≡ stoppedAt b (unblocking n p) → m ≡ 0 → ((i : ℕ) → getD b i 0 < 256) → {b₁ : List ℕ} → b₁ ≡ putEnabled b n p true → done b₁ 0 [] [] ≡ tableStep b (unblocking n p)
+  pub call-unblocks : (n p : ℕ) {m : ℕ} → m ≡ stoppedAt b (unblocking n p) → m ≡ 0 → AllBytes b → {b₁ : List ℕ} → b₁ ≡ putEnabled b n p true → done b₁ 0 [] [] ≡ tableStep b (unblocking n p)
   unfolding writtenBy resultOf
   call-unblocks n p e z small q = call-passed b (unblocking n p) e z small q refl
 
-  pub call-closes : (s c : ℕ) {m : ℕ} → m ≡ stoppedAt b (closing s c) → m ≡ 0 → ((i : ℕ) → getD b i 0 < 256) → {k : ℕ} → k ≡ circuitOf s c → {b₁ : List ℕ} → b₁ ≡ encode (withoutCircuit (view b) k) → done b₁ 0 [] [] ≡ tableStep b (closing s c)
+  pub call-closes : (s c : ℕ) {m : ℕ} → m ≡ stoppedAt b (closing s c) → m ≡ 0 → AllBytes b → {k : ℕ} → k ≡ circuitOf s c → {b₁ : List ℕ} → b₁ ≡ encode (withoutCircuit (view b) k) → done b₁ 0 [] [] ≡ tableStep b (closing s c)
   unfolding writtenBy resultOf
   call-closes s c e z small q r = call-passed b (closing s c) e z small (r ∙ ap (λ i. encode (withoutCircuit (view b) i)) q) refl
 
   -- an open: what the search comes to is what it gives
-  pub call-opens : (s c t y v : ℕ) {m : ℕ} → m ≡ stoppedAt b (opening s c t y v) → m ≡ 0 → ((i : ℕ) → getD b i 0 < 256) → {k : ℕ} → k ≡ circuitOf s c → {x h r n : ℕ} {b₁ : List ℕ} → pass-answer x h r n b₁ ≡ sends b s t k y v
+  pub call-opens : (s c t y v : ℕ) {m : ℕ} → m ≡ stoppedAt b (opening s c t y v) → m ≡ 0 → AllBytes b → {k : ℕ} → k ≡ circuitOf s c → {x h r n : ℕ} {b₁ : List ℕ} → pass-answer x h r n b₁ ≡ sends b s t k y v
       → done b₁ x (h ∷ r ∷ n ∷ []) [] ≡ tableStep b (opening s c t y v)
   unfolding writtenBy resultOf factsOf sends sendAnswer sendIn
   call-opens s c t y v e z small q g = ap shown (g ∙ ap (λ i. sends b s t i y v) q) ∙ shown-same (sendIn (view b) s t y v .outcome) _ _ ∙ call-passed b (opening s c t y v) e z small refl refl
@@ -86,7 +86,7 @@ module _ (b : List ℕ) where
       shown-same receive-rejected n b₁ = unfold answered answerOfOutcome in refl
 
   -- a trace
-  pub call-traces : (s c : ℕ) (buffer : List ℕ) {m : ℕ} → m ≡ stoppedAt b (tracing s c buffer) → m ≡ 0 → ((i : ℕ) → getD b i 0 < 256) → {k : ℕ} → k ≡ circuitOf s c → {h : ℕ} {after : List ℕ}
+  pub call-traces : (s c : ℕ) (buffer : List ℕ) {m : ℕ} → m ≡ stoppedAt b (tracing s c buffer) → m ≡ 0 → AllBytes b → {k : ℕ} → k ≡ circuitOf s c → {h : ℕ} {after : List ℕ}
       → h ≡ length (pathOf (view b) k) → after ≡ tracedInto (pathOf (view b) k) buffer → done b 0 (h ∷ []) (after ∷ []) ≡ tableStep b (tracing s c buffer)
   unfolding writtenBy resultOf factsOf
   call-traces s c buffer e z small q l w = call-passed b (tracing s c buffer) e z small refl (rw (l, w, q))

@@ -30,11 +30,15 @@ entryBytes f i (suc k) = f (i / 8) (i % 8) % 256 ∷ f (i / 8) (i % 8) / 256 ∷
 unfoldable pub encode : View → List ℕ
 encode v = v .dimension ∷ maskBytes (v .enabled) ++ entryBytes (v .owner) 0 2048 ++ entryBytes (v .receiver) 0 2048 ++ maskBytes (v .armed)
 
+-- every number of a list is a byte
+abbrev pub AllBytes : List ℕ → Type 0
+AllBytes b = (i : ℕ) → getD b i 0 < 256
+
 -- Where `view` and `encode` are inverse to each other: on the bytes of a table, and on the views that have room in them, with a dimension of one byte, circuit
 -- numbers of two, and nothing outside 256 nodes and 8 ports or channels.
 pub record Bytes (b : List ℕ) : Type 0 where
   pub long : length b ≡ tableLength
-  pub small : (i : ℕ) → getD b i 0 < 256
+  pub small : AllBytes b
 
 pub record EntriesFit (f : ℕ → ℕ → ℕ) : Type 0 where
   pub small : (n k : ℕ) → f n k < 65536

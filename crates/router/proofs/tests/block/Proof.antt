@@ -1,4 +1,4 @@
--- `router::stopped::block` meets its contract: the table, the node, the port, the link.
+-- `router::tests::block` meets its contract: the table, the node, the port, the link.
 -- Assumes nothing.
 use borrow.Author.Needs.{needs}
 use Rattle.ownership.specs.Calls.{callTests}

@@ -1,4 +1,4 @@
--- `router::stopped::close` meets its contract: the table, the node, the channel, the circuit.
+-- `router::tests::close` meets its contract: the table, the node, the channel, the circuit.
 -- Assumes nothing.
 use borrow.Author.Needs.{needs}
 use Rattle.ownership.specs.Calls.{callTests}

@@ -1,4 +1,4 @@
--- `router::stopped::has_circuit` meets its contract: the circuit of the channel has a path or not.
+-- `router::tests::has_circuit` meets its contract: the circuit of the channel has a path or not.
 -- Assumes nothing.
 use mathlib.Core.Path.{_∙_}
 use Rattle.ownership.proofs.Allowed.{channel-small}

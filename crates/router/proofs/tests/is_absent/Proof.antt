@@ -1,4 +1,4 @@
--- `router::stopped::is_absent` meets its contract: a node is below the count of nodes or not.
+-- `router::tests::is_absent` meets its contract: a node is below the count of nodes or not.
 -- Assumes nothing.
 use mathlib.Core.Path.{ap}
 use mathlib.Core.Bool.{not}

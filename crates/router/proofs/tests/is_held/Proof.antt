@@ -1,4 +1,4 @@
--- `router::stopped::is_held` meets its contract: the owner of the link is 0 or not.
+-- `router::tests::is_held` meets its contract: the owner of the link is 0 or not.
 -- Assumes nothing.
 use mathlib.Core.Path.{ap}
 use mathlib.Core.Bool.{not}

@@ -1,4 +1,4 @@
--- `router::stopped::no_port` meets its contract: a port is below the dimension or not.
+-- `router::tests::no_port` meets its contract: a port is below the dimension or not.
 -- Assumes nothing.
 use mathlib.Core.Path.{ap}
 use mathlib.Core.Bool.{not}

@@ -1,4 +1,4 @@
--- `router::stopped::no_type` meets its contract: the type is 0, 4 or another.
+-- `router::tests::no_type` meets its contract: the type is 0, 4 or another.
 -- Assumes nothing.
 use borrow.Author.Tests.{eq-eqb, ne-eqb}
 use Rattle.router.proofs.tests.no_type.Statement.{statement}

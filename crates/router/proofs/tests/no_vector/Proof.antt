@@ -1,4 +1,4 @@
--- `router::stopped::no_vector` meets its contract: a vector is zero, below the count of nodes or not.
+-- `router::tests::no_vector` meets its contract: a vector is zero, below the count of nodes or not.
 -- Assumes nothing.
 use mathlib.Core.Path.{ap}
 use mathlib.Core.Bool.{not}

@@ -1,4 +1,4 @@
--- `router::stopped::one_is_absent` meets its contract: the source is absent, or else it depends on the target.
+-- `router::tests::one_is_absent` meets its contract: the source is absent, or else it depends on the target.
 -- Assumes nothing.
 use mathlib.Core.Path.{sym, _∙_}
 use Rattle.common.proofs.Tests.{or-left}

@@ -1,4 +1,4 @@
--- `router::stopped::open` meets its contract: the table, both nodes, the channel, the type, the vector, the circuit.
+-- `router::tests::open` meets its contract: the table, both nodes, the channel, the type, the vector, the circuit.
 -- Assumes nothing.
 use borrow.Author.Needs.{needs}
 use Rattle.ownership.specs.Calls.{callTests}

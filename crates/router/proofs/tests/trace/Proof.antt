@@ -1,4 +1,4 @@
--- `router::stopped::trace` meets its contract: the table, the node, the channel, the circuit, the buffer.
+-- `router::tests::trace` meets its contract: the table, the node, the channel, the circuit, the buffer.
 -- Assumes nothing.
 use borrow.Author.Needs.{needs}
 use Rattle.ownership.specs.Calls.{callTests}

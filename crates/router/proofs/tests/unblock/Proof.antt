@@ -1,4 +1,4 @@
--- `router::stopped::unblock` meets its contract: the table, the node, the port.
+-- `router::tests::unblock` meets its contract: the table, the node, the port.
 -- Assumes nothing.
 use borrow.Author.Needs.{needs}
 use Rattle.ownership.specs.Calls.{callTests}
