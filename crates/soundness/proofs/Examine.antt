@@ -255,7 +255,8 @@ module _ (v : View) (n k : ℕ) {D c nodes : ℕ} (d : D ≡ v .dimension) (held
   pub receive-free : n < nodes → c ≡ 0 → true ≡ receiveTest v n k
   receive-free l z = rw (← present l, eq-eqb c 0 z)
 
-  pub receive-ends : {before after : List ℕ} {answer : Bool} → n < nodes → c ≢ 0 → v .armed n k ≡ true → Reached v c n before after answer → answer ≡ receiveTest v n k
+  pub receive-ends : {before after : List ℕ} {answer : Bool} → n < nodes → c ≢ 0 → v .armed n k ≡ true → Reached v c n before after answer
+      → answer ≡ receiveTest v n k
   receive-ends l z a x = x .ends-here ∙ rw (← present l, ne-eqb c 0 z, a)
 
   -- what the code finds of the channel, and what it answers for it
@@ -269,7 +270,8 @@ module _ (v : View) (n k : ℕ) {D c nodes : ℕ} (d : D ≡ v .dimension) (held
 
   pub channel-absent : {m : List ℕ} → nodes ≤ n → c ≢ 0 → ReceivesDecided v n (n + 1) k (k + 1) m m false
   channel-absent l z =
-      received-no (one-fails v n k (sym (receive-absent l) ∙ ap (not (v .armed n k) &&_) (ne-eqb c 0 z) ∙ and-false (not (v .armed n k)))) (omega arith) (omega arith) (omega arith) (omega arith)
+      let fails : receiveTest v n k ≡ false = sym (receive-absent l) ∙ ap (not (v .armed n k) &&_) (ne-eqb c 0 z) ∙ and-false (not (v .armed n k)) in
+      received-no (one-fails v n k fails) (omega arith) (omega arith) (omega arith) (omega arith)
 
   pub channel-unarmed : {m : List ℕ} → n < nodes → c ≢ 0 → v .armed n k ≡ false → ReceivesDecided v n (n + 1) k (k + 1) m m false
   channel-unarmed l z a = received-no (one-fails v n k (rw (← present l, ne-eqb c 0 z, a))) (omega arith) (omega arith) (omega arith) (omega arith)

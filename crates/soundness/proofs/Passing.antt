@@ -16,7 +16,8 @@ use Rattle.common.specs.Lists.{every}
 use Rattle.common.proofs.Every.{at, all}
 use Rattle.cube.specs.Bits.{has}
 use Rattle.cube.proofs.Bits.{high-has, zero-has, no-ports}
-use Rattle.table.specs.Layout.{dimensionAt, maskAt, enabledAt, enableBits, armedAt, armBits, ownerAt, receiverAt, entryAt, inTable, tableLength, armPart, armPlace}
+use Rattle.table.specs.Layout.{tableLength, inTable, dimensionAt, maskAt, enabledAt, enableBits, armPart, armPlace, armedAt, armBits}
+use Rattle.table.specs.Layout.{entryAt, ownerAt, receiverAt}
 use Rattle.table.specs.LayoutContracts.{enableLimit, EnablesFit, ArmsFit}
 use Rattle.table.specs.View.{View, view}
 use Rattle.table.proofs.Entries.{mask-has}
@@ -62,7 +63,9 @@ module _ (b : List ℕ) {D : ℕ} (d : D ≡ dimensionAt b) where
     where
       go : (n k : ℕ) → (n₀ ≤ n) × (n < n₁) × (0 ≤ k) × (k < 8) → (x : Bool) → ltb n (2 ^ D) ≡ x → receiveTest (view b) n k ≡ true
       go n k i true e = sym (receive-free (view b) n k d (sym (free n k (i .0) (i .1) (i .3))) refl (ltb-true n _ e) refl)
-      go n k i false e = let l = ltb-false n _ e in sym (receive-absent (view b) n k d (sym (free n k (i .0) (i .1) (i .3))) refl l) ∙ and (ap not (unarmed b D n k fit l)) refl
+      go n k i false e =
+          let l = ltb-false n _ e in
+          sym (receive-absent (view b) n k d (sym (free n k (i .0) (i .1) (i .3))) refl l) ∙ and (ap not (unarmed b D n k fit l)) refl
 
 -- the links of no node, of some more, and what a loop over groups of them answers
 module _ (v : View) where
@@ -117,7 +120,8 @@ module _ (v : View) where
 pub arms-fail : (b : List ℕ) {D : ℕ} → D ≡ dimensionAt b → ((i : ℕ) → getD b i 0 < 256) → (ArmsFit b D → ⊥) → false ≡ soundTest (view b)
 unfolding ArmsFit armBits armedAt ReceivesPass view
 arms-fail b {D} d small h =
-    some-fails (view b) (λ pass. h (λ n l i. no-ports 8 (armBits b n) (small (armPlace n)) (λ k j. quiet n k l i j (pass .1 n k (omega arith) i (omega arith) j))))
+    some-fails (view b) (λ pass. h (λ n l i.
+    no-ports 8 (armBits b n) (small (armPlace n)) (λ k j. quiet n k l i j (pass .1 n k (omega arith) i (omega arith) j))))
   where
     quiet : (n k : ℕ) → 2 ^ D ≤ n → n < 256 → k < 8 → receiveTest (view b) n k ≡ true → has (armBits b n) k ≡ false
     quiet n k l i j t = sym (mask-has b n k i j armPart) ∙ not-true _ (both (not (armedAt b n k)) _ (receive-absent (view b) n k d refl refl l ∙ t) .0)

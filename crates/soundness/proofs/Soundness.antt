@@ -151,7 +151,8 @@ module _ (v : View) where
 
   sound-receive : Sound v → (n k : ℕ) → receiveTest v n k ≡ true
   unfolding receiveTest
-  sound-receive sound n k = ⊎-elim (λ z. free-receive n k z (sound .absent-armed n k)) (λ h. held h (ltb n (2 ^ v .dimension)) refl) (same? (v .receiver n k) 0)
+  sound-receive sound n k =
+      ⊎-elim (λ z. free-receive n k z (sound .absent-armed n k)) (λ h. held h (ltb n (2 ^ v .dimension)) refl) (same? (v .receiver n k) 0)
     where
       held : v .receiver n k ≢ 0 → (b : Bool) → ltb n (2 ^ v .dimension) ≡ b → receiveTest v n k ≡ true
       held h false e = absurd (h (sound .absent-receive n k (λ l. clash (lt-ltb n _ l) e)))
@@ -199,7 +200,8 @@ module _ (v : View) where
     held-receive : (n k : ℕ) → v .receiver n k ≡ c → (v .armed n k ≡ true) × (reaches v c ≡ true) × (n ≡ endFor v c (pathOf v c))
     unfolding receiveTest
     held-receive n k x =
-        let a = both (v .armed n k) _ (passing (ltb n (2 ^ v .dimension)) (rw (x, ne-eqb c 0 some, and-false (not (v .armed n k))) at (receives-pass n k))) in
+        let t = rw (x, ne-eqb c 0 some, and-false (not (v .armed n k))) at (receives-pass n k) in
+        let a = both (v .armed n k) _ (passing (ltb n (2 ^ v .dimension)) t) in
         let b = both (reaches v c) _ (a .1) in
         (a .0, b .0, eqb-true n _ (b .1))
 

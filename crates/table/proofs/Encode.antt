@@ -12,7 +12,8 @@ use borrow.Author.Tests.{eqb-true}
 use Rattle.common.specs.Lists.{from}
 use Rattle.common.proofs.Every.{at}
 use Rattle.cube.specs.Bits.{has}
-use Rattle.table.specs.Layout.{tableLength, dimensionAt, maskPlace, maskAt, enablePart, armPart, enabledAt, armedAt, entryPlace, entryAt, linkPart, receivePart, ownerAt, receiverAt}
+use Rattle.table.specs.Layout.{tableLength, dimensionAt, maskPlace, maskAt, enablePart, armPart, enabledAt, armedAt}
+use Rattle.table.specs.Layout.{entryPlace, entryAt, linkPart, receivePart, ownerAt, receiverAt}
 use Rattle.table.specs.View.{view}
 use Rattle.table.specs.Encode.{bitsFrom, maskByte, maskBytes, entryBytes, encode}
 use Rattle.table.proofs.Entries.{within, mask-has}
@@ -33,7 +34,8 @@ module _ (b : List ℕ) (small : (i : ℕ) → getD b i 0 < 256) where
   mask-byte : (part n : ℕ) → n < 256 → maskByte (maskAt part b) n ≡ getD b (part + n) 0
   unfolding maskByte
   mask-byte part n h =
-      bits-same (maskAt part b n) (has (getD b (maskPlace part n) 0)) 0 8 (λ p l. mask-has b n p h (omega arith) part) ∙ byte-bits _ (small (maskPlace part n))
+      bits-same (maskAt part b n) (has (getD b (maskPlace part n) 0)) 0 8 (λ p l. mask-has b n p h (omega arith) part)
+      ∙ byte-bits _ (small (maskPlace part n))
 
   -- k such bytes from node n on, and what lies behind them
   masks : (part n k : ℕ) → n + k ≤ 256 → part + 256 ≤ length b → map (maskByte (maskAt part b)) (from n k) ++ drop (part + (n + k)) b ≡ drop (part + n) b
@@ -75,7 +77,8 @@ pub encode-view : (b : List ℕ) → length b ≡ tableLength → ((i : ℕ) →
 unfolding encode maskBytes view dimensionAt ownerAt receiverAt enabledAt armedAt
 encode-view b l small =
     ap (getD b 0 0 ∷_)
-    (ap ((front ++ receives) ++_) (sym (append-nil arms) ∙ ap (arms ++_) (sym (drop-of-length-le b {i = tableLength} (omega arith))) ∙ masks b small armPart 0 256 (lit≤ tt) (omega arith))
+    (ap ((front ++ receives) ++_) (sym (append-nil arms) ∙ ap (arms ++_) (sym (drop-of-length-le b {i = tableLength} (omega arith)))
+    ∙ masks b small armPart 0 256 (lit≤ tt) (omega arith))
     ∙ append-assoc front receives (drop 8449 b) ∙ ap (front ++_) (entries b small receivePart 0 2048 (lit≤ tt) (omega arith))
     ∙ append-assoc enables links (drop 4353 b) ∙ ap (enables ++_) (entries b small linkPart 0 2048 (lit≤ tt) (omega arith))
     ∙ masks b small enablePart 0 256 (lit≤ tt) (omega arith))

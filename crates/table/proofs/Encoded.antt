@@ -116,7 +116,8 @@ masks-show f outside part front back e n k = go (inTable n k) refl
     byte h =
         let place : part + n ≡ length front + n = omega (arith, e) in
         ap (λ j. getD (front ++ (maskBytes f ++ back)) j 0) place ∙ getD-append-add front (maskBytes f ++ back) n 0
-        ∙ List·getD-append (maskBytes f) back 0 n (omega (arith, masks-length f)) ∙ (unfold maskBytes maskByte in mapped-at (maskByte f) 0 256 n h ∙ ap (maskByte f) (zero-add n))
+        ∙ List·getD-append (maskBytes f) back 0 n (omega (arith, masks-length f))
+        ∙ (unfold maskBytes maskByte in mapped-at (maskByte f) 0 256 n h ∙ ap (maskByte f) (zero-add n))
 
     go : (x : Bool) → inTable n k ≡ x → x && has (getD (front ++ (maskBytes f ++ back)) (maskPlace part n) 0) k ≡ f n k
     go true t = let r = inside n k t in ap (λ x. has x k) (byte (r .0)) ∙ bits-at (f n) 0 8 k (omega arith) (omega arith)

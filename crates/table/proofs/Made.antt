@@ -13,7 +13,8 @@ use Rattle.common.proofs.Every.{at₂}
 use Rattle.cube.specs.Bits.{has}
 use Rattle.cube.proofs.Bits.{zero-has}
 use Rattle.cube.proofs.Ports.{most-nodes, below-256}
-use Rattle.table.specs.Layout.{tableLength, inTable, dimensionAt, armPlace, entryPlace, linkPart, receivePart, wordAt, maskAt, enabledAt, armedAt, entryAt, ownerAt, receiverAt, made}
+use Rattle.table.specs.Layout.{tableLength, inTable, dimensionAt, armPlace, maskAt, enabledAt, armedAt, made}
+use Rattle.table.specs.Layout.{entryPlace, linkPart, receivePart, wordAt, entryAt, ownerAt, receiverAt}
 use Rattle.table.specs.View.{view, fresh}
 use Rattle.table.specs.Encode.{Bytes}
 use Rattle.table.proofs.Entries.{within}
@@ -96,7 +97,8 @@ made-bytes D h = record { long = long; small = small }
     long : length (made D) ≡ tableLength
     long =
         unfold made in
-        ap suc (length-append (replicate (2 ^ D) (2 ^ D - 1)) (replicate (8704 - 2 ^ D) 0) ∙ ap₂ _+_ (length-replicate (2 ^ D) (2 ^ D - 1)) (length-replicate (8704 - 2 ^ D) 0) ∙ omega (arith, nodes))
+        ap suc (length-append (replicate (2 ^ D) (2 ^ D - 1)) (replicate (8704 - 2 ^ D) 0)
+        ∙ ap₂ _+_ (length-replicate (2 ^ D) (2 ^ D - 1)) (length-replicate (8704 - 2 ^ D) 0) ∙ omega (arith, nodes))
 
     either : (x : Bool) → cond x (2 ^ D - 1) 0 < 256
     either true = omega (arith, nodes)

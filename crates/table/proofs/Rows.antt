@@ -87,4 +87,5 @@ module _ (b : List ℕ) (n c i : ℕ) (h : n < 256) where
   channels-available free armed z e r a =
       lowest-same (has (bitAnd free armed)) _ 8 0 (λ k g l.
       has-and free armed k ∙ and-comm (has free k) (has armed k)
-      ∙ ap₂ _&&_ (ap (λ x. has x k) a ∙ sym (mask-has b n k h l armPart)) (r .bits k l ∙ entry-test receivePart k e l ∙ ap (eqb (entryAt receivePart b n k)) z))
+      ∙ ap₂ _&&_ (ap (λ x. has x k) a ∙ sym (mask-has b n k h l armPart))
+      (r .bits k l ∙ entry-test receivePart k e l ∙ ap (eqb (entryAt receivePart b n k)) z))

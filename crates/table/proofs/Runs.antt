@@ -50,10 +50,16 @@ enables-fit b D nodes x y m g h f z n l = go (ltb n (2 ^ D)) refl
 -- no channel is armed from the node on that the cube lacks first
 pub arms-fit : (b : List ℕ) (D nodes x : ℕ) → nodes ≡ 2 ^ D → nodes ≤ 256 → RunOr b (armPart + nodes) (256 - nodes) x → Decides (ArmsFit b D) (eqb x 0)
 unfolding ArmsFit armBits
-arms-fit b D nodes x m most g = record { holds = λ e n l h. none n (omega (arith, m, l)) h (eqb-true x 0 e); fails = λ e fit. eqb-false x 0 e (g .zero (λ j h. rw (place j) (fit (nodes + j) (omega (arith, m)) (omega arith)))) }
+arms-fit b D nodes x m most g =
+    record {
+      holds = λ e n l h. none n (omega (arith, m, l)) h (eqb-true x 0 e);
+      fails = λ e fit. eqb-false x 0 e (g .zero (λ j h. rw (place j) (fit (nodes + j) (omega (arith, m)) (omega arith))));
+    }
   where
     place : (j : ℕ) → armPart + nodes + j ≡ armPart + (nodes + j)
     place j = omega arith
 
     none : (n : ℕ) → nodes ≤ n → n < 256 → x ≡ 0 → getD b (armPart + n) 0 ≡ 0
-    none n l h z = let on : armPart + nodes + (n - nodes) ≡ armPart + n = omega arith in rw on at (or-bytes-zero b (armPart + nodes) (256 - nodes) x g z (n - nodes) (omega arith))
+    none n l h z =
+        let on : armPart + nodes + (n - nodes) ≡ armPart + n = omega arith in
+        rw on at (or-bytes-zero b (armPart + nodes) (256 - nodes) x g z (n - nodes) (omega arith))

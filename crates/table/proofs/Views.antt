@@ -113,7 +113,9 @@ module _ (part : ℕ) (b : List ℕ) (n k c : ℕ) (i : n < 256) (l : k < 8) whe
       go : (x : Bool) → inTable m q ≡ x → x && has (getD (putWord b (entryPlace part n k) c) (maskPlace part′ m) 0) q ≡ x && has (getD b (maskPlace part′ m) 0) q
       go true e =
           let r = inside m q e in
-          ap (λ y. has y q) (byte-apart b (entryPlace part n k) c (maskPlace part′ m) (λ z. ⊎-elim (λ g. omega arith) (λ g. omega arith) h) (λ z. ⊎-elim (λ g. omega arith) (λ g. omega arith) h))
+          ap (λ y. has y q)
+          (byte-apart b (entryPlace part n k) c (maskPlace part′ m) (λ z. ⊎-elim (λ g. omega arith) (λ g. omega arith) h)
+          (λ z. ⊎-elim (λ g. omega arith) (λ g. omega arith) h))
       go false e = refl
 
 -- What the table shows after a link or a receive channel is given to a circuit.
@@ -174,7 +176,9 @@ module _ (part : ℕ) (b : List ℕ) (n p : ℕ) (on : Bool) (i : n < 256) (l : 
       go : (x : Bool) → inTable m q ≡ x → cond x (wordAt (putMask part b n p on) (entryPlace part′ m q)) 0 ≡ cond x (wordAt b (entryPlace part′ m q)) 0
       go true e =
           let r = inside m q e in
-          rw (byte-off (entryPlace part′ m q) (λ z. ⊎-elim (λ g. omega arith) (λ g. omega arith) h), byte-off (entryPlace part′ m q + 1) (λ z. ⊎-elim (λ g. omega arith) (λ g. omega arith) h))
+          let low = byte-off (entryPlace part′ m q) (λ z. ⊎-elim (λ g. omega arith) (λ g. omega arith) h) in
+          let high = byte-off (entryPlace part′ m q + 1) (λ z. ⊎-elim (λ g. omega arith) (λ g. omega arith) h) in
+          rw (low, high)
       go false e = refl
 
 -- What the table shows after a link is enabled or not, or a channel armed or not.

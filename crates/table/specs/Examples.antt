@@ -1,7 +1,7 @@
--- "Circuit numbers take two bytes, low byte first. Rows run node by node.": computed of a circuit number that needs both its bytes; and armed channels.
--- Circuit 1604 is 6 · 256 + 68. It holds the link out of port 5 of node 200 and receive channel 6 of node 232. The first stands behind 1 + 256 bytes, 200 rows
--- of 16 and 5 entries of 2, at place 3,467; the second behind 1 + 256 + 4,096 bytes, 232 rows and 6 entries, at place 8,077. Of node 232 the channels 6 and 7
--- are armed: 64 + 128, behind 1 + 256 + 4,096 + 4,096 bytes and 232 more, at place 8,681.
+-- "Circuit numbers take two bytes, low byte first. Rows run node by node.": computed of a circuit number that needs both its bytes.
+-- Circuit 1604 is 6 · 256 + 68. It holds the link out of port 5 of node 200 and receive channel 6 of node 232. The first stands behind 1 + 256 bytes,
+-- 200 rows of 16 and 5 entries of 2, at place 3,467; the second behind 1 + 256 + 4,096 bytes, 232 rows and 6 entries, at place 8,077.
+-- "a mask of armed channels per node": of node 232 the channels 6 and 7, so 64 + 128, behind 1 + 256 + 4,096 + 4,096 bytes and 232 more, at place 8,681.
 -- Assumes nothing.
 use mathlib.Core.Path.{_≡_, refl}
 use mathlib.Core.Bool.{true, false}

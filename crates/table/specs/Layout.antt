@@ -1,5 +1,5 @@
--- Document 01, "The cube and its table", and document 02, (a): where each value lies in the 8,705 bytes. No other definition knows an offset, and no code but
--- layout.rt.
+-- Document 01, "The cube and its table", and document 02, (a): where each value lies in the 8,705 bytes. No other definition knows an offset,
+-- and no code but layout.rt.
 -- Assumes nothing.
 use mathlib.Core.Bool.{Bool, cond, _&&_}
 use mathlib.Core.List.{List, _∷_, _++_}
@@ -94,7 +94,7 @@ ownerAt b n p = entryAt linkPart b n p
 unfoldable pub receiverAt : List ℕ → ℕ → ℕ → ℕ
 receiverAt b n k = entryAt receivePart b n k
 
--- the bytes after one of these is written: a link or a receive channel held by a circuit (0: by nobody), a link enabled or not, a channel armed or not
+-- the bytes after one of these is written: a link or receive channel held by a circuit (0: by nobody), a link enabled or not, a channel armed or not
 unfoldable pub putEntry : ℕ → List ℕ → ℕ → ℕ → ℕ → List ℕ
 putEntry part b n k c = putWord b (entryPlace part n k) c
 
@@ -117,7 +117,7 @@ putArmed b n k on = putMask armPart b n k on
 unfoldable pub filled : List ℕ → ℕ → ℕ → ℕ → List ℕ
 filled b i j x = take i b ++ replicate (j - i) x ++ drop j b
 
--- "Making a table gives dimension D, all its links enabled, nothing held", and "A made table has none armed": D, the D bits of each of its 2^D nodes, and
--- nothing else
+-- "Making a table gives dimension D, all its links enabled, nothing held", and "A made table has none armed": D, the D bits of each of its 2^D nodes,
+-- and nothing else
 unfoldable pub made : ℕ → List ℕ
 made D = D ∷ replicate (2 ^ D) (2 ^ D - 1) ++ replicate (tableLength - 1 - 2 ^ D) 0

@@ -1,5 +1,5 @@
--- What a table shows, whatever the layout of its bytes: its dimension, which links are enabled, who holds links and receive channels, and which of these are
--- armed.
+-- What a table shows, whatever the layout of its bytes: its dimension, which links are enabled, who holds links and receive channels, and which of
+-- these channels are armed.
 -- It is changed only through the functions below.
 -- Assumes nothing.
 use mathlib.Core.Bool.{Bool, false, cond, not, _&&_}

@@ -7,7 +7,8 @@ ghost use lib.ListN.{length, getD, set};
 ghost use Rattle.common.specs.Decides.{Decides};
 ghost use Rattle.common.specs.Lists.{lowest};
 ghost use Rattle.cube.specs.Bits.{has, withBit};
-ghost use Rattle.table.specs.Layout.{tableLength, enableBits, wordAt, putWord, enablePlace, armPlace, linkPlace, receivePlace, dimensionAt, enabledAt, armedAt, ownerAt, receiverAt, putOwner, putReceiver, putEnabled, putArmed, filled, made};
+ghost use Rattle.table.specs.Layout.{tableLength, wordAt, putWord, enablePlace, armPlace, linkPlace, receivePlace, enableBits};
+ghost use Rattle.table.specs.Layout.{dimensionAt, enabledAt, ownerAt, receiverAt, armedAt, putEnabled, putOwner, putReceiver, putArmed, filled, made};
 ghost use Rattle.table.specs.LayoutContracts.{Within, RowVector, rowCount, HeldBy, RunOr, EnablesFit, ArmsFit};
 ghost use Rattle.table.specs.View.{view, linksHeld, channelsHeld, lowestChannel};
 use cube::Circuit;
@@ -123,7 +124,7 @@ pub fn enable_bits(t: &[u8], n: Node) -> u16
     wide(t[enable_place(n)])
 }
 
-// The or of some bytes: none of them is above it, so all are 0 where it is, and it is where all are. It has no early exit, so that many can be read in one go.
+// The or of some bytes: none of them is above it, and it is 0 where all of them are. It has no early exit, so that many can be read in one go.
 fn or_bytes(t: &[u8], from: usize, count: usize) -> u8
     requires { ⌜ from + count ≤ length (now t) ⌝ }
     ensures { λ r. ⌜ RunOr (now (t .entry)) from count r ⌝ }

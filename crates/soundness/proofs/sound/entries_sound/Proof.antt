@@ -17,7 +17,8 @@ returns c =
     let a = c .before in
     let k = a .before in
     let s = k .before in
-    arms-fail (s .args .t .now) (s .pre .stored) (λ i. omega (arith, k .shared-slice-known .given i)) (a .arms-fit .ensures .fails (not-true _ (c .if1 .taken)))
+    arms-fail (s .args .t .now) (s .pre .stored) (λ i. omega (arith, k .shared-slice-known .given i))
+    (a .arms-fit .ensures .fails (not-true _ (c .if1 .taken)))
 
 enables-fit-requires : tie.Need-enables-fit-requires
 enables-fit-requires c κs = search needs

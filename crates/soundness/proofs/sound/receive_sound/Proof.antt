@@ -16,7 +16,8 @@ returns : tie.Need-returns
 returns c =
     let o = c .before .before in
     let s = o .before .before .before in
-    unfold view in channel-free _ _ _ (s .pre .1 .usable .stored) (o .receiver .ensures) refl (c .if1 .taken) (λ l. unarmed _ _ _ _ (s .pre .1 .arms) l)
+    unfold view in
+    channel-free _ _ _ (s .pre .1 .usable .stored) (o .receiver .ensures) refl (c .if1 .taken) (λ l. unarmed _ _ _ _ (s .pre .1 .arms) l)
 
 node-count-requires : tie.Need-node-count-requires
 node-count-requires c κs = search needs
@@ -27,7 +28,9 @@ returns-2 c =
     let l = m .before in
     let o = l .before .before in
     let s = o .before .before .before in
-    unfold view in channel-absent _ _ _ (s .pre .1 .usable .stored) (o .receiver .ensures) (m .node-count .ensures .value) (omega (arith, c .if2 .taken)) (l .if1 .left)
+    unfold view in
+    channel-absent _ _ _ (s .pre .1 .usable .stored) (o .receiver .ensures) (m .node-count .ensures .value)
+    (omega (arith, c .if2 .taken)) (l .if1 .left)
 
 is-armed-requires : tie.Need-is-armed-requires
 is-armed-requires c κs = search needs

@@ -26,8 +26,10 @@ add-n c = omega arith
 receives-of-requires : tie.Need-receives-of-requires Inv-loop μ-loop
 receives-of-requires c κs =
     let l = c .before .before in
-    let s = l .before .before .before in
-    (record { bytes = s .pre .1 .usable .bytes; node = omega (arith, c .before .loop-test .taken, s .pre .0); port = lit< tt }, record { usable = s .pre .1 .usable; arms = s .pre .1 .arms; size = l .loop .inv .1 })
+    let s = l .before .before .before in (
+      record { bytes = s .pre .1 .usable .bytes; node = omega (arith, c .before .loop-test .taken, s .pre .0); port = lit< tt },
+      record { usable = s .pre .1 .usable; arms = s .pre .1 .arms; size = l .loop .inv .1 },
+    )
 
 add-i : tie.Need-add-i Inv-loop μ-loop
 add-i c = omega arith

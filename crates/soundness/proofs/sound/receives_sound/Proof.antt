@@ -23,8 +23,10 @@ loop-holds c = let s = c .before .before in (omega arith, s .pre .1 .size, recei
 receive-sound-requires : tie.Need-receive-sound-requires Inv-loop μ-loop
 receive-sound-requires c κs =
     let l = c .before .before in
-    let s = l .before .before .before in
-    (record { bytes = s .pre .0 .bytes; node = s .pre .0 .node; port = c .before .loop-test .taken }, record { usable = s .pre .1 .usable; arms = s .pre .1 .arms; size = l .loop .inv .1 })
+    let s = l .before .before .before in (
+      record { bytes = s .pre .0 .bytes; node = s .pre .0 .node; port = c .before .loop-test .taken },
+      record { usable = s .pre .1 .usable; arms = s .pre .1 .arms; size = l .loop .inv .1 },
+    )
 
 add-k : tie.Need-add-k Inv-loop μ-loop
 add-k c = omega arith

@@ -24,7 +24,8 @@ returns : tie.Need-returns
 returns c =
     let n = c .before in
     let s = n .before .before in
-    arms-fit (s .args .t .now) (s .args .dimension) (n .node-count .result) (c .or-bytes .result) (n .node-count .ensures .value) (n .node-count .ensures .most) (c .or-bytes .ensures)
+    arms-fit (s .args .t .now) (s .args .dimension) (n .node-count .result) (c .or-bytes .result)
+    (n .node-count .ensures .value) (n .node-count .ensures .most) (c .or-bytes .ensures)
 
 pub arms-fit-spec : {M : Type 1} → statement M
 arms-fit-spec = tie.close (tie.spec node-count-requires cast-count add-or-bytes sub-or-bytes or-bytes-requires returns)

@@ -17,7 +17,8 @@ unfolding enabledAt
 returns c =
     let e = c .before in
     let s = e .before .before in
-    mask-is _ (s .args .n .0) (s .args .p .0) (s .pre .node) (s .pre .port) enablePart (e .enable-place .result) (e .enable-place .ensures .0) (c .bit .ensures)
+    mask-is _ (s .args .n .0) (s .args .p .0) (s .pre .node) (s .pre .port)
+    enablePart (e .enable-place .result) (e .enable-place .ensures .0) (c .bit .ensures)
 
 pub enabled-spec : {M : Type 1} → statement M
 enabled-spec = tie.close (tie.spec enable-place-requires bit-requires returns)

@@ -17,7 +17,8 @@ unfolding armedAt
 returns c =
     let e = c .before in
     let s = e .before .before in
-    mask-is _ (s .args .n .0) (s .args .channel) (s .pre .node) (s .pre .port) armPart (e .arm-place .result) (e .arm-place .ensures .0) (c .bit .ensures)
+    mask-is _ (s .args .n .0) (s .args .channel) (s .pre .node) (s .pre .port)
+    armPart (e .arm-place .result) (e .arm-place .ensures .0) (c .bit .ensures)
 
 pub is-armed-spec : {M : Type 1} → statement M
 is-armed-spec = tie.close (tie.spec arm-place-requires bit-requires returns)

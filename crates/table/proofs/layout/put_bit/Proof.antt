@@ -30,7 +30,8 @@ returns : tie.Need-returns
 returns c =
     let f = c .before .before in
     let s = f .before .before .before .before in
-    bit-changed (s .args .t .now) (s .args .at) (s .args .k) (s .args .on) (f .before .bit .ensures) (s .pre .1) (c .wide .ensures .0) (c .wide .ensures .1) (f .if1 .taken)
+    bit-changed (s .args .t .now) (s .args .at) (s .args .k) (s .args .on)
+    (f .before .bit .ensures) (s .pre .1) (c .wide .ensures .0) (c .wide .ensures .1) (f .if1 .taken)
 
 same-length-2 : tie.Need-same-length-2
 same-length-2 c = search needs
