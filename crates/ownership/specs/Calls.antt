@@ -1,4 +1,4 @@
--- The six calls of document 01: what each is lent, how it is tested, and what it gives.
+-- The calls of document 01 and of document 02, (a): what each is lent, how it is tested, and what it gives.
 -- Assumes nothing.
 use mathlib.Core.Bool.{Bool, true, false, cond, not, _&&_, _||_}
 use mathlib.Core.List.{List, [], _∷_}
@@ -18,6 +18,8 @@ pub data Call : Type 0 where
   opening : (source channel target type vector : ℕ) → Call
   closing : (source channel : ℕ) → Call
   tracing : (source channel : ℕ) → (buffer : List ℕ) → Call
+  arming : (node channel : ℕ) → Call
+  disarming : (node channel : ℕ) → Call
 
 -- what a call is, whatever it is made on
 pub record CallForm : Type 0 where
@@ -40,6 +42,8 @@ form (unblocking n p) = plain
 form (opening s c t y v) = record { makes = false; values = 3; buffers = [] }
 form (closing s c) = plain
 form (tracing s c buffer) = record { makes = false; values = 1; buffers = buffer ∷ [] }
+form (arming n k) = plain
+form (disarming n k) = plain
 
 abbrev pub lent : Call → List (List ℕ)
 lent a = form a .buffers
@@ -89,6 +93,8 @@ pub record CallFacts : Type 0 where
   pub held : ℕ → ℕ → Bool
   -- "this send channel has an open circuit", by source and channel
   pub isOpen : ℕ → ℕ → Bool
+  -- the receive channel is held, by node and channel
+  pub isTaken : ℕ → ℕ → Bool
   -- what a send comes to, by source, target, routing type and send vector
   pub sends : ℕ → ℕ → ℕ → ℕ → SendResult
   -- the ports of the circuit of a send channel, by source and channel
@@ -134,6 +140,10 @@ linkHeld a n p = test (a .held n p) 13
 abbrev pub shortBuffer : List ℕ → Test
 shortBuffer buffer = test (ltb (length buffer) 9) 14
 
+-- document 02, (a): "disarming a held one is refused as 21"
+abbrev pub channelHeld : CallFacts → ℕ → ℕ → Test
+channelHeld a n k = test (a .isTaken n k) 21
+
 -- "Within one call the tests run in rising order of number." Those of each call behind the tests of the lent table:
 unfoldable pub callTests : CallFacts → Call → List Test
 callTests a (making D) = dimensionGiven D ∷ []
@@ -142,6 +152,9 @@ callTests a (unblocking n p) = node a n ∷ port a p ∷ []
 callTests a (opening s c t y v) = nodes a s t ∷ channel c ∷ routingType y ∷ sendVector a v ∷ inUse a s c ∷ []
 callTests a (closing s c) = node a s ∷ channel c ∷ noCircuit a s c ∷ []
 callTests a (tracing s c buffer) = node a s ∷ channel c ∷ noCircuit a s c ∷ shortBuffer buffer ∷ []
+callTests a (arming n k) = node a n ∷ channel k ∷ []
+-- "after 5"
+callTests a (disarming n k) = node a n ∷ channel k ∷ channelHeld a n k ∷ []
 
 -- what a call gives where no test applies
 unfoldable pub resultOf : CallFacts → Call → CallResult
@@ -151,6 +164,8 @@ resultOf a (unblocking n p) = only 0
 resultOf a (opening s c t y v) = let x = a .sends s t y v in answered (x .outcome) (x .scouts)
 resultOf a (closing s c) = only 0
 resultOf a (tracing s c buffer) = let w = a .path s c in record { number = 0; values = length w ∷ []; buffers = tracedInto w buffer ∷ [] }
+resultOf a (arming n k) = only 0
+resultOf a (disarming n k) = only 0
 
 -- what a call leaves of what it is made on, the bytes of a table or the history, and what it gives
 pub record After (S : Type 0) : Type 0 where

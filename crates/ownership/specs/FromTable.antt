@@ -13,7 +13,7 @@ use Rattle.soundness.specs.SoundTest.{pathOf}
 use Rattle.ownership.specs.OnTable.{isOpenIn}
 use Rattle.ownership.specs.History.{Circuit, History}
 
--- the links out of some ports of some nodes
+-- the links out of some ports of some nodes, or as many of their receive channels
 unfoldable pub linksOut : List ℕ → List ℕ → List Link
 linksOut [] ps = []
 linksOut (n ∷ ns) ps = map (λ (p : ℕ). (n, p)) ps ++ linksOut ns ps
@@ -39,4 +39,5 @@ historyOf v =
       dimension = v .dimension;
       blocked = keep (λ l. not (v .enabled (l .0) (l .1))) (linksOut (from 0 (2 ^ v .dimension)) (from 0 (v .dimension)));
       circuits = map (circuitAt v) (openNumbers v);
+      armed = keep (λ l. v .armed (l .0) (l .1)) (linksOut (from 0 (2 ^ v .dimension)) (from 0 8));
     }

@@ -5,7 +5,7 @@ use mathlib.Core.List.{List, [], _∷_, _++_}
 use Prim.Native.Nat.{ℕ}
 use Rattle.common.specs.Lists.{_∈_}
 use Rattle.paths.specs.Send.{acknowledged}
-use Rattle.ownership.specs.Calls.{Call, making, blocking, unblocking, opening, closing, tracing, CallResult}
+use Rattle.ownership.specs.Calls.{Call, making, blocking, unblocking, opening, closing, tracing, arming, disarming, CallResult}
 use Rattle.ownership.specs.History.{Circuit, History, stoppedOn, sendOn, historyStep}
 use Rattle.ownership.specs.Agrees.{historyAfter, historyResults}
 
@@ -23,6 +23,8 @@ Ends s c (unblocking n p) = ⊥
 Ends s c (opening m d t y v) = ⊥
 Ends s c (closing m d) = (m ≡ s) × (d ≡ c)
 Ends s c (tracing m d buffer) = ⊥
+Ends s c (arming n k) = ⊥
+Ends s c (disarming n k) = ⊥
 
 -- no accepted call of a list ends it
 unfoldable pub Lasts : ℕ → ℕ → List (Call × ℕ) → Type 0
