@@ -57,7 +57,7 @@ unfolding holdPath putOwner putEntry
 hold-bytes b c n [] h l = h
 hold-bytes b c n (p ∷ w) h l = hold-bytes (putOwner b n p c) c (next n p) w (word-bytes b (entryPlace linkPart n p) c h l) l
 
-send-bytes : (b : List ℕ) (c s t : ℕ) (o : Outcome) → Bytes b → c < 65536 → Bytes (bytesAfterSend b c s t o)
+pub send-bytes : (b : List ℕ) (c s t : ℕ) (o : Outcome) → Bytes b → c < 65536 → Bytes (bytesAfterSend b c s t o)
 unfolding bytesAfterSend putReceiver putEntry
 send-bytes b c s t (acknowledged w k) h l = word-bytes (holdPath b c s w) (entryPlace receivePart t k) c (hold-bytes b c s w h l) l
 send-bytes b c s t route-rejected h l = h
@@ -69,11 +69,11 @@ module _ (b : List ℕ) (bytes : Bytes b) where
   enabled-encoded n p on w =
       encode-shown (putEnabled b n p on) _ (unfold putEnabled in mask-bytes _ b n p on bytes (w .port)) (view-put-enabled b n p on w)
 
-  armed-encoded : (n k : ℕ) (on : Bool) → Within b n k → putArmed b n k on ≡ encode (setArmed (view b) n k on)
+  pub armed-encoded : (n k : ℕ) (on : Bool) → Within b n k → putArmed b n k on ≡ encode (setArmed (view b) n k on)
   armed-encoded n k on w =
       encode-shown (putArmed b n k on) _ (unfold putArmed in mask-bytes _ b n k on bytes (w .port)) (view-put-armed b n k on w)
 
-  pub send-encoded : (c s t : ℕ) (o : Outcome) → dimensionAt b ≤ 8 → c < 65536 → s < 2 ^ dimensionAt b → t < 2 ^ dimensionAt b → Fits (dimensionAt b) o
+  send-encoded : (c s t : ℕ) (o : Outcome) → dimensionAt b ≤ 8 → c < 65536 → s < 2 ^ dimensionAt b → t < 2 ^ dimensionAt b → Fits (dimensionAt b) o
       → bytesAfterSend b c s t o ≡ encode (viewAfterSend (view b) c s t o)
   send-encoded c s t o most small i j h =
       encode-shown (bytesAfterSend b c s t o) _ (send-bytes b c s t o bytes small) (view-after-send c small (dimensionAt b) most b (bytes .long) s t i j o h)
