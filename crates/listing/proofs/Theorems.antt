@@ -1,7 +1,7 @@
 -- The sentences of document 01 about the printed list, as theorems over its definition.
 -- Assumes nothing.
 use mathlib.Core.Path.{_≡_, refl, ap, ap₂, sym, _∙_}
-use mathlib.Core.Logic.{_≢_, _⊎_, inl, inr, ⊎-elim, _↔_}
+use mathlib.Core.Logic.{_≢_, ⊎-elim, _↔_}
 use mathlib.Core.Bool.{Bool, true, false, cond, false≢true}
 use mathlib.Core.List.{List, [], _∷_, _++_, map, append-assoc, append-nil}
 use mathlib.Core.Option.{Option, none, some}
@@ -10,14 +10,13 @@ use native.Mathlib.Omega.{arith}
 use lib.Dec.{ltb, lit<, lit≤}
 use lib.ListN.{length, length-map}
 use borrow.Author.Needs.{needs}
-use borrow.Author.Tests.{eq-eqb, ne-eqb, eqb-true, le-ltb}
+use borrow.Author.Tests.{eq-eqb, ne-eqb, le-ltb}
 use Rattle.common.specs.Lists.{from}
 use Rattle.common.specs.Tests.{Test, test, refusal}
 use Rattle.common.proofs.Tests.{same?, refused, passed, accepted as tests-accepted}
 use Rattle.paths.specs.Send.{Outcome, acknowledged, route-rejected, receive-rejected}
-use Rattle.table.specs.View.{view}
 use Rattle.soundness.specs.SoundTest.{tableTests}
-use Rattle.ownership.specs.Calls.{Call, making, blocking, unblocking, opening, closing, tracing, CallResult, scoutsOf, answered, CallFacts, callTests, resultOf, After}
+use Rattle.ownership.specs.Calls.{Call, making, blocking, unblocking, opening, closing, tracing, CallResult, answered, CallFacts, callTests, resultOf, After}
 use Rattle.ownership.specs.OnTable.{lentTests, stoppedAt, tableStep}
 use Rattle.ownership.proofs.Steps.{table-step}
 use Rattle.text.specs.Text.{newline, space, digit, decimal}

@@ -31,7 +31,7 @@ unfolding resultOf
 result-refused f (making D) h = absurd (h refl)
 result-refused f (blocking n p) h = absurd (h refl)
 result-refused f (unblocking n p) h = absurd (h refl)
-result-refused f (opening s c t y v) h = send-zero (opening s c t y v) (f .sends s t y v .outcome) (f .sends s t y v .scouts) h
+result-refused f (opening s c t y v) h = send-zero (opening s c t y v) (f .sends s t y v .outcome) _ h
 result-refused f (closing s c) h = absurd (h refl)
 result-refused f (tracing s c buffer) h = absurd (h refl)
 result-refused f (arming n k) h = absurd (h refl)

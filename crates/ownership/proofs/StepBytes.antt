@@ -1,6 +1,6 @@
 -- What a call leaves of the bytes of a table: those that show the update of what the table showed.
 -- Assumes nothing.
-use mathlib.Core.Path.{_≡_, refl, ap, sym, _∙_, subst}
+use mathlib.Core.Path.{_≡_, refl, ap, sym, _∙_}
 use mathlib.Core.Logic.{⊎-elim, _≢_}
 use mathlib.Core.Bool.{Bool, true, false, cond, _&&_, true≢false}
 use mathlib.Core.List.{List}
@@ -32,7 +32,7 @@ unfolding resultOf factsOf updated
 rejected-same v (making D) f = absurd (f refl)
 rejected-same v (blocking n p) f = absurd (f refl)
 rejected-same v (unblocking n p) f = absurd (f refl)
-rejected-same v (opening s c t y x) f = go (sendIn v s t y x .outcome) (sendIn v s t y x .scouts) f
+rejected-same v (opening s c t y x) f = go (sendIn v s t y x .outcome) _ f
   where
     go : (o : Outcome) (n : ℕ) → answered o n .number ≢ 0 → viewAfterSend v (circuitOf s c) s t o ≡ v
     go (acknowledged w k) n g = unfold answered in absurd (g refl)

@@ -19,7 +19,8 @@ use Rattle.paths.specs.CubeNetwork.{Shape, Node, ports, network, sendPor
 use Rattle.paths.proofs.CubeNetwork.{send-port, other-port, send-ports-rise, cube-says, scouts-bound}
 
 -- What a pass and the target's receive channels come to says what document 01 says of it.
-pub answer-says : (N : Network) (free : ℕ → ℕ → Bool) (s : ℕ) (vector : List ℕ) (t : ℕ) (r : Receive) (x : PassResult) → Says N free s vector t x → AnswerSays N free s vector t r (outcome r x) (scouts x)
+pub answer-says : (N : Network) (free : ℕ → ℕ → Bool) (s : ℕ) (vector : List ℕ) (t : ℕ) (r : Receive) (x : PassResult)
+    → Says N free s vector t x → AnswerSays N free s vector t r (outcome r x) (scouts x)
 unfolding outcome scouts received
 answer-says N free s vector t r (none c) h = says-route-rejected h
 answer-says N free s vector t (channel k) (found w c) h = says-acknowledged refl h
@@ -35,7 +36,8 @@ goes-on-unless receive-rejected = ((λ e. true≢false e), (λ h. absurd h))
 pub runs-stop : (r : Receive) (x y : PassResult) (ys : List PassResult) → goesOn (outcome r x) ≡ false → runs r (x ∷ y ∷ ys) ≡ oneResult r x
 runs-stop r x y ys e = unfold runs in rw e
 
-pub runs-on : (r : Receive) (x y : PassResult) (ys : List PassResult) → goesOn (outcome r x) ≡ true → runs r (x ∷ y ∷ ys) ≡ record { outcome = runs r (y ∷ ys) .outcome; scouts = scouts x + runs r (y ∷ ys) .scouts }
+pub runs-on : (r : Receive) (x y : PassResult) (ys : List PassResult) → goesOn (outcome r x) ≡ true
+    → runs r (x ∷ y ∷ ys) ≡ record { outcome = runs r (y ∷ ys) .outcome; scouts = scouts x + runs r (y ∷ ys) .scouts }
 runs-on r x y ys e = unfold runs in rw e
 
 -- no more scouts than those of all attempts together
@@ -53,13 +55,16 @@ runs-most r (x ∷ y ∷ ys) = go (goesOn (outcome r x)) refl (runs-most r (y �
     go true e h = rw (runs-on r x y ys e) (omega (arith, h))
     go false e h = rw (runs-stop r x y ys e) (omega arith)
 
--- What an attempt says, whatever it tries: acknowledged, it has a free path and a channel; receive rejected, a free path and none; route rejected, no free path.
+-- What an attempt says, whatever it tries: acknowledged, it has a free path and a channel; receive rejected, a free path and no channel; route
+-- rejected, no free path.
 module _ (N : Network) (s t : ℕ) (free : ℕ → ℕ → Bool) (r : Receive) where
-  pub acknowledged-says : (a : Attempt) (w : Path) (k n : ℕ) → AttemptSays N s t free r a (acknowledged w k) n → Tries N s t a w × Free N free s w × (r ≡ channel k)
+  pub acknowledged-says : (a : Attempt) (w : Path) (k n : ℕ) → AttemptSays N s t free r a (acknowledged w k) n
+      → Tries N s t a w × Free N free s w × (r ≡ channel k)
   unfolding AttemptSays Tries
   acknowledged-says (pass-over ps) w k n (says-acknowledged e f) = (f .permitted, f .is-free, e)
 
-  pub receive-rejected-says : (a : Attempt) (n : ℕ) → AttemptSays N s t free r a receive-rejected n → ((w : Path) × Tries N s t a w × Free N free s w) × (r ≡ all-held)
+  pub receive-rejected-says : (a : Attempt) (n : ℕ) → AttemptSays N s t free r a receive-rejected n
+      → ((w : Path) × Tries N s t a w × Free N free s w) × (r ≡ all-held)
   unfolding AttemptSays Tries
   receive-rejected-says (pass-over ps) n (says-receive-rejected {w} e f) = ((w, f .permitted, f .is-free), e)
 
@@ -68,14 +73,16 @@ module _ (N : Network) (s t : ℕ) (free : ℕ → ℕ → Bool) (r : Receive) w
   route-rejected-says (pass-over ps) n (says-route-rejected f) = f .nothing
 
   -- where a channel is there to take, an attempt with a free path is acknowledged
-  finds : (a : Attempt) (o : Outcome) (n : ℕ) → AttemptSays N s t free r a o n → (w : Path) → Tries N s t a w → Free N free s w → r ≢ all-held → Acknowledged o
+  finds : (a : Attempt) (o : Outcome) (n : ℕ) → AttemptSays N s t free r a o n → (w : Path) → Tries N s t a w → Free N free s w → r ≢ all-held
+      → Acknowledged o
   unfolding Acknowledged
   finds a (acknowledged w k) n h v i f g = tt
   finds a route-rejected n h v i f g = route-rejected-says a n h v i f
   finds a receive-rejected n h v i f g = g (receive-rejected-says a n h .1)
 
   -- The answer of a send is that of one of its attempts;
-  pub said-by : (xs : List Attempt) (o : Outcome) (n : ℕ) → AttemptsSay N s t free r xs o n → (a : Attempt) × (a ∈ xs) × ((m : ℕ) × AttemptSays N s t free r a o m)
+  pub said-by : (xs : List Attempt) (o : Outcome) (n : ℕ) → AttemptsSay N s t free r xs o n
+      → (a : Attempt) × (a ∈ xs) × ((m : ℕ) × AttemptSays N s t free r a o m)
   said-by _ o n (last {a} h) = (a, List·Memᴰ·head refl, (n, h))
   said-by _ o n (ends {a} h e) = (a, List·Memᴰ·head refl, (n, h))
   said-by _ o _ (goes-on {later = xs} {n₂ = n} o₁ n₁ h e rest) = let x = said-by xs o n rest in (x .0, List·Memᴰ·tail (x .1), x .2)
@@ -85,11 +92,15 @@ module _ (N : Network) (s t : ℕ) (free : ℕ → ℕ → Bool) (r : Receive) w
   Route xs = (a : Attempt) × (a ∈ xs) × ((w : Path) × Tries N s t a w × Free N free s w)
 
   pub acknowledged-route : (xs : List Attempt) (w : Path) (k n : ℕ) → AttemptsSay N s t free r xs (acknowledged w k) n → Route xs × (r ≡ channel k)
-  acknowledged-route xs w k n h = let x = said-by xs (acknowledged w k) n h in let y = acknowledged-says (x .0) w k (x .2 .0) (x .2 .1) in ((x .0, x .1, (w, y .0, y .1)), y .2)
+  acknowledged-route xs w k n h =
+      let x = said-by xs (acknowledged w k) n h in
+      let y = acknowledged-says (x .0) w k (x .2 .0) (x .2 .1) in
+      ((x .0, x .1, (w, y .0, y .1)), y .2)
 
   pub route-acknowledged : (xs : List Attempt) (o : Outcome) (n : ℕ) → AttemptsSay N s t free r xs o n → Route xs → r ≢ all-held → Acknowledged o
   route-acknowledged _ o n (last {a} h) x g =
-      let e = ⊎-elim (λ z. z) (λ z. absurd (List·Memᴰ·not-nil z)) (List·Memᴰ·cases-cons (x .1)) in finds a o n h (x .2 .0) (subst (λ b. Tries N s t b (x .2 .0)) e (x .2 .1)) (x .2 .2) g
+      let e = ⊎-elim (λ z. z) (λ z. absurd (List·Memᴰ·not-nil z)) (List·Memᴰ·cases-cons (x .1)) in
+      finds a o n h (x .2 .0) (subst (λ b. Tries N s t b (x .2 .0)) e (x .2 .1)) (x .2 .2) g
   route-acknowledged _ o n (ends h e) x g = goes-on-unless o .0 e
   route-acknowledged _ o _ (goes-on {a} {later = xs} {n₂ = n} o₁ n₁ h e rest) x g =
       ⊎-elim
@@ -111,7 +122,8 @@ module _ (N : Network) (s t : ℕ) (free : ℕ → ℕ → Bool) (r : Receive) w
       ys : List PassResult
       ys = map (attempted N free s t) (b ∷ bs)
 
-      go : (c : Bool) → goesOn (outcome r x) ≡ c → said a → AttemptsSay N s t free r (b ∷ bs) (runs r ys .outcome) (runs r ys .scouts) → AttemptsSay N s t free r (a ∷ b ∷ bs) (runs r (x ∷ ys) .outcome) (runs r (x ∷ ys) .scouts)
+      go : (c : Bool) → goesOn (outcome r x) ≡ c → said a → AttemptsSay N s t free r (b ∷ bs) (runs r ys .outcome) (runs r ys .scouts)
+          → AttemptsSay N s t free r (a ∷ b ∷ bs) (runs r (x ∷ ys) .outcome) (runs r (x ∷ ys) .scouts)
       go true e i rest = rw (runs-on r x (attempted N free s t b) (map (attempted N free s t) bs) e) (goes-on (outcome r x) (scouts x) i e rest)
       go false e i rest = rw (runs-stop r x (attempted N free s t b) (map (attempted N free s t) bs) e) (ends i e)
 
@@ -135,29 +147,54 @@ module _ (S : Shape) where
       go false = λ a m. absurd (List·Memᴰ·not-nil m)
 
   -- what they try are permitted paths of the cube;
-  pub tries-permitted : (s t type vector : ℕ) (a : Attempt) → a ∈ attempts S type vector → (w : Path) → Tries (network S) s t a w → Permitted (network S) s (ports S) t w
+  pub tries-permitted : (s t type vector : ℕ) (a : Attempt) → a ∈ attempts S type vector → (w : Path) → Tries (network S) s t a w
+      → Permitted (network S) s (ports S) t w
   tries-permitted s t type vector a m w h = go a (in-cube type vector a m) h
     where
       go : (a : Attempt) → InCube a → Tries (network S) s t a w → Permitted (network S) s (ports S) t w
       go (pass-over ps) i h = unfold InCube Tries in wider (network S) s ps (ports S) t w (i .1) h
 
-  module _ (free : ℕ → ℕ → Bool) (r : Receive) (s vector t type : ℕ) where
-    -- so a send says what document 01 says of it,
-    pub send-says : S .dimension ≤ 8 → Node S s → Node S t → AttemptsSay (network S) s t free r (attempts S type vector) (send type S free r s vector t .outcome) (send type S free r s vector t .scouts)
-    unfolding send attempts
-    send-says h i l = runs-say (network S) s t free r _ _ (λ a m. go a (in-cube type vector a (unfold attempts in m)))
-      where
-        go : (a : Attempt) → InCube a → AttemptSays (network S) s t free r a (outcome r (attempted (network S) free s t a)) (scouts (attempted (network S) free s t a))
-        go (pass-over ps) c = unfold AttemptSays attempted InCube in answer-says (network S) free s ps t r _ (cube-says S h free s ps t i l (c .0) (c .1))
+  module _ (free : ℕ → ℕ → Bool) (r : Receive) (s vector t : ℕ) where
+    -- the pass with the given vector, and the one with the ports that are not in it
+    abbrev first : PassResult
+    first = pass (network S) free s (sendPorts S vector) t
 
-    -- and reports no more than 123,300 scouts, where nothing is folded.
-    pub send-bounded : S .dimension ≤ 8 → S .fold ≡ 0 → send type S free r s vector t .scouts ≤ 123300
-    unfolding send attempts attempted allScouts
-    send-bounded h z = go (eqb type 4)
-      where
-        both : scouts (pass (network S) free s (sendPorts S vector) t) + scouts (pass (network S) free s (otherPorts S vector) t) ≤ 123300
-        both = scouts-bound S h z s t vector free free
+    abbrev second : PassResult
+    second = pass (network S) free s (otherPorts S vector) t
 
-        go : (b : Bool) → runs r (map (attempted (network S) free s t) (pass-over (sendPorts S vector) ∷ cond b (pass-over (otherPorts S vector) ∷ []) [])) .scouts ≤ 123300
-        go true = omega (arith, both, runs-most r (pass (network S) free s (sendPorts S vector) t ∷ pass (network S) free s (otherPorts S vector) t ∷ []))
-        go false = omega (arith, both, runs-most r (pass (network S) free s (sendPorts S vector) t ∷ []))
+    -- Routing type 0 answers what its one pass comes to.
+    pub maze-answers : send 0 S free r s vector t ≡ oneResult r first
+    unfolding send attempts attempted runs
+    maze-answers = refl
+
+    -- Routing type 4 stops where the first pass is acknowledged,
+    pub alternate-stops : goesOn (outcome r first) ≡ false → send 4 S free r s vector t ≡ oneResult r first
+    unfolding send attempts attempted
+    alternate-stops e = runs-stop r first second [] e
+
+    -- and otherwise answers what the second comes to, with the scouts of both.
+    pub alternate-goes-on : goesOn (outcome r first) ≡ true
+        → send 4 S free r s vector t ≡ record { outcome = outcome r second; scouts = scouts first + scouts second }
+    unfolding send attempts attempted runs
+    alternate-goes-on e = rw e
+
+    module _ (type : ℕ) where
+      -- A send says what document 01 says of it,
+      pub send-says : S .dimension ≤ 8 → Node S s → Node S t
+          → AttemptsSay (network S) s t free r (attempts S type vector) (send type S free r s vector t .outcome) (send type S free r s vector t .scouts)
+      unfolding send attempts
+      send-says h i l = runs-say (network S) s t free r _ _ (λ a m. go a (in-cube type vector a (unfold attempts in m)))
+        where
+          go : (a : Attempt) → InCube a
+              → AttemptSays (network S) s t free r a (outcome r (attempted (network S) free s t a)) (scouts (attempted (network S) free s t a))
+          go (pass-over ps) c = unfold AttemptSays attempted InCube in answer-says (network S) free s ps t r _ (cube-says S h free s ps t i l (c .0) (c .1))
+
+      -- and reports no more than 123,300 scouts, where nothing is folded.
+      pub send-bounded : S .dimension ≤ 8 → S .fold ≡ 0 → send type S free r s vector t .scouts ≤ 123300
+      unfolding send attempts attempted allScouts
+      send-bounded h z = go (eqb type 4)
+        where
+          go : (b : Bool)
+              → runs r (map (attempted (network S) free s t) (pass-over (sendPorts S vector) ∷ cond b (pass-over (otherPorts S vector) ∷ []) [])) .scouts ≤ 123300
+          go true = omega (arith, scouts-bound S h z s t vector free free, runs-most r (first ∷ second ∷ []))
+          go false = omega (arith, scouts-bound S h z s t vector free free, runs-most r (first ∷ []))

@@ -3,7 +3,7 @@
 use mathlib.Core.Path.{_≡_, refl, ap, ap₂, sym, _∙_}
 use mathlib.Core.Logic.{_≢_}
 use mathlib.Core.Bool.{true, false, not}
-use mathlib.Core.List.{List, [], _∷_}
+use mathlib.Core.List.{List}
 use Prim.Native.Nat.{ℕ, _+_, _-_, _^_, _≤_, _<_}
 use native.Mathlib.Omega.{arith}
 use native.Mathlib.Nat.{mul-le-mul-right}
@@ -19,11 +19,11 @@ use Rattle.cube.specs.Helical.{portsOf}
 use Rattle.cube.proofs.Order.{helical-last, ports-wider, ports-mem, length-ports}
 use Rattle.paths.specs.Pass.{PassResult, none, found, pass, scouts}
 use Rattle.paths.specs.Search.{trying, sending}
-use Rattle.paths.specs.Send.{Receive, channel, all-held, Outcome, acknowledged, route-rejected, receive-rejected, attempted, oneResult, received, outcome, goesOn, runs}
+use Rattle.paths.specs.Send.{Receive, channel, all-held, Outcome, acknowledged, route-rejected, receive-rejected, oneResult, received, outcome, goesOn}
 use Rattle.paths.specs.CubeNetwork.{Shape, network, sendPorts, otherPorts, attempts, send}
 use Rattle.paths.proofs.Depth.{search-is-pass}
 use Rattle.paths.proofs.CubeNetwork.{distance-within, unfolded-send-ports, scouts-bound, other-vector}
-use Rattle.paths.proofs.Send.{runs-stop, runs-on}
+use Rattle.paths.proofs.Send.{maze-answers, alternate-stops, alternate-goes-on}
 use Rattle.paths.specs.Bound.{waysFrom}
 use Rattle.paths.proofs.Bound.{ways-more}
 use Rattle.table.specs.Layout.{dimensionAt, putReceiver}
@@ -144,8 +144,8 @@ module _ (D vector : ℕ) (h : D ≤ 8) where
 
 -- one pass is a send of routing type 0
 one-pass : (b : List ℕ) (s t c vector : ℕ) → sends b s t c 0 vector ≡ sendAnswer b c s t (oneResult (receive (view b) t) (passOf b s t vector))
-unfolding sends send attempts attempted runs
-one-pass b s t c vector = refl
+unfolding sends
+one-pass b s t c vector = ap (sendAnswer b c s t) (maze-answers (shapeOf (view b)) (freeIn (view b)) (receive (view b) t) s vector t)
 
 -- A send of routing type 0, from the ports that are left of its vector.
 module _ {b : List ℕ} {s t c vector left : ℕ} (may : MaySend b s t c vector) (narrow : Narrowed (view b) s vector left) {x h k n : ℕ} {b₁ : List ℕ}
@@ -161,6 +161,10 @@ module _ {b : List ℕ} {s t c vector left : ℕ} (may : MaySend b s t c vector)
 
   pub maze-rejected : x ≢ 0 → pass-answer x h k n b₁ ≡ sends b s t c 0 vector
   maze-rejected f = pass-rejected b c s t (receive (view b) t) (passOf b s t vector) passed f ∙ sym (one-pass b s t c vector)
+
+-- A rejected pass leaves each byte of the table as it was: so does the first pass of a type 4 send, before the second begins.
+pub first-pass-leaves : (b : List ℕ) (s t c vector : ℕ) {x h k n : ℕ} {b₁ : List ℕ} → pass-answer x h k n b₁ ≡ sends b s t c 0 vector → x ≢ 0 → b₁ ≡ b
+first-pass-leaves b s t c vector q f = sent-goes-on b c s t _ _ (q ∙ one-pass b s t c vector) f .1
 
 -- A send of routing type 4: after a rejection, a second pass over the other ports on the same bytes.
 module _ {b : List ℕ} {s t c vector : ℕ} (may : MaySend b s t c vector) {x h k n : ℕ} {b₁ : List ℕ} (got : pass-answer x h k n b₁ ≡ sends b s t c 0 vector) where
@@ -180,12 +184,10 @@ module _ {b : List ℕ} {s t c vector : ℕ} (may : MaySend b s t c vector) {x h
   unfolding r first
   first-is = got ∙ one-pass b s t c vector
 
-  both-are : sends b s t c 4 vector ≡ sendAnswer b c s t (runs r (first ∷ second ∷ []))
-  unfolding sends send attempts attempted S r first second
-  both-are = refl
-
   pub alternate-taken : x ≡ 0 → pass-answer x h k n b₁ ≡ sends b s t c 4 vector
-  alternate-taken z = first-is ∙ ap (sendAnswer b c s t) (sym (runs-stop r first second [] (sent-stops b c s t (outcome r first) (scouts first) first-is z))) ∙ sym both-are
+  unfolding sends r first
+  alternate-taken z =
+      first-is ∙ ap (sendAnswer b c s t) (sym (alternate-stops (shapeOf (view b)) (freeIn (view b)) r s vector t (sent-stops b c s t (outcome r first) (scouts first) first-is z)))
 
   -- the vector of the second pass, from the nodes of the cube
   module _ {d nodes : ℕ} (read : d ≡ dimensionAt b) (counted : NodeCount d nodes) (f : x ≢ 0) where
@@ -196,7 +198,7 @@ module _ {b : List ℕ} {s t c vector : ℕ} (may : MaySend b s t c vector) {x h
     others-are = rw (counted .value, read)
 
     pub same-bytes : b₁ ≡ b
-    same-bytes = sent-goes-on b c s t (outcome r first) (scouts first) first-is f .1
+    same-bytes = first-pass-leaves b s t c vector got f
 
     pub may-again : MaySend b₁ s t c others
     may-again =
@@ -228,11 +230,12 @@ module _ {b : List ℕ} {s t c vector : ℕ} (may : MaySend b s t c vector) {x h
           omega (arith, sent-scouts b c s t (outcome r first) (scouts first) first-is, sent-scouts b c s t (outcome r second) (scouts second) second-is, scouts-bound S (may .fits) refl s t vector (freeIn (view b)) (freeIn (view b)))
 
       pub alternate-again : pass-answer x₂ h₂ k₂ (n + n₂) b₂ ≡ sends b s t c 4 vector
+      unfolding sends S r first second
       alternate-again =
           sent-counted b c s t (outcome r second) (scouts second) (n + n₂) second-is
           ∙ ap (λ m. sendAnswer b c s t (record { outcome = outcome r second; scouts = m }))
           (ap₂ _+_ (sent-scouts b c s t (outcome r first) (scouts first) first-is) (sent-scouts b c s t (outcome r second) (scouts second) second-is))
-          ∙ ap (sendAnswer b c s t) (sym (runs-on r first second [] (sent-goes-on b c s t (outcome r first) (scouts first) first-is f .0) ∙ (unfold runs in refl))) ∙ sym both-are
+          ∙ ap (sendAnswer b c s t) (sym (alternate-goes-on S (freeIn (view b)) r s vector t (sent-goes-on b c s t (outcome r first) (scouts first) first-is f .0)))
 
 -- Another type than 4 makes one pass.
 pub send-maze : (b : List ℕ) (s t c type vector : ℕ) → type ≢ 4 → sends b s t c 0 vector ≡ sends b s t c type vector

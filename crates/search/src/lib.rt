@@ -210,7 +210,14 @@ fn alternate_maze(
 }
 
 // A send of routing type 0 or 4. The table of first ports is built once for all its hops.
-pub fn send(t: &mut [u8], source: Node, target: Node, c: Circuit, routing: u16, vector: u16) -> Opened
+pub fn send(
+    t: &mut [u8],
+    source: Node,
+    target: Node,
+    c: Circuit,
+    routing: u16,
+    vector: u16,
+) -> Opened
     requires { ⌜ MaySend (now t) (source .0) (target .0) (c .0) vector ⌝ }
     ensures { λ r. ⌜ pass-answer (r .number) (r .hops) (r .receive) (r .scouts) (now (t .exit)) ≡ sends (now (t .entry)) (source .0) (target .0) (c .0) routing vector ⌝ }
 {
