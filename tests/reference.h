@@ -1,5 +1,5 @@
-/* The calls on a table once more, written for checking: an independent reading of document 01 that shares nothing with the library but the
- * header's names. Signatures and answers are those of maze.h. */
+/* The calls on a table once more, written for checking: an independent reading of document 01 with request (a) of document 02, which shares
+ * nothing with the library but the header's names. Signatures and answers are those of maze.h. */
 #ifndef REFERENCE_H
 #define REFERENCE_H
 
