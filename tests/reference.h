@@ -17,6 +17,7 @@ maze_traced ref_trace(const uint8_t *table, size_t table_len, uint16_t node, uin
 /* What the last open that came to its search did; for counting which cases a test has seen. */
 struct ref_send {
     unsigned passes;                  /* 1 or 2 */
+    unsigned first;                   /* what the first pass answered: 0, 10 or 11 */
     unsigned hops;                    /* of the path found in the last pass; 0 if there is none */
     uint8_t ports[MAZE_HOPS_LARGEST];
 };
