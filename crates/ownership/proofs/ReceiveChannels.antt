@@ -19,7 +19,7 @@ use Rattle.cube.specs.Axes.{axis}
 use Rattle.cube.proofs.Bits.{flip-back}
 use Rattle.paths.specs.Network.{Path, end, links}
 use Rattle.paths.specs.Permitted.{Permitted}
-use Rattle.paths.specs.Send.{all-held, Outcome, acknowledged, route-rejected, receive-rejected}
+use Rattle.paths.specs.Send.{none-available, Outcome, acknowledged, route-rejected, receive-rejected}
 use Rattle.paths.specs.Sentences.{Free, AttemptsSay}
 use Rattle.paths.specs.CubeNetwork.{Shape, ports, network, attempts}
 use Rattle.paths.proofs.Links.{On, on-first, on-later}
@@ -145,7 +145,7 @@ module _ (v : View) (sound : Sound v) (most : v .dimension ≤ 8) (t : ℕ) wher
 
   -- Where a free permitted path leads to t and its channels are armed, a receive channel of t is available.
   pub receives : ((k : ℕ) → k < 8 → v .armed t k ≡ true) → (s : ℕ) (w : Path) → s < 2 ^ v .dimension → Permitted (net v) s (ports (shapeOf v)) t w
-      → Free (net v) (freeIn v) s w → receive v t ≢ all-held
+      → Free (net v) (freeIn v) s w → receive v t ≢ none-available
   unfolding receive available
   receives armed s w i o free e =
       let c = comes-in s w i o in

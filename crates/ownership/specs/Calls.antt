@@ -9,6 +9,7 @@ use Rattle.common.specs.Tests.{Test, test}
 use Rattle.paths.specs.Network.{Path}
 use Rattle.paths.specs.Send.{Outcome, acknowledged, route-rejected, receive-rejected, SendResult}
 use Rattle.soundness.specs.SoundTest.{tracedInto}
+use Rattle.cube.specs.Cube.{largestDimension}
 
 -- A call with its arguments. A trace is lent a buffer, which comes with its bytes; the table is not an argument.
 pub data Call : Type 0 where
@@ -102,7 +103,7 @@ pub record CallFacts : Type 0 where
 
 -- "D outside 1 to 8: the one given when making, else the one stored": the one given
 abbrev pub dimensionGiven : ℕ → Test
-dimensionGiven D = test (not (leb 1 D && leb D 8)) 2
+dimensionGiven D = test (not (leb 1 D && leb D largestDimension)) 2
 
 -- "a node, source or target, not below 2^D"; "channel above 7"; "port not below D"
 abbrev pub absent : CallFacts → ℕ → Bool

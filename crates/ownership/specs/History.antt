@@ -8,7 +8,7 @@ use Rattle.common.specs.Lists.{keep, any}
 use Rattle.common.specs.Tests.{refusal}
 use Rattle.paths.specs.Network.{Network, Path, Link, links, hasLink, linkState, isFree}
 use Rattle.paths.specs.Send.{Receive, channel, Outcome, acknowledged, route-rejected, receive-rejected, SendResult, lowestOf}
-use Rattle.paths.specs.CubeNetwork.{Shape, network, send}
+use Rattle.paths.specs.CubeNetwork.{Shape, network, send, unfolded, isLinkOf}
 use Rattle.ownership.specs.Calls.{Call, making, blocking, unblocking, opening, closing, tracing, arming, disarming, CallFacts, callTests, After, callOn}
 
 -- "each open circuit with the links and receive channel it holds": its source and send channel, its path, and the receive channel at the path's end
@@ -28,7 +28,7 @@ pub record History : Type 0 where
   pub armed : List (ℕ × ℕ)
 
 abbrev pub shapeOn : History → Shape
-shapeOn h = record { dimension = h .dimension; fold = 0 }
+shapeOn h = unfolded (h .dimension)
 
 abbrev pub netOn : History → Network
 netOn h = network (shapeOn h)
@@ -52,7 +52,7 @@ belongs s c x = eqb (x .source) s && eqb (x .channel) c
 -- What the history says of a link, of a receive channel and of a send channel: "links not blocked are enabled", held means on a listed path or taken by
 -- a listed circuit, open means listed.
 unfoldable pub enabledOn : History → ℕ → ℕ → Bool
-enabledOn h n p = (ltb n (2 ^ h .dimension) && ltb p (h .dimension)) && not (hasLink (h .blocked) n p)
+enabledOn h n p = isLinkOf (shapeOn h) n p && not (hasLink (h .blocked) n p)
 
 unfoldable pub heldOn : History → ℕ → ℕ → Bool
 heldOn h n p = any (holdsLink (netOn h) n p) (h .circuits)

@@ -15,6 +15,7 @@ use Rattle.paths.specs.Recover.{pathOfLinks}
 use Rattle.table.specs.Layout.{tableLength, portCount, dimensionAt}
 use Rattle.table.specs.View.{View, view, channelsHeld, shapeOf, net, heldBy}
 use Rattle.soundness.specs.Sound.{endFor}
+use Rattle.paths.specs.CubeNetwork.{isNode, isLinkOf, circuitCount}
 
 -- the path that the links held by circuit c make
 unfoldable pub pathOf : View → ℕ → Path
@@ -31,7 +32,7 @@ tracedInto w buffer = w ++ drop (length w) buffer
 -- The number is in range, its path is not empty, and it holds one channel where that ends. This is weaker than `CircuitSound`: a link off the path, or a
 -- channel elsewhere, fails at its own entry.
 unfoldable pub reaches : View → ℕ → Bool
-reaches v c = leb c (8 * 2 ^ v .dimension) && (not (isEmpty (pathOf v c)) && eqb (channelsHeld v c (endFor v c (pathOf v c))) 1)
+reaches v c = leb c (circuitCount (shapeOf v)) && (not (isEmpty (pathOf v c)) && eqb (channelsHeld v c (endFor v c (pathOf v c))) 1)
 
 -- the path of circuit c passes the link out of port p of node n
 unfoldable pub onPathOf : View → ℕ → ℕ → ℕ → Bool
@@ -39,13 +40,13 @@ onPathOf v c n p = hasLink (links (net v) (sourceOf c) (pathOf v c)) n p
 
 unfoldable pub linkTest : View → ℕ → ℕ → Bool
 linkTest v n p =
-    cond (ltb n (2 ^ v .dimension) && ltb p (v .dimension))
+    cond (isLinkOf (shapeOf v) n p)
     (eqb (v .owner n p) 0 || (v .enabled n p && (reaches v (v .owner n p) && onPathOf v (v .owner n p) n p)))
     (not (v .enabled n p) && eqb (v .owner n p) 0)
 
 unfoldable pub receiveTest : View → ℕ → ℕ → Bool
 receiveTest v n k =
-    cond (ltb n (2 ^ v .dimension))
+    cond (isNode (shapeOf v) n)
     (eqb (v .receiver n k) 0 || (v .armed n k && (reaches v (v .receiver n k) && eqb n (endFor v (v .receiver n k) (pathOf v (v .receiver n k))))))
     (not (v .armed n k) && eqb (v .receiver n k) 0)
 

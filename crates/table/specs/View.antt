@@ -11,7 +11,7 @@ use Rattle.common.specs.Lists.{keep, from, lowest}
 use Rattle.cube.specs.Cube.{channels}
 use Rattle.paths.specs.Network.{Network}
 use Rattle.paths.specs.Send.{Receive, lowestOf}
-use Rattle.paths.specs.CubeNetwork.{Shape, network}
+use Rattle.paths.specs.CubeNetwork.{Shape, network, unfolded, isLinkOf}
 use Rattle.table.specs.Layout.{portCount, dimensionAt, enabledAt, ownerAt, receiverAt, armedAt}
 
 pub record View : Type 0 where
@@ -26,7 +26,7 @@ view b = record { dimension = dimensionAt b; enabled = enabledAt b; owner = owne
 
 -- what the network of a table is read from
 abbrev pub shapeOf : View → Shape
-shapeOf v = record { dimension = v .dimension; fold = 0 }
+shapeOf v = unfolded (v .dimension)
 
 abbrev pub net : View → Network
 net v = network (shapeOf v)
@@ -77,7 +77,7 @@ withoutCircuit v c =
 unfoldable pub available : View → ℕ → ℕ → Bool
 available v n k = v .armed n k && eqb (v .receiver n k) 0
 
--- "its lowest channel that is armed and not held", 8 where there is none
+-- "its lowest channel that is armed and not held"; the number of channels where there is none
 unfoldable pub lowestChannel : View → ℕ → ℕ
 lowestChannel v n = lowest (available v n) channels 0
 
@@ -86,4 +86,4 @@ receive v n = lowestOf (available v n)
 
 -- what a made table shows: all links of its cube enabled, nothing held, and "none armed"
 unfoldable pub fresh : ℕ → View
-fresh D = record { dimension = D; enabled = λ n p. ltb n (2 ^ D) && ltb p D; owner = λ n p. 0; receiver = λ n k. 0; armed = λ n k. false }
+fresh D = record { dimension = D; enabled = isLinkOf (unfolded D); owner = λ n p. 0; receiver = λ n k. 0; armed = λ n k. false }
