@@ -54,7 +54,8 @@ may-open b s c t y v e =
     }
 
 -- the numbers of an outcome, as an open gives them and as a send answers them
-answer-same : (o : Outcome) (n : ℕ) (b : List ℕ) → pass-answer (answered o n .number) (hopsOf (answered o n)) (receiveOf (answered o n)) (scoutsOf (answered o n)) b ≡ answerOfOutcome o n b
+answer-same : (o : Outcome) (n : ℕ) (b : List ℕ)
+    → pass-answer (answered o n .number) (hopsOf (answered o n)) (receiveOf (answered o n)) (scoutsOf (answered o n)) b ≡ answerOfOutcome o n b
 unfolding answered answerOfOutcome
 answer-same (acknowledged w k) n b = refl
 answer-same route-rejected n b = refl

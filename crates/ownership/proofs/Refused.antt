@@ -2,7 +2,6 @@
 -- Assumes nothing.
 use mathlib.Core.Path.{_≡_, refl, _∙_}
 use mathlib.Core.Logic.{_⊎_, inl, inr, ⊎-elim, _≢_}
-use mathlib.Core.Bool.{true}
 use mathlib.Core.List.{List, [], _∷_, _++_}
 use Prim.Native.Nat.{ℕ}
 use lib.ListN.{replicate}
@@ -10,21 +9,21 @@ use Rattle.common.proofs.Tests.{same?}
 use Rattle.paths.specs.Send.{Outcome, acknowledged, route-rejected, receive-rejected}
 use Rattle.table.specs.View.{view}
 use Rattle.ownership.specs.Calls.{Call, making, blocking, unblocking, opening, closing, tracing, arming, disarming, form, lent}
-use Rattle.ownership.specs.Calls.{CallResult, scoutsOf, answered, carriesScouts, CallFacts, resultOf}
+use Rattle.ownership.specs.Calls.{CallResult, scoutsOf, answered, CallFacts, resultOf}
 use Rattle.ownership.specs.OnTable.{factsOf, stoppedAt, tableStep}
 use Rattle.ownership.specs.Agrees.{tableAfter, leaves}
 use Rattle.ownership.proofs.Steps.{table-step}
 
 -- "When refused, all but the number are 0, except that 10 and 11 carry their scouts."
 abbrev pub Zero : Call → CallResult → Type 0
-Zero a g = (g .values ≡ replicate (form a .values) 0) ⊎ ((carriesScouts (g .number) ≡ true) × (g .values ≡ 0 ∷ 0 ∷ scoutsOf g ∷ []))
+Zero a g = (g .values ≡ replicate (form a .values) 0) ⊎ (((g .number ≡ 10) ⊎ (g .number ≡ 11)) × (g .values ≡ 0 ∷ 0 ∷ scoutsOf g ∷ []))
 
 -- what a call that no test stops gives where it is refused: its buffers as they were lent, and such values
 send-zero : (a : Call) (o : Outcome) (n : ℕ) → answered o n .number ≢ 0 → (answered o n .buffers ≡ []) × Zero a (answered o n)
-unfolding answered carriesScouts
+unfolding answered
 send-zero a (acknowledged w k) n f = absurd (f refl)
-send-zero a route-rejected n f = (refl, inr (refl, refl))
-send-zero a receive-rejected n f = (refl, inr (refl, refl))
+send-zero a route-rejected n f = (refl, inr (inl refl, refl))
+send-zero a receive-rejected n f = (refl, inr (inr refl, refl))
 
 result-refused : (f : CallFacts) (a : Call) → resultOf f a .number ≢ 0 → (resultOf f a .buffers ≡ lent a) × Zero a (resultOf f a)
 unfolding resultOf
