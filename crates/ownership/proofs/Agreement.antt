@@ -2,9 +2,9 @@
 -- Assumes nothing.
 use mathlib.Core.Path.{_≡_, refl, ap, ap₂, sym, _∙_}
 use mathlib.Core.Logic.{⊎-elim, _≢_}
-use mathlib.Core.Bool.{false, not, _&&_}
+use mathlib.Core.Bool.{true, false, not, _&&_}
 use mathlib.Core.List.{List, [], _∷_}
-use Prim.Native.Nat.{ℕ, _≤_}
+use Prim.Native.Nat.{ℕ, _≤_, _<_}
 use lib.Dec.{leb}
 use lib.ListN.{length}
 use borrow.Author.Tests.{le-leb}
@@ -43,7 +43,8 @@ use Rattle.ownership.proofs.Steps.{table-step, history-step}
 bytes-represent : (h : History) → Valid h → Represents (bytesOf h) h
 unfolding bytesOf
 bytes-represent h valid =
-    let fits = sound-fits (viewOf h) (unfold viewOf in valid .most) (valid-sound h valid) (λ n k e. armed-inside h valid n k (unfold viewOf in e) .1) in
+    let eight : (n k : ℕ) → viewOf h .armed n k ≡ true → k < 8 = unfold viewOf in λ n k e. armed-inside h valid n k e .1 in
+    let fits = sound-fits (viewOf h) (unfold viewOf in valid .most) (valid-sound h valid) eight in
     record { bytes = encode-bytes (viewOf h) fits; shows = view-encode (viewOf h) fits; valid = valid }
 
 -- what a covered table is

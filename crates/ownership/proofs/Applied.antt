@@ -21,7 +21,7 @@ use Rattle.ownership.specs.History.{Circuit, History, shapeOn, netOn, li
 use Rattle.ownership.specs.Invariant.{CircuitValid, Disjoint, Valid}
 use Rattle.ownership.specs.HistoryView.{numberOf, viewOf}
 use Rattle.ownership.specs.Update.{holdLinks, viewAfterSend, updated}
-use Rattle.ownership.proofs.Circuits.{parts-belong, belongs-number, number-drop}
+use Rattle.ownership.proofs.Circuits.{parts-belong, belongs-number, Once, number-drop}
 use Rattle.ownership.proofs.Sameness.{send-same}
 use Rattle.ownership.proofs.CircuitValid.{link-holds, receive-holds, links-once, receives-once, receiver-of}
 use Rattle.ownership.proofs.Acknowledged.{Taken, send-taken, receive-free}
@@ -99,7 +99,7 @@ set-again f n p m q on = rw on (go (eqb m n && eqb q p))
 other-cleared : (f : ℕ → ℕ → Bool) (n p m q : ℕ) → f m q ≡ true → (m ≡ n → q ≡ p → ⊥) → setAt f n p false m q ≡ true
 unfolding setAt
 other-cleared f n p m q on other =
-    let off = is-false (eqb m n && eqb q p) (λ u. let i = both (eqb m n) (eqb q p) u in other (eqb-true m n (i .0)) (eqb-true q p (i .1))) in rw off on
+    let off = is-false _ (λ u. let i = both (eqb m n) (eqb q p) u in other (eqb-true m n (i .0)) (eqb-true q p (i .1))) in rw off on
 
 module _ (h : History) (valid : Valid h) where
   -- other blocked links: those within the cube, where each held link stays enabled
@@ -189,7 +189,9 @@ module _ (h : History) (valid : Valid h) where
   follows-valid (blocking n p) e =
       let r = block-facts h n p e in
       blocked-valid ((n, p) ∷ h .blocked)
-      (λ l m. ⊎-elim (λ q. subst (λ (x : Link). (x .0 < 2 ^ h .dimension) × (x .1 < h .dimension)) (sym q) (r .0, r .1)) (λ k. valid .blocked l k) (List·Memᴰ·cases-cons m))
+      (λ l m.
+      ⊎-elim (λ q. subst (λ (x : Link). (x .0 < 2 ^ h .dimension) × (x .1 < h .dimension)) (sym q) (r .0, r .1)) (λ k. valid .blocked l k)
+      (List·Memᴰ·cases-cons m))
       (λ m q held on. block-enabled h n p m q ∙ other-cleared (enabledOn h) n p m q on (λ x y. clash held (rw (x, y) (r .2))))
   follows-valid (unblocking n p) e =
       let r = unblock-facts h n p e in
@@ -197,27 +199,33 @@ module _ (h : History) (valid : Valid h) where
       (λ m q held on. unblock-enabled h n p (r .0) (r .1) m q ∙ set-again (enabledOn h) n p m q on)
   follows-valid (opening s c t y v) e = opened-valid s c t y v (allowed-on h (opening s c t y v) e) (sendOn h s t y v .outcome) refl
   follows-valid (closing s c) e =
-      circuits-valid (keep (λ x. not (belongs s c x)) (h .circuits)) (applied h (closing s c) .armed) (λ l m. valid .armed l (keep-mem _ (h .armed) m .0))
-      (λ x m. let k = keep-mem (λ x. not (belongs s c x)) (h .circuits) m in (valid .stands x (k .0), unfold armedOn in still-armed x (k .0) (not-true _ (k .1))))
-      (keep-pairwise _ (Disjoint (netOn h)) (h .circuits) (valid .apart))
+      circuits-valid (keep other (h .circuits)) (applied h (closing s c) .armed) (λ l m. valid .armed l (keep-mem _ (h .armed) m .0))
+      (λ x m. let k = keep-mem other (h .circuits) m in (valid .stands x (k .0), unfold armedOn in still-armed x (k .0) (not-true _ (k .1))))
+      (keep-pairwise other (Disjoint (netOn h)) (h .circuits) (valid .apart))
     where
+      other : Circuit → Bool
+      other x = not (belongs s c x)
+
       -- a circuit that is not closed holds another receive channel
       still-armed : (x : Circuit) → x ∈ h .circuits → belongs s c x ≡ false → armedOn (applied h (closing s c)) (x .target) (x .receive) ≡ true
-      still-armed x m other =
+      still-armed x m f =
           let small = close-facts h s c e in
-          let s = valid .stands x m in
-          close-armed h valid _ c small (x .target) (x .receive)
-          ∙ (rw (receiver-of h valid x m, belongs-number _ c x small (s .channel), other) (s .armed))
+          let stands = valid .stands x m in
+          close-armed h valid s c small (x .target) (x .receive)
+          ∙ (rw (receiver-of h valid x m, belongs-number s c x small (stands .channel), f) (stands .armed))
   follows-valid (tracing s c buffer) e = valid
   follows-valid (arming n k) e =
       circuits-valid (h .circuits) ((n, k) ∷ h .armed)
-      (λ l m. ⊎-elim (λ q. subst (λ (x : ℕ × ℕ). (x .0 < 2 ^ h .dimension) × (x .1 < 8)) (sym q) (arm-facts h n k e)) (λ i. valid .armed l i) (List·Memᴰ·cases-cons m))
+      (λ l m.
+      ⊎-elim (λ q. subst (λ (x : ℕ × ℕ). (x .0 < 2 ^ h .dimension) × (x .1 < 8)) (sym q) (arm-facts h n k e)) (λ i. valid .armed l i)
+      (List·Memᴰ·cases-cons m))
       (λ x m. let s = valid .stands x m in (s, arm-armed h n k _ _ ∙ set-again (armedOn h) n k _ _ (s .armed))) (valid .apart)
   follows-valid (disarming n k) e =
       circuits-valid (h .circuits) (without n k (h .armed)) (λ l m. valid .armed l (unfold without in keep-mem _ (h .armed) m .0))
       (λ x m.
       let s = valid .stands x m in
-      (s, disarm-armed h n k _ _ ∙ other-cleared (armedOn h) n k _ _ (s .armed) (λ i j. clash (taken-receive h x m n k (sym i) (sym j)) (disarm-facts h n k e)))) (valid .apart)
+      let other : x .target ≡ n → x .receive ≡ k → ⊥ = λ i j. clash (taken-receive h x m n k (sym i) (sym j)) (disarm-facts h n k e) in
+      (s, disarm-armed h n k _ _ ∙ other-cleared (armedOn h) n k _ _ (s .armed) other)) (valid .apart)
 
 -- the view once the links of a path are held
 pub held-path : (v : View) (S : Shape) (c n : ℕ) (w : Path)
@@ -280,10 +288,14 @@ module _ (h : History) (valid : Valid h) where
       record {
         dimension = h .dimension;
         enabled = enabledOn h;
-        owner = λ n p. number-drop (holdsLink (netOn h) n p) s c (close-facts h s c e) (h .circuits) (λ x m. valid .stands x m .channel) (links-once (netOn h) n p (h .circuits) (valid .apart)) i;
-        receiver = λ n k. number-drop (holdsReceive n k) s c (close-facts h s c e) (h .circuits) (λ x m. valid .stands x m .channel) (receives-once (netOn h) n k (h .circuits) (valid .apart)) i;
+        owner = λ n p. drops (holdsLink (netOn h) n p) (links-once (netOn h) n p (h .circuits) (valid .apart)) i;
+        receiver = λ n k. drops (holdsReceive n k) (receives-once (netOn h) n k (h .circuits) (valid .apart)) i;
         armed = λ n k. close-armed h valid s c (close-facts h s c e) n k i;
       }
+    where
+      drops : (f : Circuit → Bool) → Once f (h .circuits)
+          → numberOf f (keep (λ x. not (belongs s c x)) (h .circuits)) ≡ cond (eqb (numberOf f (h .circuits)) (circuitOf s c)) 0 (numberOf f (h .circuits))
+      drops f o = number-drop f s c (close-facts h s c e) (h .circuits) (λ x m. valid .stands x m .channel) o
   follows-view (tracing s c buffer) e = refl
   follows-view (arming n k) e = λ i. unfold setArmed enabledOn in
       record {

@@ -40,5 +40,6 @@ unfolding armedOn applied viewOf
 close-armed h valid s c small n k =
     kept-link (λ m q. not (any (λ x. belongs s c x && holdsReceive m q x) (h .circuits))) (h .armed) n k
     ∙ ap (λ b. not b && hasLink (h .armed) n k)
-    (number-belongs (holdsReceive n k) s c small (h .circuits) (λ x m. valid .stands x m .channel) (receives-once (netOn h) n k (h .circuits) (valid .apart)))
+    (number-belongs (holdsReceive n k) s c small (h .circuits) (λ x m. valid .stands x m .channel)
+    (receives-once (netOn h) n k (h .circuits) (valid .apart)))
     ∙ off-where (eqb (viewOf h .receiver n k) (circuitOf s c)) (hasLink (h .armed) n k)

@@ -175,7 +175,8 @@ module _ (h : History) (valid : Valid h) where
             unfold viewOf in ⊎-elim (λ e. e) (λ e. let r = receive-held n k e in absurd (o (subst (λ (m : ℕ). m < 2 ^ h .dimension) (sym (r .2 .0)) (inside (r .0) (r .1) .1)))) (same? (viewOf h .receiver n k) 0);
         absent-armed = λ n k o. unfold viewOf in is-false _ (λ e. o (armed-inside n k e .0));
         held-enabled = λ n p e. unfold viewOf in let r = link-held n p e in valid .stands (r .0) (r .1) .enabled (n, p) (r .2);
-        held-armed = λ n k e. unfold viewOf in let r = receive-held n k e in (λ i. armedOn h (r .2 .0 i) (r .2 .1 i)) ∙ valid .stands (r .0) (r .1) .armed;
+        held-armed = λ n k e.
+            unfold viewOf in let r = receive-held n k e in (λ i. armedOn h (r .2 .0 i) (r .2 .1 i)) ∙ valid .stands (r .0) (r .1) .armed;
         link-number = λ n p. unfold viewOf in ⊎-elim (λ z. omega arith) (λ e. let r = link-held n p e in rw (r .3) (number-small (r .0) (r .1))) (same? (viewOf h .owner n p) 0);
         receive-number = λ n k. unfold viewOf in ⊎-elim (λ z. omega arith) (λ e. let r = receive-held n k e in rw (r .3) (number-small (r .0) (r .1))) (same? (viewOf h .receiver n k) 0);
         numbers = occurs;

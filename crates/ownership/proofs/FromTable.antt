@@ -62,14 +62,15 @@ mem-out (m ∷ ns) ps n p (List·Memᴰ·head e) k = rw e (Memᴰ·append-left (
 mem-out (m ∷ ns) ps n p (List·Memᴰ·tail i) k = Memᴰ·append-right (map (λ (q : ℕ). (m, q)) ps) (mem-out ns ps n p i k)
 
 -- of the nodes below a and the ports below b: those below both
+out-below : {a b : ℕ} (n p : ℕ) → (n, p) ∈ linksOut (from 0 a) (from 0 b) → (n < a) × (p < b)
+out-below {a} {b} n p m = let r = out-mem (from 0 a) (from 0 b) n p m in (from-below _ _ (r .0), from-below _ _ (r .1))
+
 every-out : (a b n p : ℕ) → hasLink (linksOut (from 0 a) (from 0 b)) n p ≡ ltb n a && ltb p b
 every-out a b n p = go (ltb n a && ltb p b) refl
   where
     go : (x : Bool) → (ltb n a && ltb p b) ≡ x → hasLink (linksOut (from 0 a) (from 0 b)) n p ≡ x
     go true e = let i = both-below e in link-true _ n p (mem-out (from 0 a) (from 0 b) n p (below-from a n (i .0)) (below-from b p (i .1)))
-    go false e = is-false _ (λ t.
-        let r = out-mem (from 0 a) (from 0 b) n p (true-link _ n p t) in
-        clash (and (lt-ltb n a (from-below _ _ (r .0))) (lt-ltb p b (from-below _ _ (r .1)))) e)
+    go false e = is-false _ (λ t. let i = out-below n p (true-link _ n p t) in clash (and (lt-ltb n a (i .0)) (lt-ltb p b (i .1))) e)
 
 module _ (v : View) (sound : Sound v) where
   abbrev D : ℕ
@@ -160,7 +161,8 @@ module _ (v : View) (sound : Sound v) where
   -- what the history shows is what the table shows: its links' states and its armed channels
   enabled-same : (n p : ℕ) → v .enabled n p ≡ enabledOn h n p
   unfolding enabledOn historyOf
-  enabled-same n p = rw (kept-link (λ m q. not (v .enabled m q)) _ n p, every-out (2 ^ D) D n p) (go (ltb n (2 ^ D) && ltb p D) refl (v .enabled n p) refl)
+  enabled-same n p =
+      rw (kept-link (λ m q. not (v .enabled m q)) _ n p, every-out (2 ^ D) D n p) (go (ltb n (2 ^ D) && ltb p D) refl (v .enabled n p) refl)
     where
       go : (x : Bool) → (ltb n (2 ^ D) && ltb p D) ≡ x → (y : Bool) → v .enabled n p ≡ y → y ≡ x && not (not y && x)
       go true e true q = refl
@@ -171,8 +173,11 @@ module _ (v : View) (sound : Sound v) where
   unfolding armedOn historyOf
   armed-same eight n k = rw (kept-link (v .armed) _ n k, every-out (2 ^ D) 8 n k) (go (v .armed n k) refl)
     where
+      absent : 2 ^ D ≤ n → v .armed n k ≡ false
+      absent o = sound .absent-armed n k (λ i. omega arith)
+
       go : (y : Bool) → v .armed n k ≡ y → y ≡ y && (ltb n (2 ^ D) && ltb k 8)
-      go true q = sym (and (lt-ltb n _ (⊎-elim (λ i. i) (λ o. absurd (clash q (sound .absent-armed n k (λ i. omega arith)))) (below-or (2 ^ D) n))) (lt-ltb k 8 (eight n k q)))
+      go true q = sym (and (lt-ltb n _ (⊎-elim (λ i. i) (λ o. absurd (clash q (absent o))) (below-or (2 ^ D) n))) (lt-ltb k 8 (eight n k q)))
       go false q = refl
 
   -- its entries: the number that stands in one is that of the circuit that holds it
@@ -220,7 +225,8 @@ module _ (v : View) (sound : Sound v) where
               source = unfold circuitAt historyOf in omega (arith, o .positive, o .most);
               channel = unfold circuitAt in channel-below c;
               permitted = permitted-is c o;
-              enabled = λ l k. sym (enabled-same (l .0) (l .1)) ∙ sound .held-enabled (l .0) (l .1) (λ z. omega (arith, z, o .positive, link-number c o (l .0) (l .1) k));
+              enabled = λ l k.
+                  sym (enabled-same (l .0) (l .1)) ∙ sound .held-enabled _ _ (λ z. omega (arith, z, o .positive, link-number c o (l .0) (l .1) k));
               receive = omega (arith, receive-is c o, o .stands .small);
               armed = sym (armed-same eight _ _) ∙ sound .held-armed _ _ (λ z. omega (arith, z, o .positive, receive-number c o _ _ refl refl));
             }
@@ -230,8 +236,8 @@ module _ (v : View) (sound : Sound v) where
         record {
           least = unfold historyOf in least;
           most = unfold historyOf in most;
-          blocked = λ l m. unfold historyOf in let r = out-mem _ _ (l .0) (l .1) (keep-mem _ _ m .0) in (from-below _ _ (r .0), from-below _ _ (r .1));
-          armed = λ l m. unfold historyOf in let r = out-mem _ _ (l .0) (l .1) (keep-mem _ _ m .0) in (from-below _ _ (r .0), from-below _ _ (r .1));
+          blocked = λ l m. unfold historyOf in out-below (l .0) (l .1) (keep-mem _ _ m .0);
+          armed = λ l m. unfold historyOf in out-below (l .0) (l .1) (keep-mem _ _ m .0);
           stands = standing;
           apart = apart;
         }

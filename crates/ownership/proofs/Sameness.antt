@@ -34,7 +34,9 @@ module _ (h : History) where
   -- the lowest receive channel of a node that is armed and not held
   available-same : (t : ℕ) → available (viewOf h) t ≡ (λ k. armedOn h t k && not (takenOn h t k))
   unfolding available takenIn viewOf
-  available-same t = fun-ext (λ k. ap (armedOn h t k &&_) (sym (Bool·not-not (eqb (viewOf h .receiver t k) 0)) ∙ ap (λ (taken : ℕ → ℕ → Bool). not (taken t k)) taken-same))
+  available-same t =
+      fun-ext (λ k.
+      ap (armedOn h t k &&_) (sym (Bool·not-not (eqb (viewOf h .receiver t k) 0)) ∙ ap (λ (taken : ℕ → ℕ → Bool). not (taken t k)) taken-same))
 
   pub receive-same : (t : ℕ) → receive (viewOf h) t ≡ receiveOn h t
   unfolding receive receiveOn

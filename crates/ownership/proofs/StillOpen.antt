@@ -95,13 +95,18 @@ module _ (s c : ℕ) where
   step-accepted : (h : History) (a : Call) → resultOf (factsOn h) a .number ≡ 0 → Step h (applied h a) a 0
   unfolding applied resultOf factsOn Ends openOn
   step-accepted h (making D) e = step-making h D
-  step-accepted h (blocking m p) e = step-same h _ (blocking m p) 0 refl (λ o. let u : _≡_ {A = ℕ} 0 1 = cc (o .3) in absurd (omega arith)) (λ z ends. absurd ends)
-  step-accepted h (unblocking m p) e = step-same h _ (unblocking m p) 0 refl (λ o. let u : _≡_ {A = ℕ} 0 1 = cc (o .3) in absurd (omega arith)) (λ z ends. absurd ends)
+  step-accepted h (blocking m p) e =
+      step-same h _ (blocking m p) 0 refl (λ o. let u : _≡_ {A = ℕ} 0 1 = cc (o .3) in absurd (omega arith)) (λ z ends. absurd ends)
+  step-accepted h (unblocking m p) e =
+      step-same h _ (unblocking m p) 0 refl (λ o. let u : _≡_ {A = ℕ} 0 1 = cc (o .3) in absurd (omega arith)) (λ z ends. absurd ends)
   step-accepted h (opening m d t y v) e = step-opening h m d t y v (sendOn h m t y v .scouts) (sendOn h m t y v .outcome) e
   step-accepted h (closing m d) e = step-closing h m d
-  step-accepted h (tracing m d buffer) e = step-same h h (tracing m d buffer) 0 refl (λ o. let u : _≡_ {A = ℕ} 0 1 = cc (o .3) in absurd (omega arith)) (λ z ends. absurd ends)
-  step-accepted h (arming m k) e = step-same h _ (arming m k) 0 refl (λ o. let u : _≡_ {A = ℕ} 0 1 = cc (o .3) in absurd (omega arith)) (λ z ends. absurd ends)
-  step-accepted h (disarming m k) e = step-same h _ (disarming m k) 0 refl (λ o. let u : _≡_ {A = ℕ} 0 1 = cc (o .3) in absurd (omega arith)) (λ z ends. absurd ends)
+  step-accepted h (tracing m d buffer) e =
+      step-same h h (tracing m d buffer) 0 refl (λ o. let u : _≡_ {A = ℕ} 0 1 = cc (o .3) in absurd (omega arith)) (λ z ends. absurd ends)
+  step-accepted h (arming m k) e =
+      step-same h _ (arming m k) 0 refl (λ o. let u : _≡_ {A = ℕ} 0 1 = cc (o .3) in absurd (omega arith)) (λ z ends. absurd ends)
+  step-accepted h (disarming m k) e =
+      step-same h _ (disarming m k) 0 refl (λ o. let u : _≡_ {A = ℕ} 0 1 = cc (o .3) in absurd (omega arith)) (λ z ends. absurd ends)
 
   step-told : (h : History) (a : Call) → Step h (historyStep h a .state) a (historyStep h a .result .number)
   step-told h a =

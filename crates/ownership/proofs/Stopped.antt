@@ -53,7 +53,9 @@ module _ (h : History) (valid : Valid h) (s c : ℕ) (small : c < 8) where
   open-same = go (openOn h s c) refl
     where
       go : (b : Bool) → openOn h s c ≡ b → isOpenIn (viewOf h) (circuitOf s c) ≡ b
-      go true e = let (x, m, f) = any-some (belongs s c) (h .circuits) e in rw (sym (number-is s c x f)) (sound-open (viewOf h) (numberFor x) (valid-stands h valid x m))
+      go true e =
+          let (x, m, f) = any-some (belongs s c) (h .circuits) e in
+          rw (sym (number-is s c x f)) (sound-open (viewOf h) (numberFor x) (valid-stands h valid x m))
       go false e = is-false _ (λ t.
           let (p, m, f) = any-some (heldBy (viewOf h) (circuitOf s c) (sourceOf (circuitOf s c))) (ports (shapeOf (viewOf h))) t in
           let k = eqb-true _ _ f in
