@@ -57,6 +57,9 @@ scouts-row makes state line (disarming n k) = ((λ p. absurd p), (λ p. p .0))
 abbrev isAnswer : ℕ → Bool
 isAnswer n = ltb n 100 && not (eqb n 20)
 
+is-answer : (n : ℕ) → isAnswer n ≡ true → (n < 100) × (n ≢ 20)
+is-answer n e = let r = both (ltb n 100) (not (eqb n 20)) e in (ltb-true n 100 (r .0), eqb-false n 20 (not-true (eqb n 20) (r .1)))
+
 -- which the numbers of all tests of a call pass,
 other : (b : Bool) (n : ℕ) (ts : List Test) → isAnswer n ≡ true → isAnswer (refusal ts) ≡ true → isAnswer (refusal (test b n ∷ ts)) ≡ true
 other true n ts h k = rw (refused n ts refl) h
@@ -99,10 +102,10 @@ call-answer b a =
     ⊎-elim (λ e. rw (table-step b a .result e) (result-answer _ a)) (λ e. rw (table-step b a .stopped e) (stopped-by b a)) (same? (stoppedAt b a) 0)
 
 pub two-digits : (b : List ℕ) (a : Call) → tableStep b a .result .number < 100
-two-digits b a = ltb-true _ 100 (both _ _ (call-answer b a) .0)
+two-digits b a = is-answer _ (call-answer b a) .0
 
 pub never-twenty : (b : List ℕ) (a : Call) → tableStep b a .result .number ≢ 20
-never-twenty b a = eqb-false _ 20 (not-true _ (both _ _ (call-answer b a) .1))
+never-twenty b a = is-answer _ (call-answer b a) .1
 
 -- "For number 20 every field but line and answer is `-`": a printed line whose answer is 20 is that of a line that cannot be read.
 same-shown : {m n : ℕ} → shows m ≡ shows n → m ≡ n
