@@ -9,7 +9,8 @@ use lib.ListN.{replicate}
 use Rattle.common.proofs.Tests.{same?}
 use Rattle.paths.specs.Send.{Outcome, acknowledged, route-rejected, receive-rejected}
 use Rattle.table.specs.View.{view}
-use Rattle.ownership.specs.Calls.{Call, making, blocking, unblocking, opening, closing, tracing, form, lent, CallResult, scoutsOf, answered, carriesScouts, CallFacts, resultOf}
+use Rattle.ownership.specs.Calls.{Call, making, blocking, unblocking, opening, closing, tracing, arming, disarming, form, lent}
+use Rattle.ownership.specs.Calls.{CallResult, scoutsOf, answered, carriesScouts, CallFacts, resultOf}
 use Rattle.ownership.specs.OnTable.{factsOf, stoppedAt, tableStep}
 use Rattle.ownership.specs.Agrees.{tableAfter, leaves}
 use Rattle.ownership.proofs.Steps.{table-step}
@@ -33,6 +34,8 @@ result-refused f (unblocking n p) h = absurd (h refl)
 result-refused f (opening s c t y v) h = send-zero (opening s c t y v) (f .sends s t y v .outcome) (f .sends s t y v .scouts) h
 result-refused f (closing s c) h = absurd (h refl)
 result-refused f (tracing s c buffer) h = absurd (h refl)
+result-refused f (arming n k) h = absurd (h refl)
+result-refused f (disarming n k) h = absurd (h refl)
 
 module _ (b : List ℕ) (a : Call) (f : tableStep b a .result .number ≢ 0) where
   refused-result : (tableStep b a .result .buffers ≡ lent a) × Zero a (tableStep b a .result)

@@ -46,7 +46,7 @@ none-stops-lent b a h e =
     let r : refusal (lentTests b a) ≡ 0 = refusal-both (lentTests b a) _ (lent-numbered b a) e .0 in
     rw h at r
 
--- A table that passes the tests of a lent table is 8,449 bytes long, has a dimension from 1 to 8, and is sound.
+-- A table that passes the tests of a lent table is 8,705 bytes long, has a dimension from 1 to 8, and is sound.
 pub pass-tests : (b : List ℕ) → refusal (tableTests b) ≡ 0 → (length b ≡ tableLength) × (1 ≤ dimensionAt b) × (dimensionAt b ≤ 8) × Sound (view b)
 unfolding tableTests
 pass-tests b e =

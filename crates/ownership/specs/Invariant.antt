@@ -13,7 +13,8 @@ use Rattle.table.specs.Encode.{Bytes}
 use Rattle.ownership.specs.History.{Circuit, History, shapeOn, netOn, linksOf, enabledOn, armedOn}
 use Rattle.ownership.specs.HistoryView.{viewOf}
 
--- What holds of each listed circuit: it is a send channel's of the cube, its path is permitted and ends on its target, its links are not blocked, and its receive channel is armed.
+-- What holds of each listed circuit: it is a send channel's of the cube, its path is permitted and ends on its target, its links are not blocked, and its
+-- receive channel is armed.
 pub record CircuitValid (h : History) (x : Circuit) : Type 0 where
   pub source : x .source < 2 ^ h .dimension
   pub channel : x .channel < 8
