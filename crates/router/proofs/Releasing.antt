@@ -5,11 +5,11 @@ use mathlib.Core.Path.{_≡_, refl, ap, sym, _∙_, subst}
 use mathlib.Core.Logic.{⊎-elim}
 use mathlib.Core.Bool.{Bool, true, false, cond, not, _&&_}
 use mathlib.Core.List.{List, [], _∷_, List·Memᴰ·head, List·Memᴰ·tail}
-use Prim.Native.Nat.{ℕ, zero, suc, _+_, _^_, _≤_, _<_}
+use Prim.Native.Nat.{ℕ, zero, suc, _+_, _/_, _%_, _^_, _≤_, _<_}
 use native.Mathlib.Omega.{arith}
 use native.Mathlib.Numerals.{add-one}
 use lib.Dec.{eqb, lit<}
-use lib.ListN.{length, getD, take, drop, length-append, length-set, List·getD-append}
+use lib.ListN.{length, getD, take, drop, set, length-append, length-set, List·getD-append}
 use lib.Seq.{slice, slice-cons, slice-empty, take-append-seam}
 use borrow.Author.Tests.{eqb-true, eqb-false, eq-eqb}
 use Rattle.common.specs.Lists.{_∈_, lowest}
@@ -23,7 +23,7 @@ use Rattle.paths.specs.Send.{acknowledged}
 use Rattle.paths.specs.CubeNetwork.{Shape, network}
 use Rattle.paths.proofs.Links.{link-true, true-link}
 use Rattle.paths.proofs.Apart.{permitted-below, permitted-inside}
-use Rattle.table.specs.Layout.{dimensionAt, receiverAt, putEntry, putOwner, putReceiver, putArmed}
+use Rattle.table.specs.Layout.{dimensionAt, entryPlace, receivePart, receiverAt, putEntry, putOwner, putReceiver, putArmed}
 use Rattle.table.specs.LayoutContracts.{Within}
 use Rattle.table.specs.View.{View, view, setReceiver, setArmed, setAt, withoutCircuit, shapeOf, net, heldBy}
 use Rattle.table.specs.Encode.{encode, Bytes}
@@ -83,6 +83,11 @@ at-member [] i h = absurd (omega arith)
 at-member (x ∷ w) zero h = List·Memᴰ·head refl
 at-member (x ∷ w) (suc i) h = List·Memᴰ·tail (at-member w i (omega arith))
 
+receiver-length : (b : List ℕ) (n k c : ℕ) → length (putReceiver b n k c) ≡ length b
+unfolding putReceiver putEntry
+receiver-length b n k c =
+    length-set (set b (entryPlace receivePart n k) (c % 256)) (entryPlace receivePart n k + 1) (c / 256) ∙ length-set b (entryPlace receivePart n k) (c % 256)
+
 -- An open circuit of a sound table.
 module _ {b : List ℕ} {c : ℕ} (known : HasSource b c) (some : not (isEmpty (pathOf (view b) c)) ≡ true) (sound : Sound (view b)) where
   stands : CircuitSound (view b) c
@@ -135,7 +140,8 @@ module _ {b : List ℕ} {c : ℕ} (known : HasSource b c) (some : not (isEmpty (
       ≡ withoutCircuit (view b) c
   unfolding viewAfterSend withoutCircuit setReceiver setArmed setAt
   shown-freed =
-      ap (λ (v : View). setArmed (setReceiver v target (stands .channel) 0) target (stands .channel) false) (held-path (view b) (shapeOf (view b)) 0 (sourceOf c) path) ∙ λ i.
+      ap (λ (v : View). setArmed (setReceiver v target (stands .channel) 0) target (stands .channel) false)
+      (held-path (view b) (shapeOf (view b)) 0 (sourceOf c) path) ∙ λ i.
       record {
         dimension = view b .dimension;
         enabled = view b .enabled;
@@ -144,8 +150,8 @@ module _ {b : List ℕ} {c : ℕ} (known : HasSource b c) (some : not (isEmpty (
         armed = λ m k. cond (channel-held m k i) false (view b .armed m k);
       }
 
-  bytes-freed : Bytes b
-      → putArmed (putReceiver (holdPath b 0 (sourceOf c) path) target (stands .channel) 0) target (stands .channel) false ≡ encode (withoutCircuit (view b) c)
+  bytes-freed : Bytes b → putArmed (putReceiver (holdPath b 0 (sourceOf c) path) target (stands .channel) 0) target (stands .channel) false
+      ≡ encode (withoutCircuit (view b) c)
   unfolding bytesAfterSend
   bytes-freed bytes =
       let o = acknowledged path (stands .channel) in
@@ -208,13 +214,8 @@ module _ {b : List ℕ} {c : ℕ} (known : HasSource b c) (some : not (isEmpty (
 
         module _ {b₂ : List ℕ} (freed : b₂ ≡ putReceiver b₁ t k 0) where
           pub freed-within : Within b₂ t k
-          unfolding putReceiver putEntry
           freed-within =
-              record {
-                bytes = ap length freed ∙ length-set _ _ _ ∙ length-set b₁ _ _ ∙ target-within .bytes;
-                node = target-within .node;
-                port = channel-within .port;
-              }
+              record { bytes = ap length freed ∙ receiver-length b₁ t k 0 ∙ target-within .bytes; node = target-within .node; port = channel-within .port }
 
           pub all-freed : Bytes b → putArmed b₂ t k false ≡ encode (withoutCircuit (view b) c)
           all-freed bytes = rw (freed, held, at-target, the-channel) (bytes-freed bytes)

@@ -26,7 +26,7 @@ returns-2 : tie.Need-returns-2
 returns-2 c =
     let d = c .before .before in
     let e = d .before .before in
-    call-arms _ _ _ (e .before .arm .ensures) (e .if1 .left) (λ i. omega (arith, e .before .before .before .slice-known .given i)) (d .arm-2 .ensures)
+    call-arms _ _ _ (e .before .arm .ensures) (e .if1 .left) (λ i. omega (arith, e .before .before .before .slice-known .given i)) (d .arm2 .ensures)
 
 pub arm-spec : {M : Type 1} → statement M
 arm-spec = tie.close (tie.spec arm-requires same-length returns arm-requires-2 same-length-2 returns-2)

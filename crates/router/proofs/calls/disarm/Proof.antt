@@ -26,7 +26,7 @@ returns-2 : tie.Need-returns-2
 returns-2 c =
     let d = c .before .before in
     let e = d .before .before in
-    call-disarms _ _ _ (e .before .disarm .ensures) (e .if1 .left) (λ i. omega (arith, e .before .before .before .slice-known .given i)) (d .disarm-2 .ensures)
+    call-disarms _ _ _ (e .before .disarm .ensures) (e .if1 .left) (λ i. omega (arith, e .before .before .before .slice-known .given i)) (d .disarm2 .ensures)
 
 pub disarm-spec : {M : Type 1} → statement M
 disarm-spec = tie.close (tie.spec disarm-requires same-length returns disarm-requires-2 same-length-2 returns-2)
