@@ -20,7 +20,7 @@ use Rattle.table.specs.Layout.{made}
 use Rattle.table.specs.View.{view, shapeOf}
 use Rattle.soundness.specs.SoundTest.{pathOf, tracedInto}
 use Rattle.soundness.proofs.Soundness.{path-is}
-use Rattle.ownership.specs.Calls.{Call, making, blocking, unblocking, opening, closing, tracing, CallResult, hopsOf, receiveOf, scoutsOf, bufferOf, carriesScouts, resultOf, After}
+use Rattle.ownership.specs.Calls.{Call, making, blocking, unblocking, opening, closing, tracing, arming, disarming, CallResult, hopsOf, receiveOf, scoutsOf, bufferOf, carriesScouts, resultOf, After}
 use Rattle.ownership.specs.OnTable.{factsOf, stoppedAt, tableStep}
 use Rattle.ownership.specs.Allowed.{Allowed}
 use Rattle.ownership.proofs.Allowed.{allowed}
@@ -40,7 +40,7 @@ use Rattle.text.proofs.Fields.{five-digits}
 use Rattle.text.proofs.Rows.{row-length}
 use Rattle.text.proofs.Reading.{IfRead}
 use Rattle.listing.proofs.Asking.{numbers-hold, each-letter, short-line}
-use Rattle.listing.proofs.Theorems.{call-below}
+use Rattle.listing.proofs.Refusals.{two-digits}
 
 -- a field that is shown in one case only
 if-fits : (k : ℕ) (b : Bool) (f : Field) → 1 ≤ k → (b ≡ true → width f ≤ k) → width (cond b f nothing) ≤ k
@@ -72,11 +72,14 @@ ArgumentsFit (unblocking n p) = (n < 65536) × (p < 65536)
 ArgumentsFit (opening s c t y v) = (s < 65536) × (c < 65536)
 ArgumentsFit (closing s c) = (s < 65536) × (c < 65536)
 ArgumentsFit (tracing s c buffer) = Unit
+ArgumentsFit (arming n k) = (n < 65536) × (k < 65536)
+ArgumentsFit (disarming n k) = (n < 65536) × (k < 65536)
 
 given-letter : (x : ℕ) (ns : List ℕ) → Small ns → IfRead ArgumentsFit (byLetter x ns)
 unfolding byLetter
 given-letter x ns h =
-    if-read ArgumentsFit (eqb (length ns) (numbersOf x)) _ (each-letter (λ n f. IfRead ArgumentsFit (f (getD ns 0 0) (getD ns 1 0) (getD ns 2 0) (getD ns 3 0) (getD ns 4 0))) tt (h 0, h 1) (h 0, h 1) (h 0, h 1) (h 0, h 1) tt x)
+    if-read ArgumentsFit (eqb (length ns) (numbersOf x)) _ (each-letter (λ n f. IfRead ArgumentsFit (f (getD ns 0 0) (getD ns 1 0) (getD ns 2 0) (getD ns 3 0) (getD ns 4 0))) tt (h 0, h 1) (h 0, h 1) (h 0, h 1) (h 0, h 1)
+    (h 0, h 1) (h 0, h 1) tt x)
 
 arguments-fit : (l : List ℕ) → IfRead ArgumentsFit (asks l)
 unfolding asks
@@ -146,7 +149,7 @@ module _ (b : List ℕ) (s c t y v : ℕ) where
 -- the line of each call
 module _ (b : List ℕ) (n : ℕ) (small : n < 65536) where
   answer-digits : (a : Call) → length (decimal (tableStep b a .result .number)) ≤ 2
-  answer-digits a = decimal-length 1 _ (let l = call-below b a in omega arith)
+  answer-digits a = decimal-length 1 _ (let l = two-digits b a in omega arith)
 
   call-length : (a : Call) → ArgumentsFit a → length (rowText (rowFor tableStep b n (some a))) ≤ 72
   unfolding rowFor callRow bytesOf
@@ -161,6 +164,8 @@ module _ (b : List ℕ) (n : ℕ) (small : n < 65536) where
       rw row-length (omega (arith, five-digits n small, answer-digits (opening s c t y v), five-digits s (g .0), five-digits c (g .1), receive, scouts, ports))
   call-length (closing s c) g = rw row-length (omega (arith, five-digits n small, answer-digits (closing s c), five-digits s (g .0), five-digits c (g .1)))
   call-length (tracing s c buffer) g = rw row-length (omega (arith, five-digits n small, answer-digits (tracing s c buffer)))
+  call-length (arming m k) g = rw row-length (omega (arith, five-digits n small, answer-digits (arming m k), five-digits m (g .0), five-digits k (g .1)))
+  call-length (disarming m k) g = rw row-length (omega (arith, five-digits n small, answer-digits (disarming m k), five-digits m (g .0), five-digits k (g .1)))
 
   unreadable-length : length (rowText (unreadable n)) ≤ 24
   unfolding unreadable bytesOf
