@@ -6,7 +6,7 @@ LISTING = target/bin/maze_list
 PREFIX = /usr/local
 DESTDIR =
 
-CALLS = make block unblock open close trace word_read word_write arbitrate receive_start receive_data receive_word receive_overshoot
+CALLS = make block unblock arm disarm open close trace word_read word_write arbitrate receive_start receive_data receive_word receive_overshoot
 
 .PHONY: all library program demo test random bench install clean
 # The targets share one folder of what was proved and built.

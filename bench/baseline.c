@@ -99,11 +99,16 @@ static int sound(const uint8_t *table, unsigned dimension) {
     uint64_t seen[8 * MAZE_NODES / 64 + 1];
     int any_seen = 0;
     if (dimension < MAZE_DIMENSION_LARGEST) {
-        uint8_t absent[8];
+        uint8_t absent_ports[8], absent_nodes[8];
         uint64_t some = 0;
-        for (unsigned node = 0; node < 8; node++) absent[node] = (uint8_t)(node < nodes ? ~ports : 255);
-        for (unsigned node = 0; node < nodes; node += 8) some |= word(table + MAZE_ENABLED_AT + node) & word(absent);
-        for (unsigned node = nodes < 8 ? 8 : nodes; node < MAZE_NODES; node += 8) some |= word(table + MAZE_ENABLED_AT + node);
+        for (unsigned node = 0; node < 8; node++) {
+            absent_ports[node] = (uint8_t)(node < nodes ? ~ports : 255);
+            absent_nodes[node] = (uint8_t)(node < nodes ? 0 : 255);
+        }
+        for (unsigned node = 0; node < nodes; node += 8) some |= word(table + MAZE_ENABLED_AT + node) & word(absent_ports);
+        some |= word(table + MAZE_ARMED_AT) & word(absent_nodes);
+        for (unsigned node = nodes < 8 ? 8 : nodes; node < MAZE_NODES; node += 8)
+            some |= word(table + MAZE_ENABLED_AT + node) | word(table + MAZE_ARMED_AT + node);
         if (some) return 0;
     }
     for (unsigned node = nodes; node < GROUP; node++) /* fewer nodes than a group has: the rest of it */
@@ -123,7 +128,9 @@ static int sound(const uint8_t *table, unsigned dimension) {
         if (zero_group(receives(table, group))) continue;
         for (unsigned node = group; node < group + GROUP; node++) {
             const uint8_t *row = receives(table, node);
-            for (unsigned mask = held(row); mask; mask &= mask - 1) {
+            unsigned mask = held(row);
+            if (mask & ~(unsigned)table[MAZE_ARMED_AT + node]) return 0;
+            for (; mask; mask &= mask - 1) {
                 unsigned circuit = entry(row, lowest(mask)), hops;
                 if (circuit > 8 * nodes) return 0;
                 if (!any_seen) memset(seen, 0, sizeof seen), any_seen = 1;
@@ -179,6 +186,30 @@ uint16_t base_unblock(uint8_t *table, size_t table_len, uint16_t node, uint16_t 
     return MAZE_ACCEPTED;
 }
 
+/* Tests 1 to 5 of a call on one channel. */
+static uint16_t refuse_channel(const uint8_t *table, size_t table_len, unsigned node, unsigned channel) {
+    uint16_t number = refuse_table(table, table_len);
+    if (number) return number;
+    if (node >> table[0]) return MAZE_BAD_NODE;
+    if (channel >= MAZE_CHANNELS) return MAZE_BAD_CHANNEL;
+    return MAZE_ACCEPTED;
+}
+
+uint16_t base_arm(uint8_t *table, size_t table_len, uint16_t node, uint16_t channel) {
+    uint16_t number = refuse_channel(table, table_len, node, channel);
+    if (number) return number;
+    table[MAZE_ARMED_AT + node] |= (uint8_t)(1u << channel);
+    return MAZE_ACCEPTED;
+}
+
+uint16_t base_disarm(uint8_t *table, size_t table_len, uint16_t node, uint16_t channel) {
+    uint16_t number = refuse_channel(table, table_len, node, channel);
+    if (number) return number;
+    if (entry(receives(table, node), channel)) return MAZE_CHANNEL_HELD;
+    table[MAZE_ARMED_AT + node] &= (uint8_t)~(1u << channel);
+    return MAZE_ACCEPTED;
+}
+
 struct search {
     uint8_t *table;
     unsigned target, circuit, hops;
@@ -215,7 +246,7 @@ maze_opened base_open(uint8_t *table, size_t table_len, uint16_t node, uint16_t 
     maze_opened answer = {0, 0, 0, 0};
     struct search search;
     uint8_t *receive_row;
-    unsigned ports, taken;
+    unsigned ports, available;
 
     answer.number = refuse_table(table, table_len);
     if (answer.number) return answer;
@@ -228,20 +259,20 @@ maze_opened base_open(uint8_t *table, size_t table_len, uint16_t node, uint16_t 
     if (answer.number) return answer;
 
     receive_row = table + MAZE_RECEIVES_AT + ROW_BYTES * target;
-    taken = held(receive_row);
+    available = table[MAZE_ARMED_AT + target] & ~held(receive_row);
     search.table = table;
     search.target = target;
     search.circuit = MAZE_CIRCUIT(node, channel);
     search.hops = 0;
     search.scouts = 0;
-    search.found = taken == 255 ? MAZE_RECEIVE_REJECTED : MAZE_ACCEPTED;
+    search.found = available ? MAZE_ACCEPTED : MAZE_RECEIVE_REJECTED;
     answer.number = try_ports(&search, node, vector & table[MAZE_ENABLED_AT + node], 7);
     if (answer.number && type == MAZE_TYPE_ALTERNATE_MAZE)
         answer.number = try_ports(&search, node, ports & ~(unsigned)vector & table[MAZE_ENABLED_AT + node], 7);
     answer.scouts = search.scouts;
     if (answer.number == MAZE_ACCEPTED) {
         answer.hops = (uint16_t)search.hops;
-        answer.receive = (uint16_t)lowest(~taken);
+        answer.receive = (uint16_t)lowest(available);
         set_entry(receive_row, answer.receive, search.circuit);
     }
     return answer;
@@ -273,10 +304,8 @@ static unsigned follow(const uint8_t *table, unsigned source, unsigned circuit, 
 
 /* Tests 1 to 12 of a call on an open circuit, and its path. */
 static uint16_t refuse_circuit(const uint8_t *table, size_t table_len, unsigned node, unsigned channel, struct path *path, unsigned *hops) {
-    uint16_t number = refuse_table(table, table_len);
+    uint16_t number = refuse_channel(table, table_len, node, channel);
     if (number) return number;
-    if (node >> table[0]) return MAZE_BAD_NODE;
-    if (channel >= MAZE_CHANNELS) return MAZE_BAD_CHANNEL;
     *hops = follow(table, node, MAZE_CIRCUIT(node, channel), path);
     if (!*hops) return MAZE_NO_CIRCUIT;
     return MAZE_ACCEPTED;
@@ -284,12 +313,14 @@ static uint16_t refuse_circuit(const uint8_t *table, size_t table_len, unsigned 
 
 uint16_t base_close(uint8_t *table, size_t table_len, uint16_t node, uint16_t channel) {
     struct path path;
-    unsigned hops, target;
+    unsigned hops, target, receive;
     uint16_t number = refuse_circuit(table, table_len, node, channel, &path, &hops);
     if (number) return number;
     for (unsigned i = 0; i < hops; i++) set_entry(table + MAZE_LINKS_AT + ROW_BYTES * path.node[i], path.port[i], 0);
     target = path.node[hops];
-    set_entry(table + MAZE_RECEIVES_AT + ROW_BYTES * target, lowest(held_by(receives(table, target), MAZE_CIRCUIT(node, channel))), 0);
+    receive = lowest(held_by(receives(table, target), MAZE_CIRCUIT(node, channel)));
+    set_entry(table + MAZE_RECEIVES_AT + ROW_BYTES * target, receive, 0);
+    table[MAZE_ARMED_AT + target] &= (uint8_t)~(1u << receive);
     return MAZE_ACCEPTED;
 }
 

@@ -8,6 +8,8 @@
 uint16_t base_make(uint8_t *table, size_t table_len, uint16_t dimension);
 uint16_t base_block(uint8_t *table, size_t table_len, uint16_t node, uint16_t port);
 uint16_t base_unblock(uint8_t *table, size_t table_len, uint16_t node, uint16_t port);
+uint16_t base_arm(uint8_t *table, size_t table_len, uint16_t node, uint16_t channel);
+uint16_t base_disarm(uint8_t *table, size_t table_len, uint16_t node, uint16_t channel);
 maze_opened base_open(uint8_t *table, size_t table_len, uint16_t node, uint16_t channel, uint16_t target, uint16_t type, uint16_t vector);
 uint16_t base_close(uint8_t *table, size_t table_len, uint16_t node, uint16_t channel);
 maze_traced base_trace(const uint8_t *table, size_t table_len, uint16_t node, uint16_t channel, uint8_t *buffer, size_t buffer_len);

@@ -16,6 +16,8 @@ struct calls {
     uint16_t (*make)(uint8_t *, size_t, uint16_t);
     uint16_t (*block)(uint8_t *, size_t, uint16_t, uint16_t);
     uint16_t (*unblock)(uint8_t *, size_t, uint16_t, uint16_t);
+    uint16_t (*arm)(uint8_t *, size_t, uint16_t, uint16_t);
+    uint16_t (*disarm)(uint8_t *, size_t, uint16_t, uint16_t);
     maze_opened (*open)(uint8_t *, size_t, uint16_t, uint16_t, uint16_t, uint16_t, uint16_t);
     uint16_t (*close)(uint8_t *, size_t, uint16_t, uint16_t);
     maze_traced (*trace)(const uint8_t *, size_t, uint16_t, uint16_t, uint8_t *, size_t);
@@ -28,10 +30,12 @@ struct calls {
     uint32_t (*receive_overshoot)(maze_receive_channel);
 };
 
-static const struct calls plain = {base_make, base_block, base_unblock, base_open, base_close, base_trace, base_word_read, base_word_write,
-                                   base_arbitrate, base_receive_start, base_receive_data, base_receive_word, base_receive_overshoot};
-static const struct calls library = {maze_make, maze_block, maze_unblock, maze_open, maze_close, maze_trace, maze_word_read, maze_word_write,
-                                     maze_arbitrate, maze_receive_start, maze_receive_data, maze_receive_word, maze_receive_overshoot};
+static const struct calls plain = {base_make, base_block, base_unblock, base_arm, base_disarm, base_open, base_close, base_trace,
+                                   base_word_read, base_word_write, base_arbitrate, base_receive_start, base_receive_data, base_receive_word,
+                                   base_receive_overshoot};
+static const struct calls library = {maze_make, maze_block, maze_unblock, maze_arm, maze_disarm, maze_open, maze_close, maze_trace,
+                                     maze_word_read, maze_word_write, maze_arbitrate, maze_receive_start, maze_receive_data, maze_receive_word,
+                                     maze_receive_overshoot};
 
 enum { BYTES = MAZE_TABLE_BYTES };
 
@@ -39,27 +43,32 @@ static uint8_t table[BYTES], buffer[MAZE_TRACE_BYTES];
 
 /* ---- the tables ---- */
 
-static void empty(unsigned dimension) {
+enum { ALL_CHANNELS = 255 };
+
+/* Nothing held, every channel armed. */
+static void armed(unsigned dimension) {
     base_make(table, BYTES, (uint16_t)dimension);
+    memset(table + MAZE_ARMED_AT, ALL_CHANNELS, (size_t)1 << dimension);
 }
 
-static void empty_3(void) { empty(3); }
-static void empty_8(void) { empty(8); }
+static void armed_3(void) { armed(3); }
+static void armed_8(void) { armed(8); }
+static void made_8(void) { base_make(table, BYTES, 8); }
 
 /* The eight links into node 254 blocked. */
 static void walled(void) {
-    empty(8);
+    armed(8);
     for (unsigned port = 0; port < 8; port++) base_block(table, BYTES, (uint16_t)(254 ^ 1u << port), (uint16_t)port);
 }
 
 static void nine_hops(void) {
-    empty(8);
+    armed(8);
     base_open(table, BYTES, 0, 0, 254, 0, 1);
 }
 
 /* Every link held by a circuit of its own, but the one from node 0 to node 1. */
 static void full_of_short(void) {
-    empty(8);
+    armed(8);
     for (unsigned node = 0; node < MAZE_NODES; node++)
         for (unsigned port = 0; port < MAZE_PORTS; port++)
             if (node != 0 || port != 0) base_open(table, BYTES, (uint16_t)node, (uint16_t)port, (uint16_t)(node ^ 1u << port), 0, (uint16_t)(1u << port));
@@ -69,7 +78,7 @@ static void full_of_short(void) {
  * node 1. */
 static void full_of_long(void) {
     unsigned x = 1;
-    empty(8);
+    armed(8);
     base_open(table, BYTES, 0, 0, 1, 0, 1);
     for (unsigned i = 0; i < 4000; i++) {
         unsigned node = (x = x * 1664525u + 1013904223u) >> 24, target = (x = x * 1664525u + 1013904223u) >> 24;
@@ -80,6 +89,7 @@ static void full_of_long(void) {
             for (unsigned channel = 0; channel < MAZE_CHANNELS && MAZE_LINK_CIRCUIT(table, node, port) == 0; channel++)
                 base_open(table, BYTES, (uint16_t)node, (uint16_t)channel, (uint16_t)(node ^ 1u << port), 0, (uint16_t)(1u << port));
     base_close(table, BYTES, 0, 0);
+    table[MAZE_ARMED_AT + 1] = ALL_CHANNELS; /* the close has disarmed one */
 }
 
 /* Every word once, and every command with every number of six bits once, in an order that a processor cannot foresee: so they come from
@@ -129,7 +139,7 @@ static void mixed_channels(void) {
 
 /* ---- one turn of each line: answers a sum that both versions must agree on; its last two digits are the numbers that the calls answered ---- */
 
-/* What a turn is made with. Opens are on send channel 0; `other` is their target, the port of a link, or the channel that is traced. */
+/* What a turn is made with. Opens are on send channel 0; `other` is their target, the port of a link, or the channel that is traced or armed. */
 struct with {
     uint16_t node, other, vector;
 };
@@ -144,14 +154,22 @@ static unsigned long turn_open(const struct calls *c, struct with with) {
     return opened.number + 100ul * opened.scouts;
 }
 
+/* What the close disarms is armed again by a byte, as a third call would be measured too. */
 static unsigned long turn_open_close(const struct calls *c, struct with with) {
     unsigned long sum = turn_open(c, with);
-    return sum + c->close(table, BYTES, with.node, 0);
+    sum += c->close(table, BYTES, with.node, 0);
+    table[MAZE_ARMED_AT + with.other] = ALL_CHANNELS;
+    return sum;
 }
 
 static unsigned long turn_block(const struct calls *c, struct with with) {
     unsigned long number = c->block(table, BYTES, with.node, with.other);
     return number + c->unblock(table, BYTES, with.node, with.other);
+}
+
+static unsigned long turn_arm(const struct calls *c, struct with with) {
+    unsigned long number = c->disarm(table, BYTES, with.node, with.other);
+    return number + c->arm(table, BYTES, with.node, with.other);
 }
 
 static unsigned long turn_trace(const struct calls *c, struct with with) {
@@ -229,26 +247,30 @@ static const struct {
     unsigned turns;   /* of a round */
     unsigned divisor; /* calls of a turn that the time is given for; 1 for the whole turn */
 } lines[] = {
-    {"make, dimension 8", empty_8, turn_make, {0, 0, 0}, MAZE_ACCEPTED, 10000, 1},
-    {"open and close, 3 hops, dimension 3", empty_3, turn_open_close, {0, 7, 7}, MAZE_ACCEPTED, 5000, 1},
-    {"open and close, 1 hop, dimension 8", empty_8, turn_open_close, {0, 1, 1}, MAZE_ACCEPTED, 5000, 1},
-    {"open and close, 8 hops", empty_8, turn_open_close, {0, 255, 255}, MAZE_ACCEPTED, 5000, 1},
+    {"make, dimension 8", made_8, turn_make, {0, 0, 0}, MAZE_ACCEPTED, 10000, 1},
+    {"open and close, 3 hops, dimension 3", armed_3, turn_open_close, {0, 7, 7}, MAZE_ACCEPTED, 5000, 1},
+    {"open and close, 1 hop, dimension 8", armed_8, turn_open_close, {0, 1, 1}, MAZE_ACCEPTED, 5000, 1},
+    {"open and close, 8 hops", armed_8, turn_open_close, {0, 255, 255}, MAZE_ACCEPTED, 5000, 1},
+    {"open, 8 hops, receive rejected", made_8, turn_open, {0, 255, 255}, MAZE_RECEIVE_REJECTED, 5000, 1},
     {"open, 77,940 scouts, rejected", walled, turn_open, {0, 254, 255}, MAZE_ROUTE_REJECTED, 10, 1},
-    {"block and unblock", empty_8, turn_block, {200, 5, 0}, MAZE_ACCEPTED, 5000, 1},
+    {"block and unblock", armed_8, turn_block, {200, 5, 0}, MAZE_ACCEPTED, 5000, 1},
+    {"disarm and arm", armed_8, turn_arm, {200, 5, 0}, MAZE_ACCEPTED, 5000, 1},
     {"trace of 9 hops", nine_hops, turn_trace, {0, 0, 0}, MAZE_ACCEPTED, 5000, 1},
     {"2,047 circuits of 1 hop: open and close", full_of_short, turn_open_close, {0, 1, 1}, MAZE_ACCEPTED, 300, 1},
     {"  open, rejected", full_of_short, turn_open, {0, 255, 255}, MAZE_ROUTE_REJECTED, 300, 1},
     {"  block and unblock", full_of_short, turn_block, {0, 0, 0}, MAZE_ACCEPTED, 300, 1},
+    {"  disarm and arm", full_of_short, turn_arm, {1, 7, 0}, MAZE_ACCEPTED, 300, 1},
     {"  trace", full_of_short, turn_trace, {255, 5, 0}, MAZE_ACCEPTED, 300, 1},
     {"circuits of all lengths, 2,047 links: open and close", full_of_long, turn_open_close, {0, 1, 1}, MAZE_ACCEPTED, 300, 1},
     {"  open, rejected", full_of_long, turn_open, {0, 255, 255}, MAZE_ROUTE_REJECTED, 300, 1},
     {"  block and unblock", full_of_long, turn_block, {0, 0, 0}, MAZE_ACCEPTED, 300, 1},
+    {"  disarm and arm", full_of_long, turn_arm, {1, 0, 0}, MAZE_ACCEPTED, 300, 1},
     {"  trace of 8 hops", full_of_long, turn_trace, {220, 1, 0}, MAZE_ACCEPTED, 300, 1},
     {"reading a word, of 4,096", mixed_words, turn_words_read, {0, 0, 0}, MAZE_ACCEPTED, 50, 4096},
     {"writing a word, of 1,024", mixed_words, turn_words_write, {0, 0, 0}, MAZE_ACCEPTED, 200, 1024},
     {"a choice of the arbiter, few ask, of 1,024", few_requests, turn_arbitrate, {0, 0, 0}, MAZE_ACCEPTED, 200, 1024},
     {"a choice of the arbiter, half ask, of 1,024", many_requests, turn_arbitrate, {0, 0, 0}, MAZE_ACCEPTED, 200, 1024},
-    {"100 data packets and an end of transmission", empty_3, turn_receive, {8, 0, 0}, MAZE_ACCEPTED, 5000, 1},
+    {"100 data packets and an end of transmission", armed_3, turn_receive, {8, 0, 0}, MAZE_ACCEPTED, 5000, 1},
     {"a word to a receive channel, of 4,096", mixed_words, turn_receive_words, {8, 0, 0}, MAZE_ACCEPTED, 50, 4096},
     {"the overshoot of a receive channel, of 256", mixed_channels, turn_overshoots, {0, 0, 0}, MAZE_ACCEPTED, 1000, 256},
 };

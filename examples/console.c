@@ -3,6 +3,8 @@
  *     F dimension                          make a table
  *     B node port                          block a link
  *     E node port                          unblock a link
+ *     R node channel                       arm a receive channel
+ *     D node channel                       disarm a receive channel
  *     S node channel target type vector    open a circuit
  *     C node channel                       close a circuit
  *     T node channel                       trace a circuit
@@ -24,13 +26,14 @@ static const struct form {
     int numbers;
     const char *names;
 } forms[] = {
-    {'F', 1, "dimension"}, {'B', 2, "node port"},    {'E', 2, "node port"}, {'S', 5, "node channel target type vector"},
+    {'F', 1, "dimension"},    {'B', 2, "node port"},    {'E', 2, "node port"},
+    {'R', 2, "node channel"}, {'D', 2, "node channel"}, {'S', 5, "node channel target type vector"},
     {'C', 2, "node channel"}, {'T', 2, "node channel"}, {'M', 0, "nothing"},
 };
 
 static const char *refusal_name(unsigned number) {
     switch (number) {
-    case MAZE_BAD_LENGTH: return "the table does not have 8,449 bytes";
+    case MAZE_BAD_LENGTH: return "the table does not have 8,705 bytes";
     case MAZE_BAD_DIMENSION: return "the dimension is not 1 to 8";
     case MAZE_NOT_SOUND: return "the table is not sound";
     case MAZE_BAD_NODE: return "no such node";
@@ -44,6 +47,7 @@ static const char *refusal_name(unsigned number) {
     case MAZE_NO_CIRCUIT: return "this send channel has no open circuit";
     case MAZE_LINK_HELD: return "a circuit holds the link";
     case MAZE_BUFFER_SHORT: return "the buffer is too short";
+    case MAZE_CHANNEL_HELD: return "a circuit holds the receive channel";
     default: return "unknown number";
     }
 }
@@ -78,7 +82,7 @@ static void say_opened(maze_opened opened, uint16_t node, uint16_t channel) {
 }
 
 /* A row for each node: its links by port, where . is free, x is blocked, and a number is the circuit that holds the link; then the receive
- * channels held, each with its circuit. */
+ * channels that are armed, each with its circuit, or . where it has none. */
 static void draw_map(void) {
     unsigned dimension = MAZE_DIMENSION(table);
     printf("map of dimension %u\nnode ", dimension);
@@ -93,7 +97,10 @@ static void draw_map(void) {
         }
         for (unsigned channel = 0, shown = 0; channel < MAZE_CHANNELS; channel++) {
             unsigned circuit = MAZE_RECEIVE_CIRCUIT(table, node, channel);
-            if (circuit != 0) printf("%s%u:%u", shown++ ? " " : "  ", channel, circuit);
+            if (!MAZE_RECEIVE_ARMED(table, node, channel)) continue;
+            printf("%s%u:", shown++ ? " " : "  ", channel);
+            if (circuit != 0) printf("%u", circuit);
+            else printf(".");
         }
         printf("\n");
     }
@@ -129,7 +136,7 @@ static const struct form *read_call(char *line, long length, unsigned long line_
     for (size_t i = 0; i < sizeof forms / sizeof *forms; i++)
         if (word[0] == forms[i].letter && word[1] == '\0') form = &forms[i];
     if (!form) {
-        printf("line %lu: '%s' is no call; calls are F, B, E, S, C, T and M\n", line_number, word);
+        printf("line %lu: '%s' is no call; calls are F, B, E, R, D, S, C, T and M\n", line_number, word);
         return NULL;
     }
     while ((word = strtok(NULL, " \t\r")) != NULL) {
@@ -156,6 +163,8 @@ static void make_call(char letter, const uint16_t *n) {
     case 'F': say(maze_make(table, sizeof table, n[0]), "made"); break;
     case 'B': say(maze_block(table, sizeof table, n[0], n[1]), "blocked"); break;
     case 'E': say(maze_unblock(table, sizeof table, n[0], n[1]), "enabled"); break;
+    case 'R': say(maze_arm(table, sizeof table, n[0], n[1]), "armed"); break;
+    case 'D': say(maze_disarm(table, sizeof table, n[0], n[1]), "disarmed"); break;
     case 'S': say_opened(maze_open(table, sizeof table, n[0], n[1], n[2], n[3], n[4]), n[0], n[1]); break;
     case 'C': say(maze_close(table, sizeof table, n[0], n[1]), "closed"); break;
     case 'T': say_ports(n[0], n[1]); break;

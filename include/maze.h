@@ -30,7 +30,7 @@ extern "C" {
 
 /* Answer numbers. */
 #define MAZE_ACCEPTED 0
-#define MAZE_BAD_LENGTH 1         /* the table lent is not 8,449 bytes long */
+#define MAZE_BAD_LENGTH 1         /* the table lent is not 8,705 bytes long */
 #define MAZE_BAD_DIMENSION 2      /* the dimension given to maze_make, or else the one stored, is not 1 to 8 */
 #define MAZE_NOT_SOUND 3          /* the table lent is not sound; not tested by maze_make */
 #define MAZE_BAD_NODE 4           /* a node, source or target, is not below 2 to the power of the dimension */
@@ -40,7 +40,7 @@ extern "C" {
 #define MAZE_BAD_SEND_VECTOR 8    /* open: zero, or a bit at or above the dimension */
 #define MAZE_CHANNEL_IN_USE 9     /* open: this send channel has an open circuit */
 #define MAZE_ROUTE_REJECTED 10    /* open: no free permitted path; carries the scouts */
-#define MAZE_RECEIVE_REJECTED 11  /* open: every receive channel of the target is held; carries the scouts */
+#define MAZE_RECEIVE_REJECTED 11  /* open: no receive channel of the target is armed and not held; carries the scouts */
 #define MAZE_NO_CIRCUIT 12        /* close, trace: this send channel has no open circuit */
 #define MAZE_LINK_HELD 13         /* block: a circuit holds the link */
 #define MAZE_BUFFER_SHORT 14      /* trace: the buffer is shorter than MAZE_TRACE_BYTES, whatever the length of the path */
@@ -50,6 +50,7 @@ extern "C" {
 #define MAZE_RESERVED_COMMAND 18  /* the command is reserved or, in writing, above 15 */
 #define MAZE_CARRIED_TOO_LARGE 19 /* writing: the command cannot carry the number */
 #define MAZE_UNREADABLE_LINE 20   /* the printed list: a line that cannot be read; no call here gives it */
+#define MAZE_CHANNEL_HELD 21      /* disarm: a circuit holds the receive channel */
 #define MAZE_CHANNEL_STOPPED 30   /* a packet to a receive channel that is stopped */
 #define MAZE_BAD_REQUESTER 31     /* arbitrate: a request bit at 26 or above, or a record above 25 */
 
@@ -57,22 +58,24 @@ extern "C" {
  *
  * In a cube of dimension D nodes are numbered from 0 to 2^D - 1, and each has D ports, numbered from 0. The link out of port p goes to port p of
  * the node whose number has bit p changed; the link back is another one, with a state of its own. Each node has 8 send channels and 8 receive
- * channels, numbered from 0. Send channel c of node s has at most one circuit, number 8 * s + c + 1; 0 stands for none.
+ * channels, numbered from 0. Send channel c of node s has at most one circuit, number 8 * s + c + 1; 0 stands for none. A circuit
+ * holds the links of its path and one armed receive channel of its target.
  *
  * The table is MAZE_TABLE_BYTES bytes of the caller's, first written by maze_make:
  *   1 byte                             the dimension
  *   256 bytes from MAZE_ENABLED_AT     for each node, bit p set where the link out of port p is enabled
  *   4,096 bytes from MAZE_LINKS_AT     for each node and port 0 to 7, the circuit that holds the link, two bytes, low byte first
  *   4,096 bytes from MAZE_RECEIVES_AT  for each node and receive channel, the circuit that holds it, two bytes, low byte first
+ *   256 bytes from MAZE_ARMED_AT       for each node, bit k set where receive channel k is armed
  * Rows run node by node. A link is free if it is enabled and held by no circuit.
  *
  * A path is permitted if its first hop is over a port of the send vector, each later hop over a port in whose bit the node and the target differ,
  * and it ends where it first arrives at the target, after at least one hop.
  *
- * A table is sound if what it says of nodes and ports that the cube lacks is zero, no blocked link is held, no circuit number is above 8 * 2^D,
- * and every circuit in it holds all links of one path from its source that is permitted for some send vector, one receive channel at the end of
- * that path, and nothing else. Every call but maze_make refuses a table that is not sound. */
-#define MAZE_TABLE_BYTES 8449
+ * A table is sound if what it says of nodes and ports that the cube lacks is zero, every held link is enabled, every held receive channel is armed,
+ * no circuit number is above 8 * 2^D, and every circuit in it holds all links of one path from its source that is permitted for some send vector,
+ * one receive channel at the end of that path, and nothing else. Every call but maze_make refuses a table that is not sound. */
+#define MAZE_TABLE_BYTES 8705
 #define MAZE_NODES 256         /* nodes that have a row, present in the cube or not */
 #define MAZE_PORTS 8           /* ports in a row */
 #define MAZE_CHANNELS 8        /* send channels, and receive channels, of a node */
@@ -81,6 +84,7 @@ extern "C" {
 #define MAZE_ENABLED_AT 1
 #define MAZE_LINKS_AT 257
 #define MAZE_RECEIVES_AT 4353
+#define MAZE_ARMED_AT 8449
 
 /* Reading a table between calls: `table` is a const uint8_t * or a uint8_t *, nodes are below 256, ports and channels below 8. The arguments
  * are evaluated more than once. */
@@ -91,6 +95,7 @@ extern "C" {
 #define MAZE_RECEIVE_CIRCUIT(table, node, channel)                            \
     ((table)[MAZE_RECEIVES_AT + 2 * (MAZE_CHANNELS * (node) + (channel))] + \
      256u * (table)[MAZE_RECEIVES_AT + 2 * (MAZE_CHANNELS * (node) + (channel)) + 1])
+#define MAZE_RECEIVE_ARMED(table, node, channel) (((table)[MAZE_ARMED_AT + (node)] >> (channel) & 1) != 0)
 
 /* The number of a circuit, and back: the source and the send channel of a circuit number that is not zero. */
 #define MAZE_CIRCUIT(node, channel) (8u * (unsigned)(node) + (unsigned)(channel) + 1u)
@@ -117,7 +122,8 @@ typedef struct {
     uint16_t hops; /* bytes written to the buffer */
 } maze_traced;
 
-/* Writes all 8,449 bytes: the dimension, all links of the cube enabled, nothing held. What they were before does not matter.
+/* Writes all 8,705 bytes: the dimension, all links of the cube enabled, nothing held, no receive channel armed. What they were before does not
+ * matter.
  * Answers 0, 1 or 2. */
 uint16_t maze_make(uint8_t *table, size_t table_len, uint16_t dimension);
 
@@ -131,18 +137,31 @@ uint16_t maze_block(uint8_t *table, size_t table_len, uint16_t node, uint16_t po
  * Answers 0, or the first of 1, 2, 3, 4 and 6 that applies. */
 uint16_t maze_unblock(uint8_t *table, size_t table_len, uint16_t node, uint16_t port);
 
+/* Arms a receive channel of a node: an open may take it. Arming an armed channel, held or not, changes nothing. Alters the node's byte of armed
+ * channels and leaves the rest alone.
+ * Answers 0, or the first of 1, 2, 3, 4 and 5 that applies. */
+uint16_t maze_arm(uint8_t *table, size_t table_len, uint16_t node, uint16_t channel);
+
+/* Disarms a receive channel of a node that no circuit holds. Disarming one that is not armed changes nothing. Alters the node's byte of armed
+ * channels and leaves the rest alone.
+ * Answers 0, or the first of 1, 2, 3, 4, 5 and 21 that applies. */
+uint16_t maze_disarm(uint8_t *table, size_t table_len, uint16_t node, uint16_t channel);
+
 /* Opens the circuit of a send channel of a node: a pass looks for the first permitted path to the target, for the send vector (bit p for port p),
  * whose links are all free. The source tries the ports of the vector from 0 upward. A node that was reached on port a tries, of the ports in whose
  * bit it and the target differ, those above a upward and then those from 0 up to a: the helical order. Each time a free link is tried, a scout, an
- * address packet, goes over it; where there is no way on it goes back, and the next port is tried. With MAZE_TYPE_ALTERNATE_MAZE, if this pass is
- * rejected, a second one begins with the ports below the dimension that the vector left out; the answer is then that of the second pass, with the
- * scouts of both. An accepted open holds the links of that path and the target's lowest receive channel
- * that no circuit holds; maze_trace tells the path. Alters the entries of those and leaves the rest alone.
- * Answers 0 with hops, receive channel and scouts, or the first of 1, 2, 3, 4, 5, 7, 8, 9, 10 and 11 that applies; 10 and 11 with scouts. On a
- * sound table a target whose eight receive channels are held has no free link into it, so 10 comes in place of 11. */
+ * address packet, goes over it; where there is no way on it goes back, and the next port is tried. With no such path the pass is route rejected.
+ * With one, the target takes its lowest receive channel that is armed and that no circuit holds; where there is none the pass is receive rejected,
+ * with the scouts sent up to the end of that path. With MAZE_TYPE_ALTERNATE_MAZE, if this pass is rejected, either way, a second one begins with the
+ * ports below the dimension that the vector left out; the answer is then that of the second pass, with the scouts of both. A second pass that no
+ * port is left for is route rejected. An accepted open holds the links of the path and that receive channel, which stays armed; maze_trace tells
+ * the path. Alters the entries of those and leaves the rest alone.
+ * Answers 0 with hops, receive channel and scouts, or the first of 1, 2, 3, 4, 5, 7, 8, 9, 10 and 11 that applies; 10 and 11 with scouts. A target
+ * whose eight channels are all armed never gives 11: where a link into it is free, one of them is not held. */
 maze_opened maze_open(uint8_t *table, size_t table_len, uint16_t node, uint16_t channel, uint16_t target, uint16_t type, uint16_t vector);
 
-/* Closes the circuit of a send channel of a node: frees its links and its receive channel and leaves the rest alone.
+/* Closes the circuit of a send channel of a node: frees its links and its receive channel, disarms that channel, and leaves the rest alone. The
+ * channel has to be armed again before another circuit can take it.
  * Answers 0, or the first of 1, 2, 3, 4, 5 and 12 that applies. */
 uint16_t maze_close(uint8_t *table, size_t table_len, uint16_t node, uint16_t channel);
 

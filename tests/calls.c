@@ -1,14 +1,14 @@
-/* The six calls from C, beside vectors worked by hand from document 01: its examples with the bytes of their tables, each refusal at its edge,
- * and that a refused call alters nothing.
+/* The calls on a table from C, beside vectors worked by hand from document 01 and request (a) of document 02: the examples with the bytes of their
+ * tables, each refusal at its edge, and that a refused call alters nothing.
  *
  * A byte of a table is given by its place: the link out of port p of node n is held at 257 + 16 n + 2 p, receive channel c of node n at
- * 4353 + 16 n + 2 c, and the enabled links of node n are at 1 + n. */
+ * 4353 + 16 n + 2 c, the enabled links of node n are at 1 + n, and its armed channels at 8449 + n. */
 #include "expect.h"
 #include "subject.h"
 
 #include <string.h>
 
-enum { BYTES = 8449, SPARE = 64, BUFFER = 16, MOST = 24 };
+enum { BYTES = 8705, SPARE = 64, BUFFER = 16, MOST = 24 };
 
 /* The table and the buffer lent, and what they were before a call. Both go on behind what is lent. */
 static uint8_t table[BYTES + SPARE], kept_table[BYTES + SPARE], buffer[BUFFER], kept_buffer[BUFFER];
@@ -36,23 +36,44 @@ static int fresh_from(size_t i) {
     return i == sizeof buffer;
 }
 
+/* The channels of each node that fresh() or fresh_armed() left armed. */
+static unsigned armed_at_first;
+
 static void fresh(unsigned dimension) {
     for (size_t i = 0; i < sizeof table; i++) table[i] = (uint8_t)(i % 251 + 1);
     fresh_buffer();
+    armed_at_first = 0;
     expect(maze_make(table, BYTES, (uint16_t)dimension) == 0, "make", dimension, 0);
+}
+
+static void arm(unsigned node, unsigned channel) {
+    expect(maze_arm(table, BYTES, (uint16_t)node, (uint16_t)channel) == 0, "arm", node, channel);
+}
+
+/* A made table with every channel armed first, as document 01's examples have it. */
+static void fresh_armed(unsigned dimension) {
+    unsigned refused = 0;
+    fresh(dimension);
+    armed_at_first = 255;
+    for (unsigned node = 0; node < 1u << dimension; node++)
+        for (unsigned channel = 0; channel < 8; channel++) refused += maze_arm(table, BYTES, (uint16_t)node, (uint16_t)channel) != 0;
+    expect(refused == 0, "every channel armed, dimension", dimension, refused);
 }
 
 struct place {
     unsigned at, value;
 };
 
-/* The table is a made one but for some places; the bytes behind it are as fresh() left them. */
+/* The table is as fresh() or fresh_armed() left it but for some places, and so are the bytes behind it. */
 static void expect_table(const char *what, unsigned dimension, const struct place *places) {
     static uint8_t want[BYTES + SPARE];
     size_t at = 0;
     memset(want, 0, BYTES);
     want[0] = (uint8_t)dimension;
-    for (unsigned node = 0; node < 1u << dimension; node++) want[1 + node] = (uint8_t)((1u << dimension) - 1);
+    for (unsigned node = 0; node < 1u << dimension; node++) {
+        want[1 + node] = (uint8_t)((1u << dimension) - 1);
+        want[8449 + node] = (uint8_t)armed_at_first;
+    }
     for (size_t i = BYTES; i < sizeof want; i++) want[i] = (uint8_t)(i % 251 + 1);
     for (; places && places->at; places++) want[places->at] = (uint8_t)places->value;
     while (at < sizeof want && want[at] == table[at]) at++;
@@ -86,6 +107,7 @@ struct send {
 
 #define NONE {{0, 99}}
 
+/* With every channel armed first. */
 static const struct send sends[] = {
     {"example 1", 3, NONE, 0, 0, 7, 0, 7, 0, 0, 3, "012", {{257, 1}, {275, 1}, {309, 1}, {4465, 1}}},
     {"example 2", 3, {{1, 2}, {3, 2}, {0, 99}}, 0, 0, 7, 0, 7, 0, 0, 5, "120", {{2, 3}, {4, 3}, {259, 1}, {293, 1}, {353, 1}, {4465, 1}}},
@@ -113,9 +135,24 @@ static const struct send sends[] = {
     {"type 4 with one pass", 3, NONE, 0, 0, 7, 4, 7, 0, 0, 3, "012", {{257, 1}, {275, 1}, {309, 1}, {4465, 1}}},
 };
 
+/* With no channel armed: a path is found or not, and either way the table stays. */
+static const struct send unarmed[] = {
+    {"none armed", 3, NONE, 0, 0, 7, 0, 7, 11, 0, 3, "", {{0, 0}}},
+    {"none armed, figure 7", 3, {{1, 2}, {3, 2}, {0, 99}}, 0, 0, 7, 0, 7, 11, 0, 5, "", {{2, 3}, {4, 3}}},
+    {"none armed, to itself", 1, NONE, 0, 0, 0, 0, 1, 11, 0, 2, "", {{0, 0}}},
+    {"none armed, nine hops", 8, NONE, 0, 0, 254, 0, 1, 11, 0, 9, "", {{0, 0}}},
+    {"none armed, no path", 2, {{0, 0}, {0, 99}}, 0, 0, 1, 0, 1, 10, 0, 0, "", {{1, 2}}},
+    {"both passes receive rejected", 2, NONE, 0, 0, 3, 4, 1, 11, 0, 4, "", {{0, 0}}},
+    {"receive rejected, then a second pass with no port", 2, NONE, 0, 0, 3, 4, 3, 10, 0, 2, "", {{0, 0}}},
+    /* the second pass comes to node 2 and no further */
+    {"receive rejected, then route rejected", 2, {{2, 0}, {0, 99}}, 0, 0, 3, 4, 1, 10, 0, 3, "", {{3, 2}}},
+    {"route rejected, then receive rejected", 2, {{1, 1}, {0, 99}}, 0, 0, 3, 4, 1, 11, 0, 3, "", {{2, 1}}},
+    {"route rejected twice, none armed", 2, {{1, 1}, {2, 0}, {0, 99}}, 0, 0, 3, 4, 1, 10, 0, 2, "", {{2, 1}, {3, 2}}},
+};
+
+/* On a table that fresh() or fresh_armed() left. */
 static void run_send(const struct send *send) {
     maze_opened got;
-    fresh(send->dimension);
     for (size_t i = 0; send->blocked[i].port != 99; i++)
         expect(maze_block(table, BYTES, (uint16_t)send->blocked[i].node, (uint16_t)send->blocked[i].port) == 0, "block for", i, 0);
     got = maze_open(table, BYTES, send->node, send->channel, send->target, send->type, send->vector);
@@ -129,22 +166,26 @@ static void run_send(const struct send *send) {
     expect(maze_close(table, BYTES, send->node, send->channel) == 0, send->what, 0, 0);
     for (size_t i = 0; send->blocked[i].port != 99; i++)
         expect(maze_unblock(table, BYTES, (uint16_t)send->blocked[i].node, (uint16_t)send->blocked[i].port) == 0, "unblock for", i, 0);
-    expect_table("closed and unblocked", send->dimension, NULL);
+    {
+        const struct place disarmed[] = {{8449u + send->target, 255u - (1u << send->receive)}, {0, 0}};
+        expect_table("closed and unblocked", send->dimension, disarmed);
+    }
 }
 
 static void example_7(void) {
-    static const struct place first[] = {{257, 1}, {4369, 1}, {0, 0}}, second[] = {{257, 2}, {4369, 2}, {0, 0}};
+    static const struct place first[] = {{257, 1}, {4369, 1}, {0, 0}}, closed[] = {{8450, 254}, {0, 0}};
+    static const struct place second[] = {{257, 2}, {4371, 2}, {8450, 254}, {0, 0}};
     maze_opened got;
-    fresh(1);
+    fresh_armed(1);
     got = maze_open(table, BYTES, 0, 0, 1, 0, 1);
     expect(got.number == 0 && got.hops == 1 && got.receive == 0 && got.scouts == 1, "example 7, channel 0", got.number, got.scouts);
     got = maze_open(table, BYTES, 0, 1, 1, 0, 1);
     expect(got.number == 10 && got.hops == 0 && got.receive == 0 && got.scouts == 0, "example 7, channel 1", got.number, got.scouts);
     expect_table("example 7", 1, first);
     expect(maze_close(table, BYTES, 0, 0) == 0, "example 7, close", 0, 0);
-    expect_table("example 7, closed", 1, NULL);
-    got = maze_open(table, BYTES, 0, 1, 1, 0, 1);
-    expect(got.number == 0 && got.hops == 1 && got.receive == 0 && got.scouts == 1, "example 7, again", got.number, got.scouts);
+    expect_table("example 7, closed", 1, closed);
+    got = maze_open(table, BYTES, 0, 1, 1, 0, 1); /* on receive channel 1, as the close has disarmed 0 */
+    expect(got.number == 0 && got.hops == 1 && got.receive == 1 && got.scouts == 1, "example 7, again", got.number, got.scouts);
     expect_table("example 7, again", 1, second);
 }
 
@@ -167,13 +208,13 @@ static void example_9(void) {
     fresh(8);
     expect(maze_make(table, BYTES, 9) == 2, "example 9, dimension", 9, 0);
     expect_table("example 9, still dimension 8", 8, NULL);
-    fresh(3);
+    fresh_armed(3);
     expect(maze_open(table, BYTES, 7, 0, 0, 0, 7).number == 0, "example 9, node", 7, 0);
     expect_table("example 9, from node 7", 3, back);
-    fresh(3);
+    fresh_armed(3);
     expect(maze_open(table, BYTES, 0, 0, 7, 0, 7).number == 0, "example 9, vector", 7, 0);
     expect_table("example 9, vector 7 to node 7", 3, forth);
-    fresh(3);
+    fresh_armed(3);
     expect(maze_open(table, BYTES, 8, 0, 0, 0, 7).number == 4, "example 9, source", 8, 0);
     expect(maze_open(table, BYTES, 0, 0, 8, 0, 7).number == 4, "example 9, target", 8, 0);
     expect(maze_open(table, BYTES, 0, 0, 7, 0, 8).number == 8, "example 9, vector", 8, 0);
@@ -195,11 +236,12 @@ static void most_scouts(void) {
     }
 }
 
-/* A target takes its lowest receive channel that no circuit holds, and a closed circuit gives its own back. */
+/* A target takes its lowest receive channel that is armed and that no circuit holds. A closed circuit disarms its own. */
 static void receive_channels(void) {
-    static const struct place three[] = {{259, 2}, {289, 2}, {4403, 2}, {275, 9}, {4401, 9}, {0, 0}};
+    static const struct place three[] = {{259, 2}, {289, 2}, {4403, 2}, {275, 9}, {4405, 9}, {8452, 254}, {0, 0}};
+    static const struct place armed_again[] = {{259, 2}, {289, 2}, {4403, 2}, {275, 9}, {4401, 9}, {8452, 251}, {0, 0}};
     maze_opened got;
-    fresh(2);
+    fresh_armed(2);
     got = maze_open(table, BYTES, 0, 0, 3, 0, 1); /* 0, 1 */
     expect(got.number == 0 && got.receive == 0, "first receive channel", got.number, got.receive);
     got = maze_open(table, BYTES, 0, 1, 3, 0, 2); /* 1, 0 */
@@ -208,17 +250,118 @@ static void receive_channels(void) {
     expect(got.number == 10 && got.scouts == 0, "both links taken", got.number, got.scouts);
     expect(maze_close(table, BYTES, 0, 0) == 0, "close the first", 0, 0);
     got = maze_open(table, BYTES, 1, 0, 3, 0, 2); /* circuit 9 by port 1 */
-    expect(got.number == 0 && got.receive == 0, "the lowest again", got.number, got.receive);
+    expect(got.number == 0 && got.receive == 2, "0 is not armed, 1 is held", got.number, got.receive);
     expect_table("receive channels", 2, three);
+    expect(maze_close(table, BYTES, 1, 0) == 0, "close it", 0, 0);
+    arm(3, 0);
+    got = maze_open(table, BYTES, 1, 0, 3, 0, 2);
+    expect(got.number == 0 && got.receive == 0, "0 is armed again", got.number, got.receive);
+    expect_table("the lowest again", 2, armed_again);
 
-    /* every receive channel of node 0, in the order of the ports by which circuits come in; then no link into it is free */
+    /* seven receive channels of node 0, in the order of the ports by which circuits come in; the eighth link is free and finds no channel */
     fresh(8);
+    for (unsigned channel = 0; channel < 7; channel++) arm(0, channel);
     for (unsigned port = 0; port < 8; port++) {
-        got = maze_open(table, BYTES, (uint16_t)(1u << port), 1, 0, 0, (uint16_t)(1u << port));
-        expect(got.number == 0 && got.hops == 1 && got.receive == port && table[4353 + 2 * port] + 256u * table[4354 + 2 * port] == 8 * (1u << port) + 2, "receive channel", port, got.receive);
+        const uint16_t node = (uint16_t)(1u << port);
+        if (port == 7) {
+            keep();
+            got = maze_open(table, BYTES, node, 1, 0, 0, node);
+            expect(got.number == 11 && got.hops == 0 && got.receive == 0 && got.scouts == 1 && unaltered(), "all that are armed are held", got.number, got.scouts);
+            arm(0, 7);
+        }
+        got = maze_open(table, BYTES, node, 1, 0, 0, node);
+        expect(got.number == 0 && got.hops == 1 && got.receive == port && table[4353 + 2 * port] + 256u * table[4354 + 2 * port] == 8u * node + 2, "receive channel", port, got.receive);
     }
+    /* and then no link into it is free */
     got = maze_open(table, BYTES, 3, 0, 0, 4, 3);
     expect(got.number == 10 && got.hops == 0 && got.receive == 0 && got.scouts == 62, "all receive channels held", got.number, got.scouts);
+}
+
+/* ---- arming ---- */
+
+/* The lowest armed channel is taken, not the lowest that no circuit holds, and armed channels of other nodes do not help. */
+static void lowest_armed(void) {
+    /* circuit 1 on ports 0, 1 and 2 to channel 2 of node 7; circuit 42 from node 5 to channel 5 */
+    static const struct place two[] = {{257, 1}, {275, 1}, {309, 1}, {4469, 1}, {339, 42}, {4475, 42}, {8456, 36}, {0, 0}};
+    static const struct place one[] = {{339, 42}, {4475, 42}, {8456, 32}, {0, 0}};
+    maze_opened got;
+    fresh(3);
+    arm(7, 5);
+    arm(7, 2);
+    got = maze_open(table, BYTES, 0, 0, 7, 0, 7);
+    expect(got.number == 0 && got.receive == 2 && got.scouts == 3, "the lowest armed", got.number, got.receive);
+    got = maze_open(table, BYTES, 5, 1, 7, 0, 2);
+    expect(got.number == 0 && got.receive == 5 && got.scouts == 1, "the next armed", got.number, got.receive);
+    expect_table("two channels armed and held", 3, two);
+    keep();
+    got = maze_open(table, BYTES, 6, 0, 7, 0, 1);
+    expect(got.number == 11 && got.hops == 0 && got.receive == 0 && got.scouts == 1 && unaltered(), "no third", got.number, got.scouts);
+    expect(maze_close(table, BYTES, 0, 0) == 0, "close disarms", 7, 2);
+    expect_table("its own channel and no other", 3, one);
+
+    fresh_armed(3);
+    for (unsigned channel = 0; channel < 8; channel++) expect(maze_disarm(table, BYTES, 7, (uint16_t)channel) == 0, "disarm", 7, channel);
+    keep();
+    got = maze_open(table, BYTES, 0, 0, 7, 0, 7);
+    expect(got.number == 11 && got.scouts == 3 && unaltered(), "armed everywhere else", got.number, got.scouts);
+    arm(7, 7);
+    got = maze_open(table, BYTES, 0, 0, 7, 0, 7);
+    expect(got.number == 0 && got.receive == 7 && got.scouts == 3, "the last channel", got.number, got.receive);
+}
+
+/* Arming sets one bit and disarming clears it; neither turns it round. */
+static void arming(void) {
+    static const struct place sent[] = {{257, 1}, {275, 1}, {309, 1}, {4465, 1}, {8456, 1}, {0, 0}};
+    maze_opened got;
+    for (unsigned dimension = 1; dimension <= 8; dimension++) {
+        const unsigned last = (1u << dimension) - 1;
+        for (unsigned channel = 0; channel < 8; channel++) {
+            const struct place armed[] = {{8449 + last, 1u << channel}, {0, 0}};
+            const struct place both[] = {{8449 + last, 1u << channel | 1u << (channel ^ 3)}, {0, 0}};
+            fresh(dimension);
+            keep();
+            expect(maze_disarm(table, BYTES, (uint16_t)last, (uint16_t)channel) == 0 && unaltered(), "disarm one that is not armed", dimension, channel);
+            arm(last, channel);
+            expect_table("armed", dimension, armed);
+            keep();
+            expect(maze_arm(table, BYTES, (uint16_t)last, (uint16_t)channel) == 0 && unaltered(), "arm an armed channel", dimension, channel);
+            arm(last, channel ^ 3);
+            expect_table("two armed", dimension, both);
+            expect(maze_disarm(table, BYTES, (uint16_t)last, (uint16_t)(channel ^ 3)) == 0, "disarm", dimension, channel ^ 3);
+            expect_table("one of two disarmed", dimension, armed);
+            expect(maze_disarm(table, BYTES, (uint16_t)last, (uint16_t)channel) == 0, "disarm", dimension, channel);
+            expect_table("disarmed", dimension, NULL);
+        }
+        fresh_armed(dimension);
+        expect_table("all armed", dimension, NULL);
+        expect(maze_make(table, BYTES, 1) == 0, "make over armed channels", dimension, 0);
+        armed_at_first = 0;
+        expect_table("none armed in a made table", 1, NULL);
+    }
+
+    /* a held channel stays armed until its circuit is closed, and then it is not */
+    fresh(3);
+    arm(7, 0);
+    expect(maze_open(table, BYTES, 0, 0, 7, 0, 7).number == 0, "open for arming", 7, 0);
+    expect_table("armed and held", 3, sent);
+    keep();
+    expect(maze_disarm(table, BYTES, 7, 0) == 21 && unaltered(), "disarm a held channel", 7, 0);
+    expect(maze_disarm(table, BYTES, 7, 8) == 5 && unaltered(), "5 before 21", 7, 8);
+    expect(maze_disarm(table, BYTES, 7, 256) == 5 && unaltered(), "5 before 21", 7, 256);
+    expect(maze_disarm(table, BYTES, 263, 0) == 4 && unaltered(), "4 before 21", 263, 0);
+    expect(maze_arm(table, BYTES, 7, 0) == 0 && unaltered(), "arm a held channel", 7, 0);
+    expect(maze_disarm(table, BYTES, 7, 1) == 0 && unaltered(), "disarm beside a held channel", 7, 1);
+    expect(maze_disarm(table, BYTES, 0, 0) == 0 && unaltered(), "disarm the source's", 0, 0);
+    expect_trace("after a refused disarming", 0, 0, "012");
+    expect(maze_close(table, BYTES, 0, 0) == 0, "close", 0, 0);
+    expect_table("closed, so disarmed", 3, NULL);
+    keep();
+    got = maze_open(table, BYTES, 0, 0, 7, 0, 7);
+    expect(got.number == 11 && got.hops == 0 && got.receive == 0 && got.scouts == 3 && unaltered(), "sent again", got.number, got.scouts);
+    expect(maze_disarm(table, BYTES, 7, 0) == 0 && unaltered(), "disarm a channel that was held", 7, 0);
+    arm(7, 0);
+    expect(maze_open(table, BYTES, 0, 0, 7, 0, 7).number == 0, "armed again", 7, 0);
+    expect_table("armed and held again", 3, sent);
 }
 
 /* ---- blocking ---- */
@@ -238,6 +381,7 @@ static void blocking(void) {
         expect_table("unblocked", dimension, NULL);
     }
     fresh(2);
+    arm(1, 0);
     expect(maze_open(table, BYTES, 0, 0, 1, 0, 1).number == 0, "open for blocking", 0, 0);
     keep();
     expect(maze_block(table, BYTES, 0, 0) == 13 && unaltered(), "block a held link", 0, 0);
@@ -285,10 +429,18 @@ static void refused_close(unsigned number, size_t length, unsigned node, unsigne
     refused(number, maze_close(table, length, (uint16_t)node, (uint16_t)channel), "refused close", node);
 }
 
+static void refused_arm(unsigned number, size_t length, unsigned node, unsigned channel) {
+    keep();
+    refused(number, maze_arm(table, length, (uint16_t)node, (uint16_t)channel), "refused arm", node);
+    refused(number, maze_disarm(table, length, (uint16_t)node, (uint16_t)channel), "refused disarm", node);
+}
+
 /* Every call but making is refused with this number, also where later tests apply. */
 static void all_refused(unsigned number, size_t length) {
     refused_block(number, length, 0, 0);
     refused_block(number, length, 65535, 65535);
+    refused_arm(number, length, 0, 0);
+    refused_arm(number, length, 65535, 65535);
     refused_open(number, length, 0, 0, 0, 0, 1);
     refused_open(number, length, 65535, 65535, 65535, 65535, 65535);
     refused_close(number, length, 0, 0);
@@ -298,7 +450,7 @@ static void all_refused(unsigned number, size_t length) {
 }
 
 static void lengths(void) {
-    static const size_t wrong[] = {0, 1, 257, 8448, 8450, BYTES + SPARE};
+    static const size_t wrong[] = {0, 1, 257, 8448, 8449, 8704, 8706, BYTES + SPARE};
     uint8_t *const anywhere[] = {NULL, (uint8_t *)(uintptr_t)1};
     for (size_t i = 0; i < sizeof wrong / sizeof *wrong; i++) {
         fresh(3);
@@ -316,6 +468,7 @@ static void lengths(void) {
         maze_traced traced = maze_trace(none, 0, 0, 0, none, 0);
         expect(maze_make(none, 0, 3) == 1, "no table, make", i, 0);
         expect(maze_block(none, 0, 0, 0) == 1 && maze_unblock(none, 0, 0, 0) == 1, "no table, block", i, 0);
+        expect(maze_arm(none, 0, 0, 0) == 1 && maze_disarm(none, 0, 0, 0) == 1, "no table, arm", i, 0);
         expect(opened.number == 1 && opened.hops == 0 && opened.receive == 0 && opened.scouts == 0, "no table, open", i, 0);
         expect(maze_close(none, 0, 0, 0) == 1, "no table, close", i, 0);
         expect(traced.number == 1 && traced.hops == 0, "no table, trace", i, 0);
@@ -330,6 +483,7 @@ static void dimensions(void) {
     }
     for (size_t i = 0; i < sizeof wrong / sizeof *wrong; i++) {
         fresh(3);
+        arm(7, 0);
         expect(maze_open(table, BYTES, 0, 0, 7, 0, 7).number == 0, "open before a refused making", wrong[i], 0);
         keep();
         refused(2, maze_make(table, BYTES, wrong[i]), "make of dimension", wrong[i]);
@@ -350,12 +504,16 @@ static void ranges(void) {
         unsigned no_node[] = {nodes, nodes + 1, 256, 256 + last, 257, 32768, 65535}, no_port[] = {dimension, dimension + 1, 8, 255, 256, 257, 65535};
         unsigned no_vector[] = {0, nodes, nodes + 1, 256, 256 + last, 257, 32769, 65535};
         fresh(dimension);
+        arm(0, 7);
+        arm(last, 0);
         expect(maze_open(table, BYTES, (uint16_t)last, 7, 0, 0, (uint16_t)last).number == 0, "the last node and channel", dimension, last);
         expect(maze_open(table, BYTES, 0, 0, (uint16_t)last, 4, (uint16_t)last).number == 0, "the last target", dimension, last);
         if (dimension > 1) expect(maze_block(table, BYTES, (uint16_t)last, (uint16_t)(dimension - 1)) == 0, "the last port", dimension, last);
         for (size_t i = 0; i < sizeof no_node / sizeof *no_node; i++) {
             refused_block(4, BYTES, no_node[i], 0);
             refused_block(4, BYTES, no_node[i], 65535); /* 4 before 6 */
+            refused_arm(4, BYTES, no_node[i], 0);
+            refused_arm(4, BYTES, no_node[i], 8);       /* 4 before 5 */
             refused_close(4, BYTES, no_node[i], 0);
             refused_close(4, BYTES, no_node[i], 8);     /* 4 before 5 */
             refused_trace(4, BYTES, no_node[i], 0, BUFFER);
@@ -368,6 +526,8 @@ static void ranges(void) {
         for (size_t i = 0; i < sizeof no_channel / sizeof *no_channel; i++) {
             refused_open(5, BYTES, 0, no_channel[i], 0, 0, 1);
             refused_open(5, BYTES, 0, no_channel[i], 0, 1, 0); /* 5 before 7 and 8 */
+            refused_arm(5, BYTES, 0, no_channel[i]);
+            refused_arm(5, BYTES, last, no_channel[i]);
             refused_close(5, BYTES, 0, no_channel[i]);
             refused_close(5, BYTES, last, no_channel[i]);
             refused_trace(5, BYTES, 0, no_channel[i], BUFFER);
@@ -400,14 +560,21 @@ static void ranges(void) {
     }
 }
 
-/* Every 16-bit value of each argument, on a table of dimension 3 with an open circuit: refused wherever document 01 says so, and nowhere else. One
- * check for each argument; where it fails, the first wrong value is named. */
+/* An open, closed again where it is accepted, and its channel armed again. */
+static uint16_t opened_and_closed(uint16_t node, uint16_t channel, uint16_t target, uint16_t type, uint16_t vector) {
+    maze_opened opened = maze_open(table, BYTES, node, channel, target, type, vector);
+    if (opened.number == 0) maze_close(table, BYTES, node, channel), maze_arm(table, BYTES, target, opened.receive);
+    return opened.number;
+}
+
+/* Every 16-bit value of each argument, on a table of dimension 3 with every channel armed and an open circuit: refused wherever the papers say so,
+ * and nowhere else. One check for each argument; where it fails, the first wrong value is named. */
 static void sweeps(void) {
-    enum { ARGUMENTS = 12 };
+    enum { ARGUMENTS = 16 };
     unsigned long wrong[ARGUMENTS], first[ARGUMENTS];
     memset(wrong, 0, sizeof wrong);
     memset(first, 0, sizeof first);
-    fresh(3);
+    fresh_armed(3);
     expect(maze_open(table, BYTES, 0, 0, 7, 0, 7).number == 0, "open for the sweeps", 0, 0);
     keep();
     for (unsigned long value = 0; value < 65536; value++) {
@@ -419,19 +586,20 @@ static void sweeps(void) {
         if (got[1] == 0) maze_unblock(table, BYTES, 4, v);
         got[2] = maze_unblock(table, BYTES, v, 0), want[2] = v > 7 ? 4 : 0;
         got[3] = maze_unblock(table, BYTES, 0, v), want[3] = v > 2 ? 6 : 0;
-        got[4] = maze_open(table, BYTES, v, 0, 5, 0, 1).number, want[4] = v > 7 ? 4 : v == 0 ? 9 : 0;
-        if (got[4] == 0) maze_close(table, BYTES, v, 0);
-        got[5] = maze_open(table, BYTES, 0, v, 2, 0, 2).number, want[5] = v > 7 ? 5 : v == 0 ? 9 : 0;
-        if (got[5] == 0) maze_close(table, BYTES, 0, v);
-        got[6] = maze_open(table, BYTES, 6, 0, v, 0, 7).number, want[6] = v > 7 ? 4 : 0;
-        if (got[6] == 0) maze_close(table, BYTES, 6, 0);
-        got[7] = maze_open(table, BYTES, 6, 0, 7, v, 1).number, want[7] = v == 0 || v == 4 ? 0 : 7;
-        if (got[7] == 0) maze_close(table, BYTES, 6, 0);
-        got[8] = maze_open(table, BYTES, 6, 0, 7, 0, v).number, want[8] = v == 0 || v > 7 ? 8 : 0;
-        if (got[8] == 0) maze_close(table, BYTES, 6, 0);
+        got[4] = opened_and_closed(v, 0, 5, 0, 1), want[4] = v > 7 ? 4 : v == 0 ? 9 : 0;
+        got[5] = opened_and_closed(0, v, 2, 0, 2), want[5] = v > 7 ? 5 : v == 0 ? 9 : 0;
+        got[6] = opened_and_closed(6, 0, v, 0, 7), want[6] = v > 7 ? 4 : 0;
+        got[7] = opened_and_closed(6, 0, 7, v, 1), want[7] = v == 0 || v == 4 ? 0 : 7;
+        got[8] = opened_and_closed(6, 0, 7, 0, v), want[8] = v == 0 || v > 7 ? 8 : 0;
         got[9] = maze_close(table, BYTES, 0, (uint16_t)(v == 0 ? 1 : v)), want[9] = v > 7 ? 5 : 12;
         got[10] = maze_trace(table, BYTES, v, 0, buffer, 8).number, want[10] = v > 7 ? 4 : v == 0 ? 14 : 12;
         got[11] = maze_make(table, BYTES + 1, v), want[11] = 1;
+        got[12] = maze_disarm(table, BYTES, v, 0), want[12] = v > 7 ? 4 : v == 7 ? 21 : 0;
+        if (got[12] == 0) maze_arm(table, BYTES, v, 0);
+        got[13] = maze_disarm(table, BYTES, 7, v), want[13] = v > 7 ? 5 : v == 0 ? 21 : 0;
+        if (got[13] == 0) maze_arm(table, BYTES, 7, v);
+        got[14] = maze_arm(table, BYTES, v, 6), want[14] = v > 7 ? 4 : 0;
+        got[15] = maze_arm(table, BYTES, 6, v), want[15] = v > 7 ? 5 : 0;
         for (unsigned i = 0; i < ARGUMENTS; i++)
             if (got[i] != want[i] && wrong[i]++ == 0) first[i] = value;
         if (!unaltered() && wrong[11]++ == 0) first[11] = value;
@@ -449,10 +617,12 @@ static void long_ones(void) {
     static uint8_t large[BYTES + 65536], ports[65536 + 8];
     static const size_t lengths_of_buffer[] = {256 + 8, 512, 65536, 65536 + 8};
     fresh(3);
+    arm(7, 0);
     expect(maze_open(table, BYTES, 0, 0, 7, 0, 7).number == 0, "open for the long ones", 0, 0);
     memcpy(large, table, BYTES);
     expect(maze_trace(large, BYTES + 65536, 0, 0, ports, 9).number == 1, "a table 65,536 bytes too long", 0, 0);
     expect(maze_make(large, BYTES + 65536, 3) == 1 && maze_close(large, BYTES + 65536, 0, 0) == 1, "a table 65,536 bytes too long", 1, 0);
+    expect(maze_arm(large, BYTES + 65536, 0, 0) == 1 && maze_disarm(large, BYTES + 65536, 0, 0) == 1, "a table 65,536 bytes too long", 2, 0);
     for (size_t i = 0; i < sizeof lengths_of_buffer / sizeof *lengths_of_buffer; i++) {
         maze_traced got;
         int kept = 1;
@@ -466,6 +636,8 @@ static void long_ones(void) {
 /* A buffer of exactly nine bytes, and longer ones; the length of the path does not matter. */
 static void buffers(void) {
     fresh(8);
+    arm(254, 0);
+    arm(3, 0);
     expect(maze_open(table, BYTES, 0, 0, 254, 0, 1).number == 0, "open nine hops", 0, 0);
     expect(maze_open(table, BYTES, 7, 2, 3, 0, 4).number == 0, "open one hop", 0, 0);
     refused_trace(14, BYTES, 0, 0, 8);
@@ -484,6 +656,7 @@ static void buffers(void) {
 static void long_buffers(void) {
     static uint8_t lent[700], kept[700];
     fresh(8);
+    arm(3, 0);
     expect(maze_open(table, BYTES, 7, 2, 3, 0, 4).number == 0, "open one hop", 0, 0);
     for (size_t length = 0; length <= sizeof lent - 8; length++) {
         maze_traced got;
@@ -505,18 +678,20 @@ static void alignments(void) {
         maze_traced traced;
         memset(room, 0x5a, sizeof room);
         expect(maze_make(lent, BYTES, 3) == 0 && maze_block(lent, BYTES, 1, 2) == 0 && maze_block(lent, BYTES, 3, 2) == 0, "made at", shift, 0);
+        expect(maze_arm(lent, BYTES, 7, 0) == 0 && maze_arm(lent, BYTES, 7, 6) == 0 && lent[8456] == 65, "armed at", shift, 0);
         opened = maze_open(lent, BYTES, 0, 0, 7, 0, 7);
         traced = maze_trace(lent, BYTES, 0, 0, ports + shift, 9);
         expect(opened.number == 0 && opened.scouts == 5 && traced.number == 0 && traced.hops == 3, "opened at", shift, opened.number);
         expect(ports[shift] == 1 && ports[shift + 1] == 2 && ports[shift + 2] == 0, "traced at", shift, 0);
         expect(lent[0] == 3 && lent[259] == 1 && lent[293] == 1 && lent[353] == 1 && lent[4465] == 1, "held at", shift, 0);
-        expect(maze_unblock(lent, BYTES, 1, 2) == 0 && maze_close(lent, BYTES, 0, 0) == 0 && lent[259] == 0, "closed at", shift, 0);
+        expect(maze_unblock(lent, BYTES, 1, 2) == 0 && maze_close(lent, BYTES, 0, 0) == 0 && lent[259] == 0 && lent[8456] == 64, "closed at", shift, 0);
+        expect(maze_disarm(lent, BYTES, 7, 6) == 0 && lent[8456] == 0, "disarmed at", shift, 0);
         for (size_t i = 0; i < sizeof room; i++)
             if ((i < shift || i >= shift + BYTES) && room[i] != 0x5a) expect(0, "a byte beside the table", shift, i);
     }
 }
 
-/* ---- sound tables and others, each circuit 1 of dimension 3 on ports 0, 1, 2 but for the places given ---- */
+/* ---- sound tables and others, each circuit 1 of dimension 3 on ports 0, 1, 2, with every channel armed, but for the places given ---- */
 
 static const struct {
     const char *what;
@@ -532,6 +707,8 @@ static const struct {
     {"out and back", "00", {{273, 1}, {275, 0}, {309, 0}, {4465, 0}, {4353, 1}}},
     {"a free link blocked", "012", {{1, 5}}},
     {"all free links blocked", "012", {{1, 1}, {2, 2}, {3, 0}, {4, 4}, {5, 0}, {6, 0}, {7, 0}, {8, 0}}},
+    {"its channel alone armed", "012", {{8449, 0}, {8450, 0}, {8451, 0}, {8452, 0}, {8453, 0}, {8454, 0}, {8455, 0}, {8456, 1}}},
+    {"another receive channel, alone armed", "012", {{4465, 0}, {4475, 1}, {8456, 32}}},
     {"first link lost", NULL, {{257, 0}}},
     {"second link lost", NULL, {{275, 0}}},
     {"last link lost", NULL, {{309, 0}}},
@@ -565,39 +742,69 @@ static const struct {
     {"a link of an absent node held", NULL, {{385, 1}}},
     {"a link of node 255 held", NULL, {{4352, 1}}},
     {"a receive channel of an absent node held", NULL, {{4481, 1}}},
-    {"the last byte", NULL, {{8448, 1}}},
+    {"the last receive channel held", NULL, {{8448, 1}}},
+    {"its channel alone not armed", NULL, {{8456, 254}}},
+    {"no channel of the target armed", NULL, {{8456, 0}}},
+    {"another receive channel, not armed", NULL, {{4465, 0}, {4475, 1}, {8456, 223}}},
+    {"received twice, once not armed", NULL, {{4467, 1}, {8456, 253}}},
+    {"channel 0 of an absent node armed", NULL, {{8457, 1}}},
+    {"channel 7 of an absent node armed", NULL, {{8457, 128}}},
+    {"a channel of node 128 armed", NULL, {{8577, 4}}},
+    {"the last byte", NULL, {{8704, 128}}},
     {"a port walked twice", NULL, {{371, 1}, {4465, 0}, {4433, 1}}},
     {"once round", NULL, {{305, 1}, {291, 1}, {309, 0}, {4465, 0}, {4353, 1}}},
 };
 
 static void soundness(void) {
     for (size_t i = 0; i < sizeof tables / sizeof *tables; i++) {
-        fresh(3);
+        fresh_armed(3);
         expect(maze_open(table, BYTES, 0, 0, 7, 0, 7).number == 0, "open for", i, 0);
         for (const struct place *place = tables[i].places; place->at; place++) table[place->at] = (uint8_t)place->value;
         if (tables[i].ports) {
             expect_trace(tables[i].what, 0, 0, tables[i].ports);
             keep();
             expect(maze_close(table, BYTES, 0, 0) == 0, tables[i].what, i, 0);
-            /* what was circuit 1's is free, and nothing else has changed */
-            for (size_t at = 257; at < BYTES; at += 2)
-                if (kept_table[at] == 1 && kept_table[at + 1] == 0) kept_table[at] = 0;
+            /* what was circuit 1's is free, its receive channel is not armed, and nothing else has changed */
+            for (size_t at = 257; at < 8449; at += 2)
+                if (kept_table[at] == 1 && kept_table[at + 1] == 0) {
+                    kept_table[at] = 0;
+                    if (at >= 4353) kept_table[8449 + (at - 4353) / 16] &= (uint8_t)~(1u << (at - 4353) / 2 % 8);
+                }
             expect(unaltered_table(), tables[i].what, i, 1);
         } else {
             all_refused(3, BYTES);
             expect(maze_make(table, BYTES, 3) == 0, "make over an unsound table", i, 0);
+            armed_at_first = 0;
             expect_table("made over it", 3, NULL);
         }
     }
 }
 
+/* Each bit of the armed channels of each node that the cube lacks. One check for each dimension; where it fails, the first wrong place is named. */
+static void absent_nodes_armed(void) {
+    for (unsigned dimension = 1; dimension < 8; dimension++) {
+        unsigned first = 0;
+        fresh_armed(dimension);
+        for (unsigned at = 8449 + (1u << dimension); at < BYTES; at++)
+            for (unsigned channel = 0; channel < 8; channel++) {
+                table[at] = (uint8_t)(1u << channel);
+                if (maze_unblock(table, BYTES, 0, 0) != 3 && first == 0) first = at;
+                table[at] = 0;
+            }
+        expect(first == 0 && maze_unblock(table, BYTES, 0, 0) == 0, "an absent node armed", dimension, first);
+    }
+}
+
 int main(void) {
-    for (size_t i = 0; i < sizeof sends / sizeof *sends; i++) run_send(&sends[i]);
+    for (size_t i = 0; i < sizeof sends / sizeof *sends; i++) fresh_armed(sends[i].dimension), run_send(&sends[i]);
+    for (size_t i = 0; i < sizeof unarmed / sizeof *unarmed; i++) fresh(unarmed[i].dimension), run_send(&unarmed[i]);
     example_7();
     example_8();
     example_9();
     most_scouts();
     receive_channels();
+    lowest_armed();
+    arming();
     blocking();
     lengths();
     dimensions();
@@ -608,5 +815,6 @@ int main(void) {
     long_buffers();
     alignments();
     soundness();
+    absent_nodes_armed();
     return verdict();
 }

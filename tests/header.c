@@ -1,4 +1,4 @@
-/* The header's names: each has document 01's number, each answer the layout that the library writes, and each call the type that it has. */
+/* The header's names: each has the number that the papers give it, each answer the layout that the library writes, and each call the type that it has. */
 #include "expect.h"
 
 #include <maze.h>
@@ -19,6 +19,8 @@ _Static_assert(sizeof(maze_served) == 4 && offsetof(maze_served, requester) == 2
 HAS_TYPE(maze_make, uint16_t, uint8_t *, size_t, uint16_t);
 HAS_TYPE(maze_block, uint16_t, uint8_t *, size_t, uint16_t, uint16_t);
 HAS_TYPE(maze_unblock, uint16_t, uint8_t *, size_t, uint16_t, uint16_t);
+HAS_TYPE(maze_arm, uint16_t, uint8_t *, size_t, uint16_t, uint16_t);
+HAS_TYPE(maze_disarm, uint16_t, uint8_t *, size_t, uint16_t, uint16_t);
 HAS_TYPE(maze_open, maze_opened, uint8_t *, size_t, uint16_t, uint16_t, uint16_t, uint16_t, uint16_t);
 HAS_TYPE(maze_close, uint16_t, uint8_t *, size_t, uint16_t, uint16_t);
 HAS_TYPE(maze_trace, maze_traced, const uint8_t *, size_t, uint16_t, uint16_t, uint8_t *, size_t);
@@ -54,9 +56,10 @@ static const struct {
     NAME(MAZE_RESERVED_COMMAND, 18),
     NAME(MAZE_CARRIED_TOO_LARGE, 19),
     NAME(MAZE_UNREADABLE_LINE, 20),
+    NAME(MAZE_CHANNEL_HELD, 21),
     NAME(MAZE_CHANNEL_STOPPED, 30),
     NAME(MAZE_BAD_REQUESTER, 31),
-    NAME(MAZE_TABLE_BYTES, 8449),
+    NAME(MAZE_TABLE_BYTES, 8705),
     NAME(MAZE_NODES, 256),
     NAME(MAZE_PORTS, 8),
     NAME(MAZE_CHANNELS, 8),
@@ -65,6 +68,7 @@ static const struct {
     NAME(MAZE_ENABLED_AT, 1),
     NAME(MAZE_LINKS_AT, 1 + 256),
     NAME(MAZE_RECEIVES_AT, 1 + 256 + 4096),
+    NAME(MAZE_ARMED_AT, 1 + 256 + 4096 + 4096),
     NAME(MAZE_TYPE_MAZE, 0),
     NAME(MAZE_TYPE_ALTERNATE_MAZE, 4),
     NAME(MAZE_HOPS_LARGEST, 9),
@@ -97,12 +101,12 @@ static const struct {
     NAME(MAZE_REQUESTER_NOBODY, 26),
 };
 
-/* What the macros read in a table, beside document 01's layout: each byte is the low byte of its place plus 1, so that neighbours
- * differ. */
+/* What the macros read in a table, beside the papers' layout: each byte is the rest of its place by 251, plus 1, so that neighbours differ, and
+ * so do the bytes of two parts for one node. */
 static int reads_table(void) {
     static uint8_t table[MAZE_TABLE_BYTES];
     int good = 1;
-    for (unsigned at = 0; at < sizeof table; at++) table[at] = (uint8_t)(at + 1);
+    for (unsigned at = 0; at < sizeof table; at++) table[at] = (uint8_t)(at % 251 + 1);
     good &= MAZE_DIMENSION(table) == 1;
     for (unsigned node = 0; node < 256; node++)
         for (unsigned slot = 0; slot < 8; slot++) {
@@ -110,6 +114,7 @@ static int reads_table(void) {
             good &= MAZE_LINK_ENABLED(table, node, slot) == (table[1 + node] >> slot & 1);
             good &= MAZE_LINK_CIRCUIT(table, node, slot) == table[link] + 256u * table[link + 1];
             good &= MAZE_RECEIVE_CIRCUIT(table, node, slot) == table[receive] + 256u * table[receive + 1];
+            good &= MAZE_RECEIVE_ARMED(table, node, slot) == (table[8449 + node] >> slot & 1);
             good &= MAZE_CIRCUIT(node, slot) == circuit && MAZE_CIRCUIT_NODE(circuit) == node && MAZE_CIRCUIT_CHANNEL(circuit) == slot;
         }
     return good;
@@ -123,6 +128,6 @@ int main(void) {
     maze_word_written written = write(MAZE_END_OF_TRANSMISSION, MAZE_STATUS_END_TO_END);
     maze_word_read_answer back = read(written.word);
     expect(written.number == MAZE_ACCEPTED && back.command == MAZE_END_OF_TRANSMISSION && back.carried == MAZE_STATUS_END_TO_END, "the names read back", written.word, back.carried);
-    expect(reads_table(), "the macros read document 01's layout", 0, 0);
+    expect(reads_table(), "the macros read the layout of a table", 0, 0);
     return verdict();
 }

@@ -1,5 +1,5 @@
 /* The printed list once more, written for checking: over the calls of reference.c, and with another way to read a line. A line is taken for what
- * a loose scan makes of it, printed again in the one form that document 01 allows, and accepted if that gives the very same bytes.
+ * a loose scan makes of it, printed again in the one form that the papers allow, and accepted if that gives the very same bytes.
  *
  *   list_reference < calls            prints their list
  *   list_reference SEED LINES         prints a list of calls, most of them readable */
@@ -9,7 +9,7 @@
 #include <stdlib.h>
 #include <string.h>
 
-enum { LIMIT = 60000, LONGEST = 40, BYTES = 8449, HOPS = 9 };
+enum { LIMIT = 60000, LONGEST = 40, BYTES = 8705, HOPS = 9 };
 
 static uint8_t table[BYTES];
 
@@ -21,7 +21,7 @@ struct line {
 static unsigned wanted(char letter) {
     switch (letter) {
     case 'F': return 1;
-    case 'B': case 'E': case 'C': return 2;
+    case 'B': case 'E': case 'C': case 'R': case 'D': return 2;
     case 'S': return 5;
     default: return 0;
     }
@@ -65,6 +65,8 @@ static void answer(unsigned number, const char *bytes, size_t length) {
     case 'B': printf("%u %u - - - %u\n", ref_block(table, BYTES, a, b), a, b); break;
     case 'E': printf("%u %u - - - %u\n", ref_unblock(table, BYTES, a, b), a, b); break;
     case 'C': printf("%u %u %u - - -\n", ref_close(table, BYTES, a, b), a, b); break;
+    case 'R': printf("%u %u %u - - -\n", ref_arm(table, BYTES, a, b), a, b); break;
+    case 'D': printf("%u %u %u - - -\n", ref_disarm(table, BYTES, a, b), a, b); break;
     default: {
         maze_opened opened = ref_open(table, BYTES, a, b, c, d, e);
         printf("%u %u %u ", opened.number, a, b);
@@ -114,23 +116,28 @@ static unsigned some(unsigned bound) {
     return below(2) == 0 ? bound + below(3) : below(65536);
 }
 
+/* A channel of the target is armed before most opens; what is disarmed is mostly of the last target. */
 static void generate(unsigned lines) {
-    unsigned dimension = 1 + below(8);
+    unsigned dimension = 1 + below(8), target = 0;
     printf("F %u\n", dimension);
     for (unsigned i = 1; i < lines; i++) {
         unsigned nodes = 1u << dimension;
-        switch (below(12)) {
+        switch (below(13)) {
         case 0: printf("B %u %u\n", some(nodes), some(dimension)); break;
         case 1: printf("E %u %u\n", some(nodes), some(dimension)); break;
         case 2: case 3: case 4: printf("C %u %u\n", some(nodes), some(8)); break;
         case 5: if (below(30) == 0) printf("F %u\n", dimension = 1 + below(8)); else printf("S 0%u 0 0 0 1\n", below(9)); break;
         case 6: {
-            static const char *const odd[] = {"", " ", "F", "C 0", "C 0 0 0", "s 0 0 0 0 1", "B 0  0", "E 0 0 ", "F\t1", "F 65536", "F 01", "F -1"};
+            static const char *const odd[] = {"", " ", "F", "C 0", "C 0 0 0", "s 0 0 0 0 1", "B 0  0", "E 0 0 ", "F\t1", "F 65536", "F 01", "F -1",
+                                              "R 0", "D 3", "D 0 0 0", "r 0 0", "R 0 08"};
             printf("%s\n", odd[below(sizeof odd / sizeof *odd)]);
             break;
         }
+        case 7: printf("%c %u %u\n", below(3) == 0 ? 'R' : 'D', below(3) == 0 ? some(nodes) : target, some(8)); break;
         default:
-            printf("S %u %u %u %u %u\n", some(nodes), some(8), some(nodes), below(12) == 0 ? 1 : below(2) * 4, below(10) == 0 ? 0 : some(nodes));
+            target = some(nodes);
+            if (below(4) != 0) printf("R %u %u\n", target, some(8)), i++;
+            printf("S %u %u %u %u %u\n", some(nodes), some(8), target, below(12) == 0 ? 1 : below(2) * 4, below(10) == 0 ? 0 : some(nodes));
         }
     }
 }

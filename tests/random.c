@@ -13,7 +13,7 @@
 #include <stdlib.h>
 #include <string.h>
 
-enum { SPARE = 32, BUFFER = 24, MOST_CALLS = 6000 };
+enum { SPARE = 32, BUFFER = 24, MOST_CALLS = 60000, LETTERS = 9, NUMBERS = MAZE_CHANNEL_HELD + 1 };
 
 /* ---- pseudo-random numbers: the same on every machine ---- */
 
@@ -36,7 +36,7 @@ static int one_in(unsigned count) {
 
 /* ---- calls, and both tables ---- */
 
-static const char letters[] = "FBESCTP";
+static const char letters[] = "FBESCRDTP";
 
 static size_t letter_place(char letter) {
     return (size_t)(strchr(letters, letter) - letters);
@@ -78,6 +78,8 @@ static struct answers run(const struct call *call, struct pair *on) {
         opened[1] = ref_open(ref, length, a[0], a[1], a[2], a[3], a[4]);
         break;
     case 'C': number[0] = maze_close(lib, length, a[0], a[1]), number[1] = ref_close(ref, length, a[0], a[1]); break;
+    case 'R': number[0] = maze_arm(lib, length, a[0], a[1]), number[1] = ref_arm(ref, length, a[0], a[1]); break;
+    case 'D': number[0] = maze_disarm(lib, length, a[0], a[1]), number[1] = ref_disarm(ref, length, a[0], a[1]); break;
     case 'T':
         traced[0] = maze_trace(lib, length, a[0], a[1], on->buffer[0], call->buffer_len);
         traced[1] = ref_trace(ref, length, a[0], a[1], on->buffer[1], call->buffer_len);
@@ -110,7 +112,7 @@ static struct call list[MOST_CALLS];
 static size_t calls;
 
 static void print_call(const struct call *call) {
-    static const int arguments[] = {1, 2, 2, 5, 2, 2, 2};
+    static const int arguments[LETTERS] = {1, 2, 2, 5, 2, 2, 2, 2, 2};
     int count = arguments[letter_place(call->letter)];
     printf("%c", call->letter);
     for (int i = 0; i < count; i++) printf(" %u", (unsigned)call->argument[i]);
@@ -170,9 +172,10 @@ static void report(unsigned dimension, const char *kind, uint64_t seed) {
 /* ---- what has occurred ---- */
 
 static struct {
-    unsigned long calls, answers[7][15], hops[10], rejected_1000, rejected_10000, most_scouts, second_accepted, second_rejected, through_source,
-        to_itself, first_hop_away, nearly_full, nearly_full_accepted, full, all_received, one_changed, one_changed_sound, several_changed,
-        several_changed_sound, moved, laid, laid_sound, wrong_length, short_buffer;
+    unsigned long calls, answers[LETTERS][NUMBERS], hops[10], rejected_1000, rejected_10000, most_scouts, second_accepted, second_rejected,
+        through_source, to_itself, first_hop_away, nearly_full, nearly_full_accepted, full, all_received, one_changed, one_changed_sound,
+        several_changed, several_changed_sound, mask_changed, mask_changed_sound, moved, laid, laid_sound, wrong_length, short_buffer;
+    unsigned long both_receive_rejected, receive_then_route, route_then_receive, passed_over, armed_again, armed_held, disarmed_again;
 } seen;
 
 static void count_held(unsigned long *held, unsigned long *links) {
@@ -197,9 +200,17 @@ static void tally(const struct call *call, const struct answers *answers, unsign
         seen.nearly_full_accepted += number == MAZE_ACCEPTED;
         seen.full += held == links;
     }
-    if (ref_last_send.passes == 2) *(number == MAZE_ACCEPTED ? &seen.second_accepted : &seen.second_rejected) += 1;
+    if (ref_last_send.passes == 2) {
+        int receive = ref_last_send.first == MAZE_RECEIVE_REJECTED;
+        *(number == MAZE_ACCEPTED ? &seen.second_accepted : &seen.second_rejected) += 1;
+        seen.both_receive_rejected += receive && number == MAZE_RECEIVE_REJECTED;
+        seen.receive_then_route += receive && number == MAZE_ROUTE_REJECTED;
+        seen.route_then_receive += !receive && number == MAZE_RECEIVE_REJECTED;
+    }
     if (number == MAZE_ACCEPTED) {
-        unsigned uphill = (a[0] ^ a[2]) >> ref_last_send.ports[0] & 1;
+        unsigned uphill = (a[0] ^ a[2]) >> ref_last_send.ports[0] & 1, passed_over = 0;
+        for (unsigned channel = 0; channel < answers->value[1][2]; channel++) passed_over |= MAZE_RECEIVE_CIRCUIT(now.table[1], a[2], channel) == 0;
+        seen.passed_over += passed_over; /* a lower channel that no circuit holds: it is not armed */
         seen.hops[ref_last_send.hops]++;
         seen.first_hop_away += !uphill;
         seen.through_source += ref_last_send.hops > 2 && ref_last_send.ports[0] == ref_last_send.ports[1];
@@ -220,8 +231,11 @@ static unsigned long last_number;
 static void make_call(struct call call) {
     struct answers answers;
     unsigned long held = 0, links = 1;
+    int armed = 0;
     if (differs || calls == MOST_CALLS) return;
     if (call.letter == 'S') count_held(&held, &links);
+    if ((call.letter == 'R' || call.letter == 'D') && call.argument[0] < MAZE_NODES && call.argument[1] < MAZE_CHANNELS)
+        armed = MAZE_RECEIVE_ARMED(now.table[1], call.argument[0], call.argument[1]);
     list[calls++] = call;
     answers = run(&call, &now);
     if (!same(&answers, &now)) {
@@ -229,6 +243,11 @@ static void make_call(struct call call) {
         return;
     }
     last_number = answers.value[1][0];
+    if (call.letter == 'R' && last_number == MAZE_ACCEPTED && armed) {
+        seen.armed_again++;
+        seen.armed_held += MAZE_RECEIVE_CIRCUIT(now.table[1], call.argument[0], call.argument[1]) != 0;
+    }
+    seen.disarmed_again += call.letter == 'D' && last_number == MAZE_ACCEPTED && !armed;
     if (call.letter != 'P') tally(&call, &answers, held, links);
 }
 
@@ -298,6 +317,15 @@ static struct call on_circuit(char letter, unsigned dimension) {
     return plain(letter, node, channel);
 }
 
+/* A receive channel that is held, by chance; or any. */
+static struct call on_receive(char letter, unsigned dimension) {
+    for (int tries = one_in(3) ? 20 : 0; tries > 0; tries--) {
+        unsigned node = any_node(dimension), channel = below(4);
+        if (MAZE_RECEIVE_CIRCUIT(now.table[1], node, channel) != 0) return plain(letter, node, channel);
+    }
+    return plain(letter, any_node(dimension), below(8));
+}
+
 /* A number near a limit, or anywhere. */
 static unsigned odd_number(unsigned limit) {
     switch (below(6)) {
@@ -312,10 +340,10 @@ static unsigned odd_number(unsigned limit) {
 
 /* A call some of whose numbers are out of range. */
 static struct call odd_call(unsigned dimension) {
-    static const uint16_t lengths[] = {0, 1, 256, MAZE_TABLE_BYTES - 1, MAZE_TABLE_BYTES + 1, MAZE_TABLE_BYTES + SPARE};
+    static const uint16_t lengths[] = {0, 1, 256, MAZE_ARMED_AT, MAZE_TABLE_BYTES - 1, MAZE_TABLE_BYTES + 1, MAZE_TABLE_BYTES + SPARE};
     static const unsigned types[] = {0, 4, 1, 2, 3, 5, 8, 256, 260, 65535};
     struct call call = any_send(dimension);
-    call.letter = "FBESSSCT"[below(8)];
+    call.letter = "FBESSSCTRD"[below(10)];
     if (call.letter == 'F') {
         call.argument[0] = (uint16_t)(one_in(4) ? 256 + dimension : one_in(2) ? 0 : 9 + below(60000));
     } else if (call.letter == 'S') {
@@ -326,8 +354,9 @@ static struct call odd_call(unsigned dimension) {
         if (one_in(3)) call.argument[4] = (uint16_t)(one_in(4) ? 0 : odd_number(1u << dimension));
     } else {
         if (call.letter == 'C' || call.letter == 'T') call = on_circuit(call.letter, dimension);
+        if (call.letter == 'R' || call.letter == 'D') call = on_receive(call.letter, dimension);
         if (one_in(2)) call.argument[0] = (uint16_t)odd_number(1u << dimension);
-        if (one_in(2)) call.argument[1] = (uint16_t)odd_number(call.letter == 'C' || call.letter == 'T' ? 8 : dimension);
+        if (one_in(2)) call.argument[1] = (uint16_t)odd_number(call.letter == 'B' || call.letter == 'E' ? dimension : 8);
         if (call.letter == 'T' && one_in(2)) call.buffer_len = (uint16_t)below(12);
     }
     if (one_in(8)) call.table_len = lengths[below(sizeof lengths / sizeof *lengths)];
@@ -337,26 +366,42 @@ static struct call odd_call(unsigned dimension) {
 static struct call any_call(unsigned dimension) {
     unsigned choice = below(100);
     struct call call;
-    if (choice < 50) return any_send(dimension);
-    if (choice < 65) return on_circuit('C', dimension);
-    if (choice < 80) {
+    if (choice < 44) return any_send(dimension);
+    if (choice < 57) return on_circuit('C', dimension);
+    if (choice < 69) {
         call = on_circuit('T', dimension);
         call.buffer_len = (uint16_t)(one_in(3) ? MAZE_TRACE_BYTES : one_in(6) ? below(9) : BUFFER);
         return call;
     }
-    if (choice < 88) return plain('B', any_node(dimension), below(dimension));
+    if (choice < 80) return on_receive('R', dimension);
+    if (choice < 84) return on_receive('D', dimension);
+    if (choice < 90) return plain('B', any_node(dimension), below(dimension));
     if (choice < 95) return plain('E', any_node(dimension), below(dimension));
     return odd_call(dimension);
 }
 
 /* ---- the kinds of stream; each begins after an accepted making ---- */
 
+/* Arms channels of a table on which nothing is held: all of a node's in one of `share` nodes, and some or none in the others. Most are written as
+ * bytes, since a call for each takes long. */
+static void arm_nodes(unsigned dimension, unsigned share) {
+    for (unsigned node = 0; node < 1u << dimension; node++) {
+        unsigned channels = one_in(share) ? 255 : one_in(4) ? 0 : below(256);
+        if (!one_in(60)) make_call(plain('P', MAZE_ARMED_AT + node, channels));
+        else
+            for (unsigned channel = 0; channel < MAZE_CHANNELS; channel++)
+                if (channels >> channel & 1) make_call(plain('R', node, channel));
+    }
+}
+
 static void mixed(unsigned dimension) {
     unsigned count = 150 + 10 * dimension;
+    arm_nodes(dimension, 2);
     for (unsigned i = 0; i < count; i++) make_call(any_call(dimension));
 }
 
 static void refusals(unsigned dimension) {
+    arm_nodes(dimension, 2);
     for (unsigned i = 0; i < 20; i++) make_call(any_send(dimension));
     for (unsigned i = 0; i < 100; i++) make_call(odd_call(dimension));
 }
@@ -364,6 +409,7 @@ static void refusals(unsigned dimension) {
 /* Sends until few links are free, then single hops until none is; then calls on what is so found. */
 static void filled(unsigned dimension) {
     unsigned nodes = 1u << dimension, holes = one_in(2) ? 0 : 1 + below(nodes);
+    arm_nodes(dimension, 1);
     for (unsigned i = 0; i < nodes; i++) make_call(any_send(dimension));
     for (unsigned node = 0; node < nodes; node++)
         for (unsigned port = 0; port < dimension; port++)
@@ -377,6 +423,7 @@ static void filled(unsigned dimension) {
 /* Many links blocked, so that most searches come back. */
 static void thinned(unsigned dimension) {
     unsigned nodes = 1u << dimension, share = 2 + below(4);
+    arm_nodes(dimension, 2);
     for (unsigned node = 0; node < nodes; node++)
         for (unsigned port = 0; port < dimension; port++)
             if (one_in(share)) make_call(plain('B', node, port));
@@ -386,6 +433,7 @@ static void thinned(unsigned dimension) {
 /* The links into a target blocked or held, all or all but one, and sends from afar. */
 static void walled(unsigned dimension) {
     unsigned all = (1u << dimension) - 1;
+    arm_nodes(dimension, 1 + below(3));
     for (unsigned i = 0; i < 6; i++) {
         unsigned target = any_node(dimension), gap = below(2 * dimension), node;
         int hold = one_in(3);
@@ -410,12 +458,25 @@ static unsigned place(unsigned dimension) {
     if (one_in(8)) return below(MAZE_TABLE_BYTES);
     if (one_in(20)) return MAZE_DIMENSION_AT;
     if (one_in(6)) return MAZE_ENABLED_AT + (one_in(4) ? below(MAZE_NODES) : any_node(dimension));
+    if (one_in(12)) return MAZE_ARMED_AT + below(2u << dimension) % MAZE_NODES; /* of a node, or of one just behind the last */
+    if (one_in(8)) {
+        unsigned node = any_node(dimension);
+        for (int tries = 0; tries < 20 && MAZE_RECEIVE_CIRCUIT(table, node, 0) == 0; tries++) node = any_node(dimension);
+        return MAZE_ARMED_AT + node;
+    }
     for (int tries = 0; tries < 40; tries++) {
         unsigned node = any_node(dimension), slot = below(8), part = one_in(2) ? MAZE_LINKS_AT : MAZE_RECEIVES_AT;
         unsigned at = part + 2 * (8 * node + slot);
         if (table[at] != 0 || table[at + 1] != 0 || one_in(20)) return at + (one_in(4) ? 1 : 0);
     }
     return MAZE_LINKS_AT + below(2 * 2 * 8 * MAZE_NODES);
+}
+
+/* A made table, channels armed, and some sends. */
+static void anew(unsigned dimension) {
+    make_call(plain('F', dimension, 0));
+    arm_nodes(dimension, 2);
+    for (unsigned i = 0; i < 2 * dimension + 4; i++) make_call(any_send(dimension));
 }
 
 /* Changes some bytes, makes a call or two, and puts the bytes back. */
@@ -438,10 +499,10 @@ static void changed(unsigned dimension, unsigned bytes) {
         int table_sound = last_number != MAZE_BAD_DIMENSION && last_number != MAZE_NOT_SOUND;
         if (bytes == 1) seen.one_changed++, seen.one_changed_sound += (unsigned)table_sound;
         else seen.several_changed++, seen.several_changed_sound += (unsigned)table_sound;
+        if (bytes == 1 && at[0] >= MAZE_ARMED_AT) seen.mask_changed++, seen.mask_changed_sound += (unsigned)table_sound;
         /* A call that was accepted may have altered the table, so that what is put back would mean something else: begin anew instead. */
         if (table_sound) {
-            make_call(plain('F', dimension, 0));
-            for (unsigned i = 0; i < 2 * dimension + 4; i++) make_call(any_send(dimension));
+            anew(dimension);
             return;
         }
     }
@@ -450,13 +511,14 @@ static void changed(unsigned dimension, unsigned bytes) {
 
 static void damaged(unsigned dimension) {
     unsigned sends = 2 * dimension + 4 + below(1u << dimension);
+    arm_nodes(dimension, 2);
     for (unsigned i = 0; i < sends; i++) make_call(any_send(dimension));
     for (unsigned i = 0; i < 200; i++) changed(dimension, one_in(2) ? 1 : 2 + below(3));
 }
 
 /* One entry written anew as a whole: a circuit more or less, or in another place. Two such changes may make another sound table. */
 static void rewritten(unsigned dimension) {
-    for (unsigned i = 0; i < 2 * dimension + 4; i++) make_call(any_send(dimension));
+    anew(dimension);
     for (unsigned i = 0; i < 60; i++) {
         const uint8_t *table = now.table[1];
         unsigned node = any_node(dimension), slot = below(8), other = below(8), from = MAZE_RECEIVES_AT + 2 * (8 * node + slot), to;
@@ -464,7 +526,7 @@ static void rewritten(unsigned dimension) {
             node = any_node(dimension), slot = below(8), from = MAZE_RECEIVES_AT + 2 * (8 * node + slot);
         to = MAZE_RECEIVES_AT + 2 * (8 * (one_in(10) ? any_node(dimension) : node) + other);
         if (from != to && table[to] == 0 && table[to + 1] == 0) {
-            /* the receive channel moved: sound if it stays at its node */
+            /* the receive channel moved: sound if it stays at its node and is armed */
             make_call(plain('P', to, table[from]));
             make_call(plain('P', to + 1, table[from + 1]));
             if (one_in(4)) make_call(any_send(dimension)); /* held twice now */
@@ -473,10 +535,7 @@ static void rewritten(unsigned dimension) {
             seen.moved++;
         }
         make_call(any_send(dimension));
-        if (last_number == MAZE_NOT_SOUND) {
-            make_call(plain('F', dimension, 0));
-            for (unsigned j = 0; j < 2 * dimension + 4; j++) make_call(any_send(dimension));
-        }
+        if (last_number == MAZE_NOT_SOUND) anew(dimension);
         make_call(any_call(dimension));
     }
 }
@@ -488,12 +547,13 @@ static void write_entry(unsigned part, unsigned node, unsigned slot, unsigned ci
 }
 
 /* Circuits written into the table entry by entry: along any permitted path, not the first, and on any receive channel; or along one that is
- * not quite permitted. */
+ * not quite permitted, or on one that is not armed. */
 static void laid(unsigned dimension) {
+    arm_nodes(dimension, 2);
     for (unsigned i = 0; i < 40 && !differs; i++) {
         const uint8_t *table = now.table[1];
         unsigned source = any_node(dimension), circuit = MAZE_CIRCUIT(source, below(8)), hops = 1 + below(dimension + 1), walked = 0;
-        unsigned node[MAZE_HOPS_LARGEST + 1], port[MAZE_HOPS_LARGEST], channel = below(8), end, fault = one_in(3) ? 1 + below(5) : 0;
+        unsigned node[MAZE_HOPS_LARGEST + 1], port[MAZE_HOPS_LARGEST], channel = below(8), end, fault = one_in(3) ? 1 + below(6) : 0;
         int clear = 1;
         for (unsigned n = 0; n < MAZE_NODES; n++)
             for (unsigned slot = 0; slot < 8; slot++)
@@ -512,7 +572,8 @@ static void laid(unsigned dimension) {
         seen.laid++;
         for (unsigned hop = 0; hop < hops; hop++) write_entry(MAZE_LINKS_AT, node[hop], port[hop], circuit);
         write_entry(MAZE_RECEIVES_AT, end, channel, circuit);
-        switch (fault) { /* 1 was a port walked twice */
+        make_call(plain('P', MAZE_ARMED_AT + end, fault == 6 ? table[MAZE_ARMED_AT + end] & ~(1u << channel) : table[MAZE_ARMED_AT + end] | 1u << channel));
+        switch (fault) { /* 1 was a port walked twice, 6 a channel that is not armed */
         case 2: write_entry(MAZE_LINKS_AT, node[below(hops)], port[below(hops)], 0); break;
         case 3: write_entry(MAZE_LINKS_AT, any_node(dimension), below(8), circuit); break;
         case 4: write_entry(MAZE_RECEIVES_AT, end, channel, 0), write_entry(MAZE_RECEIVES_AT, node[below(hops)], channel, circuit); break;
@@ -522,7 +583,7 @@ static void laid(unsigned dimension) {
         make_call(plain('T', source, MAZE_CIRCUIT_CHANNEL(circuit)));
         if (last_number == MAZE_NOT_SOUND) {
             make_call(any_call(dimension));
-            make_call(plain('F', dimension, 0));
+            anew(dimension);
             continue;
         }
         seen.laid_sound++;
@@ -532,19 +593,36 @@ static void laid(unsigned dimension) {
     }
 }
 
+/* Sends to two targets, whose channels are armed, disarmed and given back in between. */
+static void contended(unsigned dimension) {
+    unsigned targets[2] = {any_node(dimension), any_node(dimension)}, channels = 1 + below(8);
+    for (unsigned i = 0; i < 120; i++) {
+        unsigned target = targets[below(2)], channel = below(channels), node = any_node(dimension);
+        unsigned circuit = MAZE_RECEIVE_CIRCUIT(now.table[1], target, channel);
+        switch (below(8)) {
+        case 0: case 1: make_call(plain('R', target, channel)); break;
+        case 2: make_call(plain('D', target, channel)); break;
+        case 3:
+            if (circuit != 0) make_call(plain('C', MAZE_CIRCUIT_NODE(circuit), MAZE_CIRCUIT_CHANNEL(circuit)));
+            break;
+        default: make_call(sending(node, free_channel(node), target, one_in(2) ? 0 : 4, any_vector(dimension, node, target)));
+        }
+    }
+}
+
 static const struct {
     const char *name;
     void (*run)(unsigned);
 } kinds[] = {
-    {"mixed", mixed},   {"refusals", refusals}, {"filled", filled},       {"thinned", thinned},
-    {"walled", walled}, {"damaged", damaged},   {"rewritten", rewritten}, {"laid", laid},
+    {"mixed", mixed},     {"refusals", refusals},   {"filled", filled}, {"thinned", thinned},     {"walled", walled},
+    {"damaged", damaged}, {"rewritten", rewritten}, {"laid", laid},     {"contended", contended},
 };
 
 static void print_seen(void) {
     printf("calls compared: %lu; the numbers that each answered, and how often:\n", seen.calls);
-    for (int i = 0; i < 6; i++) {
+    for (int i = 0; letters[i] != 'P'; i++) {
         printf("%c:", letters[i]);
-        for (int number = 0; number < 15; number++)
+        for (int number = 0; number < NUMBERS; number++)
             if (seen.answers[i][number]) printf("  %d: %lu", number, seen.answers[i][number]);
         printf("\n");
     }
@@ -553,12 +631,17 @@ static void print_seen(void) {
     printf("\nfirst hop away from the target: %lu; through the source: %lu; to the source itself: %lu\n", seen.first_hop_away,
            seen.through_source, seen.to_itself);
     printf("second pass accepted: %lu; second pass rejected: %lu\n", seen.second_accepted, seen.second_rejected);
+    printf("both passes receive rejected: %lu; receive and then route rejected: %lu; route and then receive rejected: %lu\n",
+           seen.both_receive_rejected, seen.receive_then_route, seen.route_then_receive);
+    printf("opens that passed over a channel not armed: %lu; armed ones armed again: %lu, of these held: %lu; disarmed ones again: %lu\n",
+           seen.passed_over, seen.armed_again, seen.armed_held, seen.disarmed_again);
     printf("rejected after 1,000 scouts or more: %lu; after 10,000 or more: %lu; most scouts of a send: %lu\n", seen.rejected_1000,
            seen.rejected_10000, seen.most_scouts);
     printf("opens with nine tenths of the links held: %lu, accepted: %lu; with all held: %lu; with all receive channels held: %lu\n",
            seen.nearly_full, seen.nearly_full_accepted, seen.full, seen.all_received);
     printf("tables with one byte changed: %lu, still sound: %lu; with two to four: %lu, still sound: %lu; receive channels moved: %lu\n",
            seen.one_changed, seen.one_changed_sound, seen.several_changed, seen.several_changed_sound, seen.moved);
+    printf("of these with one byte of armed channels changed: %lu, still sound: %lu\n", seen.mask_changed, seen.mask_changed_sound);
     printf("circuits written entry by entry: %lu, sound: %lu\n", seen.laid, seen.laid_sound);
     printf("wrong lengths: %lu; short buffers: %lu\n", seen.wrong_length, seen.short_buffer);
 }
@@ -596,6 +679,18 @@ int main(int count, char **arguments) {
             {"a path of nine hops", seen.hops[9]},
             {"a second pass accepted", seen.second_accepted},
             {"a second pass rejected", seen.second_rejected},
+            {"a receive rejection", seen.answers[letter_place('S')][MAZE_RECEIVE_REJECTED]},
+            {"both passes receive rejected", seen.both_receive_rejected},
+            {"a receive rejection and then a route rejection", seen.receive_then_route},
+            {"a route rejection and then a receive rejection", seen.route_then_receive},
+            {"an open that passed over a channel not armed", seen.passed_over},
+            {"a channel disarmed", seen.answers[letter_place('D')][MAZE_ACCEPTED] - seen.disarmed_again},
+            {"a channel disarmed again", seen.disarmed_again},
+            {"a channel armed again", seen.armed_again},
+            {"a held channel armed again", seen.armed_held},
+            {"a held channel not disarmed", seen.answers[letter_place('D')][MAZE_CHANNEL_HELD]},
+            {"armed channels changed, still sound", seen.mask_changed_sound},
+            {"armed channels changed, not sound", seen.mask_changed - seen.mask_changed_sound},
             {"a rejection after 1,000 scouts", seen.rejected_1000},
             {"a rejection after 10,000 scouts", seen.rejected_10000},
             {"an open accepted with nine tenths of the links held", seen.nearly_full_accepted},

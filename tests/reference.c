@@ -1,6 +1,6 @@
 /* The calls on a table once more, written for checking. Nothing here is quick, and nothing follows the library's method:
  *
- * - A call reads the table into a record of its own, works on that, and writes all 8,449 bytes back if it succeeds.
+ * - A call reads the table into a record of its own, works on that, and writes all 8,705 bytes back if it succeeds.
  * - A pass lists every beginning of every permitted path, from the highest port down and without looking at the table. Then it looks which of
  *   them are free, takes the first of the free paths by comparing paths as document 01 words it, and counts.
  * - Soundness searches all the permitted paths that the links of a circuit allow, for one that uses them all. */
@@ -20,6 +20,7 @@ struct cube {
     unsigned enabled[NODES];        /* bit p for the link out of port p */
     unsigned link[NODES][SLOTS];    /* the circuit that holds it */
     unsigned receive[NODES][SLOTS];
+    int armed[NODES][SLOTS];        /* whether the receive channel is armed */
 };
 
 /* The bytes of a table in their order, read or written one after another. */
@@ -34,6 +35,15 @@ static uint8_t *put(uint8_t *at, unsigned number, int bytes) {
     return at;
 }
 
+/* Of the numbers met here: dimensions, and ports and channels of a row. */
+static unsigned power(unsigned exponent) {
+    return 1u << exponent;
+}
+
+static int bit(unsigned number, unsigned place) {
+    return number / power(place) % 2 == 1;
+}
+
 static void read_cube(struct cube *cube, const uint8_t *at) {
     at = take(at, &cube->dimension, 1);
     for (int n = 0; n < NODES; n++) at = take(at, &cube->enabled[n], 1);
@@ -41,6 +51,11 @@ static void read_cube(struct cube *cube, const uint8_t *at) {
         for (int p = 0; p < SLOTS; p++) at = take(at, &cube->link[n][p], 2);
     for (int n = 0; n < NODES; n++)
         for (int c = 0; c < SLOTS; c++) at = take(at, &cube->receive[n][c], 2);
+    for (int n = 0; n < NODES; n++) {
+        unsigned mask;
+        at = take(at, &mask, 1);
+        for (unsigned c = 0; c < SLOTS; c++) cube->armed[n][c] = bit(mask, c);
+    }
 }
 
 static void write_cube(const struct cube *cube, uint8_t *at) {
@@ -50,15 +65,12 @@ static void write_cube(const struct cube *cube, uint8_t *at) {
         for (int p = 0; p < SLOTS; p++) at = put(at, cube->link[n][p], 2);
     for (int n = 0; n < NODES; n++)
         for (int c = 0; c < SLOTS; c++) at = put(at, cube->receive[n][c], 2);
-}
-
-/* Of the numbers met here: dimensions, and ports and channels of a row. */
-static unsigned power(unsigned exponent) {
-    return 1u << exponent;
-}
-
-static int bit(unsigned number, unsigned place) {
-    return number / power(place) % 2 == 1;
+    for (int n = 0; n < NODES; n++) {
+        unsigned mask = 0;
+        for (unsigned c = 0; c < SLOTS; c++)
+            if (cube->armed[n][c]) mask += power(c);
+        at = put(at, mask, 1);
+    }
 }
 
 /* The node that a port leads to. */
@@ -160,7 +172,7 @@ static struct pass run_pass(const struct cube *cube, unsigned source, unsigned v
     pass.path = *found;
     pass.number = MAZE_RECEIVE_REJECTED;
     for (unsigned channel = SLOTS; channel-- > 0;)
-        if (cube->receive[target][channel] == 0) pass.number = MAZE_ACCEPTED, pass.receive = channel;
+        if (cube->armed[target][channel] && cube->receive[target][channel] == 0) pass.number = MAZE_ACCEPTED, pass.receive = channel;
     return pass;
 }
 
@@ -191,8 +203,9 @@ static int is_sound(const struct cube *cube) {
             int absent = node >= nodes || slot >= cube->dimension;
             unsigned link = cube->link[node][slot], receive = cube->receive[node][slot];
             if (absent && (bit(cube->enabled[node], slot) || link != 0)) return 0;
-            if (node >= nodes && receive != 0) return 0;
+            if (node >= nodes && (receive != 0 || cube->armed[node][slot])) return 0;
             if (link != 0 && !bit(cube->enabled[node], slot)) return 0;
+            if (receive != 0 && !cube->armed[node][slot]) return 0;
             if (link > 8 * nodes || receive > 8 * nodes) return 0;
         }
 
@@ -229,7 +242,7 @@ static void test(struct call *call, int applies, unsigned number) {
 static void begin(struct call *call, const uint8_t *table, size_t table_len) {
     call->number = MAZE_ACCEPTED;
     memset(&call->cube, 0, sizeof call->cube);
-    test(call, table_len != 8449, MAZE_BAD_LENGTH);
+    test(call, table_len != 8705, MAZE_BAD_LENGTH);
     if (call->number == MAZE_ACCEPTED) read_cube(&call->cube, table);
     test(call, call->cube.dimension < 1 || call->cube.dimension > 8, MAZE_BAD_DIMENSION);
     if (call->number == MAZE_ACCEPTED) test(call, !is_sound(&call->cube), MAZE_NOT_SOUND);
@@ -249,7 +262,7 @@ static int is_open(const struct cube *cube, unsigned circuit) {
 
 uint16_t ref_make(uint8_t *table, size_t table_len, uint16_t dimension) {
     struct cube cube;
-    if (table_len != 8449) return MAZE_BAD_LENGTH;
+    if (table_len != 8705) return MAZE_BAD_LENGTH;
     if (dimension < 1 || dimension > 8) return MAZE_BAD_DIMENSION;
     memset(&cube, 0, sizeof cube);
     cube.dimension = dimension;
@@ -282,6 +295,28 @@ uint16_t ref_unblock(uint8_t *table, size_t table_len, uint16_t node, uint16_t p
     return set_link(table, table_len, node, port, 1);
 }
 
+/* Arming and disarming. */
+static uint16_t set_armed(uint8_t *table, size_t table_len, unsigned node, unsigned channel, int armed) {
+    struct call call;
+    begin(&call, table, table_len);
+    test_node(&call, node);
+    test(&call, channel > 7, MAZE_BAD_CHANNEL);
+    if (call.number == MAZE_ACCEPTED) test(&call, !armed && call.cube.receive[node][channel] != 0, MAZE_CHANNEL_HELD);
+    if (call.number == MAZE_ACCEPTED) {
+        call.cube.armed[node][channel] = armed;
+        write_cube(&call.cube, table);
+    }
+    return (uint16_t)call.number;
+}
+
+uint16_t ref_arm(uint8_t *table, size_t table_len, uint16_t node, uint16_t channel) {
+    return set_armed(table, table_len, node, channel, 1);
+}
+
+uint16_t ref_disarm(uint8_t *table, size_t table_len, uint16_t node, uint16_t channel) {
+    return set_armed(table, table_len, node, channel, 0);
+}
+
 maze_opened ref_open(uint8_t *table, size_t table_len, uint16_t node, uint16_t channel, uint16_t target, uint16_t type, uint16_t vector) {
     maze_opened answer = {0, 0, 0, 0};
     struct call call;
@@ -299,6 +334,7 @@ maze_opened ref_open(uint8_t *table, size_t table_len, uint16_t node, uint16_t c
         struct pass pass = run_pass(&call.cube, node, vector, target);
         answer.scouts = pass.scouts;
         ref_last_send.passes = 1;
+        ref_last_send.first = pass.number;
         if (pass.number != MAZE_ACCEPTED && type == 4) {
             unsigned others = 0;
             for (unsigned port = 0; port < call.cube.dimension; port++)
@@ -342,7 +378,7 @@ uint16_t ref_close(uint8_t *table, size_t table_len, uint16_t node, uint16_t cha
         for (unsigned n = 0; n < NODES; n++)
             for (unsigned slot = 0; slot < SLOTS; slot++) {
                 if (call.cube.link[n][slot] == circuit) call.cube.link[n][slot] = 0;
-                if (call.cube.receive[n][slot] == circuit) call.cube.receive[n][slot] = 0;
+                if (call.cube.receive[n][slot] == circuit) call.cube.receive[n][slot] = 0, call.cube.armed[n][slot] = 0;
             }
         write_cube(&call.cube, table);
     }

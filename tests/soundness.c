@@ -1,6 +1,6 @@
 /*
  * Sound tables: an independent reading of document 01, "The cube and its
- * table" and "Which paths a scout may walk".
+ * table" and "Which paths a scout may walk", and of request (a) of document 02.
  *
  * The program lays circuits into tables of every dimension, changes each
  * table one bit at a time and one byte at a time, and counts how many of the
@@ -18,18 +18,19 @@
 #include <string.h>
 
 enum {
-    TABLE_BYTES = 8449,
+    TABLE_BYTES = 8705,
     NODES = 256,
     SLOTS = 8,                              /* ports, or channels, per node */
     WORDS = NODES * SLOTS,                  /* circuit numbers per section */
     ENABLE_AT = 1,
     LINK_AT = ENABLE_AT + NODES,
     RECEIVE_AT = LINK_AT + 2 * WORDS,
+    ARMED_AT = RECEIVE_AT + 2 * WORDS,
     MAX_DIMENSION = 8,
     MAX_HOPS = MAX_DIMENSION + 1
 };
 
-_Static_assert(RECEIVE_AT + 2 * WORDS == TABLE_BYTES, "layout of the table");
+_Static_assert(ARMED_AT + NODES == TABLE_BYTES, "layout of the table");
 
 enum { ACCEPTED = 0, BAD_LENGTH = 1, BAD_DIMENSION = 2, NOT_SOUND = 3 };
 
@@ -141,26 +142,31 @@ static int is_sound(const unsigned char *b)
     unsigned nodes = 1u << dimension;
     size_t count;
 
-    /* Enable bits of absent nodes and of absent ports. */
+    /* Enable bits of absent nodes and of absent ports; armed channels of
+     * absent nodes. */
     for (unsigned n = 0; n < NODES; n++) {
         unsigned enabled = b[ENABLE_AT + n];
 
         if (n >= nodes ? enabled != 0 : enabled >> dimension != 0)
+            return 0;
+        if (n >= nodes && b[ARMED_AT + n] != 0)
             return 0;
     }
 
     count = collect(b + LINK_AT, 1, entries);
     count += collect(b + RECEIVE_AT, 0, entries + count);
 
-    /* Owners of absent nodes and ports; held links that are not enabled. */
+    /* Owners of absent nodes and ports; held links that are not enabled, and
+     * held receive channels that are not armed. */
     for (size_t i = 0; i < count; i++) {
         const struct entry *e = &entries[i];
+        unsigned mask = b[(e->is_link ? ENABLE_AT : ARMED_AT) + e->node];
 
         if (e->node >= nodes)
             return 0;
         if (e->is_link && e->slot >= dimension)
             return 0;
-        if (e->is_link && (b[ENABLE_AT + e->node] >> e->slot & 1) == 0)
+        if ((mask >> e->slot & 1) == 0)
             return 0;
     }
 
@@ -208,6 +214,14 @@ static void put(unsigned char *section, unsigned node, unsigned slot,
     word[1] = (unsigned char)(circuit / 256);
 }
 
+/* Gives a circuit a receive channel, which is armed. */
+static void receive(unsigned char *b, unsigned node, unsigned channel,
+                    unsigned circuit)
+{
+    put(b + RECEIVE_AT, node, channel, circuit);
+    b[ARMED_AT + node] |= (unsigned char)(1u << channel);
+}
+
 /*
  * Lays the circuit of send channel c at node s along n ports; it ends on
  * receive channel k.
@@ -222,7 +236,7 @@ static void lay(unsigned char *b, unsigned s, unsigned c,
         put(b + LINK_AT, node, ports[i], circuit);
         node ^= 1u << ports[i];
     }
-    put(b + RECEIVE_AT, node, k, circuit);
+    receive(b, node, k, circuit);
 }
 
 static void build(unsigned char *b, unsigned dimension, int which)
@@ -292,8 +306,8 @@ static void print_cleared(unsigned char *b, unsigned dimension, int which)
 }
 
 /*
- * Circuit 1 in a cube of dimension 3, in ten ways: its ports from a node, and
- * up to two receive entries. The sound ones are 0, 1 and 8.
+ * Circuit 1 in a cube of dimension 3, in eleven ways: its ports from a node,
+ * and up to two receive channels. The sound ones are 0, 1 and 8.
  */
 struct single {
     unsigned from;
@@ -301,19 +315,21 @@ struct single {
     struct { unsigned node, channel; } receives[2];
     unsigned receive_count;
     int loop_at_6; /* and the two links between nodes 6 and 7 */
+    int other_armed; /* channel 1 of node 1 is armed, and channel 0 is not */
 };
 
 static const struct single singles[] = {
-    { 0, "010", { { 2, 0 } }, 1, 0 },          /* goes round */
-    { 0, "22", { { 0, 7 } }, 1, 0 },           /* to the node itself */
-    { 0, "01", { { 1, 0 } }, 1, 0 },           /* received half-way */
-    { 0, "0121", { { 5, 0 } }, 1, 0 },         /* a later hop not uphill */
-    { 0, "0", { { 1, 0 } }, 1, 1 },            /* links off the path */
-    { 0, "01", { { 0, 0 } }, 0, 0 },           /* links alone */
-    { 0, "", { { 1, 0 } }, 1, 0 },             /* a receive channel alone */
-    { 0, "0", { { 1, 0 }, { 1, 1 } }, 2, 0 },  /* two receive channels */
-    { 0, "220", { { 1, 0 } }, 1, 0 },          /* out and back, and on */
-    { 2, "0", { { 3, 0 } }, 1, 0 },            /* not from its source */
+    { 0, "010", { { 2, 0 } }, 1, 0, 0 },          /* goes round */
+    { 0, "22", { { 0, 7 } }, 1, 0, 0 },           /* to the node itself */
+    { 0, "01", { { 1, 0 } }, 1, 0, 0 },           /* received half-way */
+    { 0, "0121", { { 5, 0 } }, 1, 0, 0 },         /* a later hop not uphill */
+    { 0, "0", { { 1, 0 } }, 1, 1, 0 },            /* links off the path */
+    { 0, "01", { { 0, 0 } }, 0, 0, 0 },           /* links alone */
+    { 0, "", { { 1, 0 } }, 1, 0, 0 },             /* a receive channel alone */
+    { 0, "0", { { 1, 0 }, { 1, 1 } }, 2, 0, 0 },  /* two receive channels */
+    { 0, "220", { { 1, 0 } }, 1, 0, 0 },          /* out and back, and on */
+    { 2, "0", { { 3, 0 } }, 1, 0, 0 },            /* not from its source */
+    { 0, "0", { { 1, 0 } }, 1, 0, 1 },            /* not armed */
 };
 
 static void print_single(unsigned char *b, unsigned which)
@@ -327,11 +343,13 @@ static void print_single(unsigned char *b, unsigned which)
         node ^= 1u << (*p - '0');
     }
     for (unsigned i = 0; i < x->receive_count; i++)
-        put(b + RECEIVE_AT, x->receives[i].node, x->receives[i].channel, 1);
+        receive(b, x->receives[i].node, x->receives[i].channel, 1);
     if (x->loop_at_6) {
         put(b + LINK_AT, 6, 0, 1);
         put(b + LINK_AT, 7, 0, 1);
     }
+    if (x->other_armed)
+        b[ARMED_AT + 1] = 2;
     printf("single %u: %d\n", which, refuse(b, TABLE_BYTES));
 }
 

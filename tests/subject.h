@@ -19,6 +19,8 @@
 #define maze_make base_make
 #define maze_block base_block
 #define maze_unblock base_unblock
+#define maze_arm base_arm
+#define maze_disarm base_disarm
 #define maze_open base_open
 #define maze_close base_close
 #define maze_trace base_trace
@@ -29,6 +31,8 @@
 #define maze_make ref_make
 #define maze_block ref_block
 #define maze_unblock ref_unblock
+#define maze_arm ref_arm
+#define maze_disarm ref_disarm
 #define maze_open ref_open
 #define maze_close ref_close
 #define maze_trace ref_trace

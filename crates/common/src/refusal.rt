@@ -48,6 +48,9 @@ pub const CARRIED_TOO_LARGE: u16 = 19;
 // The printed list.
 pub const UNREADABLE_LINE: u16 = 20;
 
+// Disarm (document 02): a circuit holds the receive channel.
+pub const CHANNEL_HELD: u16 = 21;
+
 // A packet to a receive channel (document 02).
 pub const CHANNEL_STOPPED: u16 = 30;
 

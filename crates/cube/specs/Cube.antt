@@ -8,6 +8,14 @@ use lib.Bits.{bitXor}
 use Rattle.cube.specs.Bits.{bitAt, has, flip}
 use Rattle.cube.specs.Axes.{axis}
 
+-- "a table of one cube, dimension 1 to 8"
+abbrev pub largestDimension : ℕ
+largestDimension = 8
+
+-- "A node has send channels 0 to 7 and receive channels 0 to 7."
+abbrev pub channels : ℕ
+channels = 8
+
 -- "A cube of dimension D has nodes 0 to 2^D - 1": how many, for a dimension up to 8
 pub record NodeCount (D count : ℕ) : Type 0 where
   pub value : count ≡ 2 ^ D

@@ -24,10 +24,14 @@ unfoldable pub firstOr : ℕ → List ℕ → ℕ
 firstOr none [] = none
 firstOr none (p ∷ ps) = p
 
+-- what stands where there is no port
+abbrev pub noPort : ℕ
+noPort = 8
+
 -- "An entry is the port tried first, or 8 for vector zero."
 unfoldable pub firstPort : ℕ → ℕ → ℕ
 unfolding portsOf helical firstOr
-firstPort vector arrival = firstOr 8 (helical arrival (portsOf 8 vector))
+firstPort vector arrival = firstOr noPort (helical arrival (portsOf 8 vector))
 
 -- "a constant table of 2,048 entries, at 8·vector + arrival port"
 pub record FirstPorts (table : List ℕ) : Type 0 where

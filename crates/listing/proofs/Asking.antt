@@ -13,10 +13,10 @@ use lib.ListN.{length, getD, take, drop, set}
 use lib.Seq.{take-suc-set, append-snoc, length-take-le}
 use borrow.Author.Tests.{eq-eqb, ne-eqb, le-leb, lt-leb}
 use Rattle.common.proofs.Tests.{same?}
-use Rattle.ownership.specs.Calls.{Call, making, blocking, unblocking, opening, closing}
+use Rattle.ownership.specs.Calls.{Call, making, blocking, unblocking, opening, closing, arming, disarming}
 use Rattle.text.specs.Text.{space, number}
 use Rattle.text.specs.Lines.{onFirst, cut, fields}
-use Rattle.listing.specs.Line.{letterB, letterC, letterE, letterF, letterS, inFront, numbers, numbersOf, asked, byLetter, withNumbers, ofFields, longest, asks}
+use Rattle.listing.specs.Line.{letterB, letterC, letterD, letterE, letterF, letterR, letterS, inFront, numbers, numbersOf, asked, byLetter, withNumbers, ofFields, longest, asks}
 use Rattle.listing.specs.Printed.{ReadNumbers}
 use Rattle.text.proofs.Reading.{IfRead, number-small}
 
@@ -31,7 +31,8 @@ joined-none none = refl
 joined-none (some ms) = refl
 
 -- one number more, put behind the others
-joined-more : (vs : List ℕ) (k n : ℕ) → k < length vs → (m : Option (List ℕ)) → joined (take k vs) (inFront (some n) m) ≡ joined (take (k + 1) (set vs k n)) m
+joined-more : (vs : List ℕ) (k n : ℕ) → k < length vs → (m : Option (List ℕ))
+    → joined (take k vs) (inFront (some n) m) ≡ joined (take (k + 1) (set vs k n)) m
 unfolding joined inFront
 joined-more vs k n h none = refl
 joined-more vs k n h (some ms) =
@@ -57,19 +58,24 @@ unfolding withNumbers
 unread x m e = ap (withNumbers x) e
 
 -- What holds of the count and the call of each letter, and of those of another byte, holds of every byte.
-pub each-letter : (P : ℕ → (ℕ → ℕ → ℕ → ℕ → ℕ → Option Call) → Type 0) → P 1 (λ a b c d e. some (making a)) → P 2 (λ a b c d e. some (blocking a b)) → P 2 (λ a b c d e. some (unblocking a b))
-    → P 5 (λ a b c d e. some (opening a b c d e)) → P 2 (λ a b c d e. some (closing a b)) → P 0 (λ a b c d e. none) → (x : ℕ) → P (numbersOf x) (asked x)
+pub each-letter : (P : ℕ → (ℕ → ℕ → ℕ → ℕ → ℕ → Option Call) → Type 0) → P 1 (λ a b c d e. some (making a)) → P 2 (λ a b c d e. some (blocking a b))
+    → P 2 (λ a b c d e. some (unblocking a b)) → P 5 (λ a b c d e. some (opening a b c d e)) → P 2 (λ a b c d e. some (closing a b))
+    → P 2 (λ a b c d e. some (arming a b)) → P 2 (λ a b c d e. some (disarming a b)) → P 0 (λ a b c d e. none) → (x : ℕ) → P (numbersOf x) (asked x)
 unfolding numbersOf asked
-each-letter P make block unblock opens close other x = go (eqb x letterF) (eqb x letterB) (eqb x letterE) (eqb x letterS) (eqb x letterC)
+each-letter P make block unblock opens close arm disarm other x =
+    go (eqb x letterF) (eqb x letterB) (eqb x letterE) (eqb x letterS) (eqb x letterC) (eqb x letterR) (eqb x letterD)
   where
-    go : (p q r s t : Bool) → P (cond p 1 (cond q 2 (cond r 2 (cond s 5 (cond t 2 0)))))
-        (λ a b c d e. cond p (some (making a)) (cond q (some (blocking a b)) (cond r (some (unblocking a b)) (cond s (some (opening a b c d e)) (cond t (some (closing a b)) none)))))
-    go true q r s t = make
-    go false true r s t = block
-    go false false true s t = unblock
-    go false false false true t = opens
-    go false false false false true = close
-    go false false false false false = other
+    go : (p q r s t u v : Bool) → P (cond p 1 (cond q 2 (cond r 2 (cond s 5 (cond t 2 (cond u 2 (cond v 2 0)))))))
+        (λ a b c d e. cond p (some (making a)) (cond q (some (blocking a b)) (cond r (some (unblocking a b)) (cond s (some (opening a b c d e))
+        (cond t (some (closing a b)) (cond u (some (arming a b)) (cond v (some (disarming a b)) none)))))))
+    go true q r s t u v = make
+    go false true r s t u v = block
+    go false false true s t u v = unblock
+    go false false false true t u v = opens
+    go false false false false true u v = close
+    go false false false false false true v = arm
+    go false false false false false false true = disarm
+    go false false false false false false false = other
 
 -- a letter with another count than its own
 other-count : (x : ℕ) (ns : List ℕ) → length ns ≢ numbersOf x → byLetter x ns ≡ none
@@ -78,10 +84,13 @@ other-count x ns h = rw (ne-eqb (length ns) (numbersOf x) h)
 
 -- more than five numbers go with no letter
 over-five : (x : ℕ) (ns : List ℕ) → 5 < length ns → byLetter x ns ≡ none
-over-five x ns h = other-count x ns (λ e. let few = each-letter (λ n f. n ≤ 5) (lit≤ tt) (lit≤ tt) (lit≤ tt) (lit≤ tt) (lit≤ tt) (lit≤ tt) x in absurd (omega arith))
+over-five x ns h =
+    let few = each-letter (λ n f. n ≤ 5) (lit≤ tt) (lit≤ tt) (lit≤ tt) (lit≤ tt) (lit≤ tt) (lit≤ tt) (lit≤ tt) (lit≤ tt) x in
+    other-count x ns (λ e. omega arith)
 
 -- What holds of no numbers, and stays with one more in front, holds of the numbers that fields say.
-pub numbers-hold : (P : List (List ℕ) → List ℕ → Type 0) → P [] [] → ((f : List ℕ) (fs : List (List ℕ)) (n : ℕ) (ns : List ℕ) → n < 65536 → P fs ns → P (f ∷ fs) (n ∷ ns))
+pub numbers-hold : (P : List (List ℕ) → List ℕ → Type 0) → P [] []
+    → ((f : List ℕ) (fs : List (List ℕ)) (n : ℕ) (ns : List ℕ) → n < 65536 → P fs ns → P (f ∷ fs) (n ∷ ns))
     → (fs : List (List ℕ)) → IfRead (P fs) (numbers fs)
 unfolding numbers inFront
 numbers-hold P nil more [] = nil
@@ -101,17 +110,20 @@ many fs h x = go (numbers fs) (numbers-hold (λ fs ns. length ns ≡ length fs) 
     go (some ns) e = over-five x ns (omega arith)
 
 -- a letter with as many numbers as it has
-own-count : (x k : ℕ) (vs : List ℕ) → length vs ≡ 5 → k ≡ numbersOf x → byLetter x (take k vs) ≡ asked x (getD vs 0 0) (getD vs 1 0) (getD vs 2 0) (getD vs 3 0) (getD vs 4 0)
+own-count : (x k : ℕ) (vs : List ℕ) → length vs ≡ 5 → k ≡ numbersOf x
+    → byLetter x (take k vs) ≡ asked x (getD vs 0 0) (getD vs 1 0) (getD vs 2 0) (getD vs 3 0) (getD vs 4 0)
 unfolding byLetter
 own-count x k [] l e = absurd (omega arith)
 own-count x k (a ∷ []) l e = absurd (omega arith)
 own-count x k (a ∷ b ∷ []) l e = absurd (omega arith)
 own-count x k (a ∷ b ∷ c ∷ []) l e = absurd (omega arith)
 own-count x k (a ∷ b ∷ c ∷ d ∷ []) l e = absurd (omega arith)
-own-count x k (a ∷ b ∷ c ∷ d ∷ f ∷ []) l e = rw e (each-letter Own refl refl refl refl refl refl x)
+own-count x k (a ∷ b ∷ c ∷ d ∷ f ∷ []) l e = rw e (each-letter Own refl refl refl refl refl refl refl refl x)
   where
     Own : ℕ → (ℕ → ℕ → ℕ → ℕ → ℕ → Option Call) → Type 0
-    Own n g = let ns = take n (a ∷ b ∷ c ∷ d ∷ f ∷ []) in cond (eqb (length ns) n) (g (getD ns 0 0) (getD ns 1 0) (getD ns 2 0) (getD ns 3 0) (getD ns 4 0)) none ≡ g a b c d f
+    Own n g =
+        let ns = take n (a ∷ b ∷ c ∷ d ∷ f ∷ []) in
+        cond (eqb (length ns) n) (g (getD ns 0 0) (getD ns 1 0) (getD ns 2 0) (getD ns 3 0) (getD ns 4 0)) none ≡ g a b c d f
 own-count x k (a ∷ b ∷ c ∷ d ∷ f ∷ g ∷ vs) l e = absurd (omega arith)
 
 -- the lines that a first look refuses
@@ -125,7 +137,7 @@ of-line l h = rw (le-leb (length l) longest h)
 
 -- no number goes with no letter
 none-counted : (x a b c d e : ℕ) → cond (eqb 0 (numbersOf x)) (asked x a b c d e) none ≡ none
-none-counted x a b c d e = each-letter (λ n f. cond (eqb 0 n) (f a b c d e) none ≡ none) refl refl refl refl refl refl x
+none-counted x a b c d e = each-letter (λ n f. cond (eqb 0 n) (f a b c d e) none ≡ none) refl refl refl refl refl refl refl refl x
 
 letter-alone : (x : ℕ) → ofFields ((x ∷ []) ∷ []) ≡ none
 unfolding ofFields withNumbers numbers byLetter
@@ -153,18 +165,24 @@ second-byte [] h s e = absurd (omega arith)
 second-byte (x ∷ []) h s e = absurd (omega arith)
 second-byte (x ∷ y ∷ l) h s e = of-line (x ∷ y ∷ l) s ∙ go (eqb x space) (eqb y space) (ne-eqb y space e)
   where
-    go : (b c : Bool) → c ≡ false → ofFields (cond b ([] ∷ cond c ([] ∷ cut space ([] ∷ []) l) (onFirst y (cut space ([] ∷ []) l))) (onFirst x (cond c ([] ∷ cut space ([] ∷ []) l) (onFirst y (cut space ([] ∷ []) l))))) ≡ none
+    rest : List (List ℕ)
+    rest = cut space ([] ∷ []) l
+
+    go : (b c : Bool) → c ≡ false → ofFields (cond b ([] ∷ cond c ([] ∷ rest) (onFirst y rest)) (onFirst x (cond c ([] ∷ rest) (onFirst y rest)))) ≡ none
     go true c k = refl
-    go false c k = rw k (long-field x y (cut space ([] ∷ []) l))
+    go false c k = rw k (long-field x y rest)
 
 either-none : (b : Bool) → _≡_ {A = Option Call} (cond b none none) none
 either-none true = refl
 either-none false = refl
 
 -- a byte that is no call letter, whatever the count of numbers behind it
-pub other-letter : (x k a b c d e : ℕ) → x ≢ letterF → x ≢ letterB → x ≢ letterE → x ≢ letterS → x ≢ letterC → cond (eqb k (numbersOf x)) (asked x a b c d e) none ≡ none
+pub other-letter : (x k a b c d e : ℕ) → x ≢ letterF → x ≢ letterB → x ≢ letterE → x ≢ letterS → x ≢ letterC → x ≢ letterR → x ≢ letterD
+    → cond (eqb k (numbersOf x)) (asked x a b c d e) none ≡ none
 unfolding numbersOf asked
-other-letter x k a b c d e f g h i j = rw (ne-eqb x letterF f, ne-eqb x letterB g, ne-eqb x letterE h, ne-eqb x letterS i, ne-eqb x letterC j) (either-none (eqb k 0))
+other-letter x k a b c d e f g h i j l m =
+    rw (ne-eqb x letterF f, ne-eqb x letterB g, ne-eqb x letterE h, ne-eqb x letterS i, ne-eqb x letterC j, ne-eqb x letterR l, ne-eqb x letterD m)
+    (either-none (eqb k 0))
 
 -- as a space is
 space-asks : (m : Option (List ℕ)) → withNumbers space m ≡ none
@@ -179,14 +197,17 @@ letter-line [] h s e = absurd (omega arith)
 letter-line (x ∷ []) h s e = absurd (omega arith)
 letter-line (x ∷ y ∷ l) h s e =
     of-line (x ∷ y ∷ l) s
-    ∙ ⊎-elim (λ p. rw (eq-eqb x space p) (sym (ap (λ b. withNumbers b (numbers (cut space ([] ∷ []) l))) p ∙ space-asks (numbers (cut space ([] ∷ []) l))))) (λ p. rw (ne-eqb x space p, eq-eqb y space e)) (same? x space)
+    ∙ ⊎-elim
+    (λ p. rw (eq-eqb x space p) (sym (ap (λ b. withNumbers b (numbers (cut space ([] ∷ []) l))) p ∙ space-asks (numbers (cut space ([] ∷ []) l)))))
+    (λ p. rw (ne-eqb x space p, eq-eqb y space e)) (same? x space)
 
 -- numbers that were read into five places, by their count
 by-five : (x k : ℕ) (vs : List ℕ) → length vs ≡ 5 → k ≤ 5
     → cond (eqb k (numbersOf x)) (asked x (getD vs 0 0) (getD vs 1 0) (getD vs 2 0) (getD vs 3 0) (getD vs 4 0)) none ≡ byLetter x (take k vs)
 by-five x k vs l h =
     ⊎-elim (λ e. rw (eq-eqb k (numbersOf x) e) (sym (own-count x k vs l e)))
-    (λ e. rw (ne-eqb k (numbersOf x) e) (sym (other-count x (take k vs) (λ n. e (sym (length-take-le k vs (omega arith)) ∙ n))))) (same? k (numbersOf x))
+    (λ e. rw (ne-eqb k (numbersOf x) e) (sym (other-count x (take k vs) (λ n. e (sym (length-take-le k vs (omega arith)) ∙ n)))))
+    (same? k (numbersOf x))
 
 -- A line that a look at its numbers decides: what was read of the numbers behind the second byte, a space.
 pub line-read : (l : List ℕ) {vs : List ℕ} {k : ℕ} → 2 ≤ length l → length l ≤ longest → getD l 1 0 ≡ space → ReadNumbers (fields (drop 2 l)) vs k

@@ -1,5 +1,5 @@
--- The call letters of document 01: which call a line asks for, and what its printed line shows, field by field. The letters are written by their bytes:
--- F is 70, B 66, E 69, S 83 and C 67.
+-- The call letters of document 01 and of document 02, (a): which call a line asks for, and what its printed line shows, field by field. The letters are
+-- written by their bytes: F is 70, B 66, E 69, S 83, C 67, R 82 and D 68.
 -- Assumes nothing.
 use mathlib.Core.Path.{_≡_, refl, ap₂, _∙_}
 use mathlib.Core.Logic.{_≢_, _⊎_, inl, inr}
@@ -10,7 +10,7 @@ use native.Mathlib.Omega.{arith}
 use lib.Dec.{lit≤, lit<}
 use lib.ListN.{length, length-append}
 use borrow.Author.Tests.{le-leb, ne-eqb}
-use Rattle.ownership.specs.Calls.{Call, making, blocking, unblocking, opening, closing, CallResult, receiveOf, scoutsOf, carriesScouts, After}
+use Rattle.ownership.specs.Calls.{Call, making, blocking, unblocking, opening, closing, arming, disarming, CallResult, receiveOf, scoutsOf, carriesScouts, After}
 use Rattle.text.specs.Text.{space, decimal}
 use Rattle.listing.specs.Line.{inFront, numbers, numbersOf, asked, byLetter, withNumbers, ofFields, longest, asks}
 use Rattle.text.specs.Row.{Field, nothing, shows, letter, path, inOrder, spaced}
@@ -18,7 +18,7 @@ use Rattle.listing.specs.Listing.{callRow, traced, rowFor}
 use Rattle.listing.specs.Sentences.{Above, AllAbove, lineOf, CanBeGiven}
 use Rattle.text.proofs.Fields.{five-digits}
 use Rattle.text.proofs.ReadBack.{reads-back}
-use Rattle.listing.proofs.Theorems.{above-decimal, fields-spaced}
+use Rattle.listing.proofs.Separated.{fields-spaced, above-decimal}
 
 -- the numbers of a line, as its fields give them
 numbers-given : (ns : List ℕ) → CanBeGiven ns → numbers (map decimal ns) ≡ some ns
@@ -71,6 +71,15 @@ pub asks-close : (node channel : ℕ) → CanBeGiven (node ∷ channel ∷ []) �
 unfolding numbersOf asked byLetter
 asks-close node channel h = line-asks 67 (node ∷ channel ∷ []) (lit< tt) (lit≤ tt) h
 
+-- document 02, (a): "`R node channel` arm and `D node channel` disarm"
+pub asks-arm : (node channel : ℕ) → CanBeGiven (node ∷ channel ∷ []) → asks (lineOf 82 (node ∷ channel ∷ [])) ≡ some (arming node channel)
+unfolding numbersOf asked byLetter
+asks-arm node channel h = line-asks 82 (node ∷ channel ∷ []) (lit< tt) (lit≤ tt) h
+
+pub asks-disarm : (node channel : ℕ) → CanBeGiven (node ∷ channel ∷ []) → asks (lineOf 68 (node ∷ channel ∷ [])) ≡ some (disarming node channel)
+unfolding numbersOf asked byLetter
+asks-disarm node channel h = line-asks 68 (node ∷ channel ∷ []) (lit< tt) (lit≤ tt) h
+
 -- The eight fields of a call's printed line, in their order: line, call, answer, node, channel, receive, scouts, ports. The call is made on any state.
 module _ {S : Type 0} (makes : S → Call → After S) (state : S) (n : ℕ) where
   abbrev shown : Call → List Field
@@ -88,20 +97,36 @@ module _ {S : Type 0} (makes : S → Call → After S) (state : S) (n : ℕ) whe
 
   -- B and E: "node as given", "the port of B and E as given"
   pub block-shows : (node port : ℕ)
-      → shown (blocking node port) ≡ shows n ∷ letter 66 ∷ shows (answer (blocking node port) .number) ∷ shows node ∷ nothing ∷ nothing ∷ nothing ∷ shows port ∷ []
+      → shown (blocking node port)
+      ≡ shows n ∷ letter 66 ∷ shows (answer (blocking node port) .number) ∷ shows node ∷ nothing ∷ nothing ∷ nothing ∷ shows port ∷ []
   unfolding inOrder rowFor callRow
   block-shows node port = refl
 
   pub unblock-shows : (node port : ℕ)
-      → shown (unblocking node port) ≡ shows n ∷ letter 69 ∷ shows (answer (unblocking node port) .number) ∷ shows node ∷ nothing ∷ nothing ∷ nothing ∷ shows port ∷ []
+      → shown (unblocking node port)
+      ≡ shows n ∷ letter 69 ∷ shows (answer (unblocking node port) .number) ∷ shows node ∷ nothing ∷ nothing ∷ nothing ∷ shows port ∷ []
   unfolding inOrder rowFor callRow
   unblock-shows node port = refl
 
   -- C: "node as given", "channel as given"
   pub close-shows : (node channel : ℕ)
-      → shown (closing node channel) ≡ shows n ∷ letter 67 ∷ shows (answer (closing node channel) .number) ∷ shows node ∷ shows channel ∷ nothing ∷ nothing ∷ nothing ∷ []
+      → shown (closing node channel)
+      ≡ shows n ∷ letter 67 ∷ shows (answer (closing node channel) .number) ∷ shows node ∷ shows channel ∷ nothing ∷ nothing ∷ nothing ∷ []
   unfolding inOrder rowFor callRow
   close-shows node channel = refl
+
+  -- R and D: "printing node and channel"
+  pub arm-shows : (node channel : ℕ)
+      → shown (arming node channel)
+      ≡ shows n ∷ letter 82 ∷ shows (answer (arming node channel) .number) ∷ shows node ∷ shows channel ∷ nothing ∷ nothing ∷ nothing ∷ []
+  unfolding inOrder rowFor callRow
+  arm-shows node channel = refl
+
+  pub disarm-shows : (node channel : ℕ)
+      → shown (disarming node channel)
+      ≡ shows n ∷ letter 68 ∷ shows (answer (disarming node channel) .number) ∷ shows node ∷ shows channel ∷ nothing ∷ nothing ∷ nothing ∷ []
+  unfolding inOrder rowFor callRow
+  disarm-shows node channel = refl
 
   module _ (node channel target type vector : ℕ) where
     abbrev opens : Call
@@ -109,14 +134,16 @@ module _ {S : Type 0} (makes : S → Call → After S) (state : S) (n : ℕ) whe
 
     -- S: "node as given (source for S); channel as given; receive channel taken; scouts ..; ports in path order": those that a trace of this channel gives now
     pub acknowledged-shows : answer opens .number ≡ 0
-        → shown opens ≡ shows n ∷ letter 83 ∷ shows 0 ∷ shows node ∷ shows channel ∷ shows (receiveOf (answer opens)) ∷ shows (scoutsOf (answer opens))
+        → shown opens
+        ≡ shows n ∷ letter 83 ∷ shows 0 ∷ shows node ∷ shows channel ∷ shows (receiveOf (answer opens)) ∷ shows (scoutsOf (answer opens))
         ∷ path (traced makes (makes state opens .state) node channel) ∷ []
     unfolding inOrder rowFor callRow carriesScouts
     acknowledged-shows e = rw e
 
     -- S answered 10 or 11: "A refused S shows `-` for receive and ports."
     pub rejected-shows : (answer opens .number ≡ 10) ⊎ (answer opens .number ≡ 11)
-        → shown opens ≡ shows n ∷ letter 83 ∷ shows (answer opens .number) ∷ shows node ∷ shows channel ∷ nothing ∷ shows (scoutsOf (answer opens)) ∷ nothing ∷ []
+        → shown opens
+        ≡ shows n ∷ letter 83 ∷ shows (answer opens .number) ∷ shows node ∷ shows channel ∷ nothing ∷ shows (scoutsOf (answer opens)) ∷ nothing ∷ []
     unfolding inOrder rowFor callRow carriesScouts
     rejected-shows (inl e) = rw e
     rejected-shows (inr e) = rw e

@@ -1,7 +1,9 @@
 -- Laws of the printed list.
 pub mod Asking
 pub mod Answers
-pub mod Theorems
+pub mod Separated
+pub mod EightFields
+pub mod Refusals
 pub mod Fitting
 pub mod Remaining
 pub mod Agreeing

@@ -1,4 +1,5 @@
--- The printed example of document 01, computed: the bytes of its input, and the bytes of its output. And what a line of each letter asks for, from its bytes.
+-- The printed example of document 01, with the second line that document 02, (a), gives it, computed: the bytes of its input and of its output. And what
+-- a line of each letter asks for, from its bytes.
 -- Assumes nothing.
 use mathlib.Core.Path.{_≡_, refl}
 use mathlib.Core.List.{List, [], _∷_, map}
@@ -15,8 +16,8 @@ use Rattle.paths.specs.Pass.{over, ways, beginnings, scan, whole, pass, scouts}
 use Rattle.paths.specs.Send.{received, outcome, attempted, goesOn, runs, lowestOf}
 use Rattle.paths.specs.CubeNetwork.{network, ports, sendPorts, otherPorts, attempts, send}
 use Rattle.soundness.specs.SoundTest.{tracedInto}
-use Rattle.ownership.specs.Calls.{making, blocking, unblocking, opening, closing, answered, carriesScouts, callTests, resultOf, callOn}
-use Rattle.ownership.specs.History.{holdsLink, holdsReceive, belongs, enabledOn, heldOn, freeOn, takenOn, openOn, receiveOn, listed, factsOn, stoppedOn, sendOn, withOpened, applied, historyStep}
+use Rattle.ownership.specs.Calls.{making, blocking, unblocking, opening, closing, arming, disarming, answered, carriesScouts, callTests, resultOf, callOn}
+use Rattle.ownership.specs.History.{holdsLink, holdsReceive, belongs, enabledOn, heldOn, freeOn, takenOn, openOn, armedOn, receiveOn, listed, factsOn, stoppedOn, sendOn, withOpened, applied, historyStep}
 use Rattle.text.specs.Text.{digits, decimal, allDigits, value, leadingZero, number}
 use Rattle.text.specs.Lines.{onFirst, cut, lines, fields}
 use Rattle.listing.specs.Line.{inFront, numbers, numbersOf, asked, byLetter, withNumbers, ofFields, asks}
@@ -27,6 +28,8 @@ abbrev pub input : List ℕ
 input =
     -- F 3
     70 ∷ 32 ∷ 51 ∷ 10 ∷
+    -- R 7 0
+    82 ∷ 32 ∷ 55 ∷ 32 ∷ 48 ∷ 10 ∷
     -- B 1 2
     66 ∷ 32 ∷ 49 ∷ 32 ∷ 50 ∷ 10 ∷
     -- B 3 2
@@ -45,24 +48,26 @@ output =
     108 ∷ 105 ∷ 110 ∷ 101 ∷ 32 ∷ 99 ∷ 97 ∷ 108 ∷ 108 ∷ 32 ∷ 97 ∷ 110 ∷ 115 ∷ 119 ∷ 101 ∷ 114 ∷ 32 ∷ 110 ∷ 111 ∷ 100 ∷ 101 ∷ 32 ∷ 99 ∷ 104 ∷ 97 ∷ 110 ∷ 110 ∷ 101 ∷ 108 ∷ 32 ∷ 114 ∷ 101 ∷ 99 ∷ 101 ∷ 105 ∷ 118 ∷ 101 ∷ 32 ∷ 115 ∷ 99 ∷ 111 ∷ 117 ∷ 116 ∷ 115 ∷ 32 ∷ 112 ∷ 111 ∷ 114 ∷ 116 ∷ 115 ∷ 10 ∷
     -- 1 F 0 - - - - -
     49 ∷ 32 ∷ 70 ∷ 32 ∷ 48 ∷ 32 ∷ 45 ∷ 32 ∷ 45 ∷ 32 ∷ 45 ∷ 32 ∷ 45 ∷ 32 ∷ 45 ∷ 10 ∷
-    -- 2 B 0 1 - - - 2
-    50 ∷ 32 ∷ 66 ∷ 32 ∷ 48 ∷ 32 ∷ 49 ∷ 32 ∷ 45 ∷ 32 ∷ 45 ∷ 32 ∷ 45 ∷ 32 ∷ 50 ∷ 10 ∷
-    -- 3 B 0 3 - - - 2
-    51 ∷ 32 ∷ 66 ∷ 32 ∷ 48 ∷ 32 ∷ 51 ∷ 32 ∷ 45 ∷ 32 ∷ 45 ∷ 32 ∷ 45 ∷ 32 ∷ 50 ∷ 10 ∷
-    -- 4 S 0 0 0 0 5 120
-    52 ∷ 32 ∷ 83 ∷ 32 ∷ 48 ∷ 32 ∷ 48 ∷ 32 ∷ 48 ∷ 32 ∷ 48 ∷ 32 ∷ 53 ∷ 32 ∷ 49 ∷ 50 ∷ 48 ∷ 10 ∷
-    -- 5 C 0 0 0 - - -
-    53 ∷ 32 ∷ 67 ∷ 32 ∷ 48 ∷ 32 ∷ 48 ∷ 32 ∷ 48 ∷ 32 ∷ 45 ∷ 32 ∷ 45 ∷ 32 ∷ 45 ∷ 10 ∷
-    -- 6 C 12 0 0 - - -
-    54 ∷ 32 ∷ 67 ∷ 32 ∷ 49 ∷ 50 ∷ 32 ∷ 48 ∷ 32 ∷ 48 ∷ 32 ∷ 45 ∷ 32 ∷ 45 ∷ 32 ∷ 45 ∷ 10 ∷
+    -- 2 R 0 7 0 - - -
+    50 ∷ 32 ∷ 82 ∷ 32 ∷ 48 ∷ 32 ∷ 55 ∷ 32 ∷ 48 ∷ 32 ∷ 45 ∷ 32 ∷ 45 ∷ 32 ∷ 45 ∷ 10 ∷
+    -- 3 B 0 1 - - - 2
+    51 ∷ 32 ∷ 66 ∷ 32 ∷ 48 ∷ 32 ∷ 49 ∷ 32 ∷ 45 ∷ 32 ∷ 45 ∷ 32 ∷ 45 ∷ 32 ∷ 50 ∷ 10 ∷
+    -- 4 B 0 3 - - - 2
+    52 ∷ 32 ∷ 66 ∷ 32 ∷ 48 ∷ 32 ∷ 51 ∷ 32 ∷ 45 ∷ 32 ∷ 45 ∷ 32 ∷ 45 ∷ 32 ∷ 50 ∷ 10 ∷
+    -- 5 S 0 0 0 0 5 120
+    53 ∷ 32 ∷ 83 ∷ 32 ∷ 48 ∷ 32 ∷ 48 ∷ 32 ∷ 48 ∷ 32 ∷ 48 ∷ 32 ∷ 53 ∷ 32 ∷ 49 ∷ 50 ∷ 48 ∷ 10 ∷
+    -- 6 C 0 0 0 - - -
+    54 ∷ 32 ∷ 67 ∷ 32 ∷ 48 ∷ 32 ∷ 48 ∷ 32 ∷ 48 ∷ 32 ∷ 45 ∷ 32 ∷ 45 ∷ 32 ∷ 45 ∷ 10 ∷
+    -- 7 C 12 0 0 - - -
+    55 ∷ 32 ∷ 67 ∷ 32 ∷ 49 ∷ 50 ∷ 32 ∷ 48 ∷ 32 ∷ 48 ∷ 32 ∷ 45 ∷ 32 ∷ 45 ∷ 32 ∷ 45 ∷ 10 ∷
     []
 
 pub printed-example : recorded input ≡ output
-unfolding historyStep stoppedOn callTests refusal factsOn openOn heldOn takenOn any holdsLink holdsReceive belongs enabledOn freeOn linkState isFree receiveOn lowestOf lowest listed sendOn withOpened applied resultOf callOn carriesScouts tracedInto send attempts attempted network ports sendPorts otherPorts present axis keep from has flip uphill helical offered end links hasLink freePath over ways beginnings scan whole pass scouts received outcome goesOn runs answered digits decimal allDigits value leadingZero number onFirst cut lines fields inFront numbers numbersOf asked byLetter withNumbers ofFields asks inTurn bytesOf inOrder spaced ended rowText rowsText callRow unreadable traced rowFor stateAfter rows header tooLong listing recorded
+unfolding historyStep stoppedOn callTests refusal factsOn openOn heldOn takenOn any holdsLink holdsReceive belongs enabledOn freeOn linkState isFree armedOn receiveOn lowestOf lowest listed sendOn withOpened applied resultOf callOn carriesScouts tracedInto send attempts attempted network ports sendPorts otherPorts present axis keep from has flip uphill helical offered end links hasLink freePath over ways beginnings scan whole pass scouts received outcome goesOn runs answered digits decimal allDigits value leadingZero number onFirst cut lines fields inFront numbers numbersOf asked byLetter withNumbers ofFields asks inTurn bytesOf inOrder spaced ended rowText rowsText callRow unreadable traced rowFor stateAfter rows header tooLong listing recorded
 printed-example = refl
 
--- "`F D` make, `B node port` block, `E node port` unblock, `S node channel target type vector` open, `C node channel` close", with a number of its own in
--- each place
+-- "`F D` make, `B node port` block, `E node port` unblock, `S node channel target type vector` open, `C node channel` close", "`R node channel` arm and
+-- `D node channel` disarm", with a number of its own in each place
 letters-asked :
     map asks
     -- F 10
@@ -75,7 +80,12 @@ letters-asked :
     ∷ (83 ∷ 32 ∷ 49 ∷ 32 ∷ 50 ∷ 32 ∷ 51 ∷ 32 ∷ 52 ∷ 32 ∷ 53 ∷ [])
     -- C 15 16
     ∷ (67 ∷ 32 ∷ 49 ∷ 53 ∷ 32 ∷ 49 ∷ 54 ∷ [])
+    -- R 17 18
+    ∷ (82 ∷ 32 ∷ 49 ∷ 55 ∷ 32 ∷ 49 ∷ 56 ∷ [])
+    -- D 19 20
+    ∷ (68 ∷ 32 ∷ 49 ∷ 57 ∷ 32 ∷ 50 ∷ 48 ∷ [])
     ∷ [])
-    ≡ some (making 10) ∷ some (blocking 11 12) ∷ some (unblocking 13 14) ∷ some (opening 1 2 3 4 5) ∷ some (closing 15 16) ∷ []
+    ≡ some (making 10) ∷ some (blocking 11 12) ∷ some (unblocking 13 14) ∷ some (opening 1 2 3 4 5) ∷ some (closing 15 16) ∷ some (arming 17 18)
+    ∷ some (disarming 19 20) ∷ []
 unfolding allDigits value leadingZero number onFirst cut fields inFront numbers numbersOf asked byLetter withNumbers ofFields asks
 letters-asked = refl

@@ -6,7 +6,7 @@ use mathlib.Core.Option.{Option, none, some}
 use Prim.Native.Nat.{ℕ}
 use lib.Dec.{eqb, leb}
 use lib.ListN.{length, getD}
-use Rattle.ownership.specs.Calls.{Call, making, blocking, unblocking, opening, closing}
+use Rattle.ownership.specs.Calls.{Call, making, blocking, unblocking, opening, closing, arming, disarming}
 use Rattle.text.specs.Text.{number}
 use Rattle.text.specs.Lines.{fields}
 
@@ -17,11 +17,17 @@ letterB = 66
 abbrev pub letterC : ℕ
 letterC = 67
 
+abbrev pub letterD : ℕ
+letterD = 68
+
 abbrev pub letterE : ℕ
 letterE = 69
 
 abbrev pub letterF : ℕ
 letterF = 70
+
+abbrev pub letterR : ℕ
+letterR = 82
 
 abbrev pub letterS : ℕ
 letterS = 83
@@ -36,15 +42,18 @@ unfoldable pub numbers : List (List ℕ) → Option (List ℕ)
 numbers [] = some []
 numbers (f ∷ fs) = inFront (number f) (numbers fs)
 
--- "`F D` make, `B node port` block, `E node port` unblock, `S node channel target type vector` open, `C node channel` close": how many numbers stand
--- behind a call letter, 0 behind another byte, and the call that a letter asks for, with as many of five numbers as it has
+-- "`F D` make, `B node port` block, `E node port` unblock, `S node channel target type vector` open, `C node channel` close"; document 02, (a):
+-- "`R node channel` arm and `D node channel` disarm". How many numbers stand behind a call letter, 0 behind another byte, and the call that a letter
+-- asks for, with as many of five numbers as it has:
 unfoldable pub numbersOf : ℕ → ℕ
 numbersOf x =
     cond (eqb x letterF) 1
     (cond (eqb x letterB) 2
     (cond (eqb x letterE) 2
     (cond (eqb x letterS) 5
-    (cond (eqb x letterC) 2 0))))
+    (cond (eqb x letterC) 2
+    (cond (eqb x letterR) 2
+    (cond (eqb x letterD) 2 0))))))
 
 unfoldable pub asked : ℕ → ℕ → ℕ → ℕ → ℕ → ℕ → Option Call
 asked x a b c d e =
@@ -52,7 +61,9 @@ asked x a b c d e =
     (cond (eqb x letterB) (some (blocking a b))
     (cond (eqb x letterE) (some (unblocking a b))
     (cond (eqb x letterS) (some (opening a b c d e))
-    (cond (eqb x letterC) (some (closing a b)) none))))
+    (cond (eqb x letterC) (some (closing a b))
+    (cond (eqb x letterR) (some (arming a b))
+    (cond (eqb x letterD) (some (disarming a b)) none))))))
 
 -- a letter and the numbers behind it, where they are as many as it has
 unfoldable pub byLetter : ℕ → List ℕ → Option Call

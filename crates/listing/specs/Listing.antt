@@ -8,11 +8,11 @@ use Prim.Native.Nat.{ℕ, suc}
 use lib.Dec.{eqb, ltb}
 use lib.ListN.{length, take, replicate}
 use Rattle.table.specs.Layout.{made}
-use Rattle.ownership.specs.Calls.{Call, making, blocking, unblocking, opening, closing, tracing, CallResult, hopsOf, receiveOf, scoutsOf, bufferOf, carriesScouts, After}
+use Rattle.ownership.specs.Calls.{Call, making, blocking, unblocking, opening, closing, tracing, arming, disarming, CallResult, hopsOf, receiveOf, scoutsOf, bufferOf, carriesScouts, After}
 use Rattle.ownership.specs.OnTable.{tableStep}
 use Rattle.ownership.specs.History.{historyStep}
 use Rattle.text.specs.Lines.{lines}
-use Rattle.listing.specs.Line.{letterB, letterC, letterE, letterF, letterS, asks}
+use Rattle.listing.specs.Line.{letterB, letterC, letterD, letterE, letterF, letterR, letterS, asks}
 use Rattle.text.specs.Row.{Field, nothing, shows, path, Row, row, lone, ended, rowsText}
 
 -- "Success is 0."
@@ -33,6 +33,9 @@ callRow n (opening s c t y v) x way =
     row n letterS (x .number) (shows s) (shows c) (showsIf (accepted x) (shows (receiveOf x))) (showsIf (carriesScouts (x .number)) (shows (scoutsOf x)))
     (showsIf (accepted x) (path (way s c)))
 callRow n (closing s c) x way = row n letterC (x .number) (shows s) (shows c) nothing nothing nothing
+-- document 02, (a): "printing node and channel"
+callRow n (arming m k) x way = row n letterR (x .number) (shows m) (shows k) nothing nothing nothing
+callRow n (disarming m k) x way = row n letterD (x .number) (shows m) (shows k) nothing nothing nothing
 -- no line asks for a trace
 callRow n (tracing s c buffer) x way = lone n (x .number)
 
@@ -96,4 +99,4 @@ unfoldable pub printed : List ℕ → List ℕ
 printed input = listing tableStep (made 1) input
 
 unfoldable pub recorded : List ℕ → List ℕ
-recorded input = listing historyStep (record { dimension = 1; blocked = []; circuits = [] }) input
+recorded input = listing historyStep (record { dimension = 1; blocked = []; circuits = []; armed = [] }) input

@@ -8,13 +8,13 @@ use mathlib.Core.Option.{Option, none, some}
 use Prim.Native.Nat.{ℕ, _+_, _*_, _≤_}
 use lib.Dec.{ltb}
 use lib.ListN.{length, take, drop}
-use Rattle.ownership.specs.Calls.{Call, making, blocking, unblocking, opening, closing}
+use Rattle.ownership.specs.Calls.{Call, making, blocking, unblocking, opening, closing, arming, disarming}
 use Rattle.ownership.specs.OnTable.{tableStep}
 use Rattle.text.specs.Row.{rowText}
 use Rattle.text.specs.Written.{Wrote, rowOf}
 use Rattle.text.specs.declared.row.Row.{Row}
 use Rattle.listing.specs.declared.line.Asked.{Asked}
-use Rattle.listing.specs.declared.line.Asked.the-variants.{Make, Block, Unblock, Open, Close, Unreadable}
+use Rattle.listing.specs.declared.line.Asked.the-variants.{Make, Block, Unblock, Open, Close, Arm, Disarm, Unreadable}
 use Rattle.listing.specs.Line.{numbers, withNumbers}
 use Rattle.listing.specs.Listing.{rowFor, stateAfter, printed}
 
@@ -25,6 +25,8 @@ callOf (Block n p) = some (blocking (n .0) (p .0))
 callOf (Unblock n p) = some (unblocking (n .0) (p .0))
 callOf (Open s c t y v) = some (opening (s .0) c (t .0) y v)
 callOf (Close s c) = some (closing (s .0) c)
+callOf (Arm n k) = some (arming (n .0) k)
+callOf (Disarm n k) = some (disarming (n .0) k)
 callOf Unreadable = none
 
 -- the numbers of some fields were read: r of them, in front of five values; 0 where no letter goes with these fields

@@ -4,7 +4,7 @@ use mathlib.Core.Path.{_≡_}
 use mathlib.Core.Logic.{_⊎_}
 use mathlib.Core.List.{List, [], _∷_, map}
 use Prim.Native.Nat.{ℕ, _≤_, _<_}
-use Rattle.ownership.specs.Calls.{Call, making, blocking, unblocking, opening, closing, tracing, CallResult}
+use Rattle.ownership.specs.Calls.{Call, making, blocking, unblocking, opening, closing, tracing, arming, disarming, CallResult}
 use Rattle.text.specs.Text.{decimal, largest}
 use Rattle.text.specs.Row.{Field, nothing, shows, letter, path, spaced}
 
@@ -33,6 +33,8 @@ IsOpen (unblocking n p) = ⊥
 IsOpen (opening s c t y v) = Unit
 IsOpen (closing s c) = ⊥
 IsOpen (tracing s c buffer) = ⊥
+IsOpen (arming n k) = ⊥
+IsOpen (disarming n k) = ⊥
 
 -- "S answered 0, 10 or 11"
 abbrev pub WasSent : Call → CallResult → Type 0

@@ -101,6 +101,18 @@ fn carry_out(t: &mut [u8], line: u16, asked: Asked, ports: &mut [u8]) -> row::Ro
             let send = Field::Number(channel as u32);
             row::of_call(line, b'C', answer, node, send, none, none, none)
         }
+        Asked::Arm(node, channel) => {
+            let answer = router::arm(t, node, channel);
+            let at = Field::Number(node.0 as u32);
+            let receive = Field::Number(channel as u32);
+            row::of_call(line, b'R', answer, at, receive, none, none, none)
+        }
+        Asked::Disarm(node, channel) => {
+            let answer = router::disarm(t, node, channel);
+            let at = Field::Number(node.0 as u32);
+            let receive = Field::Number(channel as u32);
+            row::of_call(line, b'D', answer, at, receive, none, none, none)
+        }
         Asked::Unreadable => row::lone(line, refusal::UNREADABLE_LINE),
     }
 }

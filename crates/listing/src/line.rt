@@ -44,6 +44,8 @@ pub enum Asked {
     Unblock(Node, Port),
     Open(Node, u16, Node, u16, u16),
     Close(Node, u16),
+    Arm(Node, u16),
+    Disarm(Node, u16),
     Unreadable,
 }
 
@@ -68,6 +70,8 @@ fn by_letter(letter: u8, count: usize, a: u16, b: u16, c: u16, d: u16, e: u16) -
         b'E' => counted(count, 2, Asked::Unblock(Node(a), Port(b))),
         b'S' => counted(count, 5, Asked::Open(Node(a), b, Node(c), d, e)),
         b'C' => counted(count, 2, Asked::Close(Node(a), b)),
+        b'R' => counted(count, 2, Asked::Arm(Node(a), b)),
+        b'D' => counted(count, 2, Asked::Disarm(Node(a), b)),
         _ => Asked::Unreadable,
     }
 }

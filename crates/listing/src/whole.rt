@@ -57,7 +57,7 @@ pub fn list(input: &[u8], output: &mut [u8]) -> Listed
             written,
         };
     }
-    let mut t = [0u8; 8449];
+    let mut t = [0u8; table::BYTES];
     table::make(&mut t, 1);
     let at = put::text(
         output,

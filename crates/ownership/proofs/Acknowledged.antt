@@ -1,10 +1,11 @@
 -- A send that is acknowledged found a free permitted path, and took the target's receive channel.
 -- Assumes nothing.
 use mathlib.Core.Path.{_≡_}
-use mathlib.Core.Bool.{Bool, true, false}
+use mathlib.Core.Bool.{Bool, true, false, not}
 use Prim.Native.Nat.{ℕ, _≤_, _<_}
 use borrow.Author.Tests.{not-true}
 use Rattle.common.specs.Lists.{_∈_}
+use Rattle.common.proofs.Tests.{both}
 use Rattle.paths.specs.Network.{Path, Link, links}
 use Rattle.paths.specs.Permitted.{Permitted}
 use Rattle.paths.specs.Send.{Receive, channel, acknowledged}
@@ -12,7 +13,7 @@ use Rattle.paths.specs.CubeNetwork.{Shape, Node, ports, network, attempts, send
 use Rattle.paths.proofs.Send.{said-by, acknowledged-says, tries-permitted, send-says}
 use Rattle.paths.proofs.Words.{free-links}
 use Rattle.table.proofs.Receives.{chosen}
-use Rattle.ownership.specs.History.{History, takenOn, receiveOn}
+use Rattle.ownership.specs.History.{History, takenOn, armedOn, receiveOn}
 
 module _ (S : Shape) (free : ℕ → ℕ → Bool) (r : Receive) (s t : ℕ) where
   -- what an acknowledgement with path w and receive channel k says
@@ -34,7 +35,10 @@ module _ (S : Shape) (free : ℕ → ℕ → Bool) (r : Receive) (s t : ℕ) whe
         receives = y .2;
       }
 
--- In the history, the receive channel that a target takes is one of the eight, and no circuit holds it.
-pub receive-free : (h : History) (t k : ℕ) → receiveOn h t ≡ channel k → (k < 8) × (takenOn h t k ≡ false)
+-- In the history, the receive channel that a target takes is one of the eight, it is armed, and no circuit holds it.
+pub receive-free : (h : History) (t k : ℕ) → receiveOn h t ≡ channel k → (k < 8) × (armedOn h t k ≡ true) × (takenOn h t k ≡ false)
 unfolding receiveOn
-receive-free h t k e = let r = chosen _ k e in (r .0, not-true _ (r .1))
+receive-free h t k e =
+    let r = chosen _ k e in
+    let x = both (armedOn h t k) (not (takenOn h t k)) (r .1) in
+    (r .0, x .0, not-true _ (x .1))

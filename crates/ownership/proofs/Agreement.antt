@@ -2,9 +2,9 @@
 -- Assumes nothing.
 use mathlib.Core.Path.{_≡_, refl, ap, ap₂, sym, _∙_}
 use mathlib.Core.Logic.{⊎-elim, _≢_}
-use mathlib.Core.Bool.{false, not, _&&_}
+use mathlib.Core.Bool.{true, false, not, _&&_}
 use mathlib.Core.List.{List, [], _∷_}
-use Prim.Native.Nat.{ℕ, _≤_}
+use Prim.Native.Nat.{ℕ, _≤_, _<_}
 use lib.Dec.{leb}
 use lib.ListN.{length}
 use borrow.Author.Tests.{le-leb}
@@ -20,7 +20,7 @@ use Rattle.soundness.specs.SoundTest.{pathOf, tableTests, tracedInto}
 use Rattle.table.specs.Encode.{encode}
 use Rattle.table.proofs.Encode.{encode-view}
 use Rattle.table.proofs.Encoded.{encode-bytes, view-encode}
-use Rattle.ownership.specs.Calls.{Call, making, blocking, unblocking, opening, closing, tracing, CallResult, refusedWith, answered, callTests, resultOf}
+use Rattle.ownership.specs.Calls.{Call, making, blocking, unblocking, opening, closing, tracing, arming, disarming, CallResult, refusedWith, answered, callTests, resultOf}
 use Rattle.ownership.specs.Update.{sendIn, updated}
 use Rattle.ownership.specs.OnTable.{factsOf, stoppedAt, tableStep}
 use Rattle.ownership.specs.History.{History, factsOn, stoppedOn, listed, applied, historyStep}
@@ -34,7 +34,7 @@ use Rattle.ownership.proofs.StepBytes.{made-shows}
 use Rattle.ownership.proofs.Range.{sound-fits}
 use Rattle.ownership.proofs.Refused.{refused-within}
 use Rattle.ownership.proofs.Sameness.{send-same}
-use Rattle.ownership.proofs.CircuitValid.{valid-sound}
+use Rattle.ownership.proofs.CircuitValid.{armed-inside, valid-sound}
 use Rattle.ownership.proofs.Stopped.{path-listed, stopped-same}
 use Rattle.ownership.proofs.Applied.{made-valid, made-view, follows-valid, follows-view}
 use Rattle.ownership.proofs.Steps.{table-step, history-step}
@@ -43,7 +43,8 @@ use Rattle.ownership.proofs.Steps.{table-step, history-step}
 bytes-represent : (h : History) → Valid h → Represents (bytesOf h) h
 unfolding bytesOf
 bytes-represent h valid =
-    let fits = sound-fits (viewOf h) (unfold viewOf in valid .most) (valid-sound h valid) in
+    let eight : (n k : ℕ) → viewOf h .armed n k ≡ true → k < 8 = unfold viewOf in λ n k e. armed-inside h valid n k e .1 in
+    let fits = sound-fits (viewOf h) (unfold viewOf in valid .most) (valid-sound h valid) eight in
     record { bytes = encode-bytes (viewOf h) fits; shows = view-encode (viewOf h) fits; valid = valid }
 
 -- what a covered table is
@@ -76,6 +77,8 @@ module _ (b : List ℕ) (h : History) (k : Represents b h) where
   results-alike (unblocking n p) e = refl
   results-alike (opening s c t y v) e = ap (λ (x : SendResult). answered (x .outcome) (x .scouts)) (ap (λ u. sendIn u s t y v) (k .shows) ∙ send-same h s t y v)
   results-alike (closing s c) e = refl
+  results-alike (arming n k) e = refl
+  results-alike (disarming n k) e = refl
   results-alike (tracing s c buffer) e = ap (λ (w : Path). record { number = 0; values = length w ∷ []; buffers = tracedInto w buffer ∷ [] }) path-alike
     where
       path-alike : pathOf (view b) (circuitOf s c) ≡ listed (h .circuits) s c
@@ -148,7 +151,7 @@ module _ (b : List ℕ) (h : History) (D : ℕ) (e : Accepted b (making D)) wher
   unfolding resultOf
   made-result = table-step b (making D) .result (table-step b (making D) .passed e) ∙ sym (history-step h (making D) .result making-passes)
 
-  made-history : historyStep h (making D) .state ≡ record { dimension = D; blocked = []; circuits = [] }
+  made-history : historyStep h (making D) .state ≡ record { dimension = D; blocked = []; circuits = []; armed = [] }
   unfolding applied
   made-history = history-step h (making D) .accepted (sym (ap (λ (g : CallResult). g .number) made-result) ∙ e)
 

@@ -12,7 +12,7 @@ use borrow.Author.Tests.{eqb-true, eqb-false, eq-eqb, ne-eqb, ltb-true, ltb-fals
 use Rattle.common.specs.Tests.{refusal}
 use Rattle.common.proofs.Tests.{neither, passed, accepted, first-passed, both}
 use Rattle.cube.proofs.Bits.{high-has, no-bit-above}
-use Rattle.ownership.specs.Calls.{Call, making, blocking, unblocking, opening, closing, tracing, CallFacts, callTests}
+use Rattle.ownership.specs.Calls.{Call, making, blocking, unblocking, opening, closing, tracing, arming, disarming, CallFacts, callTests}
 use Rattle.ownership.specs.Allowed.{Allowed}
 use Rattle.ownership.specs.History.{History, factsOn, stoppedOn}
 
@@ -75,6 +75,15 @@ allowed a (tracing s c buffer) e =
     let z = first-passed _ 12 _ (λ z. omega arith) (y .1) in
     let u = first-passed _ 14 _ (λ z. omega arith) (z .1) in
     (below s _ (x .0), channel-small c (y .0), not-false _ (z .0), ltb-false (length buffer) 9 (u .0))
+allowed a (arming n k) e =
+    let x = first-passed _ 4 _ (λ z. omega arith) e in
+    let y = first-passed _ 5 _ (λ z. omega arith) (x .1) in
+    (below n _ (x .0), channel-small k (y .0))
+allowed a (disarming n k) e =
+    let x = first-passed _ 4 _ (λ z. omega arith) e in
+    let y = first-passed _ 5 _ (λ z. omega arith) (x .1) in
+    let z = first-passed _ 21 _ (λ z. omega arith) (y .1) in
+    (below n _ (x .0), channel-small k (y .0), z .0)
 
 -- and where they are allowed, no test of the call stops it
 pub allowed-passes : (a : CallFacts) (x : Call) → Allowed a x → refusal (callTests a x) ≡ 0
@@ -88,6 +97,8 @@ allowed-passes a (opening s c t y v) h =
 allowed-passes a (closing s c) h = passed 4 _ (is-below s _ (h .0)) ∙ passed 5 _ (channel-is c (h .1)) ∙ passed 12 _ (ap not (h .2)) ∙ accepted
 allowed-passes a (tracing s c buffer) h =
     passed 4 _ (is-below s _ (h .0)) ∙ passed 5 _ (channel-is c (h .1)) ∙ passed 12 _ (ap not (h .2)) ∙ passed 14 _ (le-ltb (length buffer) 9 (h .3)) ∙ accepted
+allowed-passes a (arming n k) h = passed 4 _ (is-below n _ (h .0)) ∙ passed 5 _ (channel-is k (h .1)) ∙ accepted
+allowed-passes a (disarming n k) h = passed 4 _ (is-below n _ (h .0)) ∙ passed 5 _ (channel-is k (h .1)) ∙ passed 21 _ (h .2) ∙ accepted
 
 -- the same of a call that no test stops in the history
 pub allowed-on : (h : History) (x : Call) → stoppedOn h x ≡ 0 → Allowed (factsOn h) x

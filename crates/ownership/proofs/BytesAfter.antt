@@ -16,17 +16,18 @@ use Rattle.cube.proofs.Bits.{with-bit-inside}
 use Rattle.cube.proofs.Ports.{most-nodes, below-256}
 use Rattle.paths.specs.Network.{Path}
 use Rattle.paths.specs.Send.{Outcome, acknowledged, route-rejected, receive-rejected}
-use Rattle.table.specs.Layout.{dimensionAt, enablePlace, entryPlace, linkPart, receivePart, putWord, putEntry, putOwner, putReceiver, putEnabled, made}
+use Rattle.table.specs.Layout.{dimensionAt, maskPlace, putMask, putEnabled, putArmed, made}
+use Rattle.table.specs.Layout.{entryPlace, linkPart, receivePart, putWord, putEntry, putOwner, putReceiver}
 use Rattle.table.specs.LayoutContracts.{Within}
-use Rattle.table.specs.View.{view, setEnabled, withoutCircuit, fresh}
+use Rattle.table.specs.View.{view, setEnabled, setArmed, withoutCircuit, fresh}
 use Rattle.table.specs.Encode.{encode, AllBytes, Bytes}
 use Rattle.table.proofs.Encode.{encode-view}
 use Rattle.table.proofs.Encoded.{encode-shown}
-use Rattle.table.proofs.Views.{view-put-enabled}
+use Rattle.table.proofs.Views.{view-put-enabled, view-put-armed}
 use Rattle.table.proofs.Made.{made-bytes, view-made}
 use Rattle.search.specs.PassAnswer.{holdPath}
 use Rattle.search.specs.SendAnswer.{bytesAfterSend}
-use Rattle.ownership.specs.Calls.{Call, making, blocking, unblocking, opening, closing, tracing, form}
+use Rattle.ownership.specs.Calls.{Call, making, blocking, unblocking, opening, closing, tracing, arming, disarming, form}
 use Rattle.ownership.specs.Allowed.{Allowed}
 use Rattle.ownership.specs.Update.{sendIn, viewAfterSend, updated}
 use Rattle.ownership.specs.OnTable.{factsOf, stoppedAt, tableStep}
@@ -35,7 +36,7 @@ use Rattle.ownership.proofs.Shows.{Fits, view-after-send, sent-fits}
 use Rattle.ownership.proofs.Stops.{none-stops, none-stops-lent, none-stops-length, pass-tests}
 use Rattle.ownership.proofs.StepBytes.{step-encoded}
 
--- one byte written, an entry, the links of a path, a send's marks: bytes stay bytes
+-- one byte written, an entry, a bit of a mask, the links of a path, a send's marks: bytes stay bytes
 set-bytes : (b : List ℕ) (i x : ℕ) → Bytes b → x < 256 → Bytes (set b i x)
 set-bytes b i x h l =
     record { long = length-set b i x ∙ h .long; small = λ j. ⊎-elim (λ e. rw e (go (ltb i (length b)) refl)) (λ ne. rw (getD-set-other b i j x 0 ne) (h .small j)) (same? j i) }
@@ -47,12 +48,16 @@ set-bytes b i x h l =
 word-bytes : (b : List ℕ) (i c : ℕ) → Bytes b → c < 65536 → Bytes (putWord b i c)
 word-bytes b i c h l = set-bytes (set b i (c % 256)) (i + 1) (c / 256) (set-bytes b i (c % 256) h (omega arith)) (omega arith)
 
+mask-bytes : (part : ℕ) (b : List ℕ) (n k : ℕ) (on : Bool) → Bytes b → k < 8 → Bytes (putMask part b n k on)
+unfolding putMask
+mask-bytes part b n k on h l = set-bytes b (maskPlace part n) _ h (with-bit-inside 8 _ k on (h .small (maskPlace part n)) l)
+
 hold-bytes : (b : List ℕ) (c n : ℕ) (w : Path) → Bytes b → c < 65536 → Bytes (holdPath b c n w)
 unfolding holdPath putOwner putEntry
 hold-bytes b c n [] h l = h
 hold-bytes b c n (p ∷ w) h l = hold-bytes (putOwner b n p c) c (next n p) w (word-bytes b (entryPlace linkPart n p) c h l) l
 
-send-bytes : (b : List ℕ) (c s t : ℕ) (o : Outcome) → Bytes b → c < 65536 → Bytes (bytesAfterSend b c s t o)
+pub send-bytes : (b : List ℕ) (c s t : ℕ) (o : Outcome) → Bytes b → c < 65536 → Bytes (bytesAfterSend b c s t o)
 unfolding bytesAfterSend putReceiver putEntry
 send-bytes b c s t (acknowledged w k) h l = word-bytes (holdPath b c s w) (entryPlace receivePart t k) c (hold-bytes b c s w h l) l
 send-bytes b c s t route-rejected h l = h
@@ -60,16 +65,20 @@ send-bytes b c s t receive-rejected h l = h
 
 -- so they are what `encode` writes of what they show
 module _ (b : List ℕ) (bytes : Bytes b) where
-  put-encoded : (n p : ℕ) (on : Bool) → Within b n p → putEnabled b n p on ≡ encode (setEnabled (view b) n p on)
-  put-encoded n p on w =
-      encode-shown (putEnabled b n p on) _ (unfold putEnabled in set-bytes b (enablePlace n) _ bytes (with-bit-inside 8 _ p on (bytes .small (enablePlace n)) (w .port))) (view-put-enabled b n p on w)
+  enabled-encoded : (n p : ℕ) (on : Bool) → Within b n p → putEnabled b n p on ≡ encode (setEnabled (view b) n p on)
+  enabled-encoded n p on w =
+      encode-shown (putEnabled b n p on) _ (unfold putEnabled in mask-bytes _ b n p on bytes (w .port)) (view-put-enabled b n p on w)
 
-  pub send-encoded : (c s t : ℕ) (o : Outcome) → dimensionAt b ≤ 8 → c < 65536 → s < 2 ^ dimensionAt b → t < 2 ^ dimensionAt b → Fits (dimensionAt b) o
+  pub armed-encoded : (n k : ℕ) (on : Bool) → Within b n k → putArmed b n k on ≡ encode (setArmed (view b) n k on)
+  armed-encoded n k on w =
+      encode-shown (putArmed b n k on) _ (unfold putArmed in mask-bytes _ b n k on bytes (w .port)) (view-put-armed b n k on w)
+
+  send-encoded : (c s t : ℕ) (o : Outcome) → dimensionAt b ≤ 8 → c < 65536 → s < 2 ^ dimensionAt b → t < 2 ^ dimensionAt b → Fits (dimensionAt b) o
       → bytesAfterSend b c s t o ≡ encode (viewAfterSend (view b) c s t o)
   send-encoded c s t o most small i j h =
       encode-shown (bytesAfterSend b c s t o) _ (send-bytes b c s t o bytes small) (view-after-send c small (dimensionAt b) most b (bytes .long) s t i j o h)
 
--- What the functions below leave of the bytes: `table::make`, `disable` and `enable`, `search::send` and `router::release`.
+-- What the functions below leave of the bytes: `table::make`, `disable` and `enable`, `search::send`, `router::release`, `table::arm` and `disarm`.
 unfoldable pub writtenBy : List ℕ → Call → List ℕ
 writtenBy b (making D) = made D
 writtenBy b (blocking n p) = putEnabled b n p false
@@ -77,25 +86,33 @@ writtenBy b (unblocking n p) = putEnabled b n p true
 writtenBy b (opening s c t y v) = bytesAfterSend b (circuitOf s c) s t (sendIn (view b) s t y v .outcome)
 writtenBy b (closing s c) = encode (withoutCircuit (view b) (circuitOf s c))
 writtenBy b (tracing s c buffer) = b
+writtenBy b (arming n k) = putArmed b n k true
+writtenBy b (disarming n k) = putArmed b n k false
 
 module _ (b : List ℕ) (small : AllBytes b) (a : Call) (e : stoppedAt b a ≡ 0) where
   bytes : Bytes b
   bytes = record { long = none-stops-length b a e; small = small }
 
-  encoded : (x : Call) → (form x .makes ≡ false → dimensionAt b ≤ 8) → Allowed (factsOf (view b)) x → writtenBy b x ≡ encode (updated (view b) x)
+  encoded : (x : Call) → (form x .isMaking ≡ false → dimensionAt b ≤ 8) → Allowed (factsOf (view b)) x → writtenBy b x ≡ encode (updated (view b) x)
   unfolding writtenBy updated Allowed factsOf view
   encoded (making D) most r = encode-shown (made D) (fresh D) (made-bytes D (omega (arith, r .1))) (view-made D (omega (arith, r .1)))
   encoded (blocking n p) most r =
       let m = most refl in
-      put-encoded b bytes n p false record { bytes = bytes .long; node = below-256 m (r .0); port = omega (arith, r .1) }
+      enabled-encoded b bytes n p false record { bytes = bytes .long; node = below-256 m (r .0); port = omega (arith, r .1) }
   encoded (unblocking n p) most r =
       let m = most refl in
-      put-encoded b bytes n p true record { bytes = bytes .long; node = below-256 m (r .0); port = omega (arith, r .1) }
+      enabled-encoded b bytes n p true record { bytes = bytes .long; node = below-256 m (r .0); port = omega (arith, r .1) }
   encoded (opening s c t y v) most r =
       let m = most refl in
       send-encoded b bytes (circuitOf s c) s t (sendIn (view b) s t y v .outcome) m (omega (arith, most-nodes m, r .0, r .2)) (r .0) (r .1) (sent-fits (view b) s t y v m (r .0) (r .1))
   encoded (closing s c) most r = refl
   encoded (tracing s c buffer) most r = sym (encode-view b (bytes .long) (bytes .small))
+  encoded (arming n k) most r =
+      let m = most refl in
+      armed-encoded b bytes n k true record { bytes = bytes .long; node = below-256 m (r .0); port = r .1 }
+  encoded (disarming n k) most r =
+      let m = most refl in
+      armed-encoded b bytes n k false record { bytes = bytes .long; node = below-256 m (r .0); port = r .1 }
 
   -- A call that no test stops leaves what they write.
   pub written-bytes : tableStep b a .state ≡ writtenBy b a

@@ -20,7 +20,7 @@ use Rattle.paths.specs.CubeNetwork.{ports}
 use Rattle.paths.proofs.CubeNetwork.{unfolded-port}
 use Rattle.paths.proofs.Apart.{permitted-inside}
 use Rattle.soundness.specs.Sound.{CircuitSound, Nowhere, Sound}
-use Rattle.ownership.specs.History.{Circuit, History, shapeOn, netOn, linksOf, holdsLink, holdsReceive, enabledOn}
+use Rattle.ownership.specs.History.{Circuit, History, shapeOn, netOn, linksOf, holdsLink, holdsReceive, enabledOn, armedOn}
 use Rattle.ownership.specs.Invariant.{Disjoint, Valid}
 use Rattle.ownership.specs.HistoryView.{viewOf}
 use Rattle.ownership.proofs.Circuits.{pairwise-one, numberFor, circuit-parts, Once, number-some, number-circuit, number-at}
@@ -106,6 +106,11 @@ module _ (h : History) (valid : Valid h) where
       let r = permitted-inside (shapeOn h) (x .source) (x .target) (x .ports) (s .source) (s .permitted) in
       ((λ n p i. (r .0 n p i .0, unfolded-port (shapeOn h) (valid .most) refl p .0 (r .0 n p i .1))), subst (λ (n : ℕ). n < 2 ^ h .dimension) (permitted-end N (x .source) (ports (shapeOn h)) (x .target) (x .ports) (s .permitted)) (r .1))
 
+  -- and an armed receive channel is one of the eight of a node of the cube
+  pub armed-inside : (n k : ℕ) → armedOn h n k ≡ true → (n < 2 ^ h .dimension) × (k < 8)
+  unfolding armedOn
+  armed-inside n k e = valid .armed (n, k) (true-link (h .armed) n k e)
+
   -- its number gives its source back
   from-number : (x : Circuit) → x ∈ h .circuits → sourceOf (numberFor x) ≡ x .source
   from-number x m = source-of-circuit (x .source) (x .channel) (valid .stands x m .channel)
@@ -168,7 +173,10 @@ module _ (h : History) (valid : Valid h) where
         absent-link = λ n p o. unfold viewOf in (off n p o, ⊎-elim (λ e. e) (λ e. let r = link-held n p e in absurd (o (inside (r .0) (r .1) .0 n p (r .2)))) (same? (viewOf h .owner n p) 0));
         absent-receive = λ n k o.
             unfold viewOf in ⊎-elim (λ e. e) (λ e. let r = receive-held n k e in absurd (o (subst (λ (m : ℕ). m < 2 ^ h .dimension) (sym (r .2 .0)) (inside (r .0) (r .1) .1)))) (same? (viewOf h .receiver n k) 0);
+        absent-armed = λ n k o. unfold viewOf in is-false _ (λ e. o (armed-inside n k e .0));
         held-enabled = λ n p e. unfold viewOf in let r = link-held n p e in valid .stands (r .0) (r .1) .enabled (n, p) (r .2);
+        held-armed = λ n k e.
+            unfold viewOf in let r = receive-held n k e in (λ i. armedOn h (r .2 .0 i) (r .2 .1 i)) ∙ valid .stands (r .0) (r .1) .armed;
         link-number = λ n p. unfold viewOf in ⊎-elim (λ z. omega arith) (λ e. let r = link-held n p e in rw (r .3) (number-small (r .0) (r .1))) (same? (viewOf h .owner n p) 0);
         receive-number = λ n k. unfold viewOf in ⊎-elim (λ z. omega arith) (λ e. let r = receive-held n k e in rw (r .3) (number-small (r .0) (r .1))) (same? (viewOf h .receiver n k) 0);
         numbers = occurs;

@@ -2,7 +2,7 @@
 -- Assumes nothing.
 use mathlib.Core.Path.{_≡_, refl, sym, _∙_, ap}
 use mathlib.Core.Logic.{_≢_, _↔_}
-use mathlib.Core.Bool.{Bool, true, false, cond, _||_, not}
+use mathlib.Core.Bool.{Bool, true, false, cond, _&&_, _||_, not}
 use mathlib.Core.List.{List, [], _∷_, List·Memᴰ·head, List·Memᴰ·tail}
 use Prim.Native.Nat.{ℕ, _<_}
 use native.Mathlib.Omega.{arith}
@@ -10,7 +10,7 @@ use lib.Dec.{eqb}
 use borrow.Author.Tests.{eqb-true, eq-eqb, ne-eqb, not-false}
 use Rattle.common.specs.Lists.{_∈_, keep, any, Pairwise}
 use Rattle.common.proofs.Tests.{clash, is-false, both, and}
-use Rattle.common.proofs.Lists.{keep-nil, keep-yes, keep-no}
+use Rattle.common.proofs.Lists.{keep-nil, keep-yes, keep-no, any-some, some-any}
 use Rattle.cube.specs.Cube.{circuitOf, sourceOf, channelOf}
 use Rattle.cube.proofs.Circuits.{source-of-circuit, channel-of-circuit}
 use Rattle.ownership.specs.History.{Circuit, belongs}
@@ -43,11 +43,14 @@ pub parts-belong : (s c : ℕ) (x : Circuit) → x .source ≡ s → x .channel 
 unfolding belongs
 parts-belong s c x e f = and (eq-eqb _ s e) (eq-eqb _ c f)
 
+pub number-is : (s c : ℕ) (x : Circuit) → belongs s c x ≡ true → numberFor x ≡ circuitOf s c
+number-is s c x e = let r = belongs-parts s c x e in rw (r .0, r .1)
+
 pub belongs-number : (s c : ℕ) (x : Circuit) → c < 8 → x .channel < 8 → eqb (numberFor x) (circuitOf s c) ≡ belongs s c x
 belongs-number s c x h l = go (belongs s c x) refl
   where
     go : (b : Bool) → belongs s c x ≡ b → eqb (numberFor x) (circuitOf s c) ≡ b
-    go true e = let r = belongs-parts s c x e in eq-eqb (numberFor x) (circuitOf s c) (rw (r .0, r .1))
+    go true e = eq-eqb (numberFor x) (circuitOf s c) (number-is s c x e)
     go false e = ne-eqb _ _ (λ q. let r = circuit-parts (x .source) (x .channel) s c l h q in clash (parts-belong s c x (r .0) (r .1)) e)
 
 cond-same : (b : Bool) (n : ℕ) → cond b n n ≡ n
@@ -110,6 +113,21 @@ module _ (f : Circuit → Bool) where
   unfolding Pairwise
   number-at (y ∷ xs) o x (List·Memᴰ·head h) e = number-yes y xs (sym (ap f h) ∙ e) ∙ ap numberFor (sym h)
   number-at (y ∷ xs) o x (List·Memᴰ·tail m) e = number-no y xs (is-false (f y) (λ u. o .0 x m u e)) ∙ number-at xs (o .1) x m e
+
+  -- so it is a send channel's exactly where the circuit of that channel passes,
+  pub number-belongs : (s c : ℕ) → c < 8 → (xs : List Circuit) → ((x : Circuit) → x ∈ xs → x .channel < 8) → Once xs
+      → any (λ x. belongs s c x && f x) xs ≡ eqb (numberOf f xs) (circuitOf s c)
+  number-belongs s c h xs l o = go (eqb (numberOf f xs) (circuitOf s c)) refl
+    where
+      mine : Circuit → Bool
+      mine x = belongs s c x && f x
+
+      go : (b : Bool) → eqb (numberOf f xs) (circuitOf s c) ≡ b → any mine xs ≡ b
+      go true e = let r = number-circuit s c h xs l (eqb-true _ _ e) in some-any mine xs (r .1) (and (parts-belong s c (r .0) (r .3) (r .4)) (r .2))
+      go false e = is-false _ (λ t.
+          let r = any-some mine xs t in
+          let x = both (belongs s c (r .0)) (f (r .0)) (r .2) in
+          clash (eq-eqb _ _ (number-at xs o (r .0) (r .1) (x .1) ∙ number-is s c (r .0) (x .0))) e)
 
   -- and a circuit that is dropped takes its own number away and no other
   pub number-drop : (s c : ℕ) → c < 8 → (xs : List Circuit) → ((x : Circuit) → x ∈ xs → x .channel < 8) → Once xs

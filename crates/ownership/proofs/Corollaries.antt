@@ -1,6 +1,6 @@
 -- The sentences of the users' third demand, one by one, from the theorem about lists of calls.
 -- Assumes nothing.
-use mathlib.Core.Path.{_≡_, refl, sym, subst}
+use mathlib.Core.Path.{_≡_, refl, ap, sym, subst}
 use mathlib.Core.Logic.{⊎-elim, _↔_}
 use mathlib.Core.Bool.{true}
 use mathlib.Core.List.{List, _∷_, List·Memᴰ·head, List·Memᴰ·not-nil}
@@ -11,16 +11,18 @@ use Rattle.common.specs.Tests.{refusal}
 use Rattle.cube.specs.Cube.{circuitOf}
 use Rattle.paths.specs.Network.{Network, Path, Link, links}
 use Rattle.paths.specs.Permitted.{Permitted}
-use Rattle.table.specs.Layout.{ownerAt, receiverAt}
+use Rattle.paths.proofs.Links.{link-true, true-link}
+use Rattle.table.specs.Layout.{ownerAt, receiverAt, armedAt}
 use Rattle.table.specs.View.{View, view}
 use Rattle.soundness.specs.Sound.{Sound}
 use Rattle.soundness.specs.SoundTest.{tableTests}
 use Rattle.paths.specs.CubeNetwork.{ports}
 use Rattle.ownership.specs.Calls.{Call, making}
 use Rattle.ownership.specs.OnTable.{tableStep}
-use Rattle.ownership.specs.History.{Circuit, History, shapeOn, netOn, linksOf, belongs, openOn, historyStep}
+use Rattle.ownership.specs.History.{Circuit, History, shapeOn, netOn, linksOf, belongs, openOn, armedOn, historyStep}
 use Rattle.ownership.specs.Agrees.{tableAfter, tableResults, historyAfter, Accepted, leaves}
 use Rattle.ownership.specs.Invariant.{Disjoint, Represents}
+use Rattle.ownership.specs.HistoryView.{viewOf}
 use Rattle.ownership.specs.StillOpen.{numbered, StillOpen, OpenedBy}
 use Rattle.ownership.proofs.Circuits.{pairwise-one, belongs-parts}
 use Rattle.ownership.proofs.Applied.{open-send}
@@ -61,6 +63,11 @@ module _ (b : List ℕ) (h : History) (D : ℕ) (e : Accepted b (making D)) (cal
       → (receiverAt table n k ≡ circuitOf s c) ↔ Listed s c (λ x. (n ≡ x .target) × (k ≡ x .receive))
   unfolding view
   table-holds-receive s c l n k = subst (λ (v : View). (v .receiver n k ≡ circuitOf s c) ↔ Listed s c (λ x. (n ≡ x .target) × (k ≡ x .receive))) (sym (reached-represents .shows)) (receiver-exactly history (reached-represents .valid) s c l n k)
+
+  -- a receive channel is armed in the table exactly when it is in the history
+  pub table-armed : (n k : ℕ) → (armedAt table n k ≡ true) ↔ ((n, k) ∈ history .armed)
+  unfolding view viewOf armedOn
+  table-armed n k = rw (ap (λ (v : View). v .armed n k) (reached-represents .shows)) (true-link (history .armed) n k, link-true (history .armed) n k)
 
   -- it is listed exactly when the list has an acknowledged open of it, and no accepted making and no accepted close of it afterwards, by the answers of the calls
   -- on the table

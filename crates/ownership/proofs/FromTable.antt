@@ -7,10 +7,10 @@ use mathlib.Core.List.{List, _∷_, map, Memᴰ·map, Memᴰ·of-map, Memᴰ·ap
 use Prim.Native.Nat.{ℕ, _*_, _^_, _≤_, _<_}
 use native.Mathlib.Omega.{arith}
 use lib.Dec.{eqb, ltb}
-use borrow.Author.Tests.{eqb-true, eq-eqb, lt-ltb, not-true}
-use Rattle.common.specs.Lists.{_∈_, keep, from, lowest, Pairwise}
+use borrow.Author.Tests.{eqb-true, eq-eqb, lt-ltb}
+use Rattle.common.specs.Lists.{_∈_, from, lowest, Pairwise}
 use Rattle.common.specs.Tests.{refusal}
-use Rattle.common.proofs.Tests.{same?, clash, is-false, both-below, and}
+use Rattle.common.proofs.Tests.{same?, below-or, clash, is-false, both, both-below, and}
 use Rattle.common.proofs.Lists.{keep-mem, mem-keep, keep-pairwise, pairwise-imp, pairwise-map}
 use Rattle.common.proofs.From.{from-mem, mem-from, from-pairwise, from-below, below-from}
 use Rattle.common.proofs.Lowest.{lowest-passes, lowest-found}
@@ -19,6 +19,7 @@ use Rattle.cube.proofs.Circuits.{circuit-of-parts, channel-below}
 use Rattle.paths.specs.Network.{Link, hasLink}
 use Rattle.paths.specs.Permitted.{Permitted}
 use Rattle.paths.proofs.Links.{link-true, true-link}
+use Rattle.table.specs.Layout.{inTable, maskAt, armedAt}
 use Rattle.table.specs.View.{View, view}
 use Rattle.table.specs.Encode.{AllBytes}
 use Rattle.soundness.specs.Sound.{endFor, CircuitSound, Sound}
@@ -28,13 +29,14 @@ use Rattle.paths.specs.CubeNetwork.{ports}
 use Rattle.ownership.specs.Calls.{Call}
 use Rattle.ownership.specs.Update.{updated}
 use Rattle.ownership.specs.OnTable.{isOpenIn, stoppedAt, tableStep}
-use Rattle.ownership.specs.History.{Circuit, History, shapeOn, netOn, linksOf, holdsLink, holdsReceive, enabledOn, historyStep}
+use Rattle.ownership.specs.History.{Circuit, History, shapeOn, netOn, linksOf, holdsLink, holdsReceive, enabledOn, armedOn, historyStep}
 use Rattle.ownership.specs.Agrees.{Agrees}
 use Rattle.ownership.specs.Invariant.{CircuitValid, Disjoint, Valid, Represents}
 use Rattle.ownership.specs.HistoryView.{numberOf, viewOf}
 use Rattle.ownership.specs.FromTable.{linksOut, circuitAt, openNumbers, historyOf}
 use Rattle.ownership.proofs.Circuits.{numberFor, number-none, Once, number-at}
 use Rattle.ownership.proofs.CircuitValid.{holds-link, link-holds, holds-receive, receive-holds, links-once, receives-once}
+use Rattle.ownership.proofs.Enabled.{kept-link}
 use Rattle.ownership.proofs.Stops.{pass-tests}
 use Rattle.ownership.proofs.OpenCircuits.{open-sound, sound-open}
 use Rattle.ownership.proofs.Applied.{follows-view}
@@ -57,6 +59,17 @@ mem-out : (ns ps : List ℕ) (n p : ℕ) → n ∈ ns → p ∈ ps → (n, p) �
 unfolding linksOut
 mem-out (m ∷ ns) ps n p (List·Memᴰ·head e) k = rw e (Memᴰ·append-left (linksOut ns ps) (Memᴰ·map (λ (q : ℕ). (m, q)) k))
 mem-out (m ∷ ns) ps n p (List·Memᴰ·tail i) k = Memᴰ·append-right (map (λ (q : ℕ). (m, q)) ps) (mem-out ns ps n p i k)
+
+-- of the nodes below a and the ports below b: those below both
+out-below : {a b : ℕ} (n p : ℕ) → (n, p) ∈ linksOut (from 0 a) (from 0 b) → (n < a) × (p < b)
+out-below {a} {b} n p m = let r = out-mem (from 0 a) (from 0 b) n p m in (from-below _ _ (r .0), from-below _ _ (r .1))
+
+every-out : (a b n p : ℕ) → hasLink (linksOut (from 0 a) (from 0 b)) n p ≡ ltb n a && ltb p b
+every-out a b n p = go (ltb n a && ltb p b) refl
+  where
+    go : (x : Bool) → (ltb n a && ltb p b) ≡ x → hasLink (linksOut (from 0 a) (from 0 b)) n p ≡ x
+    go true e = let i = both-below e in link-true _ n p (mem-out (from 0 a) (from 0 b) n p (below-from a n (i .0)) (below-from b p (i .1)))
+    go false e = is-false _ (λ t. let i = out-below n p (true-link _ n p t) in clash (and (lt-ltb n a (i .0)) (lt-ltb p b (i .1))) e)
 
 module _ (v : View) (sound : Sound v) where
   abbrev D : ℕ
@@ -101,8 +114,8 @@ module _ (v : View) (sound : Sound v) where
         let e = path-is v c (o .stands) in
         let there : f (o .stands .channel) ≡ true = rw e (eq-eqb _ c (o .stands .receives)) in
         let low : lowest f 8 0 ≤ o .stands .channel = lowest-found f 8 0 (o .stands .channel) (omega arith) there in
-        let onPathOf : f (lowest f 8 0) ≡ true = lowest-passes f 8 0 (omega (arith, o .stands .small)) in
-        o .stands .once _ _ (eqb-true _ c onPathOf) .1
+        let taken : f (lowest f 8 0) ≡ true = lowest-passes f 8 0 (omega (arith, o .stands .small)) in
+        o .stands .once _ _ (eqb-true _ c taken) .1
 
     link-number : (n p : ℕ) → (n, p) ∈ linksOf (netOn h) (circuitAt v c) → v .owner n p ≡ c
     unfolding circuitAt historyOf
@@ -144,23 +157,27 @@ module _ (v : View) (sound : Sound v) where
       (pairwise-imp _<_ (λ c d. Open c × Open d × (c < d)) (openNumbers v) (λ c d m k l. (open-number c m, open-number d k, l))
       (unfold openNumbers in keep-pairwise (isOpenIn v) _<_ (from 1 (8 * 2 ^ D)) (from-pairwise 1 (8 * 2 ^ D))))
 
-  -- what the history shows is what the table shows: its links' states
+  -- what the history shows is what the table shows: its links' states and its armed channels
   enabled-same : (n p : ℕ) → v .enabled n p ≡ enabledOn h n p
   unfolding enabledOn historyOf
-  enabled-same n p = go (ltb n (2 ^ D) && ltb p D) refl (v .enabled n p) refl
+  enabled-same n p =
+      rw (kept-link (λ m q. not (v .enabled m q)) _ n p, every-out (2 ^ D) D n p) (go (ltb n (2 ^ D) && ltb p D) refl (v .enabled n p) refl)
     where
-      off : Link → Bool
-      off l = not (v .enabled (l .0) (l .1))
-
-      every : List Link
-      every = linksOut (from 0 (2 ^ D)) (from 0 D)
-
-      go : (x : Bool) → (ltb n (2 ^ D) && ltb p D) ≡ x → (y : Bool) → v .enabled n p ≡ y → y ≡ (x && not (hasLink (keep off every) n p))
+      go : (x : Bool) → (ltb n (2 ^ D) && ltb p D) ≡ x → (y : Bool) → v .enabled n p ≡ y → y ≡ x && not (not y && x)
+      go true e true q = refl
+      go true e false q = refl
       go false e y q = sym q ∙ sound .absent-link n p (λ i. clash (and (lt-ltb n _ (i .0)) (lt-ltb p _ (i .1))) e) .0
-      go true e true q = sym (ap not (is-false _ (λ f. clash q (not-true _ (keep-mem off every (true-link (keep off every) n p f) .1)))))
-      go true e false q =
-          let i = both-below e in
-          sym (ap not (link-true (keep off every) n p (mem-keep off every (mem-out (from 0 (2 ^ D)) (from 0 D) n p (below-from _ n (i .0)) (below-from _ p (i .1))) (ap not q))))
+
+  armed-same : ((n k : ℕ) → v .armed n k ≡ true → k < 8) → (n k : ℕ) → v .armed n k ≡ armedOn h n k
+  unfolding armedOn historyOf
+  armed-same eight n k = rw (kept-link (v .armed) _ n k, every-out (2 ^ D) 8 n k) (go (v .armed n k) refl)
+    where
+      absent : 2 ^ D ≤ n → v .armed n k ≡ false
+      absent o = sound .absent-armed n k (λ i. omega arith)
+
+      go : (y : Bool) → v .armed n k ≡ y → y ≡ y && (ltb n (2 ^ D) && ltb k 8)
+      go true q = sym (and (lt-ltb n _ (⊎-elim (λ i. i) (λ o. absurd (clash q (absent o))) (below-or (2 ^ D) n))) (lt-ltb k 8 (eight n k q)))
+      go false q = refl
 
   -- its entries: the number that stands in one is that of the circuit that holds it
   entry-same : (holds : Circuit → Bool) {e : ℕ} → Once holds (h .circuits) → e ≤ 8 * 2 ^ D → (e ≢ 0 → CircuitSound v e)
@@ -185,37 +202,59 @@ module _ (v : View) (sound : Sound v) where
       entry-same (holdsReceive n k) (receives-once (netOn h) n k (h .circuits) apart) (sound .receive-number n k) (receive-stands v sound n k)
       (λ c o t. let a = holds-receive n k _ t in receive-number c o n k (a .0) (a .1)) (λ o. let a = number-receive _ o n k refl in receive-holds n k _ (a .0) (a .1))
 
-  shows-same : v ≡ viewOf h
-  unfolding viewOf historyOf
-  shows-same = λ i. record { dimension = D; enabled = λ n p. enabled-same n p i; owner = λ n p. owner-same n p i; receiver = λ n k. receiver-same n k i }
+  -- where it shows no channel armed beyond the eight of a node, as no bytes do
+  module _ (eight : (n k : ℕ) → v .armed n k ≡ true → k < 8) where
+    shows-same : v ≡ viewOf h
+    unfolding viewOf historyOf
+    shows-same = λ i.
+        record {
+          dimension = D;
+          enabled = λ n p. enabled-same n p i;
+          owner = λ n p. owner-same n p i;
+          receiver = λ n k. receiver-same n k i;
+          armed = λ n k. armed-same eight n k i;
+        }
 
-  standing : (x : Circuit) → x ∈ h .circuits → CircuitValid h x
-  standing x m = let r = listed-open x m in subst (CircuitValid h) (r .2) (stood (r .0) (r .1))
-    where
-      stood : (c : ℕ) → Open c → CircuitValid h (circuitAt v c)
-      stood c o =
-          record {
-            source = unfold circuitAt historyOf in omega (arith, o .positive, o .most);
-            channel = unfold circuitAt in channel-below c;
-            permitted = permitted-is c o;
-            enabled = λ l k. sym (enabled-same (l .0) (l .1)) ∙ sound .held-enabled (l .0) (l .1) (λ z. omega (arith, z, o .positive, link-number c o (l .0) (l .1) k));
-            receive = omega (arith, receive-is c o, o .stands .small);
-          }
+    standing : (x : Circuit) → x ∈ h .circuits → CircuitValid h x
+    standing x m = let r = listed-open x m in subst (CircuitValid h) (r .2) (stood (r .0) (r .1))
+      where
+        stood : (c : ℕ) → Open c → CircuitValid h (circuitAt v c)
+        stood c o =
+            record {
+              source = unfold circuitAt historyOf in omega (arith, o .positive, o .most);
+              channel = unfold circuitAt in channel-below c;
+              permitted = permitted-is c o;
+              enabled = λ l k.
+                  sym (enabled-same (l .0) (l .1)) ∙ sound .held-enabled _ _ (λ z. omega (arith, z, o .positive, link-number c o (l .0) (l .1) k));
+              receive = omega (arith, receive-is c o, o .stands .small);
+              armed = sym (armed-same eight _ _) ∙ sound .held-armed _ _ (λ z. omega (arith, z, o .positive, receive-number c o _ _ refl refl));
+            }
 
-  table-valid : 1 ≤ D → D ≤ 8 → Valid h
-  table-valid least most =
-      record {
-        least = unfold historyOf in least;
-        most = unfold historyOf in most;
-        blocked = λ l m. unfold historyOf in let r = out-mem _ _ (l .0) (l .1) (keep-mem _ _ m .0) in (from-below _ _ (r .0), from-below _ _ (r .1));
-        stands = standing;
-        apart = apart;
-      }
+    table-valid : 1 ≤ D → D ≤ 8 → Valid h
+    table-valid least most =
+        record {
+          least = unfold historyOf in least;
+          most = unfold historyOf in most;
+          blocked = λ l m. unfold historyOf in out-below (l .0) (l .1) (keep-mem _ _ m .0);
+          armed = λ l m. unfold historyOf in out-below (l .0) (l .1) (keep-mem _ _ m .0);
+          stands = standing;
+          apart = apart;
+        }
+
+-- no bytes show a channel armed beyond the eight of a node
+eight : (b : List ℕ) (n k : ℕ) → view b .armed n k ≡ true → k < 8
+unfolding view armedAt maskAt
+eight b n k e = both-below {n = n} {a = 256} (both (inTable n k) _ e .0) .1
 
 -- Every table that passes the tests of a lent table shows what its history says.
 pub sound-represents : (b : List ℕ) → AllBytes b → refusal (tableTests b) ≡ 0 → Represents b (historyOf (view b))
 sound-represents b small e =
-    let p = pass-tests b e in record { bytes = record { long = p .0; small = small }; shows = shows-same (view b) (p .3); valid = table-valid (view b) (p .3) (unfold view in p .1) (unfold view in p .2) }
+    let p = pass-tests b e in
+    record {
+      bytes = record { long = p .0; small = small };
+      shows = shows-same (view b) (p .3) (eight b);
+      valid = table-valid (view b) (p .3) (eight b) (unfold view in p .1) (unfold view in p .2);
+    }
 
 -- So lists of calls agree with that history from there on,
 pub sound-agrees : (b : List ℕ) → AllBytes b → refusal (tableTests b) ≡ 0 → (calls : List Call) → Agrees b (historyOf (view b)) calls

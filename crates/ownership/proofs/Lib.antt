@@ -8,6 +8,7 @@ pub mod Acknowledged
 pub mod Allowed
 pub mod Reasons
 pub mod Enabled
+pub mod Armed
 pub mod Applied
 pub mod Steps
 pub mod StillOpen

@@ -6,14 +6,15 @@ use mathlib.Core.Bool.{true, false, not}
 use mathlib.Core.List.{List, []}
 use Prim.Native.Nat.{ℕ, _^_, _<_}
 use native.Mathlib.Omega.{arith}
-use lib.Dec.{ltb}
-use borrow.Author.Tests.{eq-eqb, lt-ltb}
-use Rattle.common.specs.Tests.{refusal}
-use Rattle.common.proofs.Tests.{clash, same?, passed, accepted, refusal-before, refusal-after, Avoids, avoids, avoiding, never-answered}
+use lib.Dec.{eqb}
+use lib.ListN.{length}
+use borrow.Author.Tests.{eq-eqb}
+use Rattle.common.specs.Tests.{test, refusal}
+use Rattle.common.proofs.Tests.{clash, same?, refusal-before, refusal-after, Avoids, avoids, avoiding, never-answered}
 use Rattle.cube.specs.Cube.{circuitOf}
 use Rattle.cube.proofs.Bits.{no-bit-above}
 use Rattle.paths.specs.Send.{Outcome, acknowledged, route-rejected, receive-rejected}
-use Rattle.table.specs.Layout.{dimensionAt, enabledAt, ownerAt}
+use Rattle.table.specs.Layout.{tableLength, dimensionAt, enabledAt, ownerAt, receiverAt, armedAt}
 use Rattle.table.specs.View.{View, view, heldIn}
 use Rattle.table.specs.Encode.{AllBytes, Bytes}
 use Rattle.soundness.specs.Sound.{CircuitSound, Sound}
@@ -23,16 +24,17 @@ use Rattle.search.specs.PassAnswer.{pass-answer}
 use Rattle.search.specs.SendAnswer.{answerOfOutcome, sendAnswer, sends, MaySend}
 use Rattle.search.specs.SendSays.{SendSays}
 use Rattle.search.proofs.SendSays.{demand-2}
-use Rattle.ownership.specs.Calls.{Call, making, blocking, unblocking, opening, closing, tracing, CallResult, hopsOf, receiveOf, scoutsOf, answered, callTests, resultOf}
+use Rattle.ownership.specs.Calls.{Call, making, blocking, unblocking, opening, closing, tracing, arming, disarming, callTests}
+use Rattle.ownership.specs.Calls.{CallResult, hopsOf, receiveOf, scoutsOf, only, answered, resultOf}
 use Rattle.ownership.specs.Update.{sendIn}
-use Rattle.ownership.specs.OnTable.{openIn, factsOf, lentTests, stoppedAt, tableStep, done}
+use Rattle.ownership.specs.OnTable.{openIn, takenIn, factsOf, lentTests, stoppedAt, tableStep, done}
 use Rattle.ownership.specs.Allowed.{Allowed}
-use Rattle.ownership.proofs.Allowed.{allowed}
+use Rattle.ownership.proofs.Allowed.{allowed, allowed-passes}
 use Rattle.ownership.proofs.Stops.{lent-both, lent-numbered, none-stops, none-stops-lent, pass-tests, stopped-is}
 use Rattle.ownership.proofs.OpenCircuits.{open-sound, sound-open}
 use Rattle.ownership.proofs.Steps.{table-step}
 use Rattle.cube.proofs.Ports.{most-nodes}
-use Rattle.ownership.proofs.StepBytes.{blocking-again, unblocking-again}
+use Rattle.ownership.proofs.StepBytes.{blocking-again, unblocking-again, arming-again, disarming-again}
 use Rattle.ownership.proofs.BytesAfter.{writtenBy, written-bytes}
 
 -- what the tests that have passed say of an open
@@ -90,6 +92,8 @@ no-three b a = never-answered 3 (callTests (factsOf (view b)) a) (others a) (λ 
     others (opening s c t y v) = avoiding 3 _ refl
     others (closing s c) = avoiding 3 _ refl
     others (tracing s c buffer) = avoiding 3 _ refl
+    others (arming n k) = avoiding 3 _ refl
+    others (disarming n k) = avoiding 3 _ refl
 
 pub stopped-three : (b : List ℕ) (a : Call) → stoppedAt b a ≡ 3 → Sound (view b) → ⊥
 unfolding stoppedAt avoids
@@ -100,32 +104,45 @@ stopped-three b a e sound =
     lent : refusal (lentTests b a) ≢ 3
     lent = lent-both (λ ts. refusal ts ≢ 3) b a (never-answered 3 _ (avoiding 3 _ refl) (λ z. omega arith)) (λ q. answers b .not-sound q sound)
 
--- Blocking a blocked link, or unblocking an enabled one, succeeds and changes nothing, on any table that passes its tests.
-module _ (b : List ℕ) (small : AllBytes b) (pass : refusal (tableTests b) ≡ 0) (n p : ℕ) (i : n < 2 ^ dimensionAt b) (l : p < dimensionAt b) where
-  node-there : not (ltb n (2 ^ dimensionAt b)) ≡ false
-  node-there = ap not (lt-ltb n (2 ^ dimensionAt b) i)
-
-  port-there : not (ltb p (dimensionAt b)) ≡ false
-  port-there = ap not (lt-ltb p (dimensionAt b) l)
-
-  stops-as : (a : Call) → stoppedAt b a ≡ refusal (callTests (factsOf (view b)) a)
-  stops-as a = let r = pass-tests b pass in stopped-is b (r .0) (r .1) (r .2) (r .3) a
-
+-- Blocking a blocked link, or unblocking an enabled one, succeeds and changes nothing, on any table that passes its tests; so does arming an armed
+-- channel, or disarming an unarmed one.
+module _ (b : List ℕ) (small : AllBytes b) (pass : refusal (tableTests b) ≡ 0) where
   bytes : Bytes b
   bytes = record { long = pass-tests b pass .0; small = small }
 
-  idle : enabledAt b n p ≡ false → heldIn (view b) n p ≡ false
-  unfolding heldIn view
-  idle e = ⊎-elim (λ z. ap not (eq-eqb (ownerAt b n p) 0 z)) (λ f. absurd (clash (unfold view in pass-tests b pass .3 .held-enabled n p f) e)) (same? (ownerAt b n p) 0)
+  leaves-all : (a : Call) → Allowed (factsOf (view b)) a → resultOf (factsOf (view b)) a ≡ only 0 → tableStep b a .state ≡ b
+      → tableStep b a ≡ done b 0 [] []
+  leaves-all a may gives same =
+      let r = pass-tests b pass in
+      let z : stoppedAt b a ≡ 0 = stopped-is b (r .0) (r .1) (r .2) (r .3) a ∙ allowed-passes (factsOf (view b)) a may in
+      λ i. record { state = same i; result = (table-step b a .result z ∙ gives) i }
 
-  pub blocked-again : enabledAt b n p ≡ false → tableStep b (blocking n p) ≡ done b 0 [] []
-  unfolding callTests factsOf view resultOf
-  blocked-again e =
-      let z : stoppedAt b (blocking n p) ≡ 0 = stops-as (blocking n p) ∙ passed 4 _ node-there ∙ passed 6 _ port-there ∙ passed 13 [] (idle e) ∙ accepted in
-      λ i. record { state = blocking-again b bytes n p e i; result = table-step b (blocking n p) .result z i }
+  module _ (n p : ℕ) (i : n < 2 ^ dimensionAt b) (l : p < dimensionAt b) where
+    idle : enabledAt b n p ≡ false → heldIn (view b) n p ≡ false
+    unfolding heldIn view
+    idle e =
+        ⊎-elim (λ z. ap not (eq-eqb (ownerAt b n p) 0 z)) (λ f. absurd (clash (unfold view in pass-tests b pass .3 .held-enabled n p f) e))
+        (same? (ownerAt b n p) 0)
 
-  pub enabled-again : enabledAt b n p ≡ true → tableStep b (unblocking n p) ≡ done b 0 [] []
-  unfolding callTests factsOf view resultOf
-  enabled-again e =
-      let z : stoppedAt b (unblocking n p) ≡ 0 = stops-as (unblocking n p) ∙ passed 4 _ node-there ∙ passed 6 [] port-there ∙ accepted in
-      λ i. record { state = unblocking-again b bytes n p e i; result = table-step b (unblocking n p) .result z i }
+    pub blocked-again : enabledAt b n p ≡ false → tableStep b (blocking n p) ≡ done b 0 [] []
+    unfolding Allowed factsOf view resultOf
+    blocked-again e = leaves-all (blocking n p) (i, l, idle e) refl (blocking-again b bytes n p e)
+
+    pub enabled-again : enabledAt b n p ≡ true → tableStep b (unblocking n p) ≡ done b 0 [] []
+    unfolding Allowed factsOf view resultOf
+    enabled-again e = leaves-all (unblocking n p) (i, l) refl (unblocking-again b bytes n p e)
+
+  module _ (n k : ℕ) (i : n < 2 ^ dimensionAt b) (l : k < 8) where
+    untaken : armedAt b n k ≡ false → takenIn (view b) n k ≡ false
+    unfolding takenIn view
+    untaken e =
+        ⊎-elim (λ z. ap not (eq-eqb (receiverAt b n k) 0 z)) (λ f. absurd (clash (unfold view in pass-tests b pass .3 .held-armed n k f) e))
+        (same? (receiverAt b n k) 0)
+
+    pub armed-again : armedAt b n k ≡ true → tableStep b (arming n k) ≡ done b 0 [] []
+    unfolding Allowed factsOf view resultOf
+    armed-again e = leaves-all (arming n k) (i, l) refl (arming-again b bytes n k e)
+
+    pub disarmed-again : armedAt b n k ≡ false → tableStep b (disarming n k) ≡ done b 0 [] []
+    unfolding Allowed factsOf view resultOf
+    disarmed-again e = leaves-all (disarming n k) (i, l, untaken e) refl (disarming-again b bytes n k e)

@@ -10,7 +10,7 @@ use borrow.Author.Tests.{not-true}
 use Rattle.common.proofs.Tests.{same?, clash}
 use Rattle.common.proofs.Lists.{keep-mem}
 use Rattle.paths.specs.Send.{Outcome, acknowledged, route-rejected, receive-rejected}
-use Rattle.ownership.specs.Calls.{Call, making, blocking, unblocking, opening, closing, tracing}
+use Rattle.ownership.specs.Calls.{Call, making, blocking, unblocking, opening, closing, tracing, arming, disarming}
 use Rattle.ownership.specs.History.{Circuit, History, belongs, stoppedOn, sendOn, withOpened, applied, historyStep}
 use Rattle.ownership.specs.Agrees.{historyAfter, historyResults, leaves, answers}
 use Rattle.ownership.specs.StillOpen.{numbered, Ends, Lasts, OpenedBy}
@@ -39,6 +39,8 @@ followed h (unblocking n p) x m = inl m
 followed h (opening s c t y v) x m = added h s c t y v (sendOn h s t y v .outcome) refl x m
 followed h (closing s c) x m = inl (keep-mem _ (h .circuits) m .0)
 followed h (tracing s c buffer) x m = inl m
+followed h (arming n k) x m = inl m
+followed h (disarming n k) x m = inl m
 
 step : (h : History) (a : Call) (x : Circuit) → x ∈ historyStep h a .state .circuits → (x ∈ h .circuits) ⊎ ((stoppedOn h a ≡ 0) × New h a x)
 step h a x m =
@@ -54,6 +56,8 @@ ended h (unblocking n p) x m z = z
 ended h (opening s c t y v) x m z = z
 ended h (closing s c) x m z = clash (parts-belong s c x (sym (z .0)) (sym (z .1))) (not-true _ (keep-mem (λ y. not (belongs s c y)) (h .circuits) m .1))
 ended h (tracing s c buffer) x m z = z
+ended h (arming n k) x m z = z
+ended h (disarming n k) x m z = z
 
 lasted : (h : History) (a : Call) (x : Circuit) → x ∈ historyStep h a .state .circuits → historyStep h a .result .number ≡ 0 → Ends (x .source) (x .channel) a → ⊥
 lasted h a x m e z = ended h a x (rw (history-step h a .accepted e) at m) z
@@ -62,7 +66,7 @@ lasted h a x m e z = ended h a x (rw (history-step h a .accepted e) at m) z
 pub opened-later : (h : History) (a : Call) (more : List Call) (x : Circuit) → OpenedBy (historyStep h a .state) more x → OpenedBy h (a ∷ more) x
 unfolding leaves
 opened-later h a more x z =
-    record { before = a ∷ z .before; type = z .type; vector = z .vector; after = z .after; split = ap (a ∷_) (z .split); onPathOf = z .onPathOf; acknowledges = z .acknowledges; lasts = z .lasts }
+    record { before = a ∷ z .before; type = z .type; vector = z .vector; after = z .after; split = ap (a ∷_) (z .split); not-stopped = z .not-stopped; acknowledges = z .acknowledges; lasts = z .lasts }
 
 -- any list: what is listed after it was listed before and nothing has ended it, or was opened by it
 pub listed-by : (calls : List Call) (h : History) (x : Circuit) → x ∈ historyAfter h calls .circuits
@@ -85,7 +89,7 @@ listed-by (a ∷ more) h x m =
           vector = z .1 .vector;
           after = more;
           split = ap (_∷ more) e;
-          onPathOf = subst (λ (u : Call). stoppedOn h u ≡ 0) e (z .0);
+          not-stopped = subst (λ (u : Call). stoppedOn h u ≡ 0) e (z .0);
           acknowledges = z .1 .acknowledges;
           lasts = subst (λ (u : Call). Lasts (x .source) (x .channel) (numbered more (historyResults (historyStep h u .state) more))) e l;
         }

@@ -1,11 +1,11 @@
--- What a sound table of a cube up to dimension 8 shows has room in the bytes of a table.
+-- What a sound table of a cube up to dimension 8 shows has room in the bytes of a table, if it shows no channel armed beyond the eight of a node.
 -- Assumes nothing.
 use mathlib.Core.Path.{_≡_, refl}
 use mathlib.Core.Logic.{⊎-elim}
-use mathlib.Core.Bool.{false}
+use mathlib.Core.Bool.{true, false}
 use Prim.Native.Nat.{ℕ, _^_, _≤_, _<_}
 use native.Mathlib.Omega.{arith}
-use Rattle.common.proofs.Tests.{clash, same?, below-or}
+use Rattle.common.proofs.Tests.{clash, same?, below-or, is-false}
 use Rattle.cube.proofs.Ports.{most-nodes, below-256}
 use Rattle.table.specs.Layout.{inTable}
 use Rattle.table.specs.View.{View}
@@ -13,7 +13,7 @@ use Rattle.table.specs.Encode.{ViewFits}
 use Rattle.table.proofs.Entries.{within}
 use Rattle.soundness.specs.Sound.{Sound}
 
-module _ (v : View) (most : v .dimension ≤ 8) (sound : Sound v) where
+module _ (v : View) (most : v .dimension ≤ 8) (sound : Sound v) (eight : (n k : ℕ) → v .armed n k ≡ true → k < 8) where
   absent : (n p : ℕ) → inTable n p ≡ false → (n < 2 ^ v .dimension) × (p < v .dimension) → ⊥
   absent n p e r = clash (within n p (below-256 most (r .0)) (omega (arith, r .1))) e
 
@@ -24,6 +24,11 @@ module _ (v : View) (most : v .dimension ≤ 8) (sound : Sound v) where
       held : (v .receiver n k ≡ 0 → ⊥) → {channel : ℕ} → k ≡ channel → channel < 8 → ⊥
       held f q l = ⊎-elim (λ i. clash (within n k (below-256 most i) (omega arith)) e) (λ o. f (sound .absent-receive n k (λ i. omega arith))) (below-or (2 ^ v .dimension) n)
 
+  unarmed : (n k : ℕ) → inTable n k ≡ false → v .armed n k ≡ false
+  unarmed n k e =
+      ⊎-elim (λ i. is-false _ (λ h. clash (within n k (below-256 most i) (eight n k h)) e)) (λ o. sound .absent-armed n k (λ i. omega arith))
+      (below-or (2 ^ v .dimension) n)
+
   pub sound-fits : ViewFits v
   sound-fits =
       record {
@@ -31,4 +36,5 @@ module _ (v : View) (most : v .dimension ≤ 8) (sound : Sound v) where
         enabled = λ n p e. sound .absent-link n p (absent n p e) .0;
         owner = record { small = λ n p. omega (arith, sound .link-number n p, most-nodes most); outside = λ n p e. sound .absent-link n p (absent n p e) .1 };
         receiver = record { small = λ n k. omega (arith, sound .receive-number n k, most-nodes most); outside = unheld };
+        armed = unarmed;
       }

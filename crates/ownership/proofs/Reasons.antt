@@ -14,8 +14,11 @@ use Rattle.common.specs.Tests.{Test, test, refusal}
 use Rattle.common.proofs.Tests.{both, and, either, or-left, or-right}
 use Rattle.cube.specs.Bits.{has}
 use Rattle.cube.proofs.Bits.{has-room, has-bit-above}
-use Rattle.ownership.specs.Calls.{Call, making, blocking, unblocking, opening, closing, tracing, CallFacts, callTests}
-use Rattle.ownership.specs.Reasons.{Reason, making-dimension, blocking-node, blocking-port, blocking-held, unblocking-node, unblocking-port, opening-node, opening-channel, opening-type, opening-vector, opening-in-use, closing-node, closing-channel, closing-none, tracing-node, tracing-channel, tracing-none, tracing-short}
+use Rattle.ownership.specs.Calls.{Call, making, blocking, unblocking, opening, closing, tracing, arming, disarming, CallFacts, callTests}
+use Rattle.ownership.specs.Reasons.{Reason, making-dimension, blocking-node, blocking-port, blocking-held, unblocking-node, unblocking-port}
+use Rattle.ownership.specs.Reasons.{opening-node, opening-channel, opening-type, opening-vector, opening-in-use}
+use Rattle.ownership.specs.Reasons.{closing-node, closing-channel, closing-none, tracing-node, tracing-channel, tracing-none, tracing-short}
+use Rattle.ownership.specs.Reasons.{arming-node, arming-channel, disarming-node, disarming-channel, disarming-held}
 
 -- Of any list of tests: where each test that applies has a reason, the number answered has one.
 data Explained (R : ℕ → Type 0) : List Test → Type 0 where
@@ -115,6 +118,8 @@ module _ (a : CallFacts) where
   explained (tracing s c buffer) =
       row (not-below s _) tracing-node
       (row (below 7 c) tracing-channel (row (closed _) tracing-none (row (below (length buffer) 9) tracing-short no-more)))
+  explained (arming n k) = row (not-below n _) arming-node (row (below 7 k) arming-channel no-more)
+  explained (disarming n k) = row (not-below n _) disarming-node (row (below 7 k) disarming-channel (row itself disarming-held no-more))
 
   -- and where a reason holds its test applies
   reason-applies : (x : Call) {n : ℕ} → Reason a x n → applies n (callTests a x) ≡ true
@@ -137,6 +142,11 @@ module _ (a : CallFacts) where
   reason-applies (tracing s c buffer) (tracing-channel h) = below 7 c .1 h
   reason-applies (tracing s c buffer) (tracing-none h) = closed _ .1 h
   reason-applies (tracing s c buffer) (tracing-short h) = below (length buffer) 9 .1 h
+  reason-applies (arming n k) (arming-node h) = not-below n _ .1 h
+  reason-applies (arming n k) (arming-channel h) = below 7 k .1 h
+  reason-applies (disarming n k) (disarming-node h) = not-below n _ .1 h
+  reason-applies (disarming n k) (disarming-channel h) = below 7 k .1 h
+  reason-applies (disarming n k) (disarming-held h) = h
 
   -- "Within one call the tests run in rising order of number."
   rising : (x : Call) → rise 0 (callTests a x) ≡ true
@@ -147,6 +157,8 @@ module _ (a : CallFacts) where
   rising (opening s c t y v) = refl
   rising (closing s c) = refl
   rising (tracing s c buffer) = refl
+  rising (arming n k) = refl
+  rising (disarming n k) = refl
 
   -- "A test that does not apply never refuses": the number answered has its reason.
   pub refused-for : (x : Call) → refusal (callTests a x) ≢ 0 → Reason a x (refusal (callTests a x))

@@ -1,9 +1,9 @@
 -- At most eight links lead into a node. In a sound table each circuit that holds a receive channel there holds one of them, so a free link into the
--- node leaves a receive channel free: no send is receive rejected, and no call answers 11.
+-- node leaves a receive channel unheld: where all eight are armed, no send to it is receive rejected, and no open answers 11.
 -- Assumes nothing.
 use mathlib.Core.Path.{_≡_, refl, ap, sym, _∙_, subst}
 use mathlib.Core.Logic.{⊎-elim, _≢_}
-use mathlib.Core.Bool.{Bool, true, not}
+use mathlib.Core.Bool.{Bool, true, not, _&&_}
 use mathlib.Core.List.{List, [], _∷_, map, Memᴰ·of-map, List·Memᴰ·head, List·Memᴰ·tail, List·Memᴰ·cases-cons}
 use Prim.Native.Nat.{ℕ, _^_, _≤_, _<_}
 use native.Mathlib.Omega.{arith}
@@ -19,7 +19,7 @@ use Rattle.cube.specs.Axes.{axis}
 use Rattle.cube.proofs.Bits.{flip-back}
 use Rattle.paths.specs.Network.{Path, end, links}
 use Rattle.paths.specs.Permitted.{Permitted}
-use Rattle.paths.specs.Send.{all-held, Outcome, acknowledged, route-rejected, receive-rejected}
+use Rattle.paths.specs.Send.{none-available, Outcome, acknowledged, route-rejected, receive-rejected}
 use Rattle.paths.specs.Sentences.{Free, AttemptsSay}
 use Rattle.paths.specs.CubeNetwork.{Shape, ports, network, attempts}
 use Rattle.paths.proofs.Links.{On, on-first, on-later}
@@ -28,6 +28,7 @@ use Rattle.paths.proofs.Sentences.{permitted-end}
 use Rattle.paths.proofs.CubeNetwork.{unfolded-port}
 use Rattle.paths.proofs.Send.{said-by, receive-rejected-says, tries-permitted}
 use Rattle.paths.proofs.Words.{free-links}
+use Rattle.table.specs.Layout.{dimensionAt, armedAt}
 use Rattle.table.specs.View.{View, view, available, receive, shapeOf, net, heldBy}
 use Rattle.table.proofs.Receives.{none-chosen}
 use Rattle.soundness.specs.Sound.{CircuitSound, Sound}
@@ -36,7 +37,7 @@ use Rattle.soundness.proofs.Soundness.{path-is, receive-stands}
 use Rattle.search.specs.PassAnswer.{freeIn, PassAnswer, pass-answer}
 use Rattle.search.specs.SendAnswer.{answerOfOutcome, sendAnswer}
 use Rattle.search.proofs.PassAnswer.{free-owner}
-use Rattle.ownership.specs.Calls.{Call, making, blocking, unblocking, opening, closing, tracing, callTests, resultOf}
+use Rattle.ownership.specs.Calls.{Call, making, blocking, unblocking, opening, closing, tracing, arming, disarming, callTests, resultOf}
 use Rattle.ownership.specs.OnTable.{factsOf, lentTests, stoppedAt, tableStep}
 use Rattle.ownership.proofs.Steps.{table-step}
 use Rattle.ownership.specs.Allowed.{Allowed}
@@ -142,20 +143,22 @@ module _ (v : View) (sound : Sound v) (most : v .dimension ≤ 8) (t : ℕ) wher
         all-taken port (λ j l. subst (_< 8) (port-is j l) (into j l .1)) same-channel q h
         (λ j l e. full j l (sym (holds j l) ∙ ap (λ p. v .owner (next t p) p) e ∙ z))
 
-  -- Where a free permitted path leads to t, a receive channel of t is free.
-  pub receives : (s : ℕ) (w : Path) → s < 2 ^ v .dimension → Permitted (net v) s (ports (shapeOf v)) t w → Free (net v) (freeIn v) s w → receive v t ≢ all-held
+  -- Where a free permitted path leads to t and its channels are armed, a receive channel of t is available.
+  pub receives : ((k : ℕ) → k < 8 → v .armed t k ≡ true) → (s : ℕ) (w : Path) → s < 2 ^ v .dimension → Permitted (net v) s (ports (shapeOf v)) t w
+      → Free (net v) (freeIn v) s w → receive v t ≢ none-available
   unfolding receive available
-  receives s w i o free e =
+  receives armed s w i o free e =
       let c = comes-in s w i o in
-      no-way-in (λ j h. eqb-false _ 0 (none-chosen _ e j h)) (arrival w) (c .1) (free-owner v _ _ (free-links (net v) (freeIn v) s w .0 free _ (c .0)))
+      no-way-in (λ j h. eqb-false _ 0 (ap (_&& eqb (v .receiver t j) 0) (sym (armed j h)) ∙ none-chosen _ e j h)) (arrival w) (c .1)
+      (free-owner v _ _ (free-links (net v) (freeIn v) s w .0 free _ (c .0)))
 
-  -- So no send is receive rejected.
-  send-receives : (s : ℕ) → s < 2 ^ v .dimension → (type vector : ℕ) (o : Outcome) (n : ℕ)
+  -- So no send to it is receive rejected.
+  send-receives : ((k : ℕ) → k < 8 → v .armed t k ≡ true) → (s : ℕ) → s < 2 ^ v .dimension → (type vector : ℕ) (o : Outcome) (n : ℕ)
       → AttemptsSay (net v) s t (freeIn v) (receive v t) (attempts (shapeOf v) type vector) o n → o ≢ receive-rejected
-  send-receives s i type vector o n a q =
+  send-receives armed s i type vector o n a q =
       let x = said-by (net v) s t (freeIn v) (receive v t) (attempts (shapeOf v) type vector) receive-rejected n (rw q at a) in
       let y = receive-rejected-says (net v) s t (freeIn v) (receive v t) (x .0) (x .2 .0) (x .2 .1) in
-      receives s (y .0 .0) i (tries-permitted (shapeOf v) s t type vector (x .0) (x .1) (y .0 .0) (y .0 .1)) (y .0 .2) (y .1)
+      receives armed s (y .0 .0) i (tries-permitted (shapeOf v) s t type vector (x .0) (x .1) (y .0 .0) (y .0 .1)) (y .0 .2) (y .1)
 
 -- no test has the number 11
 stopped-otherwise : (b : List ℕ) (a : Call) → stoppedAt b a ≢ 11
@@ -166,6 +169,8 @@ stopped-otherwise b (unblocking n p) = never-answered 11 _ (avoiding 11 _ refl) 
 stopped-otherwise b (opening s c t y v) = never-answered 11 _ (avoiding 11 _ refl) (λ z. omega arith)
 stopped-otherwise b (closing s c) = never-answered 11 _ (avoiding 11 _ refl) (λ z. omega arith)
 stopped-otherwise b (tracing s c buffer) = never-answered 11 _ (avoiding 11 _ refl) (λ z. omega arith)
+stopped-otherwise b (arming n k) = never-answered 11 _ (avoiding 11 _ refl) (λ z. omega arith)
+stopped-otherwise b (disarming n k) = never-answered 11 _ (avoiding 11 _ refl) (λ z. omega arith)
 
 -- the number that a pass or a send settles on, and the outcome of which it is 11
 answerNumber : PassAnswer → ℕ
@@ -177,23 +182,44 @@ rejected (acknowledged w k) n b e = absurd (omega (arith, e))
 rejected route-rejected n b e = absurd (omega (arith, e))
 rejected receive-rejected n b e = refl
 
-open-otherwise : (b : List ℕ) (s c t y v : ℕ) → stoppedAt b (opening s c t y v) ≡ 0 → tableStep b (opening s c t y v) .result .number ≢ 11
+-- all eight receive channels of a node are armed
+abbrev pub AllArmed : List ℕ → ℕ → Type 0
+AllArmed b n = (k : ℕ) → k < 8 → armedAt b n k ≡ true
+
+open-otherwise : (b : List ℕ) (s c t y v : ℕ) → AllArmed b t → stoppedAt b (opening s c t y v) ≡ 0
+    → tableStep b (opening s c t y v) .result .number ≢ 11
 unfolding Allowed factsOf view sendAnswer answerNumber
-open-otherwise b s c t y v z e =
+open-otherwise b s c t y v armed z e =
     let p = pass-tests b (none-stops-lent b (opening s c t y v) refl z) in
     let r = allowed (factsOf (view b)) (opening s c t y v) (none-stops b (opening s c t y v) z) in
     let x = open-answers b s c t y v z in
-    send-receives (view b) (p .3) (p .2) t s (r .0) y v (x .outcome) _ (x .says) (rejected (x .outcome) _ _ (sym (ap answerNumber (x .answer)) ∙ e))
+    send-receives (view b) (p .3) (p .2) t armed s (r .0) y v (x .outcome) _ (x .says)
+    (rejected (x .outcome) _ _ (sym (ap answerNumber (x .answer)) ∙ e))
 
-passed-otherwise : (b : List ℕ) (a : Call) → stoppedAt b a ≡ 0 → tableStep b a .result .number ≢ 11
-unfolding resultOf
-passed-otherwise b (making D) z e = omega (arith, rw (table-step b (making D) .result z) at e)
-passed-otherwise b (blocking n p) z e = omega (arith, rw (table-step b (blocking n p) .result z) at e)
-passed-otherwise b (unblocking n p) z e = omega (arith, rw (table-step b (unblocking n p) .result z) at e)
-passed-otherwise b (opening s c t y v) z e = open-otherwise b s c t y v z e
-passed-otherwise b (closing s c) z e = omega (arith, rw (table-step b (closing s c) .result z) at e)
-passed-otherwise b (tracing s c buffer) z e = omega (arith, rw (table-step b (tracing s c buffer) .result z) at e)
+-- a call that some test stops answers another number
+never-stopped : (b : List ℕ) (a : Call) → (stoppedAt b a ≡ 0 → tableStep b a .result .number ≢ 11) → tableStep b a .result .number ≢ 11
+never-stopped b a h e = ⊎-elim (λ z. h z e) (λ z. stopped-otherwise b a (rw (table-step b a .stopped z) at e)) (same? (stoppedAt b a) 0)
 
--- No call answers 11, whatever the bytes of the table are.
-pub never-full : (b : List ℕ) (a : Call) → tableStep b a .result .number ≢ 11
-never-full b a e = ⊎-elim (λ z. passed-otherwise b a z e) (λ z. stopped-otherwise b a (rw (table-step b a .stopped z) at e)) (same? (stoppedAt b a) 0)
+-- No open answers 11 where the receive channels of its target are all armed, whatever the bytes of the table are.
+pub never-full : (b : List ℕ) (s c t y v : ℕ) → AllArmed b t → tableStep b (opening s c t y v) .result .number ≢ 11
+never-full b s c t y v armed = never-stopped b (opening s c t y v) (open-otherwise b s c t y v armed)
+
+-- Where the receive channels of all nodes of the cube are armed, no call answers 11.
+abbrev pub CubeArmed : List ℕ → Type 0
+CubeArmed b = (n : ℕ) → n < 2 ^ dimensionAt b → AllArmed b n
+
+passed-otherwise : (b : List ℕ) → CubeArmed b → (a : Call) → stoppedAt b a ≡ 0 → tableStep b a .result .number ≢ 11
+unfolding Allowed factsOf view resultOf
+passed-otherwise b armed (making D) z e = omega (arith, rw (table-step b (making D) .result z) at e)
+passed-otherwise b armed (blocking n p) z e = omega (arith, rw (table-step b (blocking n p) .result z) at e)
+passed-otherwise b armed (unblocking n p) z e = omega (arith, rw (table-step b (unblocking n p) .result z) at e)
+passed-otherwise b armed (opening s c t y v) z e =
+    let r = allowed (factsOf (view b)) (opening s c t y v) (none-stops b (opening s c t y v) z) in
+    open-otherwise b s c t y v (armed t (r .1)) z e
+passed-otherwise b armed (closing s c) z e = omega (arith, rw (table-step b (closing s c) .result z) at e)
+passed-otherwise b armed (tracing s c buffer) z e = omega (arith, rw (table-step b (tracing s c buffer) .result z) at e)
+passed-otherwise b armed (arming n k) z e = omega (arith, rw (table-step b (arming n k) .result z) at e)
+passed-otherwise b armed (disarming n k) z e = omega (arith, rw (table-step b (disarming n k) .result z) at e)
+
+pub armed-never-full : (b : List ℕ) → CubeArmed b → (a : Call) → tableStep b a .result .number ≢ 11
+armed-never-full b armed a = never-stopped b a (passed-otherwise b armed a)

@@ -8,14 +8,15 @@ use lib.ListN.{replicate}
 use Rattle.common.proofs.Tests.{same?}
 use Rattle.paths.specs.Send.{Outcome, acknowledged, route-rejected, receive-rejected}
 use Rattle.table.specs.View.{view}
-use Rattle.ownership.specs.Calls.{Call, making, blocking, unblocking, opening, closing, tracing, form, lent, CallResult, scoutsOf, answered, CallFacts, resultOf}
+use Rattle.ownership.specs.Calls.{Call, making, blocking, unblocking, opening, closing, tracing, arming, disarming, form, lent}
+use Rattle.ownership.specs.Calls.{CallResult, scoutsOf, answered, CallFacts, resultOf}
 use Rattle.ownership.specs.OnTable.{factsOf, stoppedAt, tableStep}
 use Rattle.ownership.specs.Agrees.{tableAfter, leaves}
 use Rattle.ownership.proofs.Steps.{table-step}
 
 -- "When refused, all but the number are 0, except that 10 and 11 carry their scouts."
 abbrev pub Zero : Call → CallResult → Type 0
-Zero a g = (g .values ≡ replicate (form a .values) 0) ⊎ (((g .number ≡ 10) ⊎ (g .number ≡ 11)) × (g .values ≡ 0 ∷ 0 ∷ scoutsOf g ∷ []))
+Zero a g = (g .values ≡ replicate (form a .valueCount) 0) ⊎ (((g .number ≡ 10) ⊎ (g .number ≡ 11)) × (g .values ≡ 0 ∷ 0 ∷ scoutsOf g ∷ []))
 
 -- what a call that no test stops gives where it is refused: its buffers as they were lent, and such values
 send-zero : (a : Call) (o : Outcome) (n : ℕ) → answered o n .number ≢ 0 → (answered o n .buffers ≡ []) × Zero a (answered o n)
@@ -32,6 +33,8 @@ result-refused f (unblocking n p) h = absurd (h refl)
 result-refused f (opening s c t y v) h = send-zero (opening s c t y v) (f .sends s t y v .outcome) _ h
 result-refused f (closing s c) h = absurd (h refl)
 result-refused f (tracing s c buffer) h = absurd (h refl)
+result-refused f (arming n k) h = absurd (h refl)
+result-refused f (disarming n k) h = absurd (h refl)
 
 module _ (b : List ℕ) (a : Call) (f : tableStep b a .result .number ≢ 0) where
   refused-result : (tableStep b a .result .buffers ≡ lent a) × Zero a (tableStep b a .result)

@@ -6,7 +6,7 @@ use Prim.Native.Nat.{ℕ}
 use Rattle.common.specs.Tests.{Test}
 use Rattle.soundness.specs.SoundTest.{tableTests}
 use Rattle.table.specs.View.{view}
-use Rattle.ownership.specs.Calls.{Call, making, blocking, unblocking, opening, closing, tracing, callTests}
+use Rattle.ownership.specs.Calls.{Call, making, blocking, unblocking, opening, closing, tracing, arming, disarming, callTests}
 use Rattle.ownership.specs.OnTable.{factsOf, lentTests}
 
 abbrev numbers : List ℕ → Call → List ℕ
@@ -36,3 +36,11 @@ module _ (b : List ℕ) where
   tracing-numbers : (s c : ℕ) (buffer : List ℕ) → numbers b (tracing s c buffer) ≡ 1 ∷ 2 ∷ 3 ∷ 4 ∷ 5 ∷ 12 ∷ 14 ∷ []
   unfolding lentTests tableTests callTests
   tracing-numbers s c buffer = refl
+
+  arming-numbers : (n k : ℕ) → numbers b (arming n k) ≡ 1 ∷ 2 ∷ 3 ∷ 4 ∷ 5 ∷ []
+  unfolding lentTests tableTests callTests
+  arming-numbers n k = refl
+
+  disarming-numbers : (n k : ℕ) → numbers b (disarming n k) ≡ 1 ∷ 2 ∷ 3 ∷ 4 ∷ 5 ∷ 21 ∷ []
+  unfolding lentTests tableTests callTests
+  disarming-numbers n k = refl

@@ -1,7 +1,7 @@
 -- What a table that agrees with the history shows of links and of receive channels is what the history says of them; so a send is the same on both.
 -- Assumes nothing.
 use mathlib.Core.Path.{_≡_, _∙_, ap, fun-ext, sym}
-use mathlib.Core.Bool.{not, Bool·not-not}
+use mathlib.Core.Bool.{Bool, not, _&&_, Bool·not-not}
 use Prim.Native.Nat.{ℕ}
 use lib.Dec.{eqb}
 use Rattle.paths.specs.Network.{isFree, linkState}
@@ -10,7 +10,8 @@ use Rattle.table.specs.View.{heldIn, available, receive}
 use Rattle.paths.specs.Send.{lowestOf}
 use Rattle.search.specs.PassAnswer.{freeIn}
 use Rattle.ownership.specs.Update.{sendIn}
-use Rattle.ownership.specs.History.{History, shapeOn, netOn, holdsLink, holdsReceive, enabledOn, heldOn, freeOn, takenOn, receiveOn, sendOn}
+use Rattle.ownership.specs.OnTable.{takenIn}
+use Rattle.ownership.specs.History.{History, shapeOn, netOn, holdsLink, holdsReceive, enabledOn, heldOn, freeOn, takenOn, armedOn, receiveOn, sendOn}
 use Rattle.ownership.specs.HistoryView.{viewOf}
 use Rattle.ownership.proofs.Circuits.{number-any}
 
@@ -25,10 +26,17 @@ module _ (h : History) where
   unfolding freeIn freeOn viewOf
   free-same = λ i n p. isFree (linkState (enabledOn h n p) (held-same i n p))
 
-  -- the lowest receive channel of a node that no circuit holds
-  available-same : (t : ℕ) → available (viewOf h) t ≡ (λ k. not (takenOn h t k))
-  unfolding available takenOn viewOf
-  available-same t = fun-ext (λ k. sym (Bool·not-not (eqb (viewOf h .receiver t k) 0)) ∙ ap not (number-any (holdsReceive t k) (h .circuits)))
+  -- "disarming a held one": the receive channel is held
+  pub taken-same : takenIn (viewOf h) ≡ takenOn h
+  unfolding takenIn takenOn viewOf
+  taken-same = fun-ext (λ n. fun-ext (λ k. number-any (holdsReceive n k) (h .circuits)))
+
+  -- the lowest receive channel of a node that is armed and not held
+  available-same : (t : ℕ) → available (viewOf h) t ≡ (λ k. armedOn h t k && not (takenOn h t k))
+  unfolding available takenIn viewOf
+  available-same t =
+      fun-ext (λ k.
+      ap (armedOn h t k &&_) (sym (Bool·not-not (eqb (viewOf h .receiver t k) 0)) ∙ ap (λ (taken : ℕ → ℕ → Bool). not (taken t k)) taken-same))
 
   pub receive-same : (t : ℕ) → receive (viewOf h) t ≡ receiveOn h t
   unfolding receive receiveOn

@@ -13,8 +13,8 @@ use Rattle.common.specs.Lists.{any, keep}
 use Rattle.common.proofs.Tests.{same?, clash, is-false, both, and, either, or-left, or-right}
 use Rattle.common.proofs.Lists.{keep-mem, mem-keep, any-some, some-any}
 use Rattle.paths.specs.Send.{Outcome, acknowledged, route-rejected, receive-rejected}
-use Rattle.ownership.specs.Calls.{Call, making, blocking, unblocking, opening, closing, tracing, CallResult, answered, resultOf}
-use Rattle.ownership.specs.History.{Circuit, History, belongs, openOn, factsOn, stoppedOn, sendOn, withCircuits, withOpened, applied, historyStep}
+use Rattle.ownership.specs.Calls.{Call, making, blocking, unblocking, opening, closing, tracing, arming, disarming, CallResult, answered, resultOf}
+use Rattle.ownership.specs.History.{Circuit, History, belongs, openOn, factsOn, stoppedOn, sendOn, withOpened, applied, historyStep}
 use Rattle.ownership.specs.Agrees.{historyAfter, historyResults, leaves, answers}
 use Rattle.ownership.specs.StillOpen.{numbered, Ends, Lasts, StillOpen}
 use Rattle.ownership.proofs.Circuits.{belongs-parts, parts-belong}
@@ -40,7 +40,7 @@ module _ (s c : ℕ) where
   step-same h next a n e no-open spare = record { from-next = λ o. inr (sym e ∙ o, spare); opens = λ o. absurd (no-open o); spares = λ o z. e ∙ o }
 
   -- an accepted making
-  step-making : (h : History) (D : ℕ) → Step h (record { dimension = D; blocked = []; circuits = [] }) (making D) 0
+  step-making : (h : History) (D : ℕ) → Step h (record { dimension = D; blocked = []; circuits = []; armed = [] }) (making D) 0
   unfolding openOn any Ends
   step-making h D =
       record {
@@ -65,8 +65,8 @@ module _ (s c : ℕ) where
   step-opening h m d t y v k receive-rejected z = absurd (omega (arith, z))
 
   -- an accepted close
-  step-closing : (h : History) (m d : ℕ) → Step h (withCircuits h (keep (λ x. not (belongs m d x)) (h .circuits))) (closing m d) 0
-  unfolding openOn Ends
+  step-closing : (h : History) (m d : ℕ) → Step h (applied h (closing m d)) (closing m d) 0
+  unfolding applied openOn Ends
   step-closing h m d =
       record {
         from-next = λ o.
@@ -95,11 +95,18 @@ module _ (s c : ℕ) where
   step-accepted : (h : History) (a : Call) → resultOf (factsOn h) a .number ≡ 0 → Step h (applied h a) a 0
   unfolding applied resultOf factsOn Ends openOn
   step-accepted h (making D) e = step-making h D
-  step-accepted h (blocking m p) e = step-same h _ (blocking m p) 0 refl (λ o. let u : _≡_ {A = ℕ} 0 1 = cc (o .3) in absurd (omega arith)) (λ z ends. absurd ends)
-  step-accepted h (unblocking m p) e = step-same h _ (unblocking m p) 0 refl (λ o. let u : _≡_ {A = ℕ} 0 1 = cc (o .3) in absurd (omega arith)) (λ z ends. absurd ends)
+  step-accepted h (blocking m p) e =
+      step-same h _ (blocking m p) 0 refl (λ o. let u : _≡_ {A = ℕ} 0 1 = cc (o .3) in absurd (omega arith)) (λ z ends. absurd ends)
+  step-accepted h (unblocking m p) e =
+      step-same h _ (unblocking m p) 0 refl (λ o. let u : _≡_ {A = ℕ} 0 1 = cc (o .3) in absurd (omega arith)) (λ z ends. absurd ends)
   step-accepted h (opening m d t y v) e = step-opening h m d t y v _ (sendOn h m t y v .outcome) e
   step-accepted h (closing m d) e = step-closing h m d
-  step-accepted h (tracing m d buffer) e = step-same h h (tracing m d buffer) 0 refl (λ o. let u : _≡_ {A = ℕ} 0 1 = cc (o .3) in absurd (omega arith)) (λ z ends. absurd ends)
+  step-accepted h (tracing m d buffer) e =
+      step-same h h (tracing m d buffer) 0 refl (λ o. let u : _≡_ {A = ℕ} 0 1 = cc (o .3) in absurd (omega arith)) (λ z ends. absurd ends)
+  step-accepted h (arming m k) e =
+      step-same h _ (arming m k) 0 refl (λ o. let u : _≡_ {A = ℕ} 0 1 = cc (o .3) in absurd (omega arith)) (λ z ends. absurd ends)
+  step-accepted h (disarming m k) e =
+      step-same h _ (disarming m k) 0 refl (λ o. let u : _≡_ {A = ℕ} 0 1 = cc (o .3) in absurd (omega arith)) (λ z ends. absurd ends)
 
   step-told : (h : History) (a : Call) → Step h (historyStep h a .state) a (historyStep h a .result .number)
   step-told h a =

@@ -17,14 +17,14 @@ use Rattle.paths.specs.CubeNetwork.{ports}
 use Rattle.table.specs.View.{shapeOf, heldBy}
 use Rattle.soundness.specs.SoundTest.{pathOf}
 use Rattle.soundness.proofs.Soundness.{path-is}
-use Rattle.ownership.specs.Calls.{Call, making, blocking, unblocking, opening, closing, tracing, channel, callTests}
+use Rattle.ownership.specs.Calls.{Call, making, blocking, unblocking, opening, closing, tracing, arming, disarming, channel, callTests}
 use Rattle.ownership.specs.OnTable.{isOpenIn, openIn, factsOf}
 use Rattle.ownership.specs.History.{Circuit, History, belongs, openOn, listed, factsOn, stoppedOn}
 use Rattle.ownership.specs.Invariant.{Valid}
 use Rattle.ownership.specs.HistoryView.{viewOf}
 use Rattle.ownership.proofs.Allowed.{channel-small}
-use Rattle.ownership.proofs.Circuits.{numberFor, circuit-parts, belongs-parts, parts-belong}
-use Rattle.ownership.proofs.Sameness.{held-same}
+use Rattle.ownership.proofs.Circuits.{numberFor, circuit-parts, parts-belong, number-is}
+use Rattle.ownership.proofs.Sameness.{held-same, taken-same}
 use Rattle.ownership.proofs.OpenCircuits.{sound-open}
 use Rattle.ownership.proofs.CircuitValid.{link-held, valid-stands, stands-path}
 
@@ -40,16 +40,12 @@ listed-some s c (x ∷ xs) e = go (belongs s c x) refl (listed-some s c xs)
     go false f ih = let r = ih (rw f at e) in (r .0, List·Memᴰ·tail (r .1), r .2, rw f (r .3))
 
 module _ (h : History) (valid : Valid h) (s c : ℕ) (small : c < 8) where
-  -- a listed circuit of the send channel has its number
-  number-is : (x : Circuit) → belongs s c x ≡ true → numberFor x ≡ circuitOf s c
-  number-is x e = let r = belongs-parts s c x e in rw (r .0, r .1)
-
   -- Tracing by the table gives the ports that the history keeps.
   pub path-listed : openOn h s c ≡ true → pathOf (viewOf h) (circuitOf s c) ≡ listed (h .circuits) s c
   unfolding openOn
   path-listed e =
       let (x, m, f, q) = listed-some s c (h .circuits) e in
-      sym (ap (pathOf (viewOf h)) (number-is x f)) ∙ path-is (viewOf h) (numberFor x) (valid-stands h valid x m) ∙ stands-path h valid x m .0 ∙ sym q
+      sym (ap (pathOf (viewOf h)) (number-is s c x f)) ∙ path-is (viewOf h) (numberFor x) (valid-stands h valid x m) ∙ stands-path h valid x m .0 ∙ sym q
 
   -- "this send channel has an open circuit"
   pub open-same : openIn (viewOf h) s c ≡ openOn h s c
@@ -57,7 +53,9 @@ module _ (h : History) (valid : Valid h) (s c : ℕ) (small : c < 8) where
   open-same = go (openOn h s c) refl
     where
       go : (b : Bool) → openOn h s c ≡ b → isOpenIn (viewOf h) (circuitOf s c) ≡ b
-      go true e = let (x, m, f) = any-some (belongs s c) (h .circuits) e in rw (sym (number-is x f)) (sound-open (viewOf h) (numberFor x) (valid-stands h valid x m))
+      go true e =
+          let (x, m, f) = any-some (belongs s c) (h .circuits) e in
+          rw (sym (number-is s c x f)) (sound-open (viewOf h) (numberFor x) (valid-stands h valid x m))
       go false e = is-false _ (λ t.
           let (p, m, f) = any-some (heldBy (viewOf h) (circuitOf s c) (sourceOf (circuitOf s c))) (ports (shapeOf (viewOf h))) t in
           let k = eqb-true _ _ f in
@@ -88,3 +86,5 @@ stopped-same h valid (opening s c t y v) =
 stopped-same h valid (closing s c) = past _ _ _ (past-channel c _ _ (λ l. ap (λ (b : Bool). refusal (test (not b) 12 ∷ [])) (open-same h valid s c l)))
 stopped-same h valid (tracing s c buffer) =
     past _ _ _ (past-channel c _ _ (λ l. ap (λ (b : Bool). refusal (test (not b) 12 ∷ test (ltb (length buffer) 9) 14 ∷ [])) (open-same h valid s c l)))
+stopped-same h valid (arming n k) = refl
+stopped-same h valid (disarming n k) = past _ _ _ (past _ _ _ (ap (λ (taken : ℕ → ℕ → Bool). refusal (test (taken n k) 21 ∷ [])) (taken-same h)))

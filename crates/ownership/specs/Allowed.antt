@@ -7,7 +7,7 @@ use mathlib.Core.Bool.{true, false}
 use Prim.Native.Nat.{ℕ, _^_, _≤_, _<_}
 use lib.ListN.{length}
 use Rattle.cube.specs.Bits.{has}
-use Rattle.ownership.specs.Calls.{Call, making, blocking, unblocking, opening, closing, tracing, CallFacts}
+use Rattle.ownership.specs.Calls.{Call, making, blocking, unblocking, opening, closing, tracing, arming, disarming, CallFacts}
 
 unfoldable pub Allowed : CallFacts → Call → Type 0
 Allowed a (making D) = (1 ≤ D) × (D ≤ 8)
@@ -18,3 +18,5 @@ Allowed a (opening s c t y v) =
     × ((y ≡ 0) ⊎ (y ≡ 4))
 Allowed a (closing s c) = (s < 2 ^ a .dimension) × (c < 8) × (a .isOpen s c ≡ true)
 Allowed a (tracing s c buffer) = (s < 2 ^ a .dimension) × (c < 8) × (a .isOpen s c ≡ true) × (9 ≤ length buffer)
+Allowed a (arming n k) = (n < 2 ^ a .dimension) × (k < 8)
+Allowed a (disarming n k) = (n < 2 ^ a .dimension) × (k < 8) × (a .isTaken n k ≡ false)

@@ -1,4 +1,4 @@
--- The six calls of document 01: what each is lent, how it is tested, and what it gives.
+-- The calls of document 01 and of document 02, (a): what each is lent, how it is tested, and what it gives.
 -- Assumes nothing.
 use mathlib.Core.Bool.{Bool, true, false, cond, not, _&&_, _||_}
 use mathlib.Core.List.{List, [], _∷_}
@@ -9,6 +9,7 @@ use Rattle.common.specs.Tests.{Test, test}
 use Rattle.paths.specs.Network.{Path}
 use Rattle.paths.specs.Send.{Outcome, acknowledged, route-rejected, receive-rejected, SendResult}
 use Rattle.soundness.specs.SoundTest.{tracedInto}
+use Rattle.cube.specs.Cube.{largestDimension}
 
 -- A call with its arguments. A trace is lent a buffer, which comes with its bytes; the table is not an argument.
 pub data Call : Type 0 where
@@ -18,28 +19,32 @@ pub data Call : Type 0 where
   opening : (source channel target type vector : ℕ) → Call
   closing : (source channel : ℕ) → Call
   tracing : (source channel : ℕ) → (buffer : List ℕ) → Call
+  arming : (node channel : ℕ) → Call
+  disarming : (node channel : ℕ) → Call
 
 -- what a call is, whatever it is made on
 pub record CallForm : Type 0 where
   -- it makes the table, whatever that stored before
-  pub makes : Bool
+  pub isMaking : Bool
   -- how many values it answers beside its number
-  pub values : ℕ
+  pub valueCount : ℕ
   -- the buffers that it is lent beside the table, with their bytes
   pub buffers : List (List ℕ)
 
 -- a call on a made table that answers the number alone and is lent nothing else
 abbrev plain : CallForm
-plain = record { makes = false; values = 0; buffers = [] }
+plain = record { isMaking = false; valueCount = 0; buffers = [] }
 
 -- "An open answers number, hops, receive channel, scouts; a trace, number and hops; .. the rest the number alone."
 abbrev pub form : Call → CallForm
-form (making D) = record { makes = true; values = 0; buffers = [] }
+form (making D) = record { isMaking = true; valueCount = 0; buffers = [] }
 form (blocking n p) = plain
 form (unblocking n p) = plain
-form (opening s c t y v) = record { makes = false; values = 3; buffers = [] }
+form (opening s c t y v) = record { isMaking = false; valueCount = 3; buffers = [] }
 form (closing s c) = plain
-form (tracing s c buffer) = record { makes = false; values = 1; buffers = buffer ∷ [] }
+form (tracing s c buffer) = record { isMaking = false; valueCount = 1; buffers = buffer ∷ [] }
+form (arming n k) = plain
+form (disarming n k) = plain
 
 abbrev pub lent : Call → List (List ℕ)
 lent a = form a .buffers
@@ -69,7 +74,7 @@ only n = record { number = n; values = []; buffers = [] }
 
 -- "When refused, all but the number are 0": as many values as the call answers. Its buffers are as they were lent.
 abbrev pub refusedWith : ℕ → Call → CallResult
-refusedWith n a = record { number = n; values = replicate (form a .values) 0; buffers = lent a }
+refusedWith n a = record { number = n; values = replicate (form a .valueCount) 0; buffers = lent a }
 
 -- What an open answers after the search: ".. except that 10 and 11 carry their scouts."
 unfoldable pub answered : Outcome → ℕ → CallResult
@@ -89,6 +94,8 @@ pub record CallFacts : Type 0 where
   pub held : ℕ → ℕ → Bool
   -- "this send channel has an open circuit", by source and channel
   pub isOpen : ℕ → ℕ → Bool
+  -- the receive channel is held, by node and channel
+  pub isTaken : ℕ → ℕ → Bool
   -- what a send comes to, by source, target, routing type and send vector
   pub sends : ℕ → ℕ → ℕ → ℕ → SendResult
   -- the ports of the circuit of a send channel, by source and channel
@@ -96,7 +103,7 @@ pub record CallFacts : Type 0 where
 
 -- "D outside 1 to 8: the one given when making, else the one stored": the one given
 abbrev pub dimensionGiven : ℕ → Test
-dimensionGiven D = test (not (leb 1 D && leb D 8)) 2
+dimensionGiven D = test (not (leb 1 D && leb D largestDimension)) 2
 
 -- "a node, source or target, not below 2^D"; "channel above 7"; "port not below D"
 abbrev pub absent : CallFacts → ℕ → Bool
@@ -134,6 +141,10 @@ linkHeld a n p = test (a .held n p) 13
 abbrev pub shortBuffer : List ℕ → Test
 shortBuffer buffer = test (ltb (length buffer) 9) 14
 
+-- document 02, (a): "disarming a held one is refused as 21"
+abbrev pub channelHeld : CallFacts → ℕ → ℕ → Test
+channelHeld a n k = test (a .isTaken n k) 21
+
 -- "Within one call the tests run in rising order of number." Those of each call behind the tests of the lent table:
 unfoldable pub callTests : CallFacts → Call → List Test
 callTests a (making D) = dimensionGiven D ∷ []
@@ -142,6 +153,9 @@ callTests a (unblocking n p) = node a n ∷ port a p ∷ []
 callTests a (opening s c t y v) = nodes a s t ∷ channel c ∷ routingType y ∷ sendVector a v ∷ inUse a s c ∷ []
 callTests a (closing s c) = node a s ∷ channel c ∷ noCircuit a s c ∷ []
 callTests a (tracing s c buffer) = node a s ∷ channel c ∷ noCircuit a s c ∷ shortBuffer buffer ∷ []
+callTests a (arming n k) = node a n ∷ channel k ∷ []
+-- "after 5"
+callTests a (disarming n k) = node a n ∷ channel k ∷ channelHeld a n k ∷ []
 
 -- what a call gives where no test applies
 unfoldable pub resultOf : CallFacts → Call → CallResult
@@ -151,6 +165,8 @@ resultOf a (unblocking n p) = only 0
 resultOf a (opening s c t y v) = let x = a .sends s t y v in answered (x .outcome) (x .scouts)
 resultOf a (closing s c) = only 0
 resultOf a (tracing s c buffer) = let w = a .path s c in record { number = 0; values = length w ∷ []; buffers = tracedInto w buffer ∷ [] }
+resultOf a (arming n k) = only 0
+resultOf a (disarming n k) = only 0
 
 -- what a call leaves of what it is made on, the bytes of a table or the history, and what it gives
 pub record After (S : Type 0) : Type 0 where

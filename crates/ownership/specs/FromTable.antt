@@ -5,15 +5,16 @@ use mathlib.Core.List.{List, [], _∷_, _++_, map}
 use Prim.Native.Nat.{ℕ, _*_, _^_}
 use lib.Dec.{eqb}
 use Rattle.common.specs.Lists.{keep, from, lowest}
-use Rattle.cube.specs.Cube.{sourceOf, channelOf}
+use Rattle.cube.specs.Cube.{sourceOf, channelOf, channels}
 use Rattle.paths.specs.Network.{Link}
-use Rattle.table.specs.View.{View}
+use Rattle.table.specs.View.{View, shapeOf}
 use Rattle.soundness.specs.Sound.{endFor}
 use Rattle.soundness.specs.SoundTest.{pathOf}
 use Rattle.ownership.specs.OnTable.{isOpenIn}
 use Rattle.ownership.specs.History.{Circuit, History}
+use Rattle.paths.specs.CubeNetwork.{circuitCount}
 
--- the links out of some ports of some nodes
+-- the links out of some ports of some nodes, or as many of their receive channels
 unfoldable pub linksOut : List ℕ → List ℕ → List Link
 linksOut [] ps = []
 linksOut (n ∷ ns) ps = map (λ (p : ℕ). (n, p)) ps ++ linksOut ns ps
@@ -26,12 +27,12 @@ circuitAt v c =
       channel = channelOf c;
       ports = pathOf v c;
       target = endFor v c (pathOf v c);
-      receive = lowest (λ k. eqb (v .receiver (endFor v c (pathOf v c)) k) c) 8 0;
+      receive = lowest (λ k. eqb (v .receiver (endFor v c (pathOf v c)) k) c) channels 0;
     }
 
 -- the numbers of the open circuits, rising
 unfoldable pub openNumbers : View → List ℕ
-openNumbers v = keep (isOpenIn v) (from 1 (8 * 2 ^ v .dimension))
+openNumbers v = keep (isOpenIn v) (from 1 (circuitCount (shapeOf v)))
 
 unfoldable pub historyOf : View → History
 historyOf v =
@@ -39,4 +40,5 @@ historyOf v =
       dimension = v .dimension;
       blocked = keep (λ l. not (v .enabled (l .0) (l .1))) (linksOut (from 0 (2 ^ v .dimension)) (from 0 (v .dimension)));
       circuits = map (circuitAt v) (openNumbers v);
+      armed = keep (λ l. v .armed (l .0) (l .1)) (linksOut (from 0 (2 ^ v .dimension)) (from 0 channels));
     }

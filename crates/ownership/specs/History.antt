@@ -8,8 +8,8 @@ use Rattle.common.specs.Lists.{keep, any}
 use Rattle.common.specs.Tests.{refusal}
 use Rattle.paths.specs.Network.{Network, Path, Link, links, hasLink, linkState, isFree}
 use Rattle.paths.specs.Send.{Receive, channel, Outcome, acknowledged, route-rejected, receive-rejected, SendResult, lowestOf}
-use Rattle.paths.specs.CubeNetwork.{Shape, network, send}
-use Rattle.ownership.specs.Calls.{Call, making, blocking, unblocking, opening, closing, tracing, CallFacts, callTests, After, callOn}
+use Rattle.paths.specs.CubeNetwork.{Shape, network, send, unfolded, isLinkOf}
+use Rattle.ownership.specs.Calls.{Call, making, blocking, unblocking, opening, closing, tracing, arming, disarming, CallFacts, callTests, After, callOn}
 
 -- "each open circuit with the links and receive channel it holds": its source and send channel, its path, and the receive channel at the path's end
 pub record Circuit : Type 0 where
@@ -19,14 +19,16 @@ pub record Circuit : Type 0 where
   pub target : ℕ
   pub receive : ℕ
 
--- "It keeps the dimension, the blocked links and each open circuit"
+-- "It keeps the dimension, the blocked links and each open circuit"; document 02, (a): "The ownership history now includes arming", so the armed receive
+-- channels too, each a node and a channel of it
 pub record History : Type 0 where
   pub dimension : ℕ
   pub blocked : List Link
   pub circuits : List Circuit
+  pub armed : List (ℕ × ℕ)
 
 abbrev pub shapeOn : History → Shape
-shapeOn h = record { dimension = h .dimension; fold = 0 }
+shapeOn h = unfolded (h .dimension)
 
 abbrev pub netOn : History → Network
 netOn h = network (shapeOn h)
@@ -50,7 +52,7 @@ belongs s c x = eqb (x .source) s && eqb (x .channel) c
 -- What the history says of a link, of a receive channel and of a send channel: "links not blocked are enabled", held means on a listed path or taken by
 -- a listed circuit, open means listed.
 unfoldable pub enabledOn : History → ℕ → ℕ → Bool
-enabledOn h n p = (ltb n (2 ^ h .dimension) && ltb p (h .dimension)) && not (hasLink (h .blocked) n p)
+enabledOn h n p = isLinkOf (shapeOn h) n p && not (hasLink (h .blocked) n p)
 
 unfoldable pub heldOn : History → ℕ → ℕ → Bool
 heldOn h n p = any (holdsLink (netOn h) n p) (h .circuits)
@@ -64,9 +66,13 @@ takenOn h n k = any (holdsReceive n k) (h .circuits)
 unfoldable pub openOn : History → ℕ → ℕ → Bool
 openOn h s c = any (belongs s c) (h .circuits)
 
--- "its lowest receive channel that no circuit holds"
+-- a receive channel of a node is armed
+unfoldable pub armedOn : History → ℕ → ℕ → Bool
+armedOn h n k = hasLink (h .armed) n k
+
+-- "its lowest channel that is armed and not held"
 unfoldable pub receiveOn : History → ℕ → Receive
-receiveOn h t = lowestOf (λ k. not (takenOn h t k))
+receiveOn h t = lowestOf (λ k. armedOn h t k && not (takenOn h t k))
 
 -- the ports of the circuit listed for a send channel
 unfoldable pub listed : List Circuit → ℕ → ℕ → Path
@@ -79,17 +85,24 @@ sendOn h s t y v = send y (shapeOn h) (freeOn h) (receiveOn h t) s v t
 
 -- "The tests are read off it; of 1 to 3, only a making's 2 arises on this table."
 unfoldable pub factsOn : History → CallFacts
-factsOn h = record { dimension = h .dimension; held = heldOn h; isOpen = openOn h; sends = sendOn h; path = listed (h .circuits) }
+factsOn h = record { dimension = h .dimension; held = heldOn h; isOpen = openOn h; isTaken = takenOn h; sends = sendOn h; path = listed (h .circuits) }
 
 unfoldable pub stoppedOn : History → Call → ℕ
 stoppedOn h a = refusal (callTests (factsOn h) a)
 
--- the history with other blocked links, or with other circuits
+-- the history with other blocked links, with other circuits, or with other armed channels
 abbrev pub withBlocked : History → List Link → History
-withBlocked h ls = record { dimension = h .dimension; blocked = ls; circuits = h .circuits }
+withBlocked h ls = record { dimension = h .dimension; blocked = ls; circuits = h .circuits; armed = h .armed }
 
 abbrev pub withCircuits : History → List Circuit → History
-withCircuits h xs = record { dimension = h .dimension; blocked = h .blocked; circuits = xs }
+withCircuits h xs = record { dimension = h .dimension; blocked = h .blocked; circuits = xs; armed = h .armed }
+
+abbrev pub withArmed : History → List (ℕ × ℕ) → History
+withArmed h ls = record { dimension = h .dimension; blocked = h .blocked; circuits = h .circuits; armed = ls }
+
+-- a list of links, or of receive channels, without one of them
+unfoldable pub without : ℕ → ℕ → List (ℕ × ℕ) → List (ℕ × ℕ)
+without n p ls = keep (λ l. not (eqb (l .0) n && eqb (l .1) p)) ls
 
 -- "an open adds its circuit with path and channel"
 unfoldable pub withOpened : History → ℕ → ℕ → ℕ → Outcome → History
@@ -99,12 +112,17 @@ withOpened h s c t receive-rejected = h
 
 -- "Else a making sets the dimension and clears the rest; a block adds a link, an unblock drops it; an open adds its circuit ..; a close drops its circuit."
 unfoldable pub applied : History → Call → History
-applied h (making D) = record { dimension = D; blocked = []; circuits = [] }
+applied h (making D) = record { dimension = D; blocked = []; circuits = []; armed = [] }
 applied h (blocking n p) = withBlocked h ((n, p) ∷ h .blocked)
-applied h (unblocking n p) = withBlocked h (keep (λ l. not (eqb (l .0) n && eqb (l .1) p)) (h .blocked))
+applied h (unblocking n p) = withBlocked h (without n p (h .blocked))
 applied h (opening s c t y v) = withOpened h s c t (sendOn h s t y v .outcome)
-applied h (closing s c) = withCircuits h (keep (λ x. not (belongs s c x)) (h .circuits))
+-- and document 02, (a): "Closing a circuit disarms its channel"
+applied h (closing s c) =
+    withArmed (withCircuits h (keep (λ x. not (belongs s c x)) (h .circuits)))
+    (keep (λ l. not (any (λ x. belongs s c x && holdsReceive (l .0) (l .1) x) (h .circuits))) (h .armed))
 applied h (tracing s c buffer) = h
+applied h (arming n k) = withArmed h ((n, k) ∷ h .armed)
+applied h (disarming n k) = withArmed h (without n k (h .armed))
 
 -- a call entered in the history; "A refused call and a trace change nothing."
 unfoldable pub historyStep : History → Call → After History

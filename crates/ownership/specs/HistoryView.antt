@@ -6,7 +6,7 @@ use Prim.Native.Nat.{ℕ}
 use Rattle.cube.specs.Cube.{circuitOf}
 use Rattle.table.specs.View.{View}
 use Rattle.table.specs.Encode.{encode}
-use Rattle.ownership.specs.History.{Circuit, History, netOn, holdsLink, holdsReceive, enabledOn}
+use Rattle.ownership.specs.History.{Circuit, History, netOn, holdsLink, holdsReceive, enabledOn, armedOn}
 
 -- the number of the first circuit that passes a test; 0, "no circuit", where none does
 unfoldable pub numberOf : (Circuit → Bool) → List Circuit → ℕ
@@ -21,6 +21,7 @@ viewOf h =
       enabled = enabledOn h;
       owner = λ n p. numberOf (holdsLink (netOn h) n p) (h .circuits);
       receiver = λ n k. numberOf (holdsReceive n k) (h .circuits);
+      armed = armedOn h;
     }
 
 -- and its bytes

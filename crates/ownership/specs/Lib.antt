@@ -1,4 +1,4 @@
--- The six calls: what each does to the bytes of a table, what the ownership history makes of it, and what it is for both to agree.
+-- The calls: what each does to the bytes of a table, what the ownership history makes of it, and what it is for both to agree.
 pub mod Calls
 pub mod Allowed
 pub mod Reasons

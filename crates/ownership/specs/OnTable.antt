@@ -24,12 +24,16 @@ isOpenIn v c = any (heldBy v c (sourceOf c)) (ports (shapeOf v))
 unfoldable pub openIn : View → ℕ → ℕ → Bool
 openIn v s c = isOpenIn v (circuitOf s c)
 
+-- a circuit holds the receive channel
+unfoldable pub takenIn : View → ℕ → ℕ → Bool
+takenIn v n k = not (eqb (v .receiver n k) 0)
+
 unfoldable pub factsOf : View → CallFacts
-factsOf v = record { dimension = v .dimension; held = heldIn v; isOpen = openIn v; sends = sendIn v; path = λ s c. pathOf v (circuitOf s c) }
+factsOf v = record { dimension = v .dimension; held = heldIn v; isOpen = openIn v; isTaken = takenIn v; sends = sendIn v; path = λ s c. pathOf v (circuitOf s c) }
 
 -- The tests of the lent table: a making is not stopped by what the table stored before.
 unfoldable pub lentTests : List ℕ → Call → List Test
-lentTests b a = cond (form a .makes) (test (not (eqb (length b) tableLength)) 1 ∷ []) (tableTests b)
+lentTests b a = cond (form a .isMaking) (test (not (eqb (length b) tableLength)) 1 ∷ []) (tableTests b)
 
 -- all tests of a call, in rising order of number. "The first that applies is the answer": its number, 0 where none does
 unfoldable pub stoppedAt : List ℕ → Call → ℕ

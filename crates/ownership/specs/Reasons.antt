@@ -1,4 +1,5 @@
--- Why a call is stopped: each number of document 01's table of refusals that a call can answer for its arguments, with the reason in the words of its row.
+-- Why a call is stopped: each number of document 01's table of refusals, and 21 of document 02, that a call can answer for its arguments, with the reason in the
+-- words of the papers.
 -- What these tests answer is the lowest number whose reason holds (proved: Reasons), and 0 where none does. The lent table's numbers, 1 to 3, come before them
 -- (OnTable); 10 and 11 are the search's.
 -- Assumes nothing.
@@ -9,7 +10,7 @@ use mathlib.Core.List.{List}
 use Prim.Native.Nat.{ℕ, _^_, _≤_, _<_}
 use lib.ListN.{length}
 use Rattle.cube.specs.Bits.{has}
-use Rattle.ownership.specs.Calls.{Call, making, blocking, unblocking, opening, closing, tracing, CallFacts}
+use Rattle.ownership.specs.Calls.{Call, making, blocking, unblocking, opening, closing, tracing, arming, disarming, CallFacts}
 
 pub data Reason (a : CallFacts) : Call → ℕ → Type 0 where
   -- make, 2: "D outside 1 to 8: the one given when making"
@@ -48,3 +49,10 @@ pub data Reason (a : CallFacts) : Call → ℕ → Type 0 where
   tracing-none : {s c : ℕ} {buffer : List ℕ} → a .isOpen s c ≡ false → Reason a (tracing s c buffer) 12
   -- trace, 14: "buffer shorter than 9 bytes"
   tracing-short : {s c : ℕ} {buffer : List ℕ} → length buffer < 9 → Reason a (tracing s c buffer) 14
+  -- arm, 4 and 5: "a node .. not below 2^D", "channel above 7"
+  arming-node : {n k : ℕ} → 2 ^ a .dimension ≤ n → Reason a (arming n k) 4
+  arming-channel : {n k : ℕ} → 7 < k → Reason a (arming n k) 5
+  -- disarm, 4 and 5, and then 21: "disarming a held one is refused as 21, after 5"
+  disarming-node : {n k : ℕ} → 2 ^ a .dimension ≤ n → Reason a (disarming n k) 4
+  disarming-channel : {n k : ℕ} → 7 < k → Reason a (disarming n k) 5
+  disarming-held : {n k : ℕ} → a .isTaken n k ≡ true → Reason a (disarming n k) 21

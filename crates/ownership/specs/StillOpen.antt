@@ -5,7 +5,7 @@ use mathlib.Core.List.{List, [], _∷_, _++_}
 use Prim.Native.Nat.{ℕ}
 use Rattle.common.specs.Lists.{_∈_}
 use Rattle.paths.specs.Send.{acknowledged}
-use Rattle.ownership.specs.Calls.{Call, making, blocking, unblocking, opening, closing, tracing, CallResult}
+use Rattle.ownership.specs.Calls.{Call, making, blocking, unblocking, opening, closing, tracing, arming, disarming, CallResult}
 use Rattle.ownership.specs.History.{Circuit, History, stoppedOn, sendOn, historyStep}
 use Rattle.ownership.specs.Agrees.{historyAfter, historyResults}
 
@@ -23,6 +23,8 @@ Ends s c (unblocking n p) = ⊥
 Ends s c (opening m d t y v) = ⊥
 Ends s c (closing m d) = (m ≡ s) × (d ≡ c)
 Ends s c (tracing m d buffer) = ⊥
+Ends s c (arming n k) = ⊥
+Ends s c (disarming n k) = ⊥
 
 -- no accepted call of a list ends it
 unfoldable pub Lasts : ℕ → ℕ → List (Call × ℕ) → Type 0
@@ -46,6 +48,6 @@ pub record OpenedBy (h : History) (calls : List Call) (x : Circuit) : Type 0 whe
   pub vector : ℕ
   pub after : List Call
   pub split : calls ≡ before ++ opening (x .source) (x .channel) (x .target) type vector ∷ after
-  pub onPathOf : stoppedOn (historyAfter h before) (opening (x .source) (x .channel) (x .target) type vector) ≡ 0
+  pub not-stopped : stoppedOn (historyAfter h before) (opening (x .source) (x .channel) (x .target) type vector) ≡ 0
   pub acknowledges : sendOn (historyAfter h before) (x .source) (x .target) type vector .outcome ≡ acknowledged (x .ports) (x .receive)
   pub lasts : Lasts (x .source) (x .channel) (numbered after (historyResults (historyStep (historyAfter h before) (opening (x .source) (x .channel) (x .target) type vector) .state) after))

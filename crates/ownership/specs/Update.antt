@@ -7,9 +7,9 @@ use Rattle.cube.specs.Cube.{next, circuitOf}
 use Rattle.paths.specs.Network.{Path}
 use Rattle.paths.specs.Send.{Outcome, acknowledged, route-rejected, receive-rejected, SendResult}
 use Rattle.paths.specs.CubeNetwork.{send}
-use Rattle.table.specs.View.{View, setOwner, setReceiver, setEnabled, withoutCircuit, receive, fresh, shapeOf}
+use Rattle.table.specs.View.{View, setOwner, setReceiver, setEnabled, setArmed, withoutCircuit, receive, fresh, shapeOf}
 use Rattle.search.specs.PassAnswer.{freeIn}
-use Rattle.ownership.specs.Calls.{Call, making, blocking, unblocking, opening, closing, tracing}
+use Rattle.ownership.specs.Calls.{Call, making, blocking, unblocking, opening, closing, tracing, arming, disarming}
 
 -- the send of an open, read on what the table shows
 unfoldable pub sendIn : View → ℕ → ℕ → ℕ → ℕ → SendResult
@@ -27,14 +27,17 @@ viewAfterSend v c s t route-rejected = v
 viewAfterSend v c s t receive-rejected = v
 
 unfoldable pub updated : View → Call → View
--- "Making a table gives dimension D, all its links enabled, nothing held."
+-- "Making a table gives dimension D, all its links enabled, nothing held"; document 02, (a): "A made table has none armed."
 updated v (making D) = fresh D
 -- "blocking and unblocking links": the link out of a port is enabled no more, or again
 updated v (blocking n p) = setEnabled v n p false
 updated v (unblocking n p) = setEnabled v n p true
 -- the circuit of the send channel holds what its send takes
 updated v (opening s c t y x) = viewAfterSend v (circuitOf s c) s t (sendIn v s t y x .outcome)
--- "Closing frees every link and the receive channel of one circuit and touches nothing else."
+-- "Closing frees every link and the receive channel of one circuit"; document 02, (a): "Closing a circuit disarms its channel."
 updated v (closing s c) = withoutCircuit v (circuitOf s c)
 -- "A refused call and a trace change nothing."
 updated v (tracing s c buffer) = v
+-- document 02, (a): a receive channel is armed, or no more
+updated v (arming n k) = setArmed v n k true
+updated v (disarming n k) = setArmed v n k false

@@ -13,7 +13,7 @@ use Rattle.common.proofs.Tests.{clash}
 use Rattle.paths.specs.Network.{Network, Path}
 use Rattle.paths.specs.Permitted.{Permitted}
 use Rattle.paths.specs.Pass.{PassResult, none, found, pass, scouts}
-use Rattle.paths.specs.Send.{Receive, channel, all-held, Outcome, acknowledged, route-rejected, receive-rejected, Acknowledged, received, outcome, Attempt, pass-over, attempted, oneResult, goesOn, runs}
+use Rattle.paths.specs.Send.{Receive, channel, none-available, Outcome, acknowledged, route-rejected, receive-rejected, Acknowledged, received, outcome, Attempt, pass-over, attempted, oneResult, goesOn, runs}
 use Rattle.paths.specs.Sentences.{Free, Says, AnswerSays, says-acknowledged, says-receive-rejected, says-route-rejected, Tries, AttemptSays, AttemptsSay, last, ends, goes-on}
 use Rattle.paths.specs.CubeNetwork.{Shape, Node, ports, network, sendPorts, otherPorts, attempts, send}
 use Rattle.paths.proofs.CubeNetwork.{send-port, other-port, send-ports-rise, cube-says, scouts-bound}
@@ -24,7 +24,7 @@ pub answer-says : (N : Network) (free : ℕ → ℕ → Bool) (s : ℕ) (vector 
 unfolding outcome scouts received
 answer-says N free s vector t r (none c) h = says-route-rejected h
 answer-says N free s vector t (channel k) (found w c) h = says-acknowledged refl h
-answer-says N free s vector t all-held (found w c) h = says-receive-rejected refl h
+answer-says N free s vector t none-available (found w c) h = says-receive-rejected refl h
 
 -- A send goes on exactly where it is not acknowledged; then the next attempt's answer counts, and all scouts are added.
 pub goes-on-unless : (o : Outcome) → (goesOn o ≡ false) ↔ Acknowledged o
@@ -64,7 +64,7 @@ module _ (N : Network) (s t : ℕ) (free : ℕ → ℕ → Bool) (r : Receive) w
   acknowledged-says (pass-over ps) w k n (says-acknowledged e f) = (f .permitted, f .is-free, e)
 
   pub receive-rejected-says : (a : Attempt) (n : ℕ) → AttemptSays N s t free r a receive-rejected n
-      → ((w : Path) × Tries N s t a w × Free N free s w) × (r ≡ all-held)
+      → ((w : Path) × Tries N s t a w × Free N free s w) × (r ≡ none-available)
   unfolding AttemptSays Tries
   receive-rejected-says (pass-over ps) n (says-receive-rejected {w} e f) = ((w, f .permitted, f .is-free), e)
 
@@ -73,7 +73,7 @@ module _ (N : Network) (s t : ℕ) (free : ℕ → ℕ → Bool) (r : Receive) w
   route-rejected-says (pass-over ps) n (says-route-rejected f) = f .nothing
 
   -- where a channel is there to take, an attempt with a free path is acknowledged
-  finds : (a : Attempt) (o : Outcome) (n : ℕ) → AttemptSays N s t free r a o n → (w : Path) → Tries N s t a w → Free N free s w → r ≢ all-held
+  finds : (a : Attempt) (o : Outcome) (n : ℕ) → AttemptSays N s t free r a o n → (w : Path) → Tries N s t a w → Free N free s w → r ≢ none-available
       → Acknowledged o
   unfolding Acknowledged
   finds a (acknowledged w k) n h v i f g = tt
@@ -97,7 +97,7 @@ module _ (N : Network) (s t : ℕ) (free : ℕ → ℕ → Bool) (r : Receive) w
       let y = acknowledged-says (x .0) w k (x .2 .0) (x .2 .1) in
       ((x .0, x .1, (w, y .0, y .1)), y .2)
 
-  pub route-acknowledged : (xs : List Attempt) (o : Outcome) (n : ℕ) → AttemptsSay N s t free r xs o n → Route xs → r ≢ all-held → Acknowledged o
+  pub route-acknowledged : (xs : List Attempt) (o : Outcome) (n : ℕ) → AttemptsSay N s t free r xs o n → Route xs → r ≢ none-available → Acknowledged o
   route-acknowledged _ o n (last {a} h) x g =
       let e = ⊎-elim (λ z. z) (λ z. absurd (List·Memᴰ·not-nil z)) (List·Memᴰ·cases-cons (x .1)) in
       finds a o n h (x .2 .0) (subst (λ b. Tries N s t b (x .2 .0)) e (x .2 .1)) (x .2 .2) g

@@ -2,12 +2,12 @@
 -- Assumes nothing.
 use mathlib.Core.Bool.{Bool, cond, not, _&&_}
 use mathlib.Core.List.{List, [], _∷_, map}
-use Prim.Native.Nat.{ℕ, _^_, _<_}
-use lib.Dec.{eqb}
+use Prim.Native.Nat.{ℕ, _*_, _^_, _<_}
+use lib.Dec.{eqb, ltb}
 use lib.ListN.{length}
 use Rattle.common.specs.Lists.{keep, from}
 use Rattle.cube.specs.Bits.{has}
-use Rattle.cube.specs.Cube.{next, uphill}
+use Rattle.cube.specs.Cube.{channels, next, uphill}
 use Rattle.cube.specs.Axes.{axis, present}
 use Rattle.paths.specs.Network.{Network}
 use Rattle.paths.specs.Send.{Receive, Attempt, pass-over, attempted, SendResult, runs}
@@ -17,9 +17,26 @@ pub record Shape : Type 0 where
   pub dimension : ℕ
   pub fold : ℕ
 
--- "A cube of dimension D has nodes 0 to 2^D - 1."
+-- a cube none of whose dimensions is folded
+abbrev pub unfolded : ℕ → Shape
+unfolded D = record { dimension = D; fold = 0 }
+
+-- "A cube of dimension D has nodes 0 to 2^D - 1", as a statement and as a test; and its circuits, "8·s + c + 1" for each send channel of each node
 abbrev pub Node : Shape → ℕ → Type 0
 Node S n = n < 2 ^ S .dimension
+
+abbrev pub isNode : Shape → ℕ → Bool
+isNode S n = ltb n (2 ^ S .dimension)
+
+abbrev pub circuitCount : Shape → ℕ
+circuitCount S = channels * 2 ^ S .dimension
+
+-- "Port p, below D, of a node": the links of a cube none of whose dimensions is folded, by node and port
+abbrev pub LinkOf : Shape → ℕ → ℕ → Type 0
+LinkOf S n p = Node S n × (p < S .dimension)
+
+abbrev pub isLinkOf : Shape → ℕ → ℕ → Bool
+isLinkOf S n p = isNode S n && ltb p (S .dimension)
 
 -- the ports that every node has, rising
 unfoldable pub ports : Shape → List ℕ

@@ -13,7 +13,7 @@ use Rattle.cube.specs.Cube.{uphill}
 use Rattle.cube.specs.Helical.{helical}
 use Rattle.paths.specs.Network.{Path, Link, offered, end, links, hasLink, freePath}
 use Rattle.paths.specs.Pass.{over, ways, beginnings, scan, whole, pass, scouts}
-use Rattle.paths.specs.Send.{channel, all-held, Outcome, acknowledged, route-rejected, receive-rejected, received, attempted, outcome, SendResult, goesOn, runs}
+use Rattle.paths.specs.Send.{channel, none-available, Outcome, acknowledged, route-rejected, receive-rejected, received, attempted, outcome, SendResult, goesOn, runs}
 use Rattle.paths.specs.CubeNetwork.{Shape, ports, network, sendPorts, otherPorts, attempts, send}
 use Rattle.paths.specs.Bound.{waysFrom, sendsFrom}
 use Rattle.paths.specs.Recover.{takeFirst, dropAxis, walkFrom, wayBack, firstHopChoices, pathOfLinks}
@@ -71,11 +71,11 @@ unfolding send attempts attempted network ports sendPorts otherPorts present axi
 acknowledged-second = refl
 
 -- With all receive channels held: type 0 is receive rejected; type 4 goes on, and its second pass, with no port left, is route rejected.
-receive-rejected-once : send 0 (cube 1) (freeBut []) all-held 0 1 1 ≡ answer receive-rejected 1
+receive-rejected-once : send 0 (cube 1) (freeBut []) none-available 0 1 1 ≡ answer receive-rejected 1
 unfolding send attempts attempted network ports sendPorts present axis keep from has flip uphill helical offered end freePath over ways beginnings scan whole pass scouts received outcome runs
 receive-rejected-once = refl
 
-receive-rejected-twice : send 4 (cube 1) (freeBut []) all-held 0 1 1 ≡ answer route-rejected 1
+receive-rejected-twice : send 4 (cube 1) (freeBut []) none-available 0 1 1 ≡ answer route-rejected 1
 unfolding send attempts attempted network ports sendPorts otherPorts present axis keep from has flip uphill helical offered end freePath over ways beginnings scan whole pass scouts received outcome goesOn runs
 receive-rejected-twice = refl
 

@@ -7,17 +7,18 @@ use lib.Dec.{eqb}
 use Rattle.common.specs.Lists.{lowest}
 use Rattle.paths.specs.Network.{Network, Path}
 use Rattle.paths.specs.Pass.{PassResult, none, found, pass, scouts}
+use Rattle.cube.specs.Cube.{channels}
 
--- "the target takes its lowest receive channel that no circuit holds": that channel, or none where all are held
+-- document 02, (a): "The target takes its lowest channel that is armed and not held": that channel, or none where there is no such channel
 pub data Receive : Type 0 where
   channel : ℕ → Receive
-  all-held : Receive
+  none-available : Receive
 
--- the lowest of eight channels that passes a test, if any does
+-- the lowest of a node's channels that passes a test, if any does
 unfoldable pub lowestOf : (ℕ → Bool) → Receive
-lowestOf f = cond (eqb (lowest f 8 0) 8) all-held (channel (lowest f 8 0))
+lowestOf f = cond (eqb (lowest f channels 0) channels) none-available (channel (lowest f channels 0))
 
--- "With none, route rejected. With one, the target takes its lowest receive channel ..; if all are held, receive rejected."
+-- "With none, route rejected. With one", the target takes its channel; where there is none to take, receive rejected.
 pub data Outcome : Type 0 where
   acknowledged : Path → ℕ → Outcome
   route-rejected : Outcome
@@ -31,7 +32,7 @@ Acknowledged receive-rejected = ⊥
 
 unfoldable pub received : Path → Receive → Outcome
 received w (channel c) = acknowledged w c
-received w all-held = receive-rejected
+received w none-available = receive-rejected
 
 unfoldable pub outcome : Receive → PassResult → Outcome
 outcome r (none c) = route-rejected

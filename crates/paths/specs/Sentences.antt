@@ -10,7 +10,7 @@ use Rattle.common.specs.Lists.{_∈_, Pairwise}
 use Rattle.paths.specs.Network.{Network, Path, freePath}
 use Rattle.paths.specs.Permitted.{Permitted, Beginning, ComesBefore}
 use Rattle.paths.specs.Pass.{PassResult, none, found}
-use Rattle.paths.specs.Send.{Receive, channel, all-held, Outcome, acknowledged, route-rejected, receive-rejected, Attempt, pass-over, goesOn}
+use Rattle.paths.specs.Send.{Receive, channel, none-available, Outcome, acknowledged, route-rejected, receive-rejected, Attempt, pass-over, goesOn}
 
 -- c is the number of paths with P: a list holds exactly those, each once, and is c long
 pub record Number (P : Path → Type 0) (c : ℕ) : Type 0 where
@@ -43,11 +43,11 @@ module _ (N : Network) (free : ℕ → ℕ → Bool) (s : ℕ) (vector : List �
   Says (none c) = NoneSays c
   Says (found w c) = FoundSays w c
 
-  -- What the answer of one pass says, given what the target's receive channels are: "With none, route rejected. With one, the target takes
-  -- its lowest receive channel ..; if all are held, receive rejected." The scouts are the pass's in each case.
+  -- What the answer of one pass says, given what the target's receive channels are: "With none, route rejected. With one", the
+  -- target takes the receive channel that is there to take; where there is none, receive rejected. The scouts are the pass's in each case.
   pub data AnswerSays (r : Receive) : Outcome → ℕ → Type 0 where
     says-acknowledged : {w : Path} {k c : ℕ} → r ≡ channel k → FoundSays w c → AnswerSays r (acknowledged w k) c
-    says-receive-rejected : {w : Path} {c : ℕ} → r ≡ all-held → FoundSays w c → AnswerSays r receive-rejected c
+    says-receive-rejected : {w : Path} {c : ℕ} → r ≡ none-available → FoundSays w c → AnswerSays r receive-rejected c
     says-route-rejected : {c : ℕ} → NoneSays c → AnswerSays r route-rejected c
 
 module _ (N : Network) (s t : ℕ) where

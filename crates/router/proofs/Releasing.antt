@@ -5,11 +5,11 @@ use mathlib.Core.Path.{_≡_, refl, ap, sym, _∙_, subst}
 use mathlib.Core.Logic.{⊎-elim}
 use mathlib.Core.Bool.{Bool, true, false, cond, not, _&&_}
 use mathlib.Core.List.{List, [], _∷_, List·Memᴰ·head, List·Memᴰ·tail}
-use Prim.Native.Nat.{ℕ, zero, suc, _+_, _^_, _≤_, _<_}
+use Prim.Native.Nat.{ℕ, zero, suc, _+_, _/_, _%_, _^_, _≤_, _<_}
 use native.Mathlib.Omega.{arith}
 use native.Mathlib.Numerals.{add-one}
 use lib.Dec.{eqb, lit<}
-use lib.ListN.{length, getD, take, drop, length-append, List·getD-append}
+use lib.ListN.{length, getD, take, drop, set, length-append, length-set, List·getD-append}
 use lib.Seq.{slice, slice-cons, slice-empty, take-append-seam}
 use borrow.Author.Tests.{eqb-true, eqb-false, eq-eqb}
 use Rattle.common.specs.Lists.{_∈_, lowest}
@@ -23,9 +23,9 @@ use Rattle.paths.specs.Send.{acknowledged}
 use Rattle.paths.specs.CubeNetwork.{Shape, network}
 use Rattle.paths.proofs.Links.{link-true, true-link}
 use Rattle.paths.proofs.Apart.{permitted-below, permitted-inside}
-use Rattle.table.specs.Layout.{dimensionAt, receiverAt, putOwner, putReceiver}
+use Rattle.table.specs.Layout.{dimensionAt, entryPlace, receivePart, receiverAt, putEntry, putOwner, putReceiver, putArmed}
 use Rattle.table.specs.LayoutContracts.{Within}
-use Rattle.table.specs.View.{View, view, setReceiver, setAt, withoutCircuit, shapeOf, net, heldBy}
+use Rattle.table.specs.View.{View, view, setReceiver, setArmed, setAt, withoutCircuit, shapeOf, net, heldBy}
 use Rattle.table.specs.Encode.{encode, Bytes}
 use Rattle.soundness.specs.Sound.{endFor, CircuitSound, Sound}
 use Rattle.soundness.specs.SoundTest.{pathOf, isEmpty, tracedInto}
@@ -35,8 +35,8 @@ use Rattle.search.specs.PassAnswer.{holdPath}
 use Rattle.search.specs.SendAnswer.{bytesAfterSend}
 use Rattle.search.proofs.SearchContracts.{owner-length}
 use Rattle.ownership.specs.Update.{holdLinks, viewAfterSend}
-use Rattle.ownership.proofs.Shows.{PortsBelow, Fits, hold-length, view-hold}
-use Rattle.ownership.proofs.BytesAfter.{send-encoded}
+use Rattle.ownership.proofs.Shows.{PortsBelow, Fits, hold-length, view-hold, view-after-send}
+use Rattle.ownership.proofs.BytesAfter.{send-bytes, armed-encoded}
 use Rattle.ownership.proofs.Applied.{held-path}
 use Rattle.ownership.proofs.OpenCircuits.{open-path, open-sound}
 use Rattle.router.specs.Release.{MayFree}
@@ -82,6 +82,11 @@ at-member : (w : List ℕ) (i : ℕ) → i < length w → getD w i 0 ∈ w
 at-member [] i h = absurd (omega arith)
 at-member (x ∷ w) zero h = List·Memᴰ·head refl
 at-member (x ∷ w) (suc i) h = List·Memᴰ·tail (at-member w i (omega arith))
+
+receiver-length : (b : List ℕ) (n k c : ℕ) → length (putReceiver b n k c) ≡ length b
+unfolding putReceiver putEntry
+receiver-length b n k c =
+    length-set (set b (entryPlace receivePart n k) (c % 256)) (entryPlace receivePart n k + 1) (c / 256) ∙ length-set b (entryPlace receivePart n k) (c % 256)
 
 -- An open circuit of a sound table.
 module _ {b : List ℕ} {c : ℕ} (known : HasSource b c) (some : not (isEmpty (pathOf (view b) c)) ≡ true) (sound : Sound (view b)) where
@@ -130,23 +135,32 @@ module _ {b : List ℕ} {c : ℕ} (known : HasSource b c) (some : not (isEmpty (
           is-false _ (λ t. let r = both (eqb m target) _ t in
           eqb-false _ c e (subst (λ (x : ℕ). view b .receiver x k ≡ c) (sym (eqb-true m target (r .0))) (subst (λ (x : ℕ). view b .receiver target x ≡ c) (sym (eqb-true k _ (r .1))) receives)))
 
-  -- so what the table shows once both are nobody's is what it shows once every entry of the circuit is freed
-  shown-freed : viewAfterSend (view b) 0 (sourceOf c) target (acknowledged path (stands .channel)) ≡ withoutCircuit (view b) c
-  unfolding viewAfterSend withoutCircuit setReceiver setAt
+  -- so what the table shows once both are nobody's and the channel is disarmed is what it shows once every entry of the circuit is freed
+  shown-freed : setArmed (viewAfterSend (view b) 0 (sourceOf c) target (acknowledged path (stands .channel))) target (stands .channel) false
+      ≡ withoutCircuit (view b) c
+  unfolding viewAfterSend withoutCircuit setReceiver setArmed setAt
   shown-freed =
-      ap (λ (v : View). setReceiver v target (stands .channel) 0) (held-path (view b) (shapeOf (view b)) 0 (sourceOf c) path) ∙ λ i.
+      ap (λ (v : View). setArmed (setReceiver v target (stands .channel) 0) target (stands .channel) false)
+      (held-path (view b) (shapeOf (view b)) 0 (sourceOf c) path) ∙ λ i.
       record {
         dimension = view b .dimension;
         enabled = view b .enabled;
         owner = λ m q. cond (link-held m q i) 0 (view b .owner m q);
         receiver = λ m k. cond (channel-held m k i) 0 (view b .receiver m k);
+        armed = λ m k. cond (channel-held m k i) false (view b .armed m k);
       }
 
-  bytes-freed : Bytes b → putReceiver (holdPath b 0 (sourceOf c) path) target (stands .channel) 0 ≡ encode (withoutCircuit (view b) c)
+  bytes-freed : Bytes b → putArmed (putReceiver (holdPath b 0 (sourceOf c) path) target (stands .channel) 0) target (stands .channel) false
+      ≡ encode (withoutCircuit (view b) c)
   unfolding bytesAfterSend
   bytes-freed bytes =
-      let fits : Fits (dimensionAt b) (acknowledged path (stands .channel)) = unfold Fits in (ports-below, stands .small) in
-      send-encoded b bytes 0 (sourceOf c) target (acknowledged path (stands .channel)) (known .fits) (lit< tt) (known .source) target-inside fits ∙ ap encode shown-freed
+      let o = acknowledged path (stands .channel) in
+      let fits : Fits (dimensionAt b) o = unfold Fits in (ports-below, stands .small) in
+      let freed : Bytes (bytesAfterSend b 0 (sourceOf c) target o) = send-bytes b 0 (sourceOf c) target o bytes (lit< tt) in
+      let shown = view-after-send 0 (lit< tt) (dimensionAt b) (known .fits) b (known .bytes) (sourceOf c) target (known .source) target-inside o fits in
+      armed-encoded (bytesAfterSend b 0 (sourceOf c) target o) freed target (stands .channel) false
+      record { bytes = freed .long; node = below-256 (known .fits) target-inside; port = stands .small }
+      ∙ ap encode (ap (λ (v : View). setArmed v target (stands .channel) false) shown ∙ shown-freed)
 
   -- Of what the code has: the ports of the path in a buffer of nine, how many they are, and the source.
   module _ (buffer : List ℕ) {ports : List ℕ} {hops s : ℕ} (room : 9 ≤ length buffer) (count : hops ≡ length path) (e : ports ≡ tracedInto path buffer) (q : s ≡ sourceOf c) where
@@ -198,5 +212,10 @@ module _ {b : List ℕ} {c : ℕ} (known : HasSource b c) (some : not (isEmpty (
         pub channel-within : Within b₁ t k
         channel-within = record { bytes = target-within .bytes; node = target-within .node; port = omega (arith, the-channel, stands .small) }
 
-        pub all-freed : Bytes b → putReceiver b₁ t k 0 ≡ encode (withoutCircuit (view b) c)
-        all-freed bytes = rw (held, at-target, the-channel) (bytes-freed bytes)
+        module _ {b₂ : List ℕ} (freed : b₂ ≡ putReceiver b₁ t k 0) where
+          pub freed-within : Within b₂ t k
+          freed-within =
+              record { bytes = ap length freed ∙ receiver-length b₁ t k 0 ∙ target-within .bytes; node = target-within .node; port = channel-within .port }
+
+          pub all-freed : Bytes b → putArmed b₂ t k false ≡ encode (withoutCircuit (view b) c)
+          all-freed bytes = rw (freed, held, at-target, the-channel) (bytes-freed bytes)

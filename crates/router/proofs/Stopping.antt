@@ -20,7 +20,7 @@ use Rattle.cube.proofs.Ports.{most-nodes, below-256}
 use Rattle.soundness.specs.Sound.{Sound}
 use Rattle.soundness.specs.SoundTest.{pathOf, isEmpty, tableTests}
 use Rattle.soundness.specs.Follow.{HasSource}
-use Rattle.ownership.specs.Calls.{Call, form, absent, blocking, unblocking, opening, closing, tracing}
+use Rattle.ownership.specs.Calls.{Call, form, absent, blocking, unblocking, opening, closing, tracing, arming, disarming}
 use Rattle.ownership.specs.Allowed.{Allowed}
 use Rattle.ownership.specs.OnTable.{isOpenIn, openIn, factsOf, stoppedAt}
 use Rattle.ownership.proofs.Allowed.{below, allowed}
@@ -91,7 +91,7 @@ unfolding factsOf view
 node-passed b s e f = let h = below s (2 ^ dimensionAt b) f in inside b e h h
 
 -- a call that no test stops: the table passes its tests, and the arguments are allowed
-none-applies : (b : List ℕ) (a : Call) → form a .makes ≡ false → {n : ℕ} → n ≡ stoppedAt b a → n ≡ 0 → (refusal (tableTests b) ≡ 0) × Allowed (factsOf (view b)) a
+none-applies : (b : List ℕ) (a : Call) → form a .isMaking ≡ false → {n : ℕ} → n ≡ stoppedAt b a → n ≡ 0 → (refusal (tableTests b) ≡ 0) × Allowed (factsOf (view b)) a
 none-applies b a q e z = (none-stops-lent b a q (sym e ∙ z), allowed (factsOf (view b)) a (none-stops b a (sym e ∙ z)))
 
 module _ {b : List ℕ} {m p n : ℕ} where
@@ -102,6 +102,15 @@ module _ {b : List ℕ} {m p n : ℕ} where
   pub block-passed : n ≡ stoppedAt b (blocking m p) → n ≡ 0 → Inside b m m × (p < dimensionAt b)
   unfolding Allowed factsOf view
   block-passed e z = let r = none-applies b (blocking m p) refl e z in (inside b (r .0) (r .1 .0) (r .1 .0), r .1 .1)
+
+module _ {b : List ℕ} {m k n : ℕ} where
+  pub arm-passed : n ≡ stoppedAt b (arming m k) → n ≡ 0 → Inside b m m × (k < 8)
+  unfolding Allowed factsOf view
+  arm-passed e z = let r = none-applies b (arming m k) refl e z in (inside b (r .0) (r .1 .0) (r .1 .0), r .1 .1)
+
+  pub disarm-passed : n ≡ stoppedAt b (disarming m k) → n ≡ 0 → Inside b m m × (k < 8)
+  unfolding Allowed factsOf view
+  disarm-passed e z = let r = none-applies b (disarming m k) refl e z in (inside b (r .0) (r .1 .0) (r .1 .0), r .1 .1)
 
 pub open-passed : {b : List ℕ} {s c t : ℕ} (y : ℕ) {v n : ℕ} → n ≡ stoppedAt b (opening s c t y v) → n ≡ 0 → Inside b s t × (c < 8) × (v < 2 ^ dimensionAt b)
 unfolding Allowed factsOf view
@@ -122,9 +131,12 @@ module _ {b : List ℕ} {s c : ℕ} where
 pub node-room : {b : List ℕ} {s t : ℕ} → Inside b s t → (2 ≤ 2 ^ dimensionAt b) × (2 ^ dimensionAt b ≤ 256)
 node-room {b} h = (pow-mono {i = 1} {j = dimensionAt b} (h .least), most-nodes (h .most))
 
--- A link of the cube lies in the table.
+-- A link of the cube lies in the table, and so does a receive channel.
 pub link-within : {b : List ℕ} {m p : ℕ} → Inside b m m × (p < dimensionAt b) → Within b m p
 link-within h = record { bytes = h .0 .long; node = below-256 (h .0 .most) (h .0 .source); port = omega (arith, h .0 .most, h .1) }
+
+pub receive-within : {b : List ℕ} {m k : ℕ} → Inside b m m × (k < 8) → Within b m k
+receive-within h = record { bytes = h .0 .long; node = below-256 (h .0 .most) (h .0 .source); port = h .1 }
 
 -- The channel has a circuit number, whose source is a node of the cube.
 module _ {b : List ℕ} {s t c : ℕ} (h : Inside b s t) (l : c < 8) where

@@ -12,11 +12,12 @@ use borrow.Author.Tests.{ne-eqb, le-leb, lt-leb}
 use Rattle.common.proofs.Tests.{refused, passed, accepted}
 use Rattle.cube.specs.Cube.{circuitOf}
 use Rattle.paths.specs.Send.{Outcome, acknowledged, route-rejected, receive-rejected}
-use Rattle.table.specs.Layout.{tableLength, made, putEnabled}
+use Rattle.table.specs.Layout.{tableLength, made, putEnabled, putArmed}
 use Rattle.table.specs.View.{view, withoutCircuit}
 use Rattle.table.specs.Encode.{encode, AllBytes}
 use Rattle.soundness.specs.SoundTest.{pathOf, tracedInto}
-use Rattle.ownership.specs.Calls.{Call, making, blocking, unblocking, opening, closing, tracing, CallResult, refusedWith, answered, callTests, resultOf, After}
+use Rattle.ownership.specs.Calls.{Call, making, blocking, unblocking, opening, closing, tracing, arming, disarming}
+use Rattle.ownership.specs.Calls.{CallResult, refusedWith, answered, callTests, resultOf, After}
 use Rattle.search.specs.PassAnswer.{PassAnswer, pass-answer}
 use Rattle.search.specs.SendAnswer.{answerOfOutcome, sendAnswer, sends}
 use Rattle.ownership.specs.Update.{sendIn}
@@ -60,7 +61,7 @@ module _ (b : List ℕ) where
     unfolding callTests writtenBy resultOf
     make-made e small f q = call-passed b (making D) {n = 0} (sym (making-stopped b e D ∙ passed 2 [] (ap not f) ∙ accepted)) refl small q refl
 
-  -- a block, an unblock and a close
+  -- a block, an unblock, an arming, a disarming and a close
   pub call-blocks : (n p : ℕ) {m : ℕ} → m ≡ stoppedAt b (blocking n p) → m ≡ 0 → AllBytes b → {b₁ : List ℕ} → b₁ ≡ putEnabled b n p false → done b₁ 0 [] [] ≡ tableStep b (blocking n p)
   unfolding writtenBy resultOf
   call-blocks n p e z small q = call-passed b (blocking n p) e z small q refl
@@ -68,6 +69,16 @@ module _ (b : List ℕ) where
   pub call-unblocks : (n p : ℕ) {m : ℕ} → m ≡ stoppedAt b (unblocking n p) → m ≡ 0 → AllBytes b → {b₁ : List ℕ} → b₁ ≡ putEnabled b n p true → done b₁ 0 [] [] ≡ tableStep b (unblocking n p)
   unfolding writtenBy resultOf
   call-unblocks n p e z small q = call-passed b (unblocking n p) e z small q refl
+
+  pub call-arms : (n k : ℕ) {m : ℕ} → m ≡ stoppedAt b (arming n k) → m ≡ 0 → AllBytes b → {b₁ : List ℕ} → b₁ ≡ putArmed b n k true
+      → done b₁ 0 [] [] ≡ tableStep b (arming n k)
+  unfolding writtenBy resultOf
+  call-arms n k e z small q = call-passed b (arming n k) e z small q refl
+
+  pub call-disarms : (n k : ℕ) {m : ℕ} → m ≡ stoppedAt b (disarming n k) → m ≡ 0 → AllBytes b → {b₁ : List ℕ} → b₁ ≡ putArmed b n k false
+      → done b₁ 0 [] [] ≡ tableStep b (disarming n k)
+  unfolding writtenBy resultOf
+  call-disarms n k e z small q = call-passed b (disarming n k) e z small q refl
 
   pub call-closes : (s c : ℕ) {m : ℕ} → m ≡ stoppedAt b (closing s c) → m ≡ 0 → AllBytes b → {k : ℕ} → k ≡ circuitOf s c → {b₁ : List ℕ} → b₁ ≡ encode (withoutCircuit (view b) k) → done b₁ 0 [] [] ≡ tableStep b (closing s c)
   unfolding writtenBy resultOf

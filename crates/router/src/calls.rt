@@ -1,7 +1,7 @@
 // The calls: the tests in rising order of their numbers, and then what the call does. A refused call changes no byte.
 ghost use mathlib.Core.Path.{_≡_};
 ghost use mathlib.Core.List.{[], _∷_};
-ghost use Rattle.ownership.specs.Calls.{making, blocking, unblocking, opening, closing, tracing};
+ghost use Rattle.ownership.specs.Calls.{making, blocking, unblocking, opening, closing, tracing, arming, disarming};
 ghost use Rattle.ownership.specs.OnTable.{tableStep, done};
 use crate::release;
 use crate::tests;
@@ -10,7 +10,7 @@ use cube::Node;
 use cube::Port;
 use search::Opened;
 
-// Makes a table of a dimension: all its links enabled, nothing held. What the bytes were before does not matter.
+// Makes a table of a dimension: all its links enabled, nothing held, no receive channel armed. What the bytes were before does not matter.
 pub fn make(t: &mut [u8], dimension: u16) -> u16
     ensures { λ r. ⌜ done (now (t .exit)) r [] [] ≡ tableStep (now (t .entry)) (making dimension) ⌝ }
 {
@@ -75,7 +75,7 @@ pub fn open(
     search::send(t, source, target, c, routing, vector)
 }
 
-// Closes the circuit of a send channel: it frees its links and its receive channel, and nothing else.
+// Closes the circuit of a send channel: it frees its links, frees and disarms its receive channel, and changes nothing else.
 pub fn close(t: &mut [u8], source: Node, channel: u16) -> u16
     ensures { λ r. ⌜ done (now (t .exit)) r [] [] ≡ tableStep (now (t .entry)) (closing (source .0) channel) ⌝ }
 {
@@ -84,6 +84,30 @@ pub fn close(t: &mut [u8], source: Node, channel: u16) -> u16
         return refused;
     }
     release::release(t, cube::circuit_of(source, channel));
+    refusal::ACCEPTED
+}
+
+// Arms a receive channel: an open to its node may take it. Arming an armed channel changes nothing.
+pub fn arm(t: &mut [u8], node: Node, channel: u16) -> u16
+    ensures { λ r. ⌜ done (now (t .exit)) r [] [] ≡ tableStep (now (t .entry)) (arming (node .0) channel) ⌝ }
+{
+    let refused = tests::arm(t, node, channel);
+    if refused != refusal::ACCEPTED {
+        return refused;
+    }
+    table::arm(t, node, channel);
+    refusal::ACCEPTED
+}
+
+// Disarms a receive channel that nobody holds. Disarming an unarmed channel changes nothing.
+pub fn disarm(t: &mut [u8], node: Node, channel: u16) -> u16
+    ensures { λ r. ⌜ done (now (t .exit)) r [] [] ≡ tableStep (now (t .entry)) (disarming (node .0) channel) ⌝ }
+{
+    let refused = tests::disarm(t, node, channel);
+    if refused != refusal::ACCEPTED {
+        return refused;
+    }
+    table::disarm(t, node, channel);
     refusal::ACCEPTED
 }
 

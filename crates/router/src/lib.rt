@@ -1,11 +1,13 @@
-// The six calls on a lent table.
+// The calls on a lent table.
 mod calls;
 mod release;
 mod tests;
 
 pub use calls::Traced;
+pub use calls::arm;
 pub use calls::block;
 pub use calls::close;
+pub use calls::disarm;
 pub use calls::make;
 pub use calls::open;
 pub use calls::trace;

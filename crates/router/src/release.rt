@@ -1,4 +1,4 @@
-// Freeing a circuit: the links of its path one after another, and then the receive channel at its end.
+// Freeing a circuit: the links of its path one after another, and then the receive channel at its end, which is disarmed too.
 ghost use mathlib.Core.Path.{_≡_};
 ghost use mathlib.Core.Bool.{true, not};
 ghost use lib.ListN.{take};
@@ -32,7 +32,7 @@ fn free_links(t: &mut [u8], source: Node, ports: &[u8], hops: u16) -> Node
     at
 }
 
-// Frees every link and the receive channel of an open circuit. In a sound table its path has all of them.
+// Frees every link and the receive channel of an open circuit, and disarms the channel. In a sound table its path has all of them.
 pub fn release(t: &mut [u8], c: Circuit)
     requires { ⌜ HasSource (now t) (c .0) ⌝ }
     requires { ⌜ not (isEmpty (pathOf (view (now t)) (c .0))) ≡ true ⌝ }
@@ -44,4 +44,5 @@ pub fn release(t: &mut [u8], c: Circuit)
     let target = free_links(t, cube::source_of(c), &ports, hops);
     let channel = table::held_channel(t, c, target);
     table::set_receiver(t, target, channel, Circuit(0));
+    table::disarm(t, target, channel);
 }

@@ -5,8 +5,9 @@ ghost use mathlib.Core.Bool.{false};
 ghost use Rattle.common.specs.Tests.{refusal};
 ghost use Rattle.table.specs.View.{view, heldIn};
 ghost use Rattle.soundness.specs.SoundTest.{tableTests};
-ghost use Rattle.ownership.specs.Calls.{blocking, unblocking, opening, closing, tracing, absent, nodes, channel, port, routingType, sendVector, shortBuffer};
-ghost use Rattle.ownership.specs.OnTable.{openIn, factsOf, stoppedAt};
+ghost use Rattle.ownership.specs.Calls.{blocking, unblocking, opening, closing, tracing, arming, disarming};
+ghost use Rattle.ownership.specs.Calls.{absent, nodes, channel, port, routingType, sendVector, shortBuffer};
+ghost use Rattle.ownership.specs.OnTable.{openIn, takenIn, factsOf, stoppedAt};
 use common::refusal;
 use cube::Node;
 use cube::Port;
@@ -84,6 +85,16 @@ fn is_short(buffer: &[u8]) -> bool
     ensures { λ r. ⌜ r ≡ shortBuffer (now (buffer .entry)) .when ⌝ }
 {
     buffer.len() < 9
+}
+
+// Whether a circuit holds a receive channel of a node.
+fn is_taken(t: &[u8], n: Node, c: u16) -> bool
+    requires { ⌜ refusal (tableTests (now t)) ≡ 0 ⌝ }
+    requires { ⌜ absent (factsOf (view (now t))) (n .0) ≡ false ⌝ }
+    requires { ⌜ channel c .when ≡ false ⌝ }
+    ensures { λ r. ⌜ r ≡ takenIn (view (now (t .entry))) (n .0) c ⌝ }
+{
+    table::receiver(t, n, c).0 != 0
 }
 
 // The calls.
@@ -184,6 +195,41 @@ pub fn trace(t: &[u8], source: Node, channel: u16, buffer: &[u8]) -> u16
     }
     if is_short(buffer) {
         return refusal::BUFFER_SHORT;
+    }
+    refusal::ACCEPTED
+}
+
+pub fn arm(t: &[u8], node: Node, channel: u16) -> u16
+    ensures { λ r. ⌜ r ≡ stoppedAt (now (t .entry)) (arming (node .0) channel) ⌝ }
+{
+    let refused = soundness::check(t);
+    if refused != refusal::ACCEPTED {
+        return refused;
+    }
+    if is_absent(t, node) {
+        return refusal::NODE;
+    }
+    if no_channel(channel) {
+        return refusal::CHANNEL;
+    }
+    refusal::ACCEPTED
+}
+
+pub fn disarm(t: &[u8], node: Node, channel: u16) -> u16
+    ensures { λ r. ⌜ r ≡ stoppedAt (now (t .entry)) (disarming (node .0) channel) ⌝ }
+{
+    let refused = soundness::check(t);
+    if refused != refusal::ACCEPTED {
+        return refused;
+    }
+    if is_absent(t, node) {
+        return refusal::NODE;
+    }
+    if no_channel(channel) {
+        return refusal::CHANNEL;
+    }
+    if is_taken(t, node, channel) {
+        return refusal::CHANNEL_HELD;
     }
     refusal::ACCEPTED
 }

@@ -16,7 +16,7 @@ use Rattle.cube.specs.Helical.{helical}
 use Rattle.cube.proofs.Order.{helical-mem}
 use Rattle.paths.specs.Network.{Network, Path, offered, Nearing, isFree, linkState}
 use Rattle.paths.specs.Pass.{PassResult, none, found, scouts}
-use Rattle.paths.specs.Send.{Receive, channel, all-held, lowestOf}
+use Rattle.paths.specs.Send.{Receive, channel, none-available, lowestOf}
 use Rattle.paths.specs.Search.{hopOr, trying, arriving, holding}
 use Rattle.paths.proofs.Words.{free-link}
 use Rattle.paths.proofs.Depth.{trying-cons}
@@ -129,7 +129,7 @@ module _ (free : ℕ → Bool) (on : ℕ → ℕ → PassResult) (b : List ℕ) 
       go : (r : Receive) (a : PassResult) → refusedOf (answerOfPass (putOwner b n p c) c (next n p) (h + 1) r a) ≡ 0
           → answerOfPass (putOwner b n p c) c (next n p) (h + 1) r a ≡ answerOfPass b c n h r (hopOr p a (trying free on ps))
       go r (none d) z = absurd (ten≢zero (unfold answerOfPass refusedOf in z))
-      go all-held (found w d) z = absurd (eleven≢zero (unfold answerOfPass refusedOf in z))
+      go none-available (found w d) z = absurd (eleven≢zero (unfold answerOfPass refusedOf in z))
       go (channel k) (found w d) z =
           unfold answerOfPass hopOr holdPath in ap (λ x. pass-answer 0 x k d (holdPath (putOwner b n p c) c (next n p) w)) (one-longer h p w)
 
@@ -143,7 +143,7 @@ module _ (free : ℕ → Bool) (on : ℕ → ℕ → PassResult) (b : List ℕ) 
           → (b′ ≡ putOwner b n p c) × (pass-answer 11 hops k d b ≡ answerOfPass b c n h r (hopOr p a (trying free on ps)))
       go r (none d) z = absurd (ten≢eleven (sym (unfold answerOfPass refusedOf in ap refusedOf z)))
       go (channel k) (found w d) z = absurd (eleven≢zero (unfold answerOfPass refusedOf in ap refusedOf z))
-      go all-held (found w d) z = (unfold answerOfPass bytesOf in ap bytesOf z, unfold answerOfPass hopOr withBytes in ap (withBytes b) z)
+      go none-available (found w d) z = (unfold answerOfPass bytesOf in ap bytesOf z, unfold answerOfPass hopOr withBytes in ap (withBytes b) z)
 
   -- route rejected: the hop is given back, and the next port is tried with the scouts sent by then
   pub port-route-rejected : free p ≡ true → (k hops d : ℕ) (b′ : List ℕ) → pass-answer 10 hops k d b′ ≡ answerOfPass (putOwner b n p c) c (next n p) (h + 1) r (on p (suc s))
@@ -155,21 +155,21 @@ module _ (free : ℕ → Bool) (on : ℕ → ℕ → PassResult) (b : List ℕ) 
           → (b′ ≡ putOwner b n p c) × (trying free on ps d ≡ hopOr p a (trying free on ps))
       go r (none d) z = (unfold answerOfPass bytesOf in ap bytesOf z, unfold answerOfPass hopOr scoutsOf in ap (λ x. trying free on ps (scoutsOf x)) z)
       go (channel k) (found w d) z = absurd (ten≢zero (unfold answerOfPass refusedOf in ap refusedOf z))
-      go all-held (found w d) z = absurd (ten≢eleven (unfold answerOfPass refusedOf in ap refusedOf z))
+      go none-available (found w d) z = absurd (ten≢eleven (unfold answerOfPass refusedOf in ap refusedOf z))
 
 -- an answer is an acknowledgement or one of the two rejections
 pub three-answers : (b : List ℕ) (c n h : ℕ) (r : Receive) (a : PassResult) (x k hops s : ℕ) (b′ : List ℕ) → pass-answer x hops k s b′ ≡ answerOfPass b c n h r a → x ≢ 0 → x ≢ 11 → x ≡ 10
 unfolding answerOfPass refusedOf
 three-answers b c n h r (none d) x k hops s b′ e f g = ap refusedOf e
 three-answers b c n h (channel j) (found w d) x k hops s b′ e f g = absurd (f (ap refusedOf e))
-three-answers b c n h all-held (found w d) x k hops s b′ e f g = absurd (g (ap refusedOf e))
+three-answers b c n h none-available (found w d) x k hops s b′ e f g = absurd (g (ap refusedOf e))
 
 -- its scouts are those of the pass
 pub answer-scouts : (b : List ℕ) (c n h : ℕ) (r : Receive) (a : PassResult) (x k hops s : ℕ) (b′ : List ℕ) → pass-answer x hops k s b′ ≡ answerOfPass b c n h r a → s ≡ scouts a
 unfolding answerOfPass scoutsOf scouts
 answer-scouts b c n h r (none d) x k hops s b′ e = ap scoutsOf e
 answer-scouts b c n h (channel j) (found w d) x k hops s b′ e = ap scoutsOf e
-answer-scouts b c n h all-held (found w d) x k hops s b′ e = ap scoutsOf e
+answer-scouts b c n h none-available (found w d) x k hops s b′ e = ap scoutsOf e
 
 -- no port left
 pub ports-over : (free : ℕ → Bool) (on : ℕ → ℕ → PassResult) (b : List ℕ) (c n h : ℕ) (r : Receive) (s : ℕ) → pass-answer 10 0 0 s b ≡ answerOfPass b c n h r (trying free on [] s)

@@ -7,7 +7,7 @@ use Prim.Native.Nat.{ℕ, _≤_}
 use native.Mathlib.Omega.{arith}
 use Rattle.common.proofs.Tests.{clash}
 use Rattle.paths.specs.Network.{Path}
-use Rattle.paths.specs.Send.{channel, all-held, Outcome, acknowledged, route-rejected, receive-rejected, Acknowledged, Attempt, SendResult}
+use Rattle.paths.specs.Send.{channel, none-available, Outcome, acknowledged, route-rejected, receive-rejected, Acknowledged, Attempt, SendResult}
 use Rattle.paths.specs.Sentences.{AttemptsSay}
 use Rattle.paths.specs.CubeNetwork.{attempts, send}
 use Rattle.paths.proofs.Send.{Route, acknowledged-route, route-acknowledged, send-says, send-bounded}
@@ -24,7 +24,7 @@ module _ (v : View) (t : ℕ) where
   unfolding receive
   channel-lowest k e = let r = chosen (available v t) k e in record { small = r .0; is-available = r .1; first = r .2 }
 
-  some-available : Available v t → receive v t ≢ all-held
+  some-available : Available v t → receive v t ≢ none-available
   unfolding receive
   some-available a e = clash (a .2) (none-chosen (available v t) e (a .0) (a .1))
 

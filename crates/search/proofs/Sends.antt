@@ -19,7 +19,7 @@ use Rattle.cube.specs.Helical.{portsOf}
 use Rattle.cube.proofs.Order.{helical-last, ports-wider, ports-mem, length-ports}
 use Rattle.paths.specs.Pass.{PassResult, none, found, pass, scouts}
 use Rattle.paths.specs.Search.{trying, sending}
-use Rattle.paths.specs.Send.{Receive, channel, all-held, Outcome, acknowledged, route-rejected, receive-rejected, oneResult, received, outcome, goesOn}
+use Rattle.paths.specs.Send.{Receive, channel, none-available, Outcome, acknowledged, route-rejected, receive-rejected, oneResult, received, outcome, goesOn}
 use Rattle.paths.specs.CubeNetwork.{Shape, network, sendPorts, otherPorts, attempts, send}
 use Rattle.paths.proofs.Depth.{search-is-pass}
 use Rattle.paths.proofs.CubeNetwork.{distance-within, unfolded-send-ports, scouts-bound, other-vector}
@@ -82,7 +82,7 @@ module _ (b : List ℕ) (c s t : ℕ) (r : Receive) where
   pass-channel (found w m) {x} {h} {k} {n} {b₁} q z = go r q
     where
       go : (r : Receive) → pass-answer x h k n b₁ ≡ answerOfPass b c s 0 r (found w m) → r ≡ channel k
-      go all-held u = let y : x ≡ 11 = cc in absurd (omega arith)
+      go none-available u = let y : x ≡ 11 = cc in absurd (omega arith)
       go (channel j) u = let i : j ≡ k = cc in ap channel i
 
   pub pass-taken : (p : PassResult) {x h k n : ℕ} {b₁ b₂ : List ℕ} → pass-answer x h k n b₁ ≡ answerOfPass b c s 0 r p → x ≡ 0 → b₂ ≡ putReceiver b₁ t k c → pass-answer x h k n b₂ ≡ sendAnswer b c s t (oneResult r p)
@@ -91,7 +91,7 @@ module _ (b : List ℕ) (c s t : ℕ) (r : Receive) where
   pass-taken (found w m) {x} {h} {k} {n} {b₁} {b₂} q z e = go r q
     where
       go : (r : Receive) → pass-answer x h k n b₁ ≡ answerOfPass b c s 0 r (found w m) → pass-answer x h k n b₂ ≡ sendAnswer b c s t (oneResult r (found w m))
-      go all-held u = let y : x ≡ 11 = cc in absurd (omega arith)
+      go none-available u = let y : x ≡ 11 = cc in absurd (omega arith)
       go (channel j) u =
           let i : k ≡ j = cc in
           let l₀ : h ≡ 0 + length w = cc in
@@ -106,7 +106,7 @@ module _ (b : List ℕ) (c s t : ℕ) (r : Receive) where
   pass-rejected (found w m) {x} {h} {k} {n} {b₁} q f = go r q
     where
       go : (r : Receive) → pass-answer x h k n b₁ ≡ answerOfPass b c s 0 r (found w m) → pass-answer x h k n b₁ ≡ sendAnswer b c s t (oneResult r (found w m))
-      go all-held u = u
+      go none-available u = u
       go (channel j) u = let y : x ≡ 0 = cc in absurd (f y)
 
 -- What the answer of a send tells: whether another pass follows, that a rejection leaves each byte as it was, and its scouts.

@@ -8,7 +8,7 @@ use Rattle.cube.specs.Cube.{next}
 use Rattle.paths.specs.Network.{Network, Path, isFree, linkState}
 use Rattle.paths.specs.Pass.{PassResult, none, found}
 use Rattle.paths.specs.Search.{arriving}
-use Rattle.paths.specs.Send.{Receive, channel, all-held}
+use Rattle.paths.specs.Send.{Receive, channel, none-available}
 use Rattle.table.specs.Layout.{putOwner}
 use Rattle.table.specs.View.{View, heldIn}
 
@@ -25,13 +25,13 @@ holdPath b c n (p ∷ w) = holdPath (putOwner b n p c) c (next n p) w
 pub data PassAnswer : Type 0 where
   pass-answer : (number hops receive scouts : ℕ) → List ℕ → PassAnswer
 
--- "With none, route rejected. With one, the target takes its lowest receive channel ..; if all are held, receive rejected." The path's links are
+-- "With none, route rejected. With one", the target takes the receive channel that is there to take; where there is none, receive rejected. The path's links are
 -- held where it is acknowledged; where it is rejected each byte is as it was. The receive channel is answered here and not yet held: that is for
 -- the pass above. h hops were made before the search came to node n.
 unfoldable pub answerOfPass : List ℕ → ℕ → ℕ → ℕ → Receive → PassResult → PassAnswer
 answerOfPass b c n h r (none s) = pass-answer 10 0 0 s b
 answerOfPass b c n h (channel k) (found w s) = pass-answer 0 (h + length w) k s (holdPath b c n w)
-answerOfPass b c n h all-held (found w s) = pass-answer 11 0 0 s b
+answerOfPass b c n h none-available (found w s) = pass-answer 11 0 0 s b
 
 -- the arrival behind a port of node n, on the way to t
 unfoldable pub arrivalAfter : Network → (ℕ → ℕ → Bool) → ℕ → ℕ → ℕ → ℕ → PassResult

@@ -12,7 +12,7 @@ use Rattle.cube.specs.Helical.{helical, portsOf}
 use Rattle.paths.specs.Network.{Network}
 use Rattle.paths.specs.Bound.{waysFrom}
 use Rattle.paths.specs.Search.{trying, arriving}
-use Rattle.table.specs.Layout.{tableLength, dimensionAt}
+use Rattle.table.specs.Layout.{tableLength, dimensionAt, portCount}
 use Rattle.table.specs.View.{View, view, receive, net}
 use Rattle.search.specs.PassAnswer.{freeIn, PassAnswer, answerOfPass, arrivalAfter}
 
@@ -26,12 +26,12 @@ unfoldable pub hopsLeft : List ℕ → ℕ → ℕ → ℕ
 hopsLeft b t n = net (view b) .distance t n
 
 unfoldable pub farthestAfter : List ℕ → ℕ → ℕ → ℕ → ℕ
-farthestAfter b t n vector = farthest (net (view b)) t n (portsOf 8 vector)
+farthestAfter b t n vector = farthest (net (view b)) t n (portsOf portCount vector)
 
 -- trying the ports of a vector at node n, after an arrival on port a, with h hops made and s scouts sent; and an arrival
 unfoldable pub tryAnswer : List ℕ → ℕ → ℕ → ℕ → ℕ → ℕ → ℕ → ℕ → PassAnswer
 tryAnswer b t c n vector a h s =
-    answerOfPass b c n h (receive (view b) t) (trying (freeIn (view b) n) (arrivalAfter (net (view b)) (freeIn (view b)) t n) (helical a (portsOf 8 vector)) s)
+    answerOfPass b c n h (receive (view b) t) (trying (freeIn (view b) n) (arrivalAfter (net (view b)) (freeIn (view b)) t n) (helical a (portsOf portCount vector)) s)
 
 unfoldable pub arriveAnswer : List ℕ → ℕ → ℕ → ℕ → ℕ → ℕ → ℕ → PassAnswer
 arriveAnswer b t c n a h s = answerOfPass b c n h (receive (view b) t) (arriving (hopsLeft b t n) (net (view b)) (freeIn (view b)) t n a s)
@@ -40,11 +40,11 @@ arriveAnswer b t c n a h s = answerOfPass b c n h (receive (view b) t) (arriving
 pub record Narrowed (v : View) (n vector left : ℕ) : Type 0 where
   pub most : left ≤ vector
   pub among : (p : ℕ) → has left p ≡ true → has vector p ≡ true
-  pub dropped : (p : ℕ) → p < 8 → has vector p ≡ true → has left p ≡ false → freeIn v n p ≡ false
+  pub dropped : (p : ℕ) → p < portCount → has vector p ≡ true → has left p ≡ false → freeIn v n p ≡ false
 
 -- the ports of a vector are all enabled at node n
 abbrev pub Enabled : View → ℕ → ℕ → Type 0
-Enabled v n vector = (p : ℕ) → p < 8 → has vector p ≡ true → v .enabled n p ≡ true
+Enabled v n vector = (p : ℕ) → p < portCount → has vector p ≡ true → v .enabled n p ≡ true
 
 -- what both ask: a table of a cube up to dimension 8, a node and a target of it, a port, a circuit
 pub record SearchPre (b : List ℕ) (t c n a : ℕ) : Type 0 where
@@ -52,7 +52,7 @@ pub record SearchPre (b : List ℕ) (t c n a : ℕ) : Type 0 where
   pub fits : dimensionAt b ≤ 8
   pub node : n < 2 ^ dimensionAt b
   pub target : t < 2 ^ dimensionAt b
-  pub port : a < 8
+  pub port : a < portCount
   pub circuit : c ≢ 0
   pub small : c < 65536
 
@@ -60,7 +60,7 @@ pub record MayTry (b : List ℕ) (t c n vector a h s : ℕ) : Type 0 where
   pub here : SearchPre b t c n a
   pub ports : vector < 2 ^ dimensionAt b
   pub hops : h + 1 + farthestAfter b t n vector < 65536
-  pub room : s + length (portsOf 8 vector) * (1 + waysFrom 1 (farthestAfter b t n vector)) < 2 ^ 32
+  pub room : s + length (portsOf portCount vector) * (1 + waysFrom 1 (farthestAfter b t n vector)) < 2 ^ 32
 
 pub record MayArrive (b : List ℕ) (t c n a h s : ℕ) : Type 0 where
   pub here : SearchPre b t c n a

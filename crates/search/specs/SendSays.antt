@@ -13,6 +13,7 @@ use Rattle.paths.specs.CubeNetwork.{attempts}
 use Rattle.table.specs.View.{View, view, receive, available, net, shapeOf}
 use Rattle.search.specs.PassAnswer.{freeIn, pass-answer}
 use Rattle.search.specs.SendAnswer.{sendAnswer}
+use Rattle.cube.specs.Cube.{channels}
 
 -- a path from s to t that an attempt tries, free in what a table shows
 abbrev pub FreeRoute : View → ℕ → ℕ → Attempt → Type 0
@@ -20,10 +21,10 @@ FreeRoute v s t a = (w : Path) × Tries (net v) s t a w × Free (net v) (freeIn 
 
 -- a receive channel is available at a target; the lowest one that is
 abbrev pub Available : View → ℕ → Type 0
-Available v t = (k : ℕ) × (k < 8) × (available v t k ≡ true)
+Available v t = (k : ℕ) × (k < channels) × (available v t k ≡ true)
 
 pub record Lowest (v : View) (t k : ℕ) : Type 0 where
-  pub small : k < 8
+  pub small : k < channels
   pub is-available : available v t k ≡ true
   pub first : (j : ℕ) → j < k → available v t j ≡ false
 

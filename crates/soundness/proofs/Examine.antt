@@ -33,7 +33,7 @@ use Rattle.soundness.specs.SoundTest.{pathOf, isEmpty, reaches, onPathOf
 use Rattle.soundness.specs.TestContracts.{Reached, ReceivesPass, ReceivesDecided, AllPathsMarked}
 use Rattle.soundness.specs.Marks.{marked, withMark, Adds}
 use Rattle.soundness.specs.Follow.{takes, followed, firstHop, Follows, HasSource}
-use Rattle.common.proofs.Tests.{below-or, clash, both}
+use Rattle.common.proofs.Tests.{below-or, clash, both, and}
 use Rattle.soundness.proofs.Soundness.{Framed, kept-one}
 use Rattle.soundness.proofs.Marks.{mark-one, here, marked-is, received-free, received-one, received-yes, received-no}
 use Rattle.table.proofs.Made.{ones}
@@ -244,35 +244,42 @@ one-fails v n k e pass = clash (pass n k (omega arith) (omega arith) (omega arit
 
 -- the test of one receive channel, branch by branch
 module _ (v : View) (n k : ℕ) {D c nodes : ℕ} (d : D ≡ v .dimension) (held : c ≡ v .receiver n k) (m : nodes ≡ 2 ^ D) where
-  pub receive-absent : nodes ≤ n → eqb c 0 ≡ receiveTest v n k
+  pub receive-absent : nodes ≤ n → (not (v .armed n k) && eqb c 0) ≡ receiveTest v n k
   unfolding receiveTest
   receive-absent l = rw (sym (ap (λ x. ltb n (2 ^ x)) d) ∙ ap (ltb n) (sym m) ∙ le-ltb n nodes l, held)
 
-  present : n < nodes → (eqb c 0 || (reaches v c && eqb n (endFor v c (pathOf v c)))) ≡ receiveTest v n k
+  present : n < nodes → (eqb c 0 || (v .armed n k && (reaches v c && eqb n (endFor v c (pathOf v c))))) ≡ receiveTest v n k
   unfolding receiveTest
   present l = rw (sym (ap (λ x. ltb n (2 ^ x)) d) ∙ ap (ltb n) (sym m) ∙ lt-ltb n nodes l, held)
 
   pub receive-free : n < nodes → c ≡ 0 → true ≡ receiveTest v n k
   receive-free l z = rw (← present l, eq-eqb c 0 z)
 
-  pub receive-ends : {before after : List ℕ} {answer : Bool} → n < nodes → c ≢ 0 → Reached v c n before after answer → answer ≡ receiveTest v n k
-  receive-ends l z x = x .ends-here ∙ rw (← present l, ne-eqb c 0 z)
+  pub receive-ends : {before after : List ℕ} {answer : Bool} → n < nodes → c ≢ 0 → v .armed n k ≡ true → Reached v c n before after answer
+      → answer ≡ receiveTest v n k
+  receive-ends l z a x = x .ends-here ∙ rw (← present l, ne-eqb c 0 z, a)
 
   -- what the code finds of the channel, and what it answers for it
-  pub channel-free : {m : List ℕ} → c ≡ 0 → ReceivesDecided v n (n + 1) k (k + 1) m m true
-  channel-free {m} z =
+  pub channel-free : {m : List ℕ} → c ≡ 0 → (nodes ≤ n → v .armed n k ≡ false) → ReceivesDecided v n (n + 1) k (k + 1) m m true
+  channel-free {m} z off =
       received-yes (received-free v m n (n + 1) k (k + 1)
       (λ a b i. here i (λ x y. receiveTest v x y ≡ true) free) (λ a b i. here i (λ x y. v .receiver x y ≡ 0) (sym held ∙ z)))
     where
       free : receiveTest v n k ≡ true
-      free = ⊎-elim (λ l. sym (receive-free l z)) (λ l. sym (receive-absent l) ∙ eq-eqb c 0 z) (below-or nodes n)
+      free = ⊎-elim (λ l. sym (receive-free l z)) (λ l. sym (receive-absent l) ∙ and (ap not (off l)) (eq-eqb c 0 z)) (below-or nodes n)
 
   pub channel-absent : {m : List ℕ} → nodes ≤ n → c ≢ 0 → ReceivesDecided v n (n + 1) k (k + 1) m m false
-  channel-absent l z = received-no (one-fails v n k (sym (receive-absent l) ∙ ne-eqb c 0 z)) (omega arith) (omega arith) (omega arith) (omega arith)
+  channel-absent l z =
+      let fails : receiveTest v n k ≡ false = sym (receive-absent l) ∙ ap (not (v .armed n k) &&_) (ne-eqb c 0 z) ∙ and-false (not (v .armed n k)) in
+      received-no (one-fails v n k fails) (omega arith) (omega arith) (omega arith) (omega arith)
 
-  pub channel-held : {before after : List ℕ} {answer : Bool} → n < nodes → c ≢ 0 → Reached v c n before after answer → ReceivesDecided v n (n + 1) k (k + 1) before after answer
-  channel-held {before} {after} l z x =
+  pub channel-unarmed : {m : List ℕ} → n < nodes → c ≢ 0 → v .armed n k ≡ false → ReceivesDecided v n (n + 1) k (k + 1) m m false
+  channel-unarmed l z a = received-no (one-fails v n k (rw (← present l, ne-eqb c 0 z, a))) (omega arith) (omega arith) (omega arith) (omega arith)
+
+  pub channel-held : {before after : List ℕ} {answer : Bool} → n < nodes → c ≢ 0 → v .armed n k ≡ true → Reached v c n before after answer
+      → ReceivesDecided v n (n + 1) k (k + 1) before after answer
+  channel-held {before} {after} l z a x =
       record {
-        holds = λ e. received-one v before c n k after held (sym (receive-ends l z x) ∙ e) (both (reaches v c) _ (sym (x .ends-here) ∙ e) .0) (x .marks e);
-        fails = λ e. one-fails v n k (sym (receive-ends l z x) ∙ e);
+        holds = λ e. received-one v before c n k after held (sym (receive-ends l z a x) ∙ e) (both (reaches v c) _ (sym (x .ends-here) ∙ e) .0) (x .marks e);
+        fails = λ e. one-fails v n k (sym (receive-ends l z a x) ∙ e);
       }

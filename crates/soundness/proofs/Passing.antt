@@ -1,24 +1,27 @@
 -- The test of a whole table from the tests of its nodes, and what its answer says.
 -- Assumes nothing.
-use mathlib.Core.Path.{_≡_, refl, sym, _∙_, subst}
+use mathlib.Core.Path.{_≡_, refl, ap, sym, _∙_, subst}
 use mathlib.Core.Bool.{Bool, true, false, cond, _&&_, not, and-false}
 use mathlib.Core.List.{List, [], _∷_}
 use mathlib.Core.Logic.{_⊎_, inl, inr, _≢_, ⊎-elim}
 use Prim.Native.Nat.{ℕ, _^_, _≤_, _<_}
 use native.Mathlib.Omega.{arith}
 use lib.Dec.{ltb, leb}
-use lib.ListN.{length}
-use borrow.Author.Tests.{ltb-true, ltb-false, eq-eqb, ne-eqb, le-leb, lt-leb}
+use lib.ListN.{length, getD}
+use borrow.Author.Tests.{not-true, ltb-true, ltb-false, eq-eqb, ne-eqb, le-leb, lt-leb}
 use Rattle.common.specs.Decides.{Decides}
 use Rattle.common.specs.Tests.{refusal, test}
 use Rattle.common.proofs.Tests.{same?, below-or, clash, is-false, both, and, decided-yes, decided-no, refused, passed, accepted}
 use Rattle.common.specs.Lists.{every}
 use Rattle.common.proofs.Every.{at, all}
 use Rattle.cube.specs.Bits.{has}
-use Rattle.cube.proofs.Bits.{high-has}
-use Rattle.table.specs.Layout.{dimensionAt, enabledAt, enableBits, ownerAt, receiverAt, entryAt, inTable, tableLength}
-use Rattle.table.specs.LayoutContracts.{enableLimit, EnablesFit}
+use Rattle.cube.proofs.Bits.{high-has, zero-has, no-ports}
+use Rattle.table.specs.Layout.{tableLength, inTable, dimensionAt, maskAt, enabledAt, enableBits, armPart, armPlace, armedAt, armBits}
+use Rattle.table.specs.Layout.{entryAt, ownerAt, receiverAt}
+use Rattle.table.specs.LayoutContracts.{enableLimit, EnablesFit, ArmsFit}
 use Rattle.table.specs.View.{View, view}
+use Rattle.table.proofs.Entries.{mask-has}
+use Rattle.table.proofs.Views.{inside}
 use Rattle.soundness.specs.Sound.{Sound}
 use Rattle.soundness.specs.SoundTest.{linkTest, receiveTest, soundTest, tableTests}
 use Rattle.soundness.specs.TestContracts.{LinksPass, ReceivesPass, ReceivesTested, TableAnswer}
@@ -28,14 +31,23 @@ use Rattle.soundness.proofs.Examine.{link-free, link-held-outside, rece
 
 -- a link that the cube lacks is off where the enable bits of its node are below their limit
 pub off : (b : List ℕ) (D n p : ℕ) → n < 256 → enableBits b n < enableLimit D n → (ltb n (2 ^ D) && ltb p D) ≡ false → enabledAt b n p ≡ false
-unfolding enabledAt enableBits enableLimit
+unfolding enabledAt maskAt enableBits enableLimit
 off b D n p h fit e = rw (bits (ltb n (2 ^ D)) e fit) (and-false (inTable n p))
   where
     bits : (x : Bool) → (x && ltb p D) ≡ false → enableBits b n < cond x (2 ^ D) 1 → has (enableBits b n) p ≡ false
     bits true z k = high-has D (enableBits b n) p k (ltb-false p D z)
     bits false z k = high-has 0 (enableBits b n) p k (omega arith)
 
--- nodes of which nothing is held pass; for the links their enable bits must fit
+-- a channel of a node that the cube lacks is not armed where the masks of such nodes are 0
+pub unarmed : (b : List ℕ) (D n k : ℕ) → ArmsFit b D → 2 ^ D ≤ n → armedAt b n k ≡ false
+unfolding armedAt maskAt ArmsFit armBits
+unarmed b D n k fit l = go (inTable n k) refl
+  where
+    go : (x : Bool) → inTable n k ≡ x → x && has (armBits b n) k ≡ false
+    go true e = ap (λ y. has y k) (fit n l (inside n k e .0)) ∙ zero-has k
+    go false e = refl
+
+-- nodes of which nothing is held pass; their enable bits, and their masks of armed channels, must fit
 module _ (b : List ℕ) {D : ℕ} (d : D ≡ dimensionAt b) where
   pub idle-links : (n₀ : ℕ) {n₁ : ℕ} → n₁ ≤ 256 → EnablesFit b D → ((n p : ℕ) → n₀ ≤ n → n < n₁ → p < 8 → ownerAt b n p ≡ 0) → LinksPass (view b) n₀ n₁ 0 8
   unfolding LinksPass view EnablesFit
@@ -45,13 +57,15 @@ module _ (b : List ℕ) {D : ℕ} (d : D ≡ dimensionAt b) where
       go true e = sym (link-free (view b) n p d (sym (free n p g h l)) (sym e) refl refl)
       go false e = sym (link-held-outside (view b) n p d (sym (free n p g h l)) (sym e) refl (off b D n p (omega arith) (fit n (omega arith)) e))
 
-  pub idle-receives : {m : List ℕ} {n₀ n₁ : ℕ} → ((n k : ℕ) → n₀ ≤ n → n < n₁ → k < 8 → receiverAt b n k ≡ 0) → ReceivesTested (view b) n₀ n₁ 0 8 m m
+  pub idle-receives : {m : List ℕ} {n₀ n₁ : ℕ} → ArmsFit b D → ((n k : ℕ) → n₀ ≤ n → n < n₁ → k < 8 → receiverAt b n k ≡ 0) → ReceivesTested (view b) n₀ n₁ 0 8 m m
   unfolding view
-  idle-receives {m} {n₀} {n₁} free = received-free (view b) m n₀ n₁ 0 8 (λ n k i. go n k i (ltb n (2 ^ D)) refl) (λ n k i. free n k (i .0) (i .1) (i .3))
+  idle-receives {m} {n₀} {n₁} fit free = received-free (view b) m n₀ n₁ 0 8 (λ n k i. go n k i (ltb n (2 ^ D)) refl) (λ n k i. free n k (i .0) (i .1) (i .3))
     where
       go : (n k : ℕ) → (n₀ ≤ n) × (n < n₁) × (0 ≤ k) × (k < 8) → (x : Bool) → ltb n (2 ^ D) ≡ x → receiveTest (view b) n k ≡ true
       go n k i true e = sym (receive-free (view b) n k d (sym (free n k (i .0) (i .1) (i .3))) refl (ltb-true n _ e) refl)
-      go n k i false e = sym (receive-absent (view b) n k d (sym (free n k (i .0) (i .1) (i .3))) refl (ltb-false n _ e))
+      go n k i false e =
+          let l = ltb-false n _ e in
+          sym (receive-absent (view b) n k d (sym (free n k (i .0) (i .1) (i .3))) refl l) ∙ and (ap not (unarmed b D n k fit l)) refl
 
 -- the links of no node, of some more, and what a loop over groups of them answers
 module _ (v : View) where
@@ -102,10 +116,20 @@ module _ (v : View) where
             clash (sym (all-pass (λ n p g l h i. e .links-pass n p l i) (λ n k g l h i. e .receives-pass n k l i))) t;
       }
 
+-- the test fails where some channel is armed at a node that the cube lacks
+pub arms-fail : (b : List ℕ) {D : ℕ} → D ≡ dimensionAt b → ((i : ℕ) → getD b i 0 < 256) → (ArmsFit b D → ⊥) → false ≡ soundTest (view b)
+unfolding ArmsFit armBits armedAt ReceivesPass view
+arms-fail b {D} d small h =
+    some-fails (view b) (λ pass. h (λ n l i.
+    no-ports 8 (armBits b n) (small (armPlace n)) (λ k j. quiet n k l i j (pass .1 n k (omega arith) i (omega arith) j))))
+  where
+    quiet : (n k : ℕ) → 2 ^ D ≤ n → n < 256 → k < 8 → receiveTest (view b) n k ≡ true → has (armBits b n) k ≡ false
+    quiet n k l i j t = sym (mask-has b n k i j armPart) ∙ not-true _ (both (not (armedAt b n k)) _ (receive-absent (view b) n k d refl refl l ∙ t) .0)
+
 -- nothing lies outside 256 nodes and 8 ports or channels
 pub view-framed : (b : List ℕ) → Framed (view b)
-unfolding view enabledAt ownerAt receiverAt entryAt
-view-framed b = record { no-link = λ n p o. (rw o, rw o); no-receive = λ n k o. rw o }
+unfolding view enabledAt armedAt maskAt ownerAt receiverAt entryAt
+view-framed b = record { no-link = λ n p o. (rw o, rw o); no-receive = λ n k o. rw o; no-armed = λ n k o. rw o }
 
 -- so the test decides whether a table of a cube is sound
 pub decided : (b : List ℕ) → dimensionAt b ≤ 8 → Decides (Sound (view b)) (soundTest (view b))

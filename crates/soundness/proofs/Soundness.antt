@@ -32,6 +32,7 @@ use Rattle.soundness.specs.SoundTest.{pathOf, isEmpty, reaches, linkTest
 pub record Framed (v : View) : Type 0 where
   pub no-link : (n p : ℕ) → inTable n p ≡ false → (v .enabled n p ≡ false) × (v .owner n p ≡ 0)
   pub no-receive : (n k : ℕ) → inTable n k ≡ false → v .receiver n k ≡ 0
+  pub no-armed : (n k : ℕ) → inTable n k ≡ false → v .armed n k ≡ false
 
 -- the test passes at every entry
 pub record EntriesPass (v : View) : Type 0 where
@@ -117,9 +118,13 @@ module _ (v : View) where
     link-absent : linkTest v n p ≡ true → (v .enabled n p ≡ false) × (v .owner n p ≡ 0)
     link-absent t = let r = both (not (v .enabled n p)) _ (sym test-outside ∙ t) in (not-true _ (r .0), eqb-true _ 0 (r .1))
 
-  receive-outside : (n k : ℕ) → (n < 2 ^ v .dimension → ⊥) → receiveTest v n k ≡ eqb (v .receiver n k) 0
-  unfolding receiveTest
-  receive-outside n k out = rw (is-false (ltb n (2 ^ v .dimension)) (λ e. out (ltb-true n _ e)))
+  module _ (n k : ℕ) (out : n < 2 ^ v .dimension → ⊥) where
+    receive-outside : receiveTest v n k ≡ (not (v .armed n k) && eqb (v .receiver n k) 0)
+    unfolding receiveTest
+    receive-outside = rw (is-false (ltb n (2 ^ v .dimension)) (λ e. out (ltb-true n _ e)))
+
+    receive-absent : receiveTest v n k ≡ true → (v .armed n k ≡ false) × (v .receiver n k ≡ 0)
+    receive-absent t = let r = both (not (v .armed n k)) _ (sym receive-outside ∙ t) in (not-true _ (r .0), eqb-true _ 0 (r .1))
 
   -- A sound table passes at every entry.
   sound-link : Sound v → (n p : ℕ) → linkTest v n p ≡ true
@@ -135,24 +140,27 @@ module _ (v : View) where
           (unfold onPathOf in rw (path-is _ s) (link-true _ n p (s .exactly .only n p (eq-eqb (v .owner n p) _ refl)))))))
       go false e z = let h = beyond e in absent-passes n p h (sound .absent-link n p h)
 
-  -- a receive channel that nobody holds passes wherever it is
-  free-receive : (n k : ℕ) → v .receiver n k ≡ 0 → receiveTest v n k ≡ true
+  -- a receive channel that nobody holds passes; outside the cube where it is not armed
+  free-receive : (n k : ℕ) → v .receiver n k ≡ 0 → ((n < 2 ^ v .dimension → ⊥) → v .armed n k ≡ false) → receiveTest v n k ≡ true
   unfolding receiveTest
-  free-receive n k z = rw (eq-eqb (v .receiver n k) 0 z) (go (ltb n (2 ^ v .dimension)))
+  free-receive n k z off = go (ltb n (2 ^ v .dimension)) refl
     where
-      go : (b : Bool) → cond b true true ≡ true
-      go true = refl
-      go false = refl
+      go : (b : Bool) → ltb n (2 ^ v .dimension) ≡ b → receiveTest v n k ≡ true
+      go true e = rw e (or-left _ (eq-eqb _ 0 z))
+      go false e = rw e (and (ap not (off (λ l. clash (lt-ltb n _ l) e))) (eq-eqb _ 0 z))
 
   sound-receive : Sound v → (n k : ℕ) → receiveTest v n k ≡ true
   unfolding receiveTest
-  sound-receive sound n k = ⊎-elim (free-receive n k) (λ h. held h (ltb n (2 ^ v .dimension)) refl) (same? (v .receiver n k) 0)
+  sound-receive sound n k =
+      ⊎-elim (λ z. free-receive n k z (sound .absent-armed n k)) (λ h. held h (ltb n (2 ^ v .dimension)) refl) (same? (v .receiver n k) 0)
     where
       held : v .receiver n k ≢ 0 → (b : Bool) → ltb n (2 ^ v .dimension) ≡ b → receiveTest v n k ≡ true
       held h false e = absurd (h (sound .absent-receive n k (λ l. clash (lt-ltb n _ l) e)))
       held h true e =
           let s = receive-stands sound n k h in
-          rw e (or-right (eqb (v .receiver n k) 0) (and (reaches-passes _ (sound .receive-number n k) s) (rw (path-is _ s) (eq-eqb n _ (s .once n k refl .0)))))
+          rw e
+          (or-right (eqb (v .receiver n k) 0) (and (sound .held-armed n k h) (and (reaches-passes _ (sound .receive-number n k) s)
+          (rw (path-is _ s) (eq-eqb n _ (s .once n k refl .0))))))
 
   pub sound-entries : Sound v → EntriesPass v
   sound-entries sound = record { links-pass = λ n p h l. sound-link sound n p; receives-pass = λ n k h l. sound-receive sound n k }
@@ -188,12 +196,14 @@ module _ (v : View) where
         let b = both (reaches v c) _ (a .1) in
         record { on = a .0; reaches-end = b .0; passed = true-link _ n p (b .1) }
 
-    -- and that of a receive channel: its path ends there
-    held-receive : (n k : ℕ) → v .receiver n k ≡ c → (reaches v c ≡ true) × (n ≡ endFor v c (pathOf v c))
+    -- and that of a receive channel: it is armed, and its path ends there
+    held-receive : (n k : ℕ) → v .receiver n k ≡ c → (v .armed n k ≡ true) × (reaches v c ≡ true) × (n ≡ endFor v c (pathOf v c))
     unfolding receiveTest
     held-receive n k x =
-        let a = both (reaches v c) _ (passing (ltb n (2 ^ v .dimension)) (rw (x, ne-eqb c 0 some) at (receives-pass n k))) in
-        (a .0, eqb-true n _ (a .1))
+        let t = rw (x, ne-eqb c 0 some, and-false (not (v .armed n k))) at (receives-pass n k) in
+        let a = both (v .armed n k) _ (passing (ltb n (2 ^ v .dimension)) t) in
+        let b = both (reaches v c) _ (a .1) in
+        (a .0, b .0, eqb-true n _ (b .1))
 
     -- a number that reaches its end stands
     reached-stands : reaches v c ≡ true → CircuitSound v c
@@ -211,7 +221,7 @@ module _ (v : View) where
           small = r .small;
           receives = r .receives;
           once = λ n k x.
-              let ends = held-receive n k x .1 in
+              let ends = held-receive n k x .2 in
               let inside = ⊎-elim (λ i. i .1) (λ o. absurd (some (sym x ∙ framed .no-receive n k o))) (placed n k) in
               (ends, r .once k inside (rw (← ends) x));
         }
@@ -222,7 +232,7 @@ module _ (v : View) where
         go : ((i : ℕ) × (j : ℕ) × (eqb (v .owner i j) c ≡ true)) ⊎ ((i j : ℕ) → i < 256 → j < 8 → eqb (v .owner i j) c ≡ false)
             → ((i : ℕ) × (j : ℕ) × (eqb (v .receiver i j) c ≡ true)) ⊎ ((i j : ℕ) → i < 256 → j < 8 → eqb (v .receiver i j) c ≡ false) → Nowhere v c ⊎ CircuitSound v c
         go (inl s) r = inr (reached-stands (held-link (s .0) (s .1) (eqb-true _ c (s .2)) .reaches-end))
-        go (inr f) (inl s) = inr (reached-stands (held-receive (s .0) (s .1) (eqb-true _ c (s .2)) .0))
+        go (inr f) (inl s) = inr (reached-stands (held-receive (s .0) (s .1) (eqb-true _ c (s .2)) .1))
         go (inr f) (inr g) =
             inl (
               (λ n p x. ⊎-elim (λ i. clash (eq-eqb _ c x) (f n p (i .0) (i .1))) (λ o. some (sym x ∙ framed .no-link n p o .1)) (placed n p)),
@@ -233,10 +243,12 @@ module _ (v : View) where
   passes-sound links-pass receives-pass framed =
       record {
         absent-link = λ n p out. link-absent n p out (links-pass n p);
-        absent-receive = λ n k out. eqb-true _ 0 (sym (receive-outside n k out) ∙ receives-pass n k);
+        absent-receive = λ n k out. receive-absent n k out (receives-pass n k) .1;
+        absent-armed = λ n k out. receive-absent n k out (receives-pass n k) .0;
         held-enabled = λ n p h. held-link links-pass receives-pass framed _ h n p refl .on;
+        held-armed = λ n k h. held-receive links-pass receives-pass framed _ h n k refl .0;
         link-number = λ n p. ⊎-elim (λ z. omega arith) (λ h. reach-facts _ (held-link links-pass receives-pass framed _ h n p refl .reaches-end) .in-range) (same? (v .owner n p) 0);
-        receive-number = λ n k. ⊎-elim (λ z. omega arith) (λ h. reach-facts _ (held-receive links-pass receives-pass framed _ h n k refl .0) .in-range) (same? (v .receiver n k) 0);
+        receive-number = λ n k. ⊎-elim (λ z. omega arith) (λ h. reach-facts _ (held-receive links-pass receives-pass framed _ h n k refl .1) .in-range) (same? (v .receiver n k) 0);
         numbers = number-stands links-pass receives-pass framed;
       }
 
@@ -248,7 +260,7 @@ module _ (v : View) where
       links n p = ⊎-elim (λ i. pass .links-pass n p (i .0) (i .1)) (λ o. absent-passes n p (λ i. let within : (n < 256) × (p < 8) = omega (arith, most-nodes fits) in beyond o within) (framed .no-link n p o)) (placed n p)
 
       receives : (n k : ℕ) → receiveTest v n k ≡ true
-      receives n k = ⊎-elim (λ i. pass .receives-pass n k (i .0) (i .1)) (λ o. free-receive n k (framed .no-receive n k o)) (placed n k)
+      receives n k = ⊎-elim (λ i. pass .receives-pass n k (i .0) (i .1)) (λ o. free-receive n k (framed .no-receive n k o) (λ out. framed .no-armed n k o)) (placed n k)
 
   -- In a sound table a circuit that occurs has exactly one path and one receive channel.
   pub stands-once : (c : ℕ) (s r : CircuitSound v c) → (s .path ≡ r .path) × (s .channel ≡ r .channel)
@@ -261,7 +273,9 @@ fresh-sound D =
     record {
       absent-link = λ n p h. (is-false (ltb n (2 ^ D) && ltb p D) (λ e. h (both-below e)), refl);
       absent-receive = λ n k h. refl;
+      absent-armed = λ n k h. refl;
       held-enabled = λ n p h. absurd (h refl);
+      held-armed = λ n k h. absurd (h refl);
       link-number = λ n p. omega arith;
       receive-number = λ n k. omega arith;
       numbers = λ c h. inl (λ n p e. h (sym e), λ n k e. h (sym e));

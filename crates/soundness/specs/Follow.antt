@@ -1,4 +1,4 @@
--- Following the links that a circuit holds, as the code does it: a vector of ports is a number, and 8 stands for no port.
+-- Following the links that a circuit holds, as the code does it: a vector of ports is a number.
 -- Assumes nothing.
 use mathlib.Core.Path.{_≡_}
 use mathlib.Core.Bool.{Bool, _&&_}
@@ -7,10 +7,10 @@ use Prim.Native.Nat.{ℕ, _^_, _≤_, _<_}
 use lib.ListN.{length}
 use Rattle.cube.specs.Bits.{has}
 use Rattle.cube.specs.Cube.{next, sourceOf}
-use Rattle.cube.specs.Helical.{portsOf, firstOr}
+use Rattle.cube.specs.Helical.{portsOf, firstOr, noPort}
 use Rattle.paths.specs.Network.{Path, end, links, hasLink}
 use Rattle.paths.specs.Recover.{walkFrom, firstHopChoices}
-use Rattle.table.specs.Layout.{tableLength, dimensionAt}
+use Rattle.table.specs.Layout.{tableLength, dimensionAt, portCount}
 use Rattle.table.specs.View.{View, net, heldBy}
 use Rattle.soundness.specs.Marks.{Adds}
 
@@ -24,11 +24,11 @@ comesBack v c n vector p = takes v c n vector p && heldBy v c (next n p) p
 
 -- the way that the code follows from a node, over the ports of a vector
 unfoldable pub followed : View → ℕ → ℕ → ℕ → Path
-followed v c n vector = walkFrom 8 (net v) (portsOf 8 vector) (heldBy v c) n
+followed v c n vector = walkFrom portCount (net v) (portsOf portCount vector) (heldBy v c) n
 
--- the first hop from the source, 8 where there is none
+-- the first hop from the source, if there is one
 unfoldable pub firstHop : View → ℕ → ℕ → ℕ → ℕ
-firstHop v c s vector = firstOr 8 (firstHopChoices (net v) (portsOf 8 vector) (heldBy v c) s)
+firstHop v c s vector = firstOr noPort (firstHopChoices (net v) (portsOf portCount vector) (heldBy v c) s)
 
 -- what following gives: where it ends, and the marks of the links that it passes
 pub record Follows (v : View) (c start vector : ℕ) (before after : List ℕ) (at : ℕ) : Type 0 where

@@ -6,6 +6,7 @@ use mathlib.Core.List.{List}
 use Prim.Native.Nat.{ℕ, _<_}
 use lib.ListN.{getD, set}
 use Rattle.cube.specs.Bits.{has, withBit}
+use Rattle.table.specs.Layout.{portCount}
 
 -- a byte for each of 256 nodes
 abbrev pub markCount : ℕ
@@ -20,4 +21,4 @@ withMark m n p = set m n (withBit (getD m n 0) p true)
 
 -- the marks after some more links are marked
 pub record Adds (more : ℕ → ℕ → Bool) (before after : List ℕ) : Type 0 where
-  pub adds : (n p : ℕ) → n < 256 → p < 8 → marked after n p ≡ (marked before n p || more n p)
+  pub adds : (n p : ℕ) → n < 256 → p < portCount → marked after n p ≡ (marked before n p || more n p)

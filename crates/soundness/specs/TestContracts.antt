@@ -8,12 +8,13 @@ use Prim.Native.Nat.{ℕ, _≤_, _<_}
 use lib.Dec.{eqb}
 use lib.ListN.{length}
 use Rattle.common.specs.Tests.{refusal}
-use Rattle.table.specs.Layout.{tableLength, dimensionAt}
-use Rattle.table.specs.LayoutContracts.{EnablesFit}
+use Rattle.table.specs.Layout.{tableLength, dimensionAt, portCount}
+use Rattle.table.specs.LayoutContracts.{EnablesFit, ArmsFit}
 use Rattle.table.specs.View.{View, view}
 use Rattle.soundness.specs.Sound.{endFor, Sound}
 use Rattle.soundness.specs.Marks.{markCount, marked, Adds}
 use Rattle.soundness.specs.SoundTest.{pathOf, reaches, onPathOf, linkTest, receiveTest, tableTests}
+use Rattle.cube.specs.Cube.{channels}
 
 -- What checking a table answers: the refusal of the first test that applies, 0 where none does. The third test is of soundness as declared.
 pub record TableAnswer (b : List ℕ) (answer : ℕ) : Type 0 where
@@ -36,28 +37,34 @@ ReceivesPass v n₀ n₁ k₀ k₁ = (n k : ℕ) → n₀ ≤ n → n < n₁ →
 
 -- every marked link is on the path of some circuit that reaches its end
 unfoldable pub MarksOnPaths : View → List ℕ → Type 0
-MarksOnPaths v m = (n p : ℕ) → n < 256 → p < 8 → marked m n p ≡ true → (c : ℕ) × (reaches v c ≡ true) × (onPathOf v c n p ≡ true)
+MarksOnPaths v m = (n p : ℕ) → n < 256 → p < portCount → marked m n p ≡ true → (c : ℕ) × (reaches v c ≡ true) × (onPathOf v c n p ≡ true)
 
 -- the links of the path of the circuit that holds receive channel k of node n are marked
 unfoldable pub PathMarked : View → ℕ → ℕ → List ℕ → Type 0
-PathMarked v n k m = v .receiver n k ≢ 0 → (a b : ℕ) → a < 256 → b < 8 → onPathOf v (v .receiver n k) a b ≡ true → marked m a b ≡ true
+PathMarked v n k m = v .receiver n k ≢ 0 → (a b : ℕ) → a < 256 → b < portCount → onPathOf v (v .receiver n k) a b ≡ true → marked m a b ≡ true
 
 -- receive channels that pass, and the marks of the paths of their circuits, beside those that were there
 pub record ReceivesTested (v : View) (n₀ n₁ k₀ k₁ : ℕ) (before after : List ℕ) : Type 0 where
   pub pass : ReceivesPass v n₀ n₁ k₀ k₁
   pub covers : (n k : ℕ) → n₀ ≤ n → n < n₁ → k₀ ≤ k → k < k₁ → PathMarked v n k after
-  pub kept : (n p : ℕ) → n < 256 → p < 8 → marked before n p ≡ true → marked after n p ≡ true
+  pub kept : (n p : ℕ) → n < 256 → p < portCount → marked before n p ≡ true → marked after n p ≡ true
   pub fair : MarksOnPaths v before → MarksOnPaths v after
 
 pub record ReceivesDecided (v : View) (n₀ n₁ k₀ k₁ : ℕ) (before after : List ℕ) (answer : Bool) : Type 0 where
   pub holds : answer ≡ true → ReceivesTested v n₀ n₁ k₀ k₁ before after
   pub fails : answer ≡ false → ReceivesPass v n₀ n₁ k₀ k₁ → ⊥
 
+-- what the tests of receive channels ask: the bytes of a table, no channel armed at a node that the cube lacks, and marks
+pub record ReceiveTestPre (b : List ℕ) (dimension : ℕ) (m : List ℕ) : Type 0 where
+  pub usable : Usable b dimension
+  pub arms : ArmsFit b dimension
+  pub size : length m ≡ markCount
+
 -- marks of exactly the paths of all circuits that hold receive channels
 pub record AllPathsMarked (v : View) (m : List ℕ) : Type 0 where
   pub size : length m ≡ markCount
   pub fair : MarksOnPaths v m
-  pub covers : (n k : ℕ) → n < 256 → k < 8 → PathMarked v n k m
+  pub covers : (n k : ℕ) → n < 256 → k < channels → PathMarked v n k m
 
 -- what the tests of links ask: the bytes of a table, the marks of its paths, and whether its enable bits were found to fit
 pub record LinkTestPre (b : List ℕ) (dimension : ℕ) (fits : Bool) (m : List ℕ) : Type 0 where

@@ -7,7 +7,8 @@ ghost use Rattle.table.specs.LayoutContracts.{Within, enableLimit};
 ghost use Rattle.table.specs.View.{view};
 ghost use Rattle.soundness.specs.Follow.{firstHop};
 ghost use Rattle.soundness.specs.SoundTest.{soundTest};
-ghost use Rattle.soundness.specs.TestContracts.{Reached, ReceivesDecided, LinksPass, AllPathsMarked, LinkTestPre, TableAnswer, Usable};
+ghost use Rattle.soundness.specs.TestContracts.{Usable, ReceiveTestPre, Reached, ReceivesDecided, LinkTestPre, LinksPass};
+ghost use Rattle.soundness.specs.TestContracts.{AllPathsMarked, TableAnswer};
 use crate::circuit_path;
 use common::refusal;
 use cube::Circuit;
@@ -53,9 +54,9 @@ fn ends_at(t: &[u8], dimension: u16, c: Circuit, n: Node, marks: &mut [u8]) -> b
     }
 }
 
-// The test of one receive channel.
+// The test of one receive channel: where a circuit holds it, it is armed and the end of the circuit's path.
 fn receive_sound(t: &[u8], dimension: u16, n: Node, channel: u16, marks: &mut [u8]) -> bool
-    requires { ⌜ Within (now t) (n .0) channel × Usable (now t) dimension × (length (now marks) ≡ 256) ⌝ }
+    requires { ⌜ Within (now t) (n .0) channel × ReceiveTestPre (now t) dimension (now marks) ⌝ }
     ensures { λ r. ⌜ ReceivesDecided (view (now (t .entry))) (n .0) (n .0 + 1) channel (channel + 1) (now (marks .entry)) (now (marks .exit)) r ⌝ }
 {
     let c = table::receiver(t, n, channel);
@@ -63,7 +64,10 @@ fn receive_sound(t: &[u8], dimension: u16, n: Node, channel: u16, marks: &mut [u
         return true;
     }
     let nodes = cube::node_count(dimension);
-    if n.0 < nodes {
+    if n.0 >= nodes {
+        return false;
+    }
+    if table::is_armed(t, n, channel) {
         ends_at(t, dimension, c, n, marks)
     } else {
         false
@@ -72,7 +76,7 @@ fn receive_sound(t: &[u8], dimension: u16, n: Node, channel: u16, marks: &mut [u
 
 // The tests of a node's receive channels.
 fn receives_sound(t: &[u8], dimension: u16, n: Node, marks: &mut [u8]) -> bool
-    requires { ⌜ Within (now t) (n .0) 0 × Usable (now t) dimension × (length (now marks) ≡ 256) ⌝ }
+    requires { ⌜ Within (now t) (n .0) 0 × ReceiveTestPre (now t) dimension (now marks) ⌝ }
     ensures { λ r. ⌜ ReceivesDecided (view (now (t .entry))) (n .0) (n .0 + 1) 0 8 (now (marks .entry)) (now (marks .exit)) r ⌝ }
 {
     let mut k: u16 = 0;
@@ -88,7 +92,7 @@ fn receives_sound(t: &[u8], dimension: u16, n: Node, marks: &mut [u8]) -> bool
 
 // Most nodes of most tables hold nothing: they are passed over, in groups or else one by one.
 fn receives_of(t: &[u8], dimension: u16, n: Node, marks: &mut [u8]) -> bool
-    requires { ⌜ Within (now t) (n .0) 0 × Usable (now t) dimension × (length (now marks) ≡ 256) ⌝ }
+    requires { ⌜ Within (now t) (n .0) 0 × ReceiveTestPre (now t) dimension (now marks) ⌝ }
     ensures { λ r. ⌜ ReceivesDecided (view (now (t .entry))) (n .0) (n .0 + 1) 0 8 (now (marks .entry)) (now (marks .exit)) r ⌝ }
 {
     if table::receives_clear(t, n, 1) {
@@ -98,7 +102,7 @@ fn receives_of(t: &[u8], dimension: u16, n: Node, marks: &mut [u8]) -> bool
 }
 
 fn receives_from(t: &[u8], dimension: u16, from: Node, marks: &mut [u8]) -> bool
-    requires { ⌜ (from .0 + 16 ≤ 256) × Usable (now t) dimension × (length (now marks) ≡ 256) ⌝ }
+    requires { ⌜ (from .0 + 16 ≤ 256) × ReceiveTestPre (now t) dimension (now marks) ⌝ }
     ensures { λ r. ⌜ ReceivesDecided (view (now (t .entry))) (from .0) (from .0 + 16) 0 8 (now (marks .entry)) (now (marks .exit)) r ⌝ }
 {
     let first = from.0;
@@ -115,7 +119,7 @@ fn receives_from(t: &[u8], dimension: u16, from: Node, marks: &mut [u8]) -> bool
 }
 
 fn receive_group(t: &[u8], dimension: u16, from: Node, marks: &mut [u8]) -> bool
-    requires { ⌜ (from .0 + 16 ≤ 256) × Usable (now t) dimension × (length (now marks) ≡ 256) ⌝ }
+    requires { ⌜ (from .0 + 16 ≤ 256) × ReceiveTestPre (now t) dimension (now marks) ⌝ }
     ensures { λ r. ⌜ ReceivesDecided (view (now (t .entry))) (from .0) (from .0 + 16) 0 8 (now (marks .entry)) (now (marks .exit)) r ⌝ }
 {
     if table::receives_clear(t, from, GROUP) {
@@ -126,7 +130,7 @@ fn receive_group(t: &[u8], dimension: u16, from: Node, marks: &mut [u8]) -> bool
 
 // The tests of all receive channels.
 fn all_receives(t: &[u8], dimension: u16, marks: &mut [u8]) -> bool
-    requires { ⌜ Usable (now t) dimension × (length (now marks) ≡ 256) ⌝ }
+    requires { ⌜ ReceiveTestPre (now t) dimension (now marks) ⌝ }
     ensures { λ r. ⌜ ReceivesDecided (view (now (t .entry))) 0 256 0 8 (now (marks .entry)) (now (marks .exit)) r ⌝ }
 {
     let mut i: u16 = 0;
@@ -216,6 +220,9 @@ fn entries_sound(t: &[u8], dimension: u16) -> bool
     requires { ⌜ Usable (now t) dimension ⌝ }
     ensures { λ r. ⌜ r ≡ soundTest (view (now (t .entry))) ⌝ }
 {
+    if !table::arms_fit(t, dimension) {
+        return false;
+    }
     let fits = table::enables_fit(t, dimension);
     let mut marks = [0u8; 256];
     if all_receives(t, dimension, &mut marks) {

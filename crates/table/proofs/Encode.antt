@@ -12,10 +12,11 @@ use borrow.Author.Tests.{eqb-true}
 use Rattle.common.specs.Lists.{from}
 use Rattle.common.proofs.Every.{at}
 use Rattle.cube.specs.Bits.{has}
-use Rattle.table.specs.Layout.{tableLength, dimensionAt, enablePlace, enabledAt, entryPlace, entryAt, linkPart, receivePart, ownerAt, receiverAt}
+use Rattle.table.specs.Layout.{tableLength, dimensionAt, maskPlace, maskAt, enablePart, armPart, enabledAt, armedAt}
+use Rattle.table.specs.Layout.{entryPlace, entryAt, linkPart, receivePart, ownerAt, receiverAt}
 use Rattle.table.specs.View.{view}
-use Rattle.table.specs.Encode.{bitsFrom, enableByte, entryBytes, encode}
-use Rattle.table.proofs.Entries.{within, enabled-has}
+use Rattle.table.specs.Encode.{bitsFrom, maskByte, maskBytes, entryBytes, encode}
+use Rattle.table.proofs.Entries.{within, mask-has}
 
 -- the bits of a byte make it
 byte-bits : (x : ℕ) → x < 256 → bitsFrom (has x) 0 8 ≡ x
@@ -29,21 +30,23 @@ bits-same f g p zero h = refl
 bits-same f g p (suc w) h = ap₂ _+_ (ap (λ x. cond x (2 ^ p) 0) (h p (omega arith))) (bits-same f g (suc p) w (λ q l. h q (omega arith)))
 
 module _ (b : List ℕ) (small : (i : ℕ) → getD b i 0 < 256) where
-  -- the enable byte of a node
-  enable-byte : (n : ℕ) → n < 256 → enableByte (view b) n ≡ getD b (suc n) 0
-  unfolding enableByte view
-  enable-byte n h =
-      bits-same (enabledAt b n) (has (getD b (enablePlace n) 0)) 0 8 (λ p l. enabled-has b n p h (omega arith))
-      ∙ byte-bits _ (small (enablePlace n)) ∙ ap (λ i. getD b i 0) (omega arith)
+  -- the byte of a node in a part of masks
+  mask-byte : (part n : ℕ) → n < 256 → maskByte (maskAt part b) n ≡ getD b (part + n) 0
+  unfolding maskByte
+  mask-byte part n h =
+      bits-same (maskAt part b n) (has (getD b (maskPlace part n) 0)) 0 8 (λ p l. mask-has b n p h (omega arith) part)
+      ∙ byte-bits _ (small (maskPlace part n))
 
-  -- k enable bytes from node n on, and what lies behind them
-  enable-bytes : (n k : ℕ) → n + k ≤ 256 → 257 ≤ length b → map (enableByte (view b)) (from n k) ++ drop (suc (n + k)) b ≡ drop (suc n) b
+  -- k such bytes from node n on, and what lies behind them
+  masks : (part n k : ℕ) → n + k ≤ 256 → part + 256 ≤ length b → map (maskByte (maskAt part b)) (from n k) ++ drop (part + (n + k)) b ≡ drop (part + n) b
   unfolding from
-  enable-bytes n zero h l = let same : suc (n + 0) ≡ suc n = omega arith in ap (λ i. drop i b) same
-  enable-bytes n (suc k) h l =
-      let next : suc (n + suc k) ≡ suc (suc n + k) = omega arith in
-      ap₂ _∷_ (enable-byte n (omega arith)) (ap (λ i. map (enableByte (view b)) (from (suc n) k) ++ drop i b) next ∙ enable-bytes (suc n) k (omega arith) l)
-      ∙ sym (drop-cons b (suc n) 0 (omega arith))
+  masks part n zero h l = let same : part + (n + 0) ≡ part + n = omega arith in ap (λ i. drop i b) same
+  masks part n (suc k) h l =
+      let next : part + (n + suc k) ≡ part + (suc n + k) = omega arith in
+      let on : part + suc n ≡ suc (part + n) = omega arith in
+      ap₂ _∷_ (mask-byte part n (omega arith))
+      (ap (λ i. map (maskByte (maskAt part b)) (from (suc n) k) ++ drop i b) next ∙ masks part (suc n) k (omega arith) l ∙ ap (λ i. drop i b) on)
+      ∙ sym (drop-cons b (part + n) 0 (omega arith))
 
   -- an entry's two bytes
   entry-word : (part i : ℕ) → i < 2048 → entryAt part b (i / 8) (i % 8) ≡ getD b (part + 2 * i) 0 + 256 * getD b (suc (part + 2 * i)) 0
@@ -69,24 +72,29 @@ module _ (b : List ℕ) (small : (i : ℕ) → getD b i 0 < 256) where
       (ap (λ j. entryBytes (entryAt part b) (suc i) k ++ drop j b) next ∙ entries part (suc i) k (omega arith) l ∙ ap (λ j. drop j b) on))
       ∙ sym (drop-cons b (part + 2 * i) 0 (omega arith) ∙ ap (getD b (part + 2 * i) 0 ∷_) (drop-cons b (suc (part + 2 * i)) 0 (omega arith)))
 
--- "The table is 8,449 bytes": what they show determines them.
+-- "8,705 in all": what they show determines them.
 pub encode-view : (b : List ℕ) → length b ≡ tableLength → ((i : ℕ) → getD b i 0 < 256) → encode (view b) ≡ b
-unfolding encode view dimensionAt ownerAt receiverAt
+unfolding encode maskBytes view dimensionAt ownerAt receiverAt enabledAt armedAt
 encode-view b l small =
     ap (getD b 0 0 ∷_)
-    (ap (front ++_) (sym (append-nil receives) ∙ ap (receives ++_) (sym (drop-of-length-le b {i = 8449} (omega arith))) ∙ entries b small receivePart 0 2048 (lit≤ tt) (omega arith))
+    (ap ((front ++ receives) ++_) (sym (append-nil arms) ∙ ap (arms ++_) (sym (drop-of-length-le b {i = tableLength} (omega arith)))
+    ∙ masks b small armPart 0 256 (lit≤ tt) (omega arith))
+    ∙ append-assoc front receives (drop 8449 b) ∙ ap (front ++_) (entries b small receivePart 0 2048 (lit≤ tt) (omega arith))
     ∙ append-assoc enables links (drop 4353 b) ∙ ap (enables ++_) (entries b small linkPart 0 2048 (lit≤ tt) (omega arith))
-    ∙ enable-bytes b small 0 256 (lit≤ tt) (omega arith))
+    ∙ masks b small enablePart 0 256 (lit≤ tt) (omega arith))
     ∙ sym (drop-cons b 0 0 (omega arith))
   where
     enables : List ℕ
-    enables = map (enableByte (view b)) (from 0 256)
+    enables = map (maskByte (maskAt enablePart b)) (from 0 256)
 
     links : List ℕ
     links = entryBytes (entryAt linkPart b) 0 2048
 
     receives : List ℕ
     receives = entryBytes (entryAt receivePart b) 0 2048
+
+    arms : List ℕ
+    arms = map (maskByte (maskAt armPart b)) (from 0 256)
 
     front : List ℕ
     front = enables ++ links

@@ -7,7 +7,6 @@ use mathlib.Core.List.{List, [], _∷_, _++_, map, append-assoc, append-nil}
 use Prim.Native.Nat.{ℕ, zero, suc, _+_, _*_, _/_, _%_, _^_, _≤_, _<_}
 use native.Mathlib.Omega.{arith}
 use native.Mathlib.Nat.{zero-add}
-use native.Mathlib.Numerals.{one-add}
 use lib.Dec.{lit<}
 use lib.ListN.{length, getD, length-append, length-map, List·getD-append}
 use lib.Seq.{getD-append-add}
@@ -16,9 +15,10 @@ use Rattle.common.proofs.From.{length-from}
 use Rattle.common.proofs.Tests.{same?}
 use Rattle.cube.specs.Bits.{has, flip, withBit}
 use Rattle.cube.proofs.Bits.{zero-has, with-bit-same, with-bit-other, with-bit-inside}
-use Rattle.table.specs.Layout.{inTable, dimensionAt, enablePlace, enabledAt, entryPlace, entryAt, linkPart, receivePart, ownerAt, receiverAt, wordAt}
+use Rattle.table.specs.Layout.{inTable, dimensionAt, maskPlace, maskAt, enablePart, armPart, enabledAt, armedAt}
+use Rattle.table.specs.Layout.{entryPlace, entryAt, linkPart, receivePart, ownerAt, receiverAt, wordAt}
 use Rattle.table.specs.View.{View, view}
-use Rattle.table.specs.Encode.{bitsFrom, enableByte, entryBytes, encode, Bytes, EntriesFit, ViewFits}
+use Rattle.table.specs.Encode.{bitsFrom, maskByte, maskBytes, entryBytes, encode, Bytes, EntriesFit, ViewFits}
 use Rattle.table.proofs.Encode.{encode-view}
 use Rattle.table.proofs.Views.{inside}
 
@@ -102,6 +102,27 @@ part-shows f fit part front back e n k = go (inTable n k) refl
         ∙ entries-word f 0 2048 (8 * n + k) (omega arith) ∙ ap₂ f node column)
     go false t = sym (fit .outside n k t)
 
+-- a part of masks behind others, as it is read
+masks-length : (f : ℕ → ℕ → Bool) → length (maskBytes f) ≡ 256
+unfolding maskBytes
+masks-length f = length-map (from 0 256) (maskByte f) ∙ length-from 0 256
+
+masks-show : (f : ℕ → ℕ → Bool) → ((n k : ℕ) → inTable n k ≡ false → f n k ≡ false) → (part : ℕ) (front back : List ℕ) → length front ≡ part
+    → (n k : ℕ) → maskAt part (front ++ (maskBytes f ++ back)) n k ≡ f n k
+unfolding maskAt
+masks-show f outside part front back e n k = go (inTable n k) refl
+  where
+    byte : n < 256 → getD (front ++ (maskBytes f ++ back)) (maskPlace part n) 0 ≡ bitsFrom (f n) 0 8
+    byte h =
+        let place : part + n ≡ length front + n = omega (arith, e) in
+        ap (λ j. getD (front ++ (maskBytes f ++ back)) j 0) place ∙ getD-append-add front (maskBytes f ++ back) n 0
+        ∙ List·getD-append (maskBytes f) back 0 n (omega (arith, masks-length f))
+        ∙ (unfold maskBytes maskByte in mapped-at (maskByte f) 0 256 n h ∙ ap (maskByte f) (zero-add n))
+
+    go : (x : Bool) → inTable n k ≡ x → x && has (getD (front ++ (maskBytes f ++ back)) (maskPlace part n) 0) k ≡ f n k
+    go true t = let r = inside n k t in ap (λ x. has x k) (byte (r .0)) ∙ bits-at (f n) 0 8 k (omega arith) (omega arith)
+    go false t = sym (outside n k t)
+
 -- every number of a list is a byte
 abbrev Small : List ℕ → Type 0
 Small b = (i : ℕ) → getD b i 0 < 256
@@ -117,6 +138,10 @@ mapped-small f h s zero i = lit< tt
 mapped-small f h s (suc k) zero = h s
 mapped-small f h s (suc k) (suc i) = mapped-small f h (suc s) k i
 
+masks-small : (f : ℕ → ℕ → Bool) → Small (maskBytes f)
+unfolding maskBytes maskByte
+masks-small f = mapped-small (maskByte f) (λ n. bits-small (f n) 0 8 (omega arith)) 0 256
+
 entries-small : (f : ℕ → ℕ → ℕ) → EntriesFit f → (i k : ℕ) → Small (entryBytes f i k)
 unfolding entryBytes
 entries-small f h i zero j = lit< tt
@@ -126,7 +151,7 @@ entries-small f h i (suc k) (suc (suc j)) = entries-small f h (suc i) k j
 
 module _ (v : View) (fit : ViewFits v) where
   abbrev enables : List ℕ
-  enables = map (enableByte v) (from 0 256)
+  enables = maskBytes (v .enabled)
 
   abbrev links : List ℕ
   links = entryBytes (v .owner) 0 2048
@@ -134,50 +159,57 @@ module _ (v : View) (fit : ViewFits v) where
   abbrev receives : List ℕ
   receives = entryBytes (v .receiver) 0 2048
 
-  enables-length : length enables ≡ 256
-  enables-length = length-map (from 0 256) (enableByte v) ∙ length-from 0 256
+  abbrev arms : List ℕ
+  arms = maskBytes (v .armed)
 
-  front-length : length (enables ++ links) ≡ 4352
-  front-length = length-append enables links ∙ ap₂ _+_ enables-length (entries-length (v .owner) 0 2048)
+  links-end : length (enables ++ links) ≡ 4352
+  links-end = length-append enables links ∙ ap₂ _+_ (masks-length (v .enabled)) (entries-length (v .owner) 0 2048)
+
+  receives-end : length ((enables ++ links) ++ receives) ≡ 8448
+  receives-end = length-append (enables ++ links) receives ∙ ap₂ _+_ links-end (entries-length (v .receiver) 0 2048)
 
   pub encode-bytes : Bytes (encode v)
   unfolding encode
   encode-bytes =
       record {
-        long = ap suc (length-append (enables ++ links) receives ∙ ap₂ _+_ front-length (entries-length (v .receiver) 0 2048));
+        long = ap suc (length-append ((enables ++ links) ++ receives) arms ∙ ap₂ _+_ receives-end (masks-length (v .armed)));
         small =
-            append-small (v .dimension ∷ []) ((enables ++ links) ++ receives) (append-small (v .dimension ∷ []) [] first (λ i. lit< tt))
+            append-small (v .dimension ∷ []) (((enables ++ links) ++ receives) ++ arms) first
+            (append-small ((enables ++ links) ++ receives) arms
             (append-small (enables ++ links) receives
-            (append-small enables links (mapped-small (enableByte v) (λ n. unfold enableByte in bits-small (v .enabled n) 0 8 (omega arith)) 0 256) (entries-small (v .owner) (fit .owner) 0 2048))
-            (entries-small (v .receiver) (fit .receiver) 0 2048));
+            (append-small enables links (masks-small (v .enabled)) (entries-small (v .owner) (fit .owner) 0 2048))
+            (entries-small (v .receiver) (fit .receiver) 0 2048)) (masks-small (v .armed)));
       }
     where
       first : Small (v .dimension ∷ [])
       first zero = fit .dimension
       first (suc i) = lit< tt
 
-  enable-shows : (n p : ℕ) → enabledAt (encode v) n p ≡ v .enabled n p
-  unfolding enabledAt
-  enable-shows n p = go (inTable n p) refl
-    where
-      byte : n < 256 → getD (encode v) (enablePlace n) 0 ≡ bitsFrom (v .enabled n) 0 8
-      byte h =
-          rw (one-add n)
-          (unfold encode enableByte in List·getD-append (enables ++ links) receives 0 n (omega (arith, front-length)) ∙ List·getD-append enables links 0 n (omega (arith, enables-length)) ∙ mapped-at (enableByte v) 0 256 n h ∙ ap (enableByte v) (zero-add n))
+  -- the parts, one behind another
+  behind-receives : ((enables ++ links) ++ receives) ++ arms ≡ (enables ++ links) ++ (receives ++ arms)
+  behind-receives = append-assoc (enables ++ links) receives arms
 
-      go : (x : Bool) → inTable n p ≡ x → x && has (getD (encode v) (enablePlace n) 0) p ≡ v .enabled n p
-      go true t = let r = inside n p t in ap (λ x. has x p) (byte (r .0)) ∙ bits-at (v .enabled n) 0 8 p (omega arith) (omega arith)
-      go false t = sym (fit .enabled n p t)
+  behind-links : ((enables ++ links) ++ receives) ++ arms ≡ enables ++ (links ++ (receives ++ arms))
+  behind-links = behind-receives ∙ append-assoc enables links (receives ++ arms)
 
   -- What `encode` writes shows what it was given.
   pub view-encode : view (encode v) ≡ v
-  unfolding view dimensionAt ownerAt receiverAt encode
+  unfolding view dimensionAt ownerAt receiverAt enabledAt armedAt encode
   view-encode = λ i.
       record {
         dimension = v .dimension;
-        enabled = λ n p. enable-shows n p i;
-        owner = λ n p. (ap (λ b. entryAt linkPart (v .dimension ∷ b) n p) (append-assoc enables links receives) ∙ part-shows (v .owner) (fit .owner) linkPart (v .dimension ∷ enables) receives (ap suc enables-length) n p) i;
-        receiver = λ n k. (ap (λ b. entryAt receivePart (v .dimension ∷ ((enables ++ links) ++ b)) n k) (sym (append-nil receives)) ∙ part-shows (v .receiver) (fit .receiver) receivePart (v .dimension ∷ (enables ++ links)) [] (ap suc front-length) n k) i;
+        enabled = λ n p.
+            (ap (λ b. maskAt enablePart (v .dimension ∷ b) n p) behind-links
+            ∙ masks-show (v .enabled) (fit .enabled) enablePart (v .dimension ∷ []) (links ++ (receives ++ arms)) refl n p) i;
+        owner = λ n p.
+            (ap (λ b. entryAt linkPart (v .dimension ∷ b) n p) behind-links
+            ∙ part-shows (v .owner) (fit .owner) linkPart (v .dimension ∷ enables) (receives ++ arms) (ap suc (masks-length (v .enabled))) n p) i;
+        receiver = λ n k.
+            (ap (λ b. entryAt receivePart (v .dimension ∷ b) n k) behind-receives
+            ∙ part-shows (v .receiver) (fit .receiver) receivePart (v .dimension ∷ (enables ++ links)) arms (ap suc links-end) n k) i;
+        armed = λ n k.
+            (ap (λ b. maskAt armPart (v .dimension ∷ (((enables ++ links) ++ receives) ++ b)) n k) (sym (append-nil arms))
+            ∙ masks-show (v .armed) (fit .armed) armPart (v .dimension ∷ ((enables ++ links) ++ receives)) [] (ap suc receives-end) n k) i;
       }
 
 -- Bytes of a table that show a view are those that `encode` writes of it.

@@ -1,56 +1,52 @@
 -- One entry, as the code reads and writes it.
 -- Assumes nothing.
 use mathlib.Core.Path.{_≡_, refl, ap, sym, _∙_}
-use mathlib.Core.Bool.{Bool, true, false, cond, Bool·beq}
+use mathlib.Core.Bool.{Bool, true, false, cond, not, Bool·beq}
 use mathlib.Core.List.{List}
-use Prim.Native.Nat.{ℕ, _+_, _-_, _*_, _/_, _%_, _^_, _≤_, _<_}
+use Prim.Native.Nat.{ℕ, _+_, _-_, _*_, _%_, _^_, _≤_, _<_}
 use native.Mathlib.Omega.{arith}
 use native.Mathlib.Nat.{mod-eq-of-lt}
-use lib.Dec.{eqb}
 use lib.ListN.{getD, set}
 use lib.Seq.{set-getD}
 use lib.Bits.{bitXor}
-use borrow.Author.Tests.{lt-ltb}
-use Rattle.cube.specs.Bits.{bitAt, has, flip, withBit}
+use borrow.Author.Tests.{lt-ltb, not-true, not-false}
+use Rattle.cube.specs.Bits.{has, flip, withBit}
 use Rattle.cube.proofs.Bits.{flip-xor, flip-inside}
 use Rattle.cube.proofs.Ports.{port-bit}
-use Rattle.table.specs.Layout.{inTable, enablePlace, entryPlace, wordAt, enabledAt, entryAt, changed, putEnabled}
+use Rattle.table.specs.Layout.{inTable, maskPlace, enablePart, enablePlace, entryPlace, wordAt, maskAt, enabledAt, entryAt}
 
 pub within : (n p : ℕ) → n < 256 → p < 8 → inTable n p ≡ true
 within n p h l = rw (lt-ltb n 256 h, lt-ltb p 8 l)
 
 module _ (b : List ℕ) (n p : ℕ) (h : n < 256) (l : p < 8) where
-  -- reading: x is the byte, or i the place, that the code found
-  pub enabled-is : (x : ℕ) → x ≡ getD b (enablePlace n) 0 → eqb (x / 2 ^ p % 2) 1 ≡ enabledAt b n p
-  unfolding enabledAt has bitAt
-  enabled-is x e = rw (within n p h l, e)
-
+  -- reading: i is the place that the code found
   pub entry-is : (part x i : ℕ) → i ≡ entryPlace part n p → x ≡ wordAt b i → x ≡ entryAt part b n p
   unfolding entryAt
   entry-is part x i e q = rw (within n p h l) (q ∙ ap (wordAt b) e)
 
-  -- writing an enable bit
-  pub changed-is : (x i : ℕ) → i ≡ enablePlace n → x ≡ getD b i 0 → x < 256 → set b i (bitXor x (1 * 2 ^ p % 65536) % 256) ≡ changed b n p
-  unfolding changed
-  changed-is x i e q s =
-      let inside : flip x p < 256 = flip-inside 8 x p s l in
-      rw (port-bit 16 p (omega arith), flip-xor x p, mod-eq-of-lt inside, q, e)
+  pub mask-has : (part : ℕ) → maskAt part b n p ≡ has (getD b (maskPlace part n) 0) p
+  unfolding maskAt
+  mask-has part = rw (within n p h l)
+
+  pub mask-is : (part i : ℕ) {on : Bool} → i ≡ maskPlace part n → on ≡ has (getD b i 0) p → on ≡ maskAt part b n p
+  mask-is part i e q = q ∙ ap (λ j. has (getD b j 0) p) e ∙ sym (mask-has part)
 
   pub enabled-has : enabledAt b n p ≡ has (getD b (enablePlace n) 0) p
   unfolding enabledAt
-  enabled-has = rw (within n p h l)
+  enabled-has = mask-has enablePart
 
-  pub kept-is : (on : Bool) → enabledAt b n p ≡ on → b ≡ putEnabled b n p on
-  unfolding putEnabled withBit
-  kept-is on e = rw (sym enabled-has ∙ e, same on) (sym (set-getD b (enablePlace n) 0))
-    where
-      same : (x : Bool) → Bool·beq x x ≡ true
-      same true = refl
-      same false = refl
+-- writing a bit, found to be x: it is changed where it is not as wanted, and the byte is kept where it is
+module _ (b : List ℕ) (i k : ℕ) (on : Bool) {x : Bool} (e : x ≡ has (getD b i 0) k) where
+  pub bit-kept : not (Bool·beq x on) ≡ false → b ≡ set b i (withBit (getD b i 0) k on)
+  unfolding withBit
+  bit-kept h = rw (ap (λ y. Bool·beq y on) (sym e) ∙ not-false _ h) (sym (set-getD b i 0))
 
-  pub put-is : (on off : Bool) → enabledAt b n p ≡ off → Bool·beq off on ≡ false → changed b n p ≡ putEnabled b n p on
-  unfolding putEnabled withBit changed
-  put-is on off e d = rw (sym enabled-has ∙ e, d)
+  pub bit-changed : k < 8 → {y : ℕ} → y ≡ getD b i 0 → y < 256 → not (Bool·beq x on) ≡ true
+      → set b i (bitXor y (1 * 2 ^ k % 65536) % 256) ≡ set b i (withBit (getD b i 0) k on)
+  unfolding withBit
+  bit-changed l {y} q s h =
+      let inside : flip y k < 256 = flip-inside 8 y k s l in
+      rw (port-bit 16 k (omega arith), flip-xor y k, mod-eq-of-lt inside, q, ap (λ z. Bool·beq z on) (sym e) ∙ not-true _ h)
 
 -- rows whose bytes are zero hold nothing
 pub rows-zero : (b : List ℕ) (part n rows : ℕ) → ((i : ℕ) → i < 16 * rows → getD b (entryPlace part n 0 + i) 0 ≡ 0) → (m k : ℕ) → n ≤ m → m < n + rows → k < 8 → entryAt part b m k ≡ 0

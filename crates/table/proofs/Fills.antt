@@ -7,7 +7,7 @@ use native.Mathlib.Omega.{arith}
 use native.Mathlib.Numerals.{add-one, one-add}
 use lib.ListN.{length, take, drop, getD, set, replicate, length-append, length-replicate, take-append-drop, replicate-append-replicate, drop-of-length-le}
 use lib.Seq.{drop-cons, set-at, drop-at, length-take-le}
-use Rattle.table.specs.Layout.{filled, made}
+use Rattle.table.specs.Layout.{tableLength, filled, made}
 
 pub filled-none : (b : List ℕ) (i x : ℕ) → b ≡ filled b i i x
 unfolding filled
@@ -42,14 +42,14 @@ unfolding filled
 fill-front y ys zs k x h = let n : suc k - 1 ≡ k = omega arith in rw (n, drop-at ys zs k h)
 
 -- the two fills and the first byte of a made table
-pub made-is : (b : List ℕ) (D k x : ℕ) → length b ≡ 8449 → k ≤ 256 → set (filled (filled b (1 + k) 8449 0) 1 (1 + k) x) 0 D ≡ D ∷ (replicate k x ++ replicate (8448 - k) 0)
+pub made-is : (b : List ℕ) (D k x : ℕ) → length b ≡ tableLength → k ≤ 256 → set (filled (filled b (1 + k) tableLength 0) 1 (1 + k) x) 0 D ≡ D ∷ (replicate k x ++ replicate (tableLength - 1 - k) 0)
 made-is [] D k x h l = absurd (omega arith)
 made-is (y ∷ bs) D k x h l =
-    let rest : 8449 - suc k ≡ 8448 - k = omega arith in
-    rw (one-add k, fill-end (y ∷ bs) (suc k) 8449 0 h, fill-front y (take k bs) (replicate (8449 - suc k) 0) k x (length-take-le k bs (omega arith)), rest)
+    let rest : tableLength - suc k ≡ tableLength - 1 - k = omega arith in
+    rw (one-add k, fill-end (y ∷ bs) (suc k) tableLength 0 h, fill-front y (take k bs) (replicate (tableLength - suc k) 0) k x (length-take-le k bs (omega arith)), rest)
 
 -- with as many nodes as the dimension has, and all their bits
-pub made-of : (b : List ℕ) (D n : ℕ) → length b ≡ 8449 → n ≡ 2 ^ D → 0 < n → n ≤ 256 → set (filled (filled b (1 + n) 8449 0) 1 (1 + n) ((n - 1) % 256)) 0 D ≡ made D
+pub made-of : (b : List ℕ) (D n : ℕ) → length b ≡ tableLength → n ≡ 2 ^ D → 0 < n → n ≤ 256 → set (filled (filled b (1 + n) tableLength 0) 1 (1 + n) ((n - 1) % 256)) 0 D ≡ made D
 unfolding made
 made-of b D n h e s l =
     let x : (n - 1) % 256 ≡ n - 1 = omega arith in

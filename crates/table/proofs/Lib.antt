@@ -1,7 +1,7 @@
 -- The laws of the table.
 pub mod Entries
 pub mod Views
-pub mod NoneAbove
+pub mod Runs
 pub mod Rows
 pub mod Fills
 pub mod Made

@@ -1,7 +1,7 @@
 -- What a made table shows.
 -- Assumes nothing.
 use mathlib.Core.Path.{_≡_, refl, ap, ap₂, sym, _∙_}
-use mathlib.Core.Bool.{Bool, true, false, cond, _&&_, Bool·beq, true≢false}
+use mathlib.Core.Bool.{Bool, true, false, cond, _&&_, Bool·beq, true≢false, and-false}
 use mathlib.Core.List.{_++_}
 use Prim.Native.Nat.{ℕ, zero, suc, _+_, _-_, _^_, _≤_, _<_}
 use native.Mathlib.Omega.{arith}
@@ -13,7 +13,8 @@ use Rattle.common.proofs.Every.{at₂}
 use Rattle.cube.specs.Bits.{has}
 use Rattle.cube.proofs.Bits.{zero-has}
 use Rattle.cube.proofs.Ports.{most-nodes, below-256}
-use Rattle.table.specs.Layout.{tableLength, inTable, dimensionAt, entryPlace, linkPart, receivePart, wordAt, enabledAt, entryAt, ownerAt, receiverAt, made}
+use Rattle.table.specs.Layout.{tableLength, inTable, dimensionAt, armPlace, maskAt, enabledAt, armedAt, made}
+use Rattle.table.specs.Layout.{entryPlace, linkPart, receivePart, wordAt, entryAt, ownerAt, receiverAt}
 use Rattle.table.specs.View.{view, fresh}
 use Rattle.table.specs.Encode.{Bytes}
 use Rattle.table.proofs.Entries.{within}
@@ -49,16 +50,16 @@ module _ (D : ℕ) (h : D < 9) where
   unfolding made
   byte-of j = go (ltb j (2 ^ D)) refl
     where
-      go : (b : Bool) → ltb j (2 ^ D) ≡ b → getD (replicate (2 ^ D) (2 ^ D - 1) ++ replicate (8448 - 2 ^ D) 0) j 0 ≡ cond b (2 ^ D - 1) 0
-      go true e = run-front (2 ^ D) (8448 - 2 ^ D) (2 ^ D - 1) j (ltb-true j (2 ^ D) e)
-      go false e = run-back (2 ^ D) (8448 - 2 ^ D) (2 ^ D - 1) j (ltb-false j (2 ^ D) e)
+      go : (b : Bool) → ltb j (2 ^ D) ≡ b → getD (replicate (2 ^ D) (2 ^ D - 1) ++ replicate (8704 - 2 ^ D) 0) j 0 ≡ cond b (2 ^ D - 1) 0
+      go true e = run-front (2 ^ D) (8704 - 2 ^ D) (2 ^ D - 1) j (ltb-true j (2 ^ D) e)
+      go false e = run-back (2 ^ D) (8704 - 2 ^ D) (2 ^ D - 1) j (ltb-false j (2 ^ D) e)
 
   byte-zero : (j : ℕ) → 257 ≤ j → getD (made D) j 0 ≡ 0
   byte-zero zero l = absurd (omega arith)
   byte-zero (suc j) l = byte-of j ∙ rw (le-ltb j (2 ^ D) (omega (arith, most-nodes {D = D} (omega arith))))
 
   made-enabled : (n p : ℕ) → enabledAt (made D) n p ≡ ltb n (2 ^ D) && ltb p D
-  unfolding enabledAt
+  unfolding enabledAt maskAt
   made-enabled n p = rw (one-add n, byte-of n) (go (inTable n p) refl (ltb n (2 ^ D)) refl)
     where
       go : (x : Bool) → inTable n p ≡ x → (y : Bool) → ltb n (2 ^ D) ≡ y → x && has (cond y (2 ^ D - 1) 0) p ≡ y && ltb p D
@@ -82,6 +83,10 @@ module _ (D : ℕ) (h : D < 9) where
       go true = word
       go false = refl
 
+  made-armed : (n k : ℕ) → armedAt (made D) n k ≡ false
+  unfolding armedAt maskAt
+  made-armed n k = rw (byte-zero (armPlace n) (omega arith), zero-has k) (and-false (inTable n k))
+
 -- A made table is one of bytes,
 pub made-bytes : (D : ℕ) → D < 9 → Bytes (made D)
 made-bytes D h = record { long = long; small = small }
@@ -92,7 +97,8 @@ made-bytes D h = record { long = long; small = small }
     long : length (made D) ≡ tableLength
     long =
         unfold made in
-        ap suc (length-append (replicate (2 ^ D) (2 ^ D - 1)) (replicate (8448 - 2 ^ D) 0) ∙ ap₂ _+_ (length-replicate (2 ^ D) (2 ^ D - 1)) (length-replicate (8448 - 2 ^ D) 0) ∙ omega (arith, nodes))
+        ap suc (length-append (replicate (2 ^ D) (2 ^ D - 1)) (replicate (8704 - 2 ^ D) 0)
+        ∙ ap₂ _+_ (length-replicate (2 ^ D) (2 ^ D - 1)) (length-replicate (8704 - 2 ^ D) 0) ∙ omega (arith, nodes))
 
     either : (x : Bool) → cond x (2 ^ D - 1) 0 < 256
     either true = omega (arith, nodes)
@@ -102,7 +108,7 @@ made-bytes D h = record { long = long; small = small }
     small zero = unfold made in omega arith
     small (suc j) = rw (byte-of D h j) (either (ltb j (2 ^ D)))
 
--- and shows its dimension, every link of its cube enabled, and nothing held.
+-- and shows its dimension, every link of its cube enabled, nothing held and none armed.
 pub view-made : (D : ℕ) → D < 9 → view (made D) ≡ fresh D
 unfolding view fresh ownerAt receiverAt dimensionAt made
 view-made D h = λ i.
@@ -111,4 +117,5 @@ view-made D h = λ i.
       enabled = λ n p. made-enabled D h n p i;
       owner = λ n p. made-entry D h linkPart (lit≤ tt) n p i;
       receiver = λ n k. made-entry D h receivePart (lit≤ tt) n k i;
+      armed = λ n k. made-armed D h n k i;
     }

@@ -1,15 +1,15 @@
 -- A row of eight entries: which of them are a circuit's, as loops find them, and what that says of links and receive channels.
 -- Assumes nothing.
-use mathlib.Core.Path.{_≡_, refl, ap, sym, _∙_, subst}
+use mathlib.Core.Path.{_≡_, refl, ap, ap₂, sym, _∙_, subst}
 use mathlib.Core.Logic.{_≢_}
-use mathlib.Core.Bool.{true, false}
+use mathlib.Core.Bool.{true, false, _&&_, and-comm}
 use mathlib.Core.List.{List}
 use Prim.Native.Nat.{ℕ, _+_, _*_, _^_, _%_, _<_}
 use native.Mathlib.Omega.{arith}
 use native.Mathlib.Nat.{lt-of-lt-of-le}
 use lib.Dec.{eqb, lit<}
-use lib.ListN.{length}
-use lib.Bits.{bitXor}
+use lib.ListN.{length, getD}
+use lib.Bits.{bitXor, bitAnd}
 use lib.Pow.{pow-mono}
 use borrow.Author.Count.{below-more}
 use borrow.Author.Tests.{eq-eqb, ne-eqb}
@@ -18,12 +18,12 @@ use Rattle.common.proofs.Lists.{keep-same}
 use Rattle.common.proofs.From.{from-below}
 use Rattle.common.proofs.Lowest.{lowest-same}
 use Rattle.cube.specs.Bits.{has, flip}
-use Rattle.cube.proofs.Bits.{has-no-bit, high-has, bit-flipped, bit-kept, flip-xor, flip-inside}
+use Rattle.cube.proofs.Bits.{has-and, has-no-bit, high-has, bit-flipped, bit-kept, flip-xor, flip-inside}
 use Rattle.cube.proofs.Ports.{port-bit}
-use Rattle.table.specs.Layout.{entryPlace, linkPart, receivePart, wordAt, entryAt, ownerAt, receiverAt}
+use Rattle.table.specs.Layout.{entryPlace, linkPart, receivePart, armPart, armPlace, wordAt, entryAt, ownerAt, receiverAt, armedAt}
 use Rattle.table.specs.LayoutContracts.{RowVector, rowCount, HeldBy}
-use Rattle.table.specs.View.{view, linksHeld, channelsHeld}
-use Rattle.table.proofs.Entries.{entry-is}
+use Rattle.table.specs.View.{view, linksHeld, channelsHeld, available, lowestChannel}
+use Rattle.table.proofs.Entries.{entry-is, mask-has}
 
 -- what was found of the first k entries
 pub record Found (b : List ℕ) (i c k vector : ℕ) : Type 0 where
@@ -79,3 +79,13 @@ module _ (b : List ℕ) (n c i : ℕ) (h : n < 256) where
   pub channels-lowest : (vector : ℕ) → i ≡ entryPlace receivePart n 0 → RowVector b i c vector → lowest (has vector) 8 0 ≡ lowest (λ k. eqb (receiverAt b n k) c) 8 0
   unfolding receiverAt
   channels-lowest vector e r = lowest-same (has vector) _ 8 0 (λ k g l. r .bits k l ∙ entry-test receivePart k e l)
+
+  -- the channels that nobody holds, and of them those that a mask has
+  pub channels-available : (free armed : ℕ) → c ≡ 0 → i ≡ entryPlace receivePart n 0 → RowVector b i c free → armed ≡ getD b (armPlace n) 0
+      → lowest (has (bitAnd free armed)) 8 0 ≡ lowestChannel (view b) n
+  unfolding lowestChannel available view receiverAt armedAt
+  channels-available free armed z e r a =
+      lowest-same (has (bitAnd free armed)) _ 8 0 (λ k g l.
+      has-and free armed k ∙ and-comm (has free k) (has armed k)
+      ∙ ap₂ _&&_ (ap (λ x. has x k) a ∙ sym (mask-has b n k h l armPart))
+      (r .bits k l ∙ entry-test receivePart k e l ∙ ap (eqb (entryAt receivePart b n k)) z))

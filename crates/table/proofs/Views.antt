@@ -13,9 +13,10 @@ use borrow.Author.Tests.{ltb-true, ltb-false, eqb-true, eqb-false}
 use Rattle.common.proofs.Tests.{both-below}
 use Rattle.cube.specs.Bits.{has, withBit}
 use Rattle.cube.proofs.Bits.{with-bit-same, with-bit-other}
-use Rattle.table.specs.Layout.{inTable, dimensionAt, enablePlace, entryPlace, linkPart, receivePart, wordAt, putWord, enabledAt, entryAt, ownerAt, receiverAt, putEntry, putOwner, putReceiver, putEnabled}
+use Rattle.table.specs.Layout.{inTable, dimensionAt, maskPlace, maskAt, enablePart, armPart, enabledAt, armedAt, putMask, putEnabled, putArmed}
+use Rattle.table.specs.Layout.{entryPlace, entryAt, linkPart, receivePart, ownerAt, receiverAt, wordAt, putWord, putEntry, putOwner, putReceiver}
 use Rattle.table.specs.LayoutContracts.{Within}
-use Rattle.table.specs.View.{view, setAt, setOwner, setReceiver, setEnabled}
+use Rattle.table.specs.View.{view, setAt, setOwner, setReceiver, setEnabled, setArmed}
 use Rattle.table.proofs.Entries.{within}
 
 -- a word written: the word there, and every byte and word apart from it
@@ -104,66 +105,101 @@ module _ (part : ℕ) (b : List ℕ) (n k c : ℕ) (i : n < 256) (l : k < 8) whe
   unfolding putEntry
   entry-before j h = byte-apart b (entryPlace part n k) c j (λ e. omega arith) (λ e. omega arith)
 
-  entry-enabled : 257 ≤ part → (m q : ℕ) → enabledAt (putEntry part b n k c) m q ≡ enabledAt b m q
-  unfolding enabledAt
-  entry-enabled h m q = go (inTable m q) refl
+  -- and so do the masks
+  pub entry-mask : (part′ : ℕ) → (part′ + 256 ≤ part) ⊎ (part + 4096 ≤ part′) → (m q : ℕ) → maskAt part′ (putEntry part b n k c) m q ≡ maskAt part′ b m q
+  unfolding maskAt putEntry
+  entry-mask part′ h m q = go (inTable m q) refl
     where
-      go : (x : Bool) → inTable m q ≡ x → x && has (getD (putEntry part b n k c) (enablePlace m) 0) q ≡ x && has (getD b (enablePlace m) 0) q
-      go true e = ap (λ y. has y q) (entry-before (enablePlace m) (let r = inside m q e in omega arith))
+      go : (x : Bool) → inTable m q ≡ x → x && has (getD (putWord b (entryPlace part n k) c) (maskPlace part′ m) 0) q ≡ x && has (getD b (maskPlace part′ m) 0) q
+      go true e =
+          let r = inside m q e in
+          ap (λ y. has y q)
+          (byte-apart b (entryPlace part n k) c (maskPlace part′ m) (λ z. ⊎-elim (λ g. omega arith) (λ g. omega arith) h)
+          (λ z. ⊎-elim (λ g. omega arith) (λ g. omega arith) h))
       go false e = refl
 
 -- What the table shows after a link or a receive channel is given to a circuit.
 pub view-put-owner : (b : List ℕ) (n p c : ℕ) → Within b n p → c < 65536 → view (putOwner b n p c) ≡ setOwner (view b) n p c
-unfolding view setOwner putOwner ownerAt receiverAt dimensionAt
+unfolding view setOwner putOwner ownerAt receiverAt enabledAt armedAt dimensionAt
 view-put-owner b n p c w small = λ i.
     record {
       dimension = entry-before linkPart b n p c (w .node) (w .port) 0 (lit< tt) i;
-      enabled = λ m q. entry-enabled linkPart b n p c (w .node) (w .port) (lit≤ tt) m q i;
+      enabled = λ m q. entry-mask linkPart b n p c (w .node) (w .port) enablePart (inl (lit≤ tt)) m q i;
       owner = λ m q. entry-put linkPart b n p c (w .node) (w .port) (omega (arith, w .bytes)) small m q i;
       receiver = λ m q. entry-other linkPart b n p c (w .node) (w .port) receivePart (inl (lit≤ tt)) m q i;
+      armed = λ m q. entry-mask linkPart b n p c (w .node) (w .port) armPart (inr (lit≤ tt)) m q i;
     }
 
 pub view-put-receiver : (b : List ℕ) (n k c : ℕ) → Within b n k → c < 65536 → view (putReceiver b n k c) ≡ setReceiver (view b) n k c
-unfolding view setReceiver putReceiver ownerAt receiverAt dimensionAt
+unfolding view setReceiver putReceiver ownerAt receiverAt enabledAt armedAt dimensionAt
 view-put-receiver b n k c w small = λ i.
     record {
       dimension = entry-before receivePart b n k c (w .node) (w .port) 0 (lit< tt) i;
-      enabled = λ m q. entry-enabled receivePart b n k c (w .node) (w .port) (lit≤ tt) m q i;
+      enabled = λ m q. entry-mask receivePart b n k c (w .node) (w .port) enablePart (inl (lit≤ tt)) m q i;
       owner = λ m q. entry-other receivePart b n k c (w .node) (w .port) linkPart (inr (lit≤ tt)) m q i;
       receiver = λ m q. entry-put receivePart b n k c (w .node) (w .port) (omega (arith, w .bytes)) small m q i;
+      armed = λ m q. entry-mask receivePart b n k c (w .node) (w .port) armPart (inr (lit≤ tt)) m q i;
     }
 
--- What it shows after an enable bit is set or cleared.
-module _ (b : List ℕ) (n p : ℕ) (on : Bool) (w : Within b n p) where
-  byte-on : getD (putEnabled b n p on) (enablePlace n) 0 ≡ withBit (getD b (enablePlace n) 0) p on
-  unfolding putEnabled
-  byte-on = getD-set-same b (enablePlace n) (withBit (getD b (enablePlace n) 0) p on) 0 (omega (arith, w .bytes, w .node))
+-- a bit of a mask set or cleared: that bit, and every other of the same part and of the others
+module _ (part : ℕ) (b : List ℕ) (n p : ℕ) (on : Bool) (i : n < 256) (l : p < 8) where
+  byte-on : part + 256 ≤ length b → getD (putMask part b n p on) (maskPlace part n) 0 ≡ withBit (getD b (maskPlace part n) 0) p on
+  unfolding putMask
+  byte-on room = getD-set-same b (maskPlace part n) (withBit (getD b (maskPlace part n) 0) p on) 0 (omega arith)
 
-  byte-off : (j : ℕ) → j ≢ enablePlace n → getD (putEnabled b n p on) j 0 ≡ getD b j 0
-  unfolding putEnabled
-  byte-off j h = getD-set-other b (enablePlace n) j (withBit (getD b (enablePlace n) 0) p on) 0 h
+  pub byte-off : (j : ℕ) → j ≢ maskPlace part n → getD (putMask part b n p on) j 0 ≡ getD b j 0
+  unfolding putMask
+  byte-off j h = getD-set-other b (maskPlace part n) j (withBit (getD b (maskPlace part n) 0) p on) 0 h
 
-  enabled-put : (m q : ℕ) → enabledAt (putEnabled b n p on) m q ≡ setAt (enabledAt b) n p on m q
-  unfolding enabledAt setAt
-  enabled-put m q = go (eqb m n) refl (eqb q p) refl
+  pub mask-put : part + 256 ≤ length b → (m q : ℕ) → maskAt part (putMask part b n p on) m q ≡ setAt (maskAt part b) n p on m q
+  unfolding maskAt setAt
+  mask-put room m q = go (eqb m n) refl (eqb q p) refl
     where
       go : (x : Bool) → eqb m n ≡ x → (y : Bool) → eqb q p ≡ y
-          → inTable m q && has (getD (putEnabled b n p on) (enablePlace m) 0) q ≡ cond (x && y) on (inTable m q && has (getD b (enablePlace m) 0) q)
-      go true e true f = rw (eqb-true m n e, eqb-true q p f, within n p (w .node) (w .port), byte-on) (with-bit-same _ p on)
-      go true e false f = rw (eqb-true m n e, byte-on, with-bit-other (getD b (enablePlace n) 0) p on q (eqb-false q p f))
-      go false e y f = rw (byte-off (enablePlace m) (λ z. eqb-false m n e (omega arith)))
+          → inTable m q && has (getD (putMask part b n p on) (maskPlace part m) 0) q ≡ cond (x && y) on (inTable m q && has (getD b (maskPlace part m) 0) q)
+      go true e true f = rw (eqb-true m n e, eqb-true q p f, within n p i l, byte-on room) (with-bit-same _ p on)
+      go true e false f = rw (eqb-true m n e, byte-on room, with-bit-other (getD b (maskPlace part n) 0) p on q (eqb-false q p f))
+      go false e y f = rw (byte-off (maskPlace part m) (λ z. eqb-false m n e (omega arith)))
 
-  enabled-entry : (part : ℕ) → 257 ≤ part → (m q : ℕ) → entryAt part (putEnabled b n p on) m q ≡ entryAt part b m q
+  pub mask-other : (part′ : ℕ) → (part + 256 ≤ part′) ⊎ (part′ + 256 ≤ part) → (m q : ℕ) → maskAt part′ (putMask part b n p on) m q ≡ maskAt part′ b m q
+  unfolding maskAt
+  mask-other part′ h m q = go (inTable m q) refl
+    where
+      go : (x : Bool) → inTable m q ≡ x → x && has (getD (putMask part b n p on) (maskPlace part′ m) 0) q ≡ x && has (getD b (maskPlace part′ m) 0) q
+      go true e = let r = inside m q e in ap (λ y. has y q) (byte-off (maskPlace part′ m) (λ z. ⊎-elim (λ g. omega arith) (λ g. omega arith) h))
+      go false e = refl
+
+  pub mask-entry : (part′ : ℕ) → (part + 256 ≤ part′) ⊎ (part′ + 4096 ≤ part) → (m q : ℕ) → entryAt part′ (putMask part b n p on) m q ≡ entryAt part′ b m q
   unfolding entryAt
-  enabled-entry part h m q =
-      rw (byte-off (entryPlace part m q) (λ z. omega (arith, w .node)), byte-off (entryPlace part m q + 1) (λ z. omega (arith, w .node)))
+  mask-entry part′ h m q = go (inTable m q) refl
+    where
+      go : (x : Bool) → inTable m q ≡ x → cond x (wordAt (putMask part b n p on) (entryPlace part′ m q)) 0 ≡ cond x (wordAt b (entryPlace part′ m q)) 0
+      go true e =
+          let r = inside m q e in
+          let low = byte-off (entryPlace part′ m q) (λ z. ⊎-elim (λ g. omega arith) (λ g. omega arith) h) in
+          let high = byte-off (entryPlace part′ m q + 1) (λ z. ⊎-elim (λ g. omega arith) (λ g. omega arith) h) in
+          rw (low, high)
+      go false e = refl
 
-  pub view-put-enabled : view (putEnabled b n p on) ≡ setEnabled (view b) n p on
-  unfolding view setEnabled ownerAt receiverAt dimensionAt
-  view-put-enabled = λ i.
-      record {
-        dimension = byte-off 0 (λ z. omega arith) i;
-        enabled = λ m q. enabled-put m q i;
-        owner = λ m q. enabled-entry linkPart (lit≤ tt) m q i;
-        receiver = λ m q. enabled-entry receivePart (lit≤ tt) m q i;
-      }
+-- What the table shows after a link is enabled or not, or a channel armed or not.
+pub view-put-enabled : (b : List ℕ) (n p : ℕ) (on : Bool) → Within b n p → view (putEnabled b n p on) ≡ setEnabled (view b) n p on
+unfolding view setEnabled putEnabled ownerAt receiverAt enabledAt armedAt dimensionAt
+view-put-enabled b n p on w = λ i.
+    record {
+      dimension = byte-off enablePart b n p on (w .node) (w .port) 0 (λ z. omega arith) i;
+      enabled = λ m q. mask-put enablePart b n p on (w .node) (w .port) (omega (arith, w .bytes)) m q i;
+      owner = λ m q. mask-entry enablePart b n p on (w .node) (w .port) linkPart (inl (lit≤ tt)) m q i;
+      receiver = λ m q. mask-entry enablePart b n p on (w .node) (w .port) receivePart (inl (lit≤ tt)) m q i;
+      armed = λ m q. mask-other enablePart b n p on (w .node) (w .port) armPart (inl (lit≤ tt)) m q i;
+    }
+
+pub view-put-armed : (b : List ℕ) (n k : ℕ) (on : Bool) → Within b n k → view (putArmed b n k on) ≡ setArmed (view b) n k on
+unfolding view setArmed putArmed ownerAt receiverAt enabledAt armedAt dimensionAt
+view-put-armed b n k on w = λ i.
+    record {
+      dimension = byte-off armPart b n k on (w .node) (w .port) 0 (λ z. omega arith) i;
+      enabled = λ m q. mask-other armPart b n k on (w .node) (w .port) enablePart (inr (lit≤ tt)) m q i;
+      owner = λ m q. mask-entry armPart b n k on (w .node) (w .port) linkPart (inr (lit≤ tt)) m q i;
+      receiver = λ m q. mask-entry armPart b n k on (w .node) (w .port) receivePart (inr (lit≤ tt)) m q i;
+      armed = λ m q. mask-put armPart b n k on (w .node) (w .port) (omega (arith, w .bytes)) m q i;
+    }

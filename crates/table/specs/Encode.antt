@@ -1,4 +1,4 @@
--- The bytes of a table that shows a given view: the parts of document 01's layout, one after another.
+-- The bytes of a table that shows a given view: the parts of its layout, one after another.
 -- Assumes nothing.
 use mathlib.Core.Bool.{Bool, false, cond}
 use mathlib.Core.List.{List, [], _∷_, _++_, map}
@@ -6,7 +6,7 @@ use mathlib.Core.Path.{_≡_}
 use Prim.Native.Nat.{ℕ, zero, suc, _+_, _/_, _%_, _^_, _<_}
 use lib.ListN.{length, getD}
 use Rattle.common.specs.Lists.{from}
-use Rattle.table.specs.Layout.{tableLength, inTable}
+use Rattle.table.specs.Layout.{tableLength, portCount, inTable}
 use Rattle.table.specs.View.{View}
 
 -- a byte with bit p set where a test passes, for the w bits from p on
@@ -14,18 +14,21 @@ unfoldable pub bitsFrom : (ℕ → Bool) → ℕ → ℕ → ℕ
 bitsFrom f p zero = 0
 bitsFrom f p (suc w) = cond (f p) (2 ^ p) 0 + bitsFrom f (suc p) w
 
--- "for each node, bit p set where the link out of port p is enabled"
-unfoldable pub enableByte : View → ℕ → ℕ
-enableByte v n = bitsFrom (v .enabled n) 0 8
+-- the byte of a node: "bit p set where the link out of port p is enabled", and "a mask of armed channels per node"
+unfoldable pub maskByte : (ℕ → ℕ → Bool) → ℕ → ℕ
+maskByte f n = bitsFrom (f n) 0 portCount
+
+unfoldable pub maskBytes : (ℕ → ℕ → Bool) → List ℕ
+maskBytes f = map (maskByte f) (from 0 256)
 
 -- "Circuit numbers take two bytes, low byte first. Rows run node by node", 8 entries to a row: k entries from entry i on
 unfoldable pub entryBytes : (ℕ → ℕ → ℕ) → ℕ → ℕ → List ℕ
 entryBytes f i zero = []
 entryBytes f i (suc k) = f (i / 8) (i % 8) % 256 ∷ f (i / 8) (i % 8) / 256 ∷ entryBytes f (suc i) k
 
--- 1 byte, 256 bytes, 4,096 bytes and 4,096 bytes
+-- 1 byte, 256 bytes, 4,096 bytes, 4,096 bytes and 256 bytes
 unfoldable pub encode : View → List ℕ
-encode v = v .dimension ∷ map (enableByte v) (from 0 256) ++ entryBytes (v .owner) 0 2048 ++ entryBytes (v .receiver) 0 2048
+encode v = v .dimension ∷ maskBytes (v .enabled) ++ entryBytes (v .owner) 0 2048 ++ entryBytes (v .receiver) 0 2048 ++ maskBytes (v .armed)
 
 -- every number of a list is a byte
 abbrev pub AllBytes : List ℕ → Type 0
@@ -46,3 +49,4 @@ pub record ViewFits (v : View) : Type 0 where
   pub enabled : (n p : ℕ) → inTable n p ≡ false → v .enabled n p ≡ false
   pub owner : EntriesFit (v .owner)
   pub receiver : EntriesFit (v .receiver)
+  pub armed : (n k : ℕ) → inTable n k ≡ false → v .armed n k ≡ false

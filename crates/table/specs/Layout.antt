@@ -1,27 +1,46 @@
--- Document 01, "The cube and its table": where each value lies in the 8,449 bytes. No other definition knows an offset, and no code but layout.rt.
+-- Document 01, "The cube and its table", and document 02, (a): where each value lies in the 8,705 bytes. No other definition knows an offset,
+-- and no code but layout.rt.
 -- Assumes nothing.
 use mathlib.Core.Bool.{Bool, cond, _&&_}
 use mathlib.Core.List.{List, _∷_, _++_}
 use Prim.Native.Nat.{ℕ, _+_, _-_, _*_, _/_, _%_, _^_}
 use lib.Dec.{ltb}
 use lib.ListN.{take, drop, getD, set, replicate}
-use Rattle.cube.specs.Bits.{has, flip, withBit}
+use Rattle.cube.specs.Bits.{has, withBit}
 
--- "The table is 8,449 bytes"
+-- "8,705 in all"
 abbrev pub tableLength : ℕ
-tableLength = 8449
+tableLength = 8705
 
--- a table has room for 256 nodes, each with 8 ports and 8 receive channels
+-- "for each node and port 0 to 7"
+abbrev pub portCount : ℕ
+portCount = 8
+
+-- a table has room for 256 nodes, each with 8 ports and as many receive channels
 abbrev pub inTable : ℕ → ℕ → Bool
-inTable n p = ltb n 256 && ltb p 8
+inTable n p = ltb n 256 && ltb p portCount
 
 -- "1 byte: D"
 unfoldable pub dimensionAt : List ℕ → ℕ
 dimensionAt b = getD b 0 0
 
+-- The masks of enabled links and those of armed receive channels: two parts of the same form, each from its own place on, with a byte for each node.
+abbrev pub maskPlace : ℕ → ℕ → ℕ
+maskPlace part n = part + n
+
 -- "256 bytes: for each node, bit p set where the link out of port p is enabled"
+abbrev pub enablePart : ℕ
+enablePart = 1
+
+-- "append 256 bytes to the table, a mask of armed channels per node"
+abbrev pub armPart : ℕ
+armPart = 8449
+
 abbrev pub enablePlace : ℕ → ℕ
-enablePlace n = 1 + n
+enablePlace n = maskPlace enablePart n
+
+abbrev pub armPlace : ℕ → ℕ
+armPlace n = maskPlace armPart n
 
 -- The circuits that hold links and those that hold receive channels: two parts of the same form, each from its own place on.
 -- "Rows run node by node", two bytes for each of 8 ports or channels.
@@ -49,13 +68,22 @@ wordAt b i = getD b i 0 + 256 * getD b (i + 1) 0
 abbrev pub putWord : List ℕ → ℕ → ℕ → List ℕ
 putWord b i c = set (set b i (c % 256)) (i + 1) (c / 256)
 
--- the byte of a node's enable bits
+-- the byte of a node's enable bits, and that of its armed channels
 unfoldable pub enableBits : List ℕ → ℕ → ℕ
 enableBits b n = getD b (enablePlace n) 0
 
+unfoldable pub armBits : List ℕ → ℕ → ℕ
+armBits b n = getD b (armPlace n) 0
+
 -- the values at a node and a port or channel; nothing lies outside 256 nodes and 8 ports or channels
+unfoldable pub maskAt : ℕ → List ℕ → ℕ → ℕ → Bool
+maskAt part b n k = inTable n k && has (getD b (maskPlace part n) 0) k
+
 unfoldable pub enabledAt : List ℕ → ℕ → ℕ → Bool
-enabledAt b n p = inTable n p && has (getD b (enablePlace n) 0) p
+enabledAt b n p = maskAt enablePart b n p
+
+unfoldable pub armedAt : List ℕ → ℕ → ℕ → Bool
+armedAt b n k = maskAt armPart b n k
 
 unfoldable pub entryAt : ℕ → List ℕ → ℕ → ℕ → ℕ
 entryAt part b n k = cond (inTable n k) (wordAt b (entryPlace part n k)) 0
@@ -66,7 +94,7 @@ ownerAt b n p = entryAt linkPart b n p
 unfoldable pub receiverAt : List ℕ → ℕ → ℕ → ℕ
 receiverAt b n k = entryAt receivePart b n k
 
--- the bytes after one of these is written: a link or a receive channel held by a circuit (0: by nobody), an enable bit changed
+-- the bytes after one of these is written: a link or receive channel held by a circuit (0: by nobody), a link enabled or not, a channel armed or not
 unfoldable pub putEntry : ℕ → List ℕ → ℕ → ℕ → ℕ → List ℕ
 putEntry part b n k c = putWord b (entryPlace part n k) c
 
@@ -76,16 +104,20 @@ putOwner b n p c = putEntry linkPart b n p c
 unfoldable pub putReceiver : List ℕ → ℕ → ℕ → ℕ → List ℕ
 putReceiver b n k c = putEntry receivePart b n k c
 
-unfoldable pub changed : List ℕ → ℕ → ℕ → List ℕ
-changed b n p = set b (enablePlace n) (flip (getD b (enablePlace n) 0) p)
+unfoldable pub putMask : ℕ → List ℕ → ℕ → ℕ → Bool → List ℕ
+putMask part b n k on = set b (maskPlace part n) (withBit (getD b (maskPlace part n) 0) k on)
 
 unfoldable pub putEnabled : List ℕ → ℕ → ℕ → Bool → List ℕ
-putEnabled b n p on = set b (enablePlace n) (withBit (getD b (enablePlace n) 0) p on)
+putEnabled b n p on = putMask enablePart b n p on
+
+unfoldable pub putArmed : List ℕ → ℕ → ℕ → Bool → List ℕ
+putArmed b n k on = putMask armPart b n k on
 
 -- a list with one value at every place from i on and before j
 unfoldable pub filled : List ℕ → ℕ → ℕ → ℕ → List ℕ
 filled b i j x = take i b ++ replicate (j - i) x ++ drop j b
 
--- "Making a table gives dimension D, all its links enabled, nothing held": D, the D bits of each of its 2^D nodes, and nothing else
+-- "Making a table gives dimension D, all its links enabled, nothing held", and "A made table has none armed": D, the D bits of each of its 2^D nodes,
+-- and nothing else
 unfoldable pub made : ℕ → List ℕ
-made D = D ∷ replicate (2 ^ D) (2 ^ D - 1) ++ replicate (8448 - 2 ^ D) 0
+made D = D ∷ replicate (2 ^ D) (2 ^ D - 1) ++ replicate (tableLength - 1 - 2 ^ D) 0

@@ -8,11 +8,12 @@ use lib.Dec.{eqb, ltb}
 use lib.ListN.{length, getD}
 use Rattle.common.specs.Lists.{keep, from}
 use Rattle.cube.specs.Bits.{has}
-use Rattle.table.specs.Layout.{tableLength, wordAt, enableBits, ownerAt}
+use Rattle.table.specs.Layout.{tableLength, portCount, wordAt, enableBits, armBits, ownerAt}
 
--- a number that no byte of a run is above
-pub record NoneAbove (b : List ℕ) (i count : ℕ) (all : ℕ) : Type 0 where
+-- a number that no byte of a run is above, and that is 0 where all of them are
+pub record RunOr (b : List ℕ) (i count : ℕ) (all : ℕ) : Type 0 where
   pub none-above : (j : ℕ) → j < count → getD b (i + j) 0 ≤ all
+  pub zero : ((j : ℕ) → j < count → getD b (i + j) 0 ≡ 0) → all ≡ 0
 
 -- A bound on a node's byte of enable bits in a cube of dimension D: 2^D for a node of the cube, 1 (no bit) for any other. Every node keeps it where no absent
 -- link is enabled.
@@ -21,6 +22,10 @@ enableLimit D n = cond (ltb n (2 ^ D)) (2 ^ D) 1
 
 unfoldable pub EnablesFit : List ℕ → ℕ → Type 0
 EnablesFit b D = (n : ℕ) → n < 256 → enableBits b n < enableLimit D n
+
+-- no receive channel is armed at a node that a cube of dimension D lacks
+unfoldable pub ArmsFit : List ℕ → ℕ → Type 0
+ArmsFit b D = (n : ℕ) → 2 ^ D ≤ n → n < 256 → armBits b n ≡ 0
 
 -- Which of the eight entries of a row, from place i on, are circuit c's: as a vector, and how many.
 pub record RowVector (b : List ℕ) (i c vector : ℕ) : Type 0 where
@@ -39,4 +44,4 @@ pub record HeldBy (b : List ℕ) (c n vector : ℕ) : Type 0 where
 pub record Within (b : List ℕ) (n p : ℕ) : Type 0 where
   pub bytes : length b ≡ tableLength
   pub node : n < 256
-  pub port : p < 8
+  pub port : p < portCount

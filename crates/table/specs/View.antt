@@ -1,29 +1,32 @@
--- What a table shows, whatever the layout of its bytes: its dimension, which links are enabled, and who holds links and receive channels.
+-- What a table shows, whatever the layout of its bytes: its dimension, which links are enabled, who holds links and receive channels, and which of
+-- these channels are armed.
 -- It is changed only through the functions below.
 -- Assumes nothing.
-use mathlib.Core.Bool.{Bool, cond, not, _&&_}
+use mathlib.Core.Bool.{Bool, false, cond, not, _&&_}
 use mathlib.Core.List.{List}
 use Prim.Native.Nat.{ℕ, _^_}
 use lib.Dec.{eqb, ltb}
 use lib.ListN.{length}
 use Rattle.common.specs.Lists.{keep, from, lowest}
+use Rattle.cube.specs.Cube.{channels}
 use Rattle.paths.specs.Network.{Network}
 use Rattle.paths.specs.Send.{Receive, lowestOf}
-use Rattle.paths.specs.CubeNetwork.{Shape, network}
-use Rattle.table.specs.Layout.{dimensionAt, enabledAt, ownerAt, receiverAt}
+use Rattle.paths.specs.CubeNetwork.{Shape, network, unfolded, isLinkOf}
+use Rattle.table.specs.Layout.{portCount, dimensionAt, enabledAt, ownerAt, receiverAt, armedAt}
 
 pub record View : Type 0 where
   pub dimension : ℕ
   pub enabled : ℕ → ℕ → Bool
   pub owner : ℕ → ℕ → ℕ
   pub receiver : ℕ → ℕ → ℕ
+  pub armed : ℕ → ℕ → Bool
 
 unfoldable pub view : List ℕ → View
-view b = record { dimension = dimensionAt b; enabled = enabledAt b; owner = ownerAt b; receiver = receiverAt b }
+view b = record { dimension = dimensionAt b; enabled = enabledAt b; owner = ownerAt b; receiver = receiverAt b; armed = armedAt b }
 
 -- what the network of a table is read from
 abbrev pub shapeOf : View → Shape
-shapeOf v = record { dimension = v .dimension; fold = 0 }
+shapeOf v = unfolded (v .dimension)
 
 abbrev pub net : View → Network
 net v = network (shapeOf v)
@@ -41,22 +44,25 @@ unfoldable pub setAt : {A : Type 0} → (ℕ → ℕ → A) → ℕ → ℕ → 
 setAt f n p a m q = cond (eqb m n && eqb q p) a (f m q)
 
 unfoldable pub setOwner : View → ℕ → ℕ → ℕ → View
-setOwner v n p c = record { dimension = v .dimension; enabled = v .enabled; owner = setAt (v .owner) n p c; receiver = v .receiver }
+setOwner v n p c = record { dimension = v .dimension; enabled = v .enabled; owner = setAt (v .owner) n p c; receiver = v .receiver; armed = v .armed }
 
 unfoldable pub setReceiver : View → ℕ → ℕ → ℕ → View
-setReceiver v n k c = record { dimension = v .dimension; enabled = v .enabled; owner = v .owner; receiver = setAt (v .receiver) n k c }
+setReceiver v n k c = record { dimension = v .dimension; enabled = v .enabled; owner = v .owner; receiver = setAt (v .receiver) n k c; armed = v .armed }
 
 unfoldable pub setEnabled : View → ℕ → ℕ → Bool → View
-setEnabled v n p on = record { dimension = v .dimension; enabled = setAt (v .enabled) n p on; owner = v .owner; receiver = v .receiver }
+setEnabled v n p on = record { dimension = v .dimension; enabled = setAt (v .enabled) n p on; owner = v .owner; receiver = v .receiver; armed = v .armed }
+
+unfoldable pub setArmed : View → ℕ → ℕ → Bool → View
+setArmed v n k on = record { dimension = v .dimension; enabled = v .enabled; owner = v .owner; receiver = v .receiver; armed = setAt (v .armed) n k on }
 
 -- how many links, or receive channels, of node n circuit c holds
 unfoldable pub linksHeld : View → ℕ → ℕ → ℕ
-linksHeld v c n = length (keep (λ p. eqb (v .owner n p) c) (from 0 8))
+linksHeld v c n = length (keep (λ p. eqb (v .owner n p) c) (from 0 portCount))
 
 unfoldable pub channelsHeld : View → ℕ → ℕ → ℕ
-channelsHeld v c n = length (keep (λ k. eqb (v .receiver n k) c) (from 0 8))
+channelsHeld v c n = length (keep (λ k. eqb (v .receiver n k) c) (from 0 channels))
 
--- every entry of a circuit freed
+-- every entry of a circuit freed: "Closing a circuit disarms its channel."
 unfoldable pub withoutCircuit : View → ℕ → View
 withoutCircuit v c =
     record {
@@ -64,19 +70,20 @@ withoutCircuit v c =
       enabled = v .enabled;
       owner = λ n p. cond (eqb (v .owner n p) c) 0 (v .owner n p);
       receiver = λ n k. cond (eqb (v .receiver n k) c) 0 (v .receiver n k);
+      armed = λ n k. cond (eqb (v .receiver n k) c) false (v .armed n k);
     }
 
--- a receive channel "that no circuit holds"
+-- a receive channel "that is armed and not held"
 unfoldable pub available : View → ℕ → ℕ → Bool
-available v n k = eqb (v .receiver n k) 0
+available v n k = v .armed n k && eqb (v .receiver n k) 0
 
--- "its lowest receive channel that no circuit holds", 8 where all are held
+-- "its lowest channel that is armed and not held"; the number of channels where there is none
 unfoldable pub lowestChannel : View → ℕ → ℕ
-lowestChannel v n = lowest (available v n) 8 0
+lowestChannel v n = lowest (available v n) channels 0
 
 unfoldable pub receive : View → ℕ → Receive
 receive v n = lowestOf (available v n)
 
--- what a made table shows: all links of its cube enabled, nothing held
+-- what a made table shows: all links of its cube enabled, nothing held, and "none armed"
 unfoldable pub fresh : ℕ → View
-fresh D = record { dimension = D; enabled = λ n p. ltb n (2 ^ D) && ltb p D; owner = λ n p. 0; receiver = λ n k. 0 }
+fresh D = record { dimension = D; enabled = isLinkOf (unfolded D); owner = λ n p. 0; receiver = λ n k. 0; armed = λ n k. false }

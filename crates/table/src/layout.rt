@@ -1,20 +1,23 @@
-// Where each value lies in the 8,449 bytes of a table, and the only code that reads and writes there.
+// Where each value lies in the 8,705 bytes of a table, and the only code that reads and writes there.
 ghost use mathlib.Core.Path.{_≡_};
 ghost use mathlib.Core.Bool.{true, false};
 ghost use Prim.Native.Nat.{ℕ, _+_, _*_, _<_, _≤_};
 ghost use lib.Dec.{eqb};
-ghost use lib.ListN.{length};
+ghost use lib.ListN.{length, getD, set};
+ghost use Rattle.common.specs.Decides.{Decides};
 ghost use Rattle.common.specs.Lists.{lowest};
-ghost use Rattle.table.specs.Layout.{enableBits, wordAt, putWord, enablePlace, linkPlace, receivePlace, dimensionAt, enabledAt, ownerAt, receiverAt, putOwner, putReceiver, putEnabled, changed, filled, made};
-ghost use Rattle.table.specs.LayoutContracts.{Within, RowVector, rowCount, HeldBy, NoneAbove, EnablesFit};
+ghost use Rattle.cube.specs.Bits.{has, withBit};
+ghost use Rattle.table.specs.Layout.{tableLength, wordAt, putWord, enablePlace, armPlace, linkPlace, receivePlace, enableBits};
+ghost use Rattle.table.specs.Layout.{dimensionAt, enabledAt, ownerAt, receiverAt, armedAt, putEnabled, putOwner, putReceiver, putArmed, filled, made};
+ghost use Rattle.table.specs.LayoutContracts.{Within, RowVector, rowCount, HeldBy, RunOr, EnablesFit, ArmsFit};
 ghost use Rattle.table.specs.View.{view, linksHeld, channelsHeld, lowestChannel};
 use cube::Circuit;
 use cube::Node;
 use cube::Port;
 
 // The first byte is the dimension. Then come the enable bits, a byte for each node; the circuits that hold links and those that hold
-// receive channels, a row for each node.
-pub const BYTES: usize = 8449;
+// receive channels, a row for each node; and which receive channels are armed, a byte for each node.
+pub const BYTES: usize = 8705;
 
 const ENABLE: usize = 1;
 
@@ -23,6 +26,8 @@ const NODES: usize = 256;
 const LINKS: usize = 257;
 
 const RECEIVES: usize = 4353;
+
+const ARMS: usize = 8449;
 
 const ROW: usize = 16;
 
@@ -50,6 +55,24 @@ fn put_word(t: &mut [u8], at: usize, c: u16)
     t[at + 1] = (c / 256) as u8;
 }
 
+// Whether a bit of a byte is set.
+fn bit(t: &[u8], at: usize, k: u16) -> bool
+    requires { ⌜ (at < length (now t)) × (k < 8) ⌝ }
+    ensures { λ r. ⌜ r ≡ has (getD (now (t .entry)) at 0) k ⌝ }
+{
+    (wide(t[at]) >> k) % 2 == 1
+}
+
+// Sets or clears it.
+fn put_bit(t: &mut [u8], at: usize, k: u16, on: bool)
+    requires { ⌜ (at < length (now t)) × (k < 8) ⌝ }
+    ensures { λ _. ⌜ now (t .exit) ≡ set (now (t .entry)) at (withBit (getD (now (t .entry)) at 0) k on) ⌝ }
+{
+    if bit(t, at, k) != on {
+        t[at] = ((wide(t[at]) ^ (1 << k)) % 256) as u8;
+    }
+}
+
 fn enable_place(n: Node) -> usize
     requires { ⌜ n .0 < 256 ⌝ }
     ensures { λ r. ⌜ (r ≡ enablePlace (n .0)) × (r < 257) ⌝ }
@@ -57,22 +80,29 @@ fn enable_place(n: Node) -> usize
     ENABLE + n.0 as usize
 }
 
+fn arm_place(n: Node) -> usize
+    requires { ⌜ n .0 < 256 ⌝ }
+    ensures { λ r. ⌜ (r ≡ armPlace (n .0)) × (r < tableLength) ⌝ }
+{
+    ARMS + n.0 as usize
+}
+
 fn link_place(n: Node, p: Port) -> usize
     requires { ⌜ (n .0 < 256) × (p .0 < 8) ⌝ }
-    ensures { λ r. ⌜ (r ≡ linkPlace (n .0) (p .0)) × (r + 1 < 8449) ⌝ }
+    ensures { λ r. ⌜ (r ≡ linkPlace (n .0) (p .0)) × (r + 1 < tableLength) ⌝ }
 {
     LINKS + ROW * (n.0 as usize) + ENTRY * (p.0 as usize)
 }
 
 fn receive_place(n: Node, channel: u16) -> usize
     requires { ⌜ (n .0 < 256) × (channel < 8) ⌝ }
-    ensures { λ r. ⌜ (r ≡ receivePlace (n .0) channel) × (r + 1 < 8449) ⌝ }
+    ensures { λ r. ⌜ (r ≡ receivePlace (n .0) channel) × (r + 1 < tableLength) ⌝ }
 {
     RECEIVES + ROW * (n.0 as usize) + ENTRY * (channel as usize)
 }
 
 pub fn dimension(t: &[u8]) -> u16
-    requires { ⌜ length (now t) ≡ 8449 ⌝ }
+    requires { ⌜ length (now t) ≡ tableLength ⌝ }
     ensures { λ r. ⌜ r ≡ dimensionAt (now (t .entry)) ⌝ }
 {
     wide(t[0])
@@ -83,8 +113,7 @@ pub fn enabled(t: &[u8], n: Node, p: Port) -> bool
     requires { ⌜ Within (now t) (n .0) (p .0) ⌝ }
     ensures { λ r. ⌜ r ≡ enabledAt (now (t .entry)) (n .0) (p .0) ⌝ }
 {
-    let q = p.0;
-    (wide(t[enable_place(n)]) >> q) % 2 == 1
+    bit(t, enable_place(n), p.0)
 }
 
 // All enable bits of a node.
@@ -95,10 +124,10 @@ pub fn enable_bits(t: &[u8], n: Node) -> u16
     wide(t[enable_place(n)])
 }
 
-// The or of some bytes: none of them is above it, so all are 0 where it is. It has no early exit, so that many can be read in one go.
+// The or of some bytes: none of them is above it, and it is 0 where all of them are. It has no early exit, so that many can be read in one go.
 fn or_bytes(t: &[u8], from: usize, count: usize) -> u8
     requires { ⌜ from + count ≤ length (now t) ⌝ }
-    ensures { λ r. ⌜ NoneAbove (now (t .entry)) from count r ⌝ }
+    ensures { λ r. ⌜ RunOr (now (t .entry)) from count r ⌝ }
 {
     let mut all: u8 = 0;
     let mut i: usize = 0;
@@ -111,7 +140,7 @@ fn or_bytes(t: &[u8], from: usize, count: usize) -> u8
 
 // Whether every node has the enable bits of links of its cube alone, and the nodes that the cube lacks have none.
 pub fn enables_fit(t: &[u8], dimension: u16) -> bool
-    requires { ⌜ (length (now t) ≡ 8449) × (dimension < 9) ⌝ }
+    requires { ⌜ (length (now t) ≡ tableLength) × (dimension < 9) ⌝ }
     ensures { λ r. ⌜ (r ≡ true → EnablesFit (now (t .entry)) dimension) ⌝ }
 {
     let nodes = cube::node_count(dimension);
@@ -125,45 +154,62 @@ pub fn enables_fit(t: &[u8], dimension: u16) -> bool
 
 // Whether the links, or the receive channels, of so many nodes from one on are all held by nobody. Where it says no, look at each.
 pub fn links_clear(t: &[u8], n: Node, nodes: u16) -> bool
-    requires { ⌜ (length (now t) ≡ 8449) × (n .0 + nodes ≤ 256) × (0 < nodes) ⌝ }
+    requires { ⌜ (length (now t) ≡ tableLength) × (n .0 + nodes ≤ 256) × (0 < nodes) ⌝ }
     ensures { λ r. ⌜ (r ≡ true → (m p : ℕ) → n .0 ≤ m → m < n .0 + nodes → p < 8 → ownerAt (now (t .entry)) m p ≡ 0) ⌝ }
 {
     or_bytes(t, link_place(n, Port(0)), ROW * (nodes as usize)) == 0
 }
 
 pub fn receives_clear(t: &[u8], n: Node, nodes: u16) -> bool
-    requires { ⌜ (length (now t) ≡ 8449) × (n .0 + nodes ≤ 256) × (0 < nodes) ⌝ }
+    requires { ⌜ (length (now t) ≡ tableLength) × (n .0 + nodes ≤ 256) × (0 < nodes) ⌝ }
     ensures { λ r. ⌜ (r ≡ true → (m k : ℕ) → n .0 ≤ m → m < n .0 + nodes → k < 8 → receiverAt (now (t .entry)) m k ≡ 0) ⌝ }
 {
     or_bytes(t, receive_place(n, 0), ROW * (nodes as usize)) == 0
-}
-
-// Changes one enable bit.
-fn change(t: &mut [u8], n: Node, p: Port)
-    requires { ⌜ Within (now t) (n .0) (p .0) ⌝ }
-    ensures { λ _. ⌜ now (t .exit) ≡ changed (now (t .entry)) (n .0) (p .0) ⌝ }
-{
-    let at = enable_place(n);
-    let q = p.0;
-    t[at] = ((wide(t[at]) ^ (1 << q)) % 256) as u8;
 }
 
 pub fn enable(t: &mut [u8], n: Node, p: Port)
     requires { ⌜ Within (now t) (n .0) (p .0) ⌝ }
     ensures { λ _. ⌜ now (t .exit) ≡ putEnabled (now (t .entry)) (n .0) (p .0) true ⌝ }
 {
-    if !enabled(t, n, p) {
-        change(t, n, p);
-    }
+    put_bit(t, enable_place(n), p.0, true);
 }
 
 pub fn disable(t: &mut [u8], n: Node, p: Port)
     requires { ⌜ Within (now t) (n .0) (p .0) ⌝ }
     ensures { λ _. ⌜ now (t .exit) ≡ putEnabled (now (t .entry)) (n .0) (p .0) false ⌝ }
 {
-    if enabled(t, n, p) {
-        change(t, n, p);
-    }
+    put_bit(t, enable_place(n), p.0, false);
+}
+
+// Whether a receive channel is armed.
+pub fn is_armed(t: &[u8], n: Node, channel: u16) -> bool
+    requires { ⌜ Within (now t) (n .0) channel ⌝ }
+    ensures { λ r. ⌜ r ≡ armedAt (now (t .entry)) (n .0) channel ⌝ }
+{
+    bit(t, arm_place(n), channel)
+}
+
+pub fn arm(t: &mut [u8], n: Node, channel: u16)
+    requires { ⌜ Within (now t) (n .0) channel ⌝ }
+    ensures { λ _. ⌜ now (t .exit) ≡ putArmed (now (t .entry)) (n .0) channel true ⌝ }
+{
+    put_bit(t, arm_place(n), channel, true);
+}
+
+pub fn disarm(t: &mut [u8], n: Node, channel: u16)
+    requires { ⌜ Within (now t) (n .0) channel ⌝ }
+    ensures { λ _. ⌜ now (t .exit) ≡ putArmed (now (t .entry)) (n .0) channel false ⌝ }
+{
+    put_bit(t, arm_place(n), channel, false);
+}
+
+// Whether no receive channel is armed at the nodes that the cube lacks.
+pub fn arms_fit(t: &[u8], dimension: u16) -> bool
+    requires { ⌜ (length (now t) ≡ tableLength) × (dimension < 9) ⌝ }
+    ensures { λ r. ⌜ Decides (ArmsFit (now (t .entry)) dimension) r ⌝ }
+{
+    let count = cube::node_count(dimension) as usize;
+    or_bytes(t, ARMS + count, NODES - count) == 0
 }
 
 // The circuit that holds the link out of a port: 0 where nobody does.
@@ -250,7 +296,7 @@ pub fn channels_held(t: &[u8], c: Circuit, n: Node) -> u16
     row_count(t, receive_place(n, 0), c)
 }
 
-// The lowest receive channel of a node that a circuit holds, and the lowest that nobody holds: 8 where there is none.
+// The lowest receive channel of a node that a circuit holds, and the lowest that is armed and that nobody holds: 8 where there is none.
 pub fn held_channel(t: &[u8], c: Circuit, n: Node) -> u16
     requires { ⌜ Within (now t) (n .0) 0 ⌝ }
     ensures { λ r. ⌜ r ≡ lowest (λ k. eqb (receiverAt (now (t .entry)) (n .0) k) (c .0)) 8 0 ⌝ }
@@ -262,7 +308,8 @@ pub fn free_channel(t: &[u8], n: Node) -> u16
     requires { ⌜ Within (now t) (n .0) 0 ⌝ }
     ensures { λ r. ⌜ r ≡ lowestChannel (view (now (t .entry))) (n .0) ⌝ }
 {
-    held_channel(t, Circuit(0), n)
+    let free = row_vector(t, receive_place(n, 0), Circuit(0));
+    cube::lowest_bit(free & wide(t[arm_place(n)]))
 }
 
 fn fill(t: &mut [u8], from: usize, to: usize, value: u8)
@@ -276,9 +323,9 @@ fn fill(t: &mut [u8], from: usize, to: usize, value: u8)
     }
 }
 
-// Writes a table of a dimension: all its links enabled, nothing held.
+// Writes a table of a dimension: all its links enabled, nothing held, no channel armed.
 pub fn make(t: &mut [u8], dimension: u8)
-    requires { ⌜ (length (now t) ≡ 8449) × (dimension < 9) ⌝ }
+    requires { ⌜ (length (now t) ≡ tableLength) × (dimension < 9) ⌝ }
     ensures { λ _. ⌜ now (t .exit) ≡ made dimension ⌝ }
 {
     let nodes = cube::node_count(wide(dimension));

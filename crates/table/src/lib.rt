@@ -2,9 +2,12 @@
 mod layout;
 
 pub use layout::BYTES;
+pub use layout::arm;
+pub use layout::arms_fit;
 pub use layout::channels_held;
 pub use layout::dimension;
 pub use layout::disable;
+pub use layout::disarm;
 pub use layout::enable;
 pub use layout::enable_bits;
 pub use layout::enabled;
@@ -12,6 +15,7 @@ pub use layout::enables_fit;
 pub use layout::free_channel;
 pub use layout::held_by;
 pub use layout::held_channel;
+pub use layout::is_armed;
 pub use layout::links_clear;
 pub use layout::links_held;
 pub use layout::make;

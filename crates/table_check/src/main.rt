@@ -17,7 +17,7 @@ fn every_dimension(t: &mut [u8]) {
 
 fn every_single(t: &mut [u8]) {
     let mut which: u16 = 0;
-    while which < 10 {
+    while which < 11 {
         tables::single(t, which);
         sweep::answer(t, which);
         which += 1;
@@ -25,7 +25,7 @@ fn every_single(t: &mut [u8]) {
 }
 
 fn main() {
-    let mut t = [0u8; 8449];
+    let mut t = [0u8; table::BYTES];
     every_dimension(&mut t);
     every_single(&mut t);
     sweep::lengths(&t);

@@ -29,7 +29,7 @@ fn count(tally: &mut [u64], answer: u16) {
 
 fn every_offset(t: &mut [u8], change: u8, tally: &mut [u64]) {
     let mut at: usize = 0;
-    while at < 8449 {
+    while at < table::BYTES {
         count(tally, with_change(t, at, change));
         at += 1;
     }
@@ -66,11 +66,15 @@ pub fn changes(t: &mut [u8], dimension: u8, table: u8) {
     print::text(b": as made ");
     print::number(soundness::check(t) as u64);
     every_bit(t, &mut flipped);
-    print::text(b"; of 67592 changed, ");
+    print::text(b"; of ");
+    print::number(8 * (table::BYTES as u64));
+    print::text(b" changed, ");
     counts(flipped[0], flipped[2], flipped[3]);
     every_offset(t, 8, &mut cleared);
     title(dimension, table);
-    print::text(b": of 8449 cleared, ");
+    print::text(b": of ");
+    print::number(table::BYTES as u64);
+    print::text(b" cleared, ");
     counts(cleared[0], cleared[2], cleared[3]);
 }
 
@@ -80,6 +84,14 @@ pub fn answer(t: &[u8], which: u16) {
     print::text(b": ");
     print::number(soundness::check(t) as u64);
     print::text(b"\n");
+}
+
+fn by_length(refused: u64) {
+    print::text(b"lengths: ");
+    print::number(refused);
+    print::text(b" of ");
+    print::number(table::BYTES as u64);
+    print::text(b" refused by length\n");
 }
 
 // The first bytes of a table alone.
@@ -92,7 +104,5 @@ pub fn lengths(t: &[u8]) {
         }
         n += 1;
     }
-    print::text(b"lengths: ");
-    print::number(refused);
-    print::text(b" of 8449 refused by length\n");
+    by_length(refused);
 }

@@ -43,13 +43,23 @@ fn lay(t: &mut [u8], c: Circuit, source: Node, ports: &[u8]) -> Node {
     n
 }
 
+// Gives a circuit a receive channel, which is armed.
 fn receive(t: &mut [u8], c: Circuit, n: Node, channel: u16) {
     if t.len() == table::BYTES {
         if n.0 < 256 {
             if channel < 8 {
                 table::set_receiver(t, n, channel, c);
+                table::arm(t, n, channel);
             }
         }
+    }
+}
+
+// Arms channel 1 of node 1 and disarms channel 0.
+fn arm_the_other(t: &mut [u8]) {
+    if t.len() == table::BYTES {
+        table::arm(t, Node(1), 1);
+        table::disarm(t, Node(1), 0);
     }
 }
 
@@ -87,7 +97,7 @@ fn one(t: &mut [u8], source: Node, ports: &[u8], n: Node, channel: u16) {
     receive(t, Circuit(1), n, channel);
 }
 
-// Ten tables that hold circuit 1. 0, 1 and 8 are sound.
+// Eleven tables that hold circuit 1. 0, 1 and 8 are sound.
 pub fn single(t: &mut [u8], which: u16) {
     if which == 0 {
         // ports in an order that goes round
@@ -138,6 +148,12 @@ pub fn single(t: &mut [u8], which: u16) {
         one(t, Node(0), b"\x02\x02\x00", Node(1), 0);
         return;
     }
-    // a path that does not begin at the source
-    one(t, Node(2), b"\x00", Node(3), 0);
+    if which == 9 {
+        // a path that does not begin at the source
+        one(t, Node(2), b"\x00", Node(3), 0);
+        return;
+    }
+    // the receive channel is not armed, and another one is
+    one(t, Node(0), b"\x00", Node(1), 0);
+    arm_the_other(t);
 }

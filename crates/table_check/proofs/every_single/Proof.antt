@@ -9,10 +9,10 @@ use Rattle.table_check.proofs.every_single.Statement.{statement}
 use Rattle.table_check.proofs.every_single.Tie as tie
 
 abbrev Inv-loop : tie.InvT-loop
-Inv-loop t₀ which₀ t which = (which ≤ 10) × (length t ≡ length t₀)
+Inv-loop t₀ which₀ t which = (which ≤ 11) × (length t ≡ length t₀)
 
 abbrev μ-loop : tie.MeasureT-loop
-μ-loop t₀ which₀ t which = 10 - which
+μ-loop t₀ which₀ t which = 11 - which
 
 loop-holds : tie.Need-loop-holds Inv-loop μ-loop
 loop-holds c = (omega arith, refl)

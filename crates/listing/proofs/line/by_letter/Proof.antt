@@ -22,6 +22,12 @@ counted-requires-4 c κs = search needs
 counted-requires-5 : tie.Need-counted-requires-5
 counted-requires-5 c κs = search needs
 
+counted-requires-6 : tie.Need-counted-requires-6
+counted-requires-6 c κs = search needs
+
+counted-requires-7 : tie.Need-counted-requires-7
+counted-requires-7 c κs = search needs
+
 returns : tie.Need-returns
 unfolding numbersOf asked
 returns c = rw (c .before .match .keys1) (c .counted .ensures)
@@ -43,9 +49,18 @@ unfolding numbersOf asked
 returns-5 c = rw (c .before .match .keys5) (c .counted5 .ensures)
 
 returns-6 : tie.Need-returns-6
-returns-6 c =
+unfolding numbersOf asked
+returns-6 c = rw (c .before .match .keys6) (c .counted6 .ensures)
+
+returns-7 : tie.Need-returns-7
+unfolding numbersOf asked
+returns-7 c = rw (c .before .match .keys7) (c .counted7 .ensures)
+
+returns-8 : tie.Need-returns-8
+returns-8 c =
     let no = c .match .rest in
-    sym (other-letter _ _ _ _ _ _ _ (no .0 .0 .0 .0 .1) (no .0 .0 .0 .1) (no .0 .0 .1) (no .0 .1) (no .1))
+    let first = no .0 .0 in
+    sym (other-letter _ _ _ _ _ _ _ (first .0 .0 .0 .0 .1) (first .0 .0 .0 .1) (first .0 .0 .1) (first .0 .1) (first .1) (no .0 .1) (no .1))
 
 pub by-letter-spec : {M : Type 1} → statement M
 by-letter-spec =
@@ -56,9 +71,13 @@ by-letter-spec =
     counted-requires-3
     counted-requires-4
     counted-requires-5
+    counted-requires-6
+    counted-requires-7
     returns
     returns-2
     returns-3
     returns-4
     returns-5
-    returns-6)
+    returns-6
+    returns-7
+    returns-8)

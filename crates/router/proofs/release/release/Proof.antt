@@ -4,7 +4,7 @@ use mathlib.Core.Path.{refl, _∙_}
 use native.Mathlib.Omega.{arith}
 use lib.Dec.{lit≤}
 use borrow.Author.Needs.{needs}
-use Rattle.router.proofs.Releasing.{may-free, target-within, channel-within, all-freed}
+use Rattle.router.proofs.Releasing.{may-free, target-within, channel-within, freed-within, all-freed}
 use Rattle.router.proofs.release.release.Statement.{statement}
 use Rattle.router.proofs.release.release.Tie as tie
 
@@ -46,21 +46,33 @@ set-receiver-requires c κs =
     channel-within (s .pre .0) (s .pre .1 .0) (s .pre .1 .1) _ (lit≤ tt) (w .write-path .ensures .0) (w .write-path .ensures .1) (m .source-of .ensures)
     (f .free-links .ensures .0) (f .free-links .ensures .1) (h .held-channel .ensures)
 
+disarm-requires : tie.Need-disarm-requires
+disarm-requires c κs =
+    let r = c .before .before .before in
+    let h = r .before .before in
+    let f = h .before .before .before .before in
+    let m = f .before .before in
+    let w = m .before .before .before in
+    let s = w .before .before .before .before in
+    freed-within (s .pre .0) (s .pre .1 .0) (s .pre .1 .1) _ (lit≤ tt) (w .write-path .ensures .0) (w .write-path .ensures .1) (m .source-of .ensures)
+    (f .free-links .ensures .0) (f .free-links .ensures .1) (h .held-channel .ensures) (r .set-receiver .ensures)
+
 same-length : tie.Need-same-length
 same-length c = search needs
 
 returns : tie.Need-returns
 returns c =
-    let r = c .before .before in
+    let d = c .before .before in
+    let r = d .before .before .before .before in
     let h = r .before .before in
     let f = h .before .before .before .before in
     let m = f .before .before in
     let w = m .before .before .before in
     let a = w .before .before .before in
     let s = a .before in
-    r .set-receiver .ensures
+    d .disarm .ensures
     ∙ all-freed (s .pre .0) (s .pre .1 .0) (s .pre .1 .1) _ (lit≤ tt) (w .write-path .ensures .0) (w .write-path .ensures .1) (m .source-of .ensures)
-    (f .free-links .ensures .0) (f .free-links .ensures .1) (h .held-channel .ensures)
+    (f .free-links .ensures .0) (f .free-links .ensures .1) (h .held-channel .ensures) (r .set-receiver .ensures)
     record { long = s .pre .0 .bytes; small = λ i. omega (arith, a .slice-known .given i) }
 
 pub release-spec : {M : Type 1} → statement M
@@ -74,5 +86,6 @@ release-spec =
     free-links-requires
     held-channel-requires
     set-receiver-requires
+    disarm-requires
     same-length
     returns)

@@ -17,7 +17,7 @@ abbrev μ-loop : tie.MeasureT-loop
 μ-loop t dimension marks₀ i₀ marks i = 16 - i
 
 loop-holds : tie.Need-loop-holds Inv-loop μ-loop
-loop-holds c = let s = c .before .before in (omega arith, s .pre .1, received-none (λ n k i. absurd (omega (arith, i .0, i .1))))
+loop-holds c = let s = c .before .before in (omega arith, s .pre .size, received-none (λ n k i. absurd (omega (arith, i .0, i .1))))
 
 mul-n : tie.Need-mul-n Inv-loop μ-loop
 mul-n c = omega arith
@@ -25,7 +25,8 @@ mul-n c = omega arith
 receive-group-requires : tie.Need-receive-group-requires Inv-loop μ-loop
 receive-group-requires c κs =
     let l = c .before .before in
-    (omega (arith, c .before .loop-test .taken), l .before .before .before .pre .0, l .loop .inv .1)
+    let s = l .before .before .before in
+    (omega (arith, c .before .loop-test .taken), record { usable = s .pre .usable; arms = s .pre .arms; size = l .loop .inv .1 })
 
 add-i : tie.Need-add-i Inv-loop μ-loop
 add-i c = omega arith
@@ -43,7 +44,7 @@ same-length : tie.Need-same-length Inv-loop μ-loop
 same-length c =
     let r = c .before .before .before in
     let l = r .before .before .before in
-    r .receive-group .kept .1 .1 .1 .0 ∙ l .loop .inv .1 ∙ sym (l .before .before .before .pre .1)
+    r .receive-group .kept .1 .1 .1 .0 ∙ l .loop .inv .1 ∙ sym (l .before .before .before .pre .size)
 
 returns : tie.Need-returns Inv-loop μ-loop
 returns c =
@@ -51,7 +52,7 @@ returns c =
     received-no (r .receive-group .ensures .fails (c .if1 .left)) (omega arith) (omega (arith, r .before .before .loop-test .taken)) (omega arith) (omega arith)
 
 same-length-2 : tie.Need-same-length-2 Inv-loop μ-loop
-same-length-2 c = let l = c .before in let s = l .before .before .before in l .loop .inv .1 ∙ sym (s .pre .1)
+same-length-2 c = let l = c .before in let s = l .before .before .before in l .loop .inv .1 ∙ sym (s .pre .size)
 
 returns-2 : tie.Need-returns-2 Inv-loop μ-loop
 returns-2 c = received-all (c .before .loop .inv .2) (omega arith) refl

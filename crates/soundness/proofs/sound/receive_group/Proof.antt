@@ -10,7 +10,10 @@ receives-clear-requires : tie.Need-receives-clear-requires
 receives-clear-requires c κs = search needs
 
 returns : tie.Need-returns
-returns c = let i = c .before in received-yes (idle-receives _ (i .before .before .before .pre .1 .stored) (i .receives-clear .ensures (c .if1 .taken)))
+returns c =
+    let i = c .before in
+    let s = i .before .before .before in
+    received-yes (idle-receives _ (s .pre .1 .usable .stored) (s .pre .1 .arms) (i .receives-clear .ensures (c .if1 .taken)))
 
 receives-from-requires : tie.Need-receives-from-requires
 receives-from-requires c κs = search needs

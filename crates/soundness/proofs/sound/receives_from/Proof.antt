@@ -18,7 +18,7 @@ abbrev μ-loop : tie.MeasureT-loop
 μ-loop t dimension marks₀ first i₀ marks i = 16 - i
 
 loop-holds : tie.Need-loop-holds Inv-loop μ-loop
-loop-holds c = let s = c .before .before in (omega arith, s .pre .2, received-none (λ n k i. absurd (omega (arith, i .0, i .1))))
+loop-holds c = let s = c .before .before in (omega arith, s .pre .1 .size, received-none (λ n k i. absurd (omega (arith, i .0, i .1))))
 
 add-n : tie.Need-add-n Inv-loop μ-loop
 add-n c = omega arith
@@ -26,8 +26,10 @@ add-n c = omega arith
 receives-of-requires : tie.Need-receives-of-requires Inv-loop μ-loop
 receives-of-requires c κs =
     let l = c .before .before in
-    let s = l .before .before .before in
-    (record { bytes = s .pre .1 .bytes; node = omega (arith, c .before .loop-test .taken, s .pre .0); port = lit< tt }, s .pre .1, l .loop .inv .1)
+    let s = l .before .before .before in (
+      record { bytes = s .pre .1 .usable .bytes; node = omega (arith, c .before .loop-test .taken, s .pre .0); port = lit< tt },
+      record { usable = s .pre .1 .usable; arms = s .pre .1 .arms; size = l .loop .inv .1 },
+    )
 
 add-i : tie.Need-add-i Inv-loop μ-loop
 add-i c = omega arith
@@ -45,7 +47,7 @@ same-length : tie.Need-same-length Inv-loop μ-loop
 same-length c =
     let r = c .before .before .before in
     let l = r .before .before .before in
-    r .receives-of .kept .1 .1 .1 .0 ∙ l .loop .inv .1 ∙ sym (l .before .before .before .pre .2)
+    r .receives-of .kept .1 .1 .1 .0 ∙ l .loop .inv .1 ∙ sym (l .before .before .before .pre .1 .size)
 
 returns : tie.Need-returns Inv-loop μ-loop
 returns c =
@@ -53,7 +55,7 @@ returns c =
     received-no (r .receives-of .ensures .fails (c .if1 .left)) (omega arith) (omega (arith, r .before .before .loop-test .taken)) (omega arith) (omega arith)
 
 same-length-2 : tie.Need-same-length-2 Inv-loop μ-loop
-same-length-2 c = let l = c .before in let s = l .before .before .before in l .loop .inv .1 ∙ sym (s .pre .2)
+same-length-2 c = let l = c .before in let s = l .before .before .before in l .loop .inv .1 ∙ sym (s .pre .1 .size)
 
 returns-2 : tie.Need-returns-2 Inv-loop μ-loop
 returns-2 c = received-all (c .before .loop .inv .2) (omega arith) refl

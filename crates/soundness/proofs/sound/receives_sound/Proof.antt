@@ -18,13 +18,15 @@ abbrev μ-loop : tie.MeasureT-loop
 μ-loop t dimension n marks₀ k₀ marks k = 8 - k
 
 loop-holds : tie.Need-loop-holds Inv-loop μ-loop
-loop-holds c = let s = c .before .before in (omega arith, s .pre .2, received-none (λ n k i. not-suc-le-zero (i .3)))
+loop-holds c = let s = c .before .before in (omega arith, s .pre .1 .size, received-none (λ n k i. not-suc-le-zero (i .3)))
 
 receive-sound-requires : tie.Need-receive-sound-requires Inv-loop μ-loop
 receive-sound-requires c κs =
     let l = c .before .before in
-    let s = l .before .before .before in
-    (record { bytes = s .pre .0 .bytes; node = s .pre .0 .node; port = c .before .loop-test .taken }, s .pre .1, l .loop .inv .1)
+    let s = l .before .before .before in (
+      record { bytes = s .pre .0 .bytes; node = s .pre .0 .node; port = c .before .loop-test .taken },
+      record { usable = s .pre .1 .usable; arms = s .pre .1 .arms; size = l .loop .inv .1 },
+    )
 
 add-k : tie.Need-add-k Inv-loop μ-loop
 add-k c = omega arith
@@ -42,7 +44,7 @@ same-length : tie.Need-same-length Inv-loop μ-loop
 same-length c =
     let r = c .before .before .before in
     let l = r .before .before .before in
-    r .receive-sound .kept .1 .1 .1 .1 .0 ∙ l .loop .inv .1 ∙ sym (l .before .before .before .pre .2)
+    r .receive-sound .kept .1 .1 .1 .1 .0 ∙ l .loop .inv .1 ∙ sym (l .before .before .before .pre .1 .size)
 
 returns : tie.Need-returns Inv-loop μ-loop
 returns c =
@@ -50,7 +52,7 @@ returns c =
     received-no (r .receive-sound .ensures .fails (c .if1 .left)) (omega arith) (omega arith) (omega arith) (omega (arith, r .before .before .loop-test .taken))
 
 same-length-2 : tie.Need-same-length-2 Inv-loop μ-loop
-same-length-2 c = let l = c .before in l .loop .inv .1 ∙ sym (l .before .before .before .pre .2)
+same-length-2 c = let l = c .before in l .loop .inv .1 ∙ sym (l .before .before .before .pre .1 .size)
 
 returns-2 : tie.Need-returns-2 Inv-loop μ-loop
 returns-2 c = received-all (c .before .loop .inv .2) refl (omega arith)

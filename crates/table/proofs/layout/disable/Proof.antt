@@ -1,37 +1,30 @@
--- `table::layout::disable` meets its contract: the bit is changed where it is not as wanted, and the bytes are kept where it is.
+-- `table::layout::disable` meets its contract: the bit at the node's place is cleared.
 -- Assumes nothing.
-use mathlib.Core.Path.{refl, _∙_, sym}
-use mathlib.Core.Bool.{true, false}
-use Rattle.table.proofs.Entries.{kept-is, put-is}
+use mathlib.Core.Bool.{false}
+use mathlib.Core.Path.{ap, _∙_}
+use lib.ListN.{getD, set}
+use Rattle.cube.specs.Bits.{withBit}
+use Rattle.table.specs.Layout.{putMask, putEnabled}
 use borrow.Author.Needs.{needs}
 use Rattle.table.proofs.layout.disable.Statement.{statement}
 use Rattle.table.proofs.layout.disable.Tie as tie
 
-enabled-requires : tie.Need-enabled-requires
-enabled-requires c κs = search needs
+enable-place-requires : tie.Need-enable-place-requires
+enable-place-requires c κs = search needs
 
-change-requires : tie.Need-change-requires
-change-requires c κs = search needs
+put-bit-requires : tie.Need-put-bit-requires
+put-bit-requires c κs = search needs
 
 same-length : tie.Need-same-length
 same-length c = search needs
 
 returns : tie.Need-returns
+unfolding putEnabled putMask
 returns c =
     let w = c .before .before in
-    let f = w .before .before in
-    let s = f .before .before .before .before in
-    w .change .ensures ∙ put-is _ (s .args .n .0) (s .args .p .0) (s .pre .node) (s .pre .port) false true (sym (f .before .enabled .ensures) ∙ f .if1 .taken) refl
-
-same-length-2 : tie.Need-same-length-2
-same-length-2 c = search needs
-
-returns-2 : tie.Need-returns-2
-returns-2 c =
-    let s = c .before .before .before .before in
-    kept-is _ (s .args .n .0) (s .args .p .0) (s .pre .node) (s .pre .port) false (sym (c .before .enabled .ensures) ∙ c .if1 .left)
+    let s = w .before .before .before .before in
+    let b = s .args .t .now in
+    w .put-bit .ensures ∙ ap (λ i. set b i (withBit (getD b i 0) (s .args .p .0) false)) (w .before .enable-place .ensures .0)
 
 pub disable-spec : {M : Type 1} → statement M
-disable-spec =
-    tie.close
-    (tie.spec enabled-requires change-requires same-length returns same-length-2 returns-2)
+disable-spec = tie.close (tie.spec enable-place-requires put-bit-requires same-length returns)

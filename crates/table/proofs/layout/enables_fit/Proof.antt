@@ -4,7 +4,7 @@ use mathlib.Core.Bool.{false≢true}
 use native.Mathlib.Omega.{arith}
 use borrow.Author.Needs.{needs}
 use borrow.Author.Tests.{eqb-true}
-use Rattle.table.proofs.NoneAbove.{enables-fit}
+use Rattle.table.proofs.Runs.{enables-fit}
 use Rattle.table.proofs.layout.enables_fit.Statement.{statement}
 use Rattle.table.proofs.layout.enables_fit.Tie as tie
 

@@ -7,7 +7,7 @@ use borrow.Author.Needs.{needs}
 use borrow.Author.Tests.{eqb-true}
 use Rattle.table.specs.Layout.{linkPart, ownerAt}
 use Rattle.table.proofs.Entries.{rows-zero}
-use Rattle.table.proofs.NoneAbove.{or-bytes-zero}
+use Rattle.table.proofs.Runs.{or-bytes-zero}
 use Rattle.table.proofs.layout.links_clear.Statement.{statement}
 use Rattle.table.proofs.layout.links_clear.Tie as tie
 

@@ -3,13 +3,13 @@
 use mathlib.Core.Path.{_≡_, subst}
 use Prim.Native.Nat.{ℕ, _-_, _≤_}
 use native.Mathlib.Omega.{arith}
-use Rattle.table.specs.LayoutContracts.{NoneAbove}
-use Rattle.table.proofs.NoneAbove.{or-bytes-none, or-bytes-more}
+use Rattle.table.specs.LayoutContracts.{RunOr}
+use Rattle.table.proofs.Runs.{or-bytes-none, or-bytes-more}
 use Rattle.table.proofs.layout.or_bytes.Statement.{statement}
 use Rattle.table.proofs.layout.or_bytes.Tie as tie
 
 abbrev Inv-loop : tie.InvT-loop
-Inv-loop t from count all₀ i₀ all i = (i ≤ count) × NoneAbove t from i all
+Inv-loop t from count all₀ i₀ all i = (i ≤ count) × RunOr t from i all
 
 abbrev μ-loop : tie.MeasureT-loop
 μ-loop t from count all₀ i₀ all i = count - i
@@ -37,7 +37,7 @@ returns c =
     let l = c .before in
     let s = l .before in
     let e : l .loop .i ≡ s .args .count = omega arith in
-    subst (λ (k : ℕ). NoneAbove (s .args .t .now) (s .args .from) k (l .loop .all)) e (l .loop .inv .1)
+    subst (λ (k : ℕ). RunOr (s .args .t .now) (s .args .from) k (l .loop .all)) e (l .loop .inv .1)
 
 pub or-bytes-spec : {M : Type 1} → statement M
 or-bytes-spec =

@@ -4,15 +4,16 @@ use mathlib.Core.Path.{_≡_, refl}
 use Prim.Native.Nat.{_-_, _≤_}
 use native.Mathlib.Omega.{arith}
 use lib.ListN.{length}
+use Rattle.table.specs.Layout.{tableLength}
 use borrow.Author.Needs.{needs}
 use Rattle.table_check.proofs.sweep.every_offset.Statement.{statement}
 use Rattle.table_check.proofs.sweep.every_offset.Tie as tie
 
 abbrev Inv-loop : tie.InvT-loop
-Inv-loop t₀ change tally₀ at₀ t tally at = (at ≤ 8449) × (length t ≡ length t₀) × (length tally ≡ length tally₀)
+Inv-loop t₀ change tally₀ at₀ t tally at = (at ≤ tableLength) × (length t ≡ length t₀) × (length tally ≡ length tally₀)
 
 abbrev μ-loop : tie.MeasureT-loop
-μ-loop t₀ change tally₀ at₀ t tally at = 8449 - at
+μ-loop t₀ change tally₀ at₀ t tally at = tableLength - at
 
 loop-holds : tie.Need-loop-holds Inv-loop μ-loop
 loop-holds c = (omega arith, refl, refl)

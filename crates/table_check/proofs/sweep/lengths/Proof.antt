@@ -8,10 +8,10 @@ use Rattle.table_check.proofs.sweep.lengths.Statement.{statement}
 use Rattle.table_check.proofs.sweep.lengths.Tie as tie
 
 abbrev Inv-loop : tie.InvT-loop
-Inv-loop t refused₀ n₀ t4 t5 refused n = n ≤ length t
+Inv-loop t refused₀ n₀ refused n = n ≤ length t
 
 abbrev μ-loop : tie.MeasureT-loop
-μ-loop t refused₀ n₀ t4 t5 refused n = length t - n
+μ-loop t refused₀ n₀ refused n = length t - n
 
 loop-holds : tie.Need-loop-holds Inv-loop μ-loop
 loop-holds c = omega arith
@@ -40,20 +40,8 @@ loop-less c = omega arith
 loop-again : tie.Need-loop-again Inv-loop μ-loop
 loop-again c = omega arith
 
-slice-aggregate-text : tie.Need-slice-aggregate-text Inv-loop μ-loop
-slice-aggregate-text c = search needs
-
-text-requires : tie.Need-text-requires Inv-loop μ-loop
-text-requires c κs = search needs
-
-number-requires : tie.Need-number-requires Inv-loop μ-loop
-number-requires c κs = search needs
-
-slice-aggregate-text-2 : tie.Need-slice-aggregate-text-2 Inv-loop μ-loop
-slice-aggregate-text-2 c = search needs
-
-text-requires-2 : tie.Need-text-requires-2 Inv-loop μ-loop
-text-requires-2 c κs = search needs
+by-length-requires : tie.Need-by-length-requires Inv-loop μ-loop
+by-length-requires c κs = search needs
 
 returns : tie.Need-returns Inv-loop μ-loop
 returns c = search needs
@@ -73,9 +61,5 @@ lengths-spec =
     add-n
     loop-less
     loop-again
-    slice-aggregate-text
-    text-requires
-    number-requires
-    slice-aggregate-text-2
-    text-requires-2
+    by-length-requires
     returns)

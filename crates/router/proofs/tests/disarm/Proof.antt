@@ -1,0 +1,43 @@
+-- `router::tests::disarm` meets its contract: the table, the node, the channel, its holder.
+-- Assumes nothing.
+use borrow.Author.Needs.{needs}
+use Rattle.ownership.specs.Calls.{callTests}
+use Rattle.ownership.specs.OnTable.{factsOf, lentTests, stoppedAt}
+use Rattle.router.proofs.Stopping.{stops, onPathOf}
+use Rattle.router.proofs.tests.disarm.Statement.{statement}
+use Rattle.router.proofs.tests.disarm.Tie as tie
+
+check-requires : tie.Need-check-requires
+check-requires c κs = search needs
+
+returns : tie.Need-returns
+unfolding stoppedAt lentTests
+returns c = search stops
+
+is-absent-requires : tie.Need-is-absent-requires
+is-absent-requires c κs = search needs
+
+returns-2 : tie.Need-returns-2
+unfolding stoppedAt lentTests callTests factsOf
+returns-2 c = search stops depth 12
+
+no-channel-requires : tie.Need-no-channel-requires
+no-channel-requires c κs = search needs
+
+returns-3 : tie.Need-returns-3
+unfolding stoppedAt lentTests callTests factsOf
+returns-3 c = search stops depth 12
+
+is-taken-requires : tie.Need-is-taken-requires
+is-taken-requires c κs = (search onPathOf, (search onPathOf, search onPathOf))
+
+returns-4 : tie.Need-returns-4
+unfolding stoppedAt lentTests callTests factsOf
+returns-4 c = search stops depth 12
+
+returns-5 : tie.Need-returns-5
+unfolding stoppedAt lentTests callTests factsOf
+returns-5 c = search stops depth 12
+
+pub disarm-spec : {M : Type 1} → statement M
+disarm-spec = tie.close (tie.spec check-requires returns is-absent-requires returns-2 no-channel-requires returns-3 is-taken-requires returns-4 returns-5)
