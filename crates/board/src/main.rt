@@ -1,5 +1,5 @@
-// A board with one receive channel: a circuit is opened, the channel that the open names takes its packets up to an end of transmission, and the
-// circuit is closed. Each line is a call or a packet with its number and, behind a colon, the channel: address, count, running, overflow mark,
+// A board with one receive channel, which is armed: a circuit is opened, the channel that the open names takes its packets up to an end of
+// transmission, and the circuit is closed. Each line is a call or a packet with its number and, behind a colon, the channel: address, count, running, overflow mark,
 // whether ends of message are ignored, overshoot.
 ghost use Rattle.board.specs.Meets.{Meets};
 ghost use Rattle.ownership.specs.Calls.{opening};
@@ -71,9 +71,12 @@ fn close(t: &mut [u8]) {
 }
 
 fn main() {
-    let mut t = [0u8; 8449];
+    let mut t = [0u8; table::BYTES];
     print::text(b"make");
     print::number(router::make(&mut t, 3));
+    print::end();
+    print::text(b"arm");
+    print::number(router::arm(&mut t, Node(7), 0));
     print::end();
     let followed = open(&mut t, 0);
     show_open(followed);

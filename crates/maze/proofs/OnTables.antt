@@ -1,4 +1,4 @@
--- The examples on tables: from any 8,449 bytes each list of calls gives what document 01 says.
+-- The examples on tables: from any 8,705 bytes each list of calls gives what document 01 says.
 -- Assumes nothing.
 use mathlib.Core.Path.{_≡_, refl, ap, ap₂, _∙_}
 use mathlib.Core.List.{List, [], _∷_, map}
@@ -6,7 +6,7 @@ use Prim.Native.Nat.{ℕ, _≤_}
 use lib.Dec.{lit≤}
 use lib.ListN.{length}
 use Rattle.table.specs.Layout.{tableLength}
-use Rattle.ownership.specs.Calls.{making, blocking, unblocking, opening, closing, tracing}
+use Rattle.ownership.specs.Calls.{making, blocking, unblocking, opening, closing, tracing, arming, disarming}
 use Rattle.ownership.specs.Agrees.{tableResults}
 use Rattle.ownership.proofs.Agreement.{making-accepted, demand-3}
 use Rattle.maze.specs.Examples.{Input, calls, read, write, before, shown, result, inputs, results, examples}
@@ -26,6 +26,8 @@ Begins (calls (unblocking n p ∷ cs)) = ⊥
 Begins (calls (opening s c t y v ∷ cs)) = ⊥
 Begins (calls (closing s c ∷ cs)) = ⊥
 Begins (calls (tracing s c buffer ∷ cs)) = ⊥
+Begins (calls (arming n k ∷ cs)) = ⊥
+Begins (calls (disarming n k ∷ cs)) = ⊥
 Begins (read w) = Unit
 Begins (write c k) = Unit
 

@@ -3,7 +3,7 @@ ghost use mathlib.Core.Path.{_≡_};
 ghost use mathlib.Core.List.{[], _∷_};
 ghost use Rattle.arbiter.specs.Arbiter.{arbitrated, choice};
 ghost use Rattle.command_word.specs.Word.{readWord, writeWord};
-ghost use Rattle.ownership.specs.Calls.{making, blocking, unblocking, opening, closing, tracing};
+ghost use Rattle.ownership.specs.Calls.{making, blocking, unblocking, opening, closing, tracing, arming, disarming};
 ghost use Rattle.ownership.specs.OnTable.{tableStep, done};
 ghost use Rattle.receiver.specs.Receive.{dataPacket, commandWord, started, received, overshoot};
 use arbiter::Arbiter;
@@ -37,6 +37,20 @@ pub extern "C" fn maze_unblock(table: &mut [u8], node: u16, port: u16) -> u16
     ensures { λ r. ⌜ done (now (table .exit)) r [] [] ≡ tableStep (now (table .entry)) (unblocking node port) ⌝ }
 {
     router::unblock(table, Node(node), Port(port))
+}
+
+#[no_mangle]
+pub extern "C" fn maze_arm(table: &mut [u8], node: u16, channel: u16) -> u16
+    ensures { λ r. ⌜ done (now (table .exit)) r [] [] ≡ tableStep (now (table .entry)) (arming node channel) ⌝ }
+{
+    router::arm(table, Node(node), channel)
+}
+
+#[no_mangle]
+pub extern "C" fn maze_disarm(table: &mut [u8], node: u16, channel: u16) -> u16
+    ensures { λ r. ⌜ done (now (table .exit)) r [] [] ≡ tableStep (now (table .entry)) (disarming node channel) ⌝ }
+{
+    router::disarm(table, Node(node), channel)
 }
 
 #[no_mangle]
