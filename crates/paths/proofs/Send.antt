@@ -88,12 +88,23 @@ module _ (N : Network) (s t : ℕ) (free : ℕ → ℕ → Bool) (r : Receive) w
       → (a : Attempt) × (a ∈ xs) × ((m : ℕ) × AttemptSays N s t free r a o m)
   said-by _ o n (last {a} h) = (a, List·Memᴰ·head refl, (n, h))
   said-by _ o n (ends {a} h e) = (a, List·Memᴰ·head refl, (n, h))
-  said-by _ o _ (goes-on {later = xs} {n₂ = n} o₁ n₁ h e rest) = let x = said-by xs o n rest in (x .0, List·Memᴰ·tail (x .1), x .2)
+  said-by _ o _ (goes-on {later = xs} {n₂ = n} n₁ h rest) = let x = said-by xs o n rest in (x .0, List·Memᴰ·tail (x .1), x .2)
 
-  -- it is acknowledged exactly where one of them has a free path and a channel is there to take.
+  -- it is not route rejected where one of them has a free path;
   abbrev pub Route : List Attempt → Type 0
   Route xs = (a : Attempt) × (a ∈ xs) × ((w : Path) × Tries N s t a w × Free N free s w)
 
+  pub route-accepted : (xs : List Attempt) (o : Outcome) (n : ℕ) → AttemptsSay N s t free r xs o n → Route xs → o ≢ route-rejected
+  route-accepted _ o n (last {a} h) x =
+      let e = ⊎-elim (λ z. z) (λ z. absurd (List·Memᴰ·not-nil z)) (List·Memᴰ·cases-cons (x .1)) in
+      no-route a o n h (x .2 .0) (subst (λ b. Tries N s t b (x .2 .0)) e (x .2 .1)) (x .2 .2)
+  route-accepted _ o n (ends h f) x = f
+  route-accepted _ o _ (goes-on {a} {later = xs} {n₂ = n} n₁ h rest) x =
+      ⊎-elim
+      (λ z. absurd (route-rejected-says a n₁ h (x .2 .0) (subst (λ b. Tries N s t b (x .2 .0)) z (x .2 .1)) (x .2 .2)))
+      (λ m. route-accepted xs o n rest (x .0, m, x .2)) (List·Memᴰ·cases-cons (x .1))
+
+  -- it is acknowledged exactly where one of them has a free path and a channel is there to take;
   pub acknowledged-route : (xs : List Attempt) (w : Path) (k n : ℕ) → AttemptsSay N s t free r xs (acknowledged w k) n → Route xs × (r ≡ channel k)
   acknowledged-route xs w k n h =
       let x = said-by xs (acknowledged w k) n h in
@@ -101,14 +112,14 @@ module _ (N : Network) (s t : ℕ) (free : ℕ → ℕ → Bool) (r : Receive) w
       ((x .0, x .1, (w, y .0, y .1)), y .2)
 
   pub route-acknowledged : (xs : List Attempt) (o : Outcome) (n : ℕ) → AttemptsSay N s t free r xs o n → Route xs → r ≢ none-available → Acknowledged o
-  route-acknowledged _ o n (last {a} h) x g =
-      let e = ⊎-elim (λ z. z) (λ z. absurd (List·Memᴰ·not-nil z)) (List·Memᴰ·cases-cons (x .1)) in
-      settles a o n h g (no-route a o n h (x .2 .0) (subst (λ b. Tries N s t b (x .2 .0)) e (x .2 .1)) (x .2 .2))
-  route-acknowledged _ o n (ends {a} h e) x g = settles a o n h g (λ z. clash (goes-on-after o .1 z) e)
-  route-acknowledged _ o _ (goes-on {a} {later = xs} {n₂ = n} o₁ n₁ h e rest) x g =
-      ⊎-elim
-      (λ z. absurd (no-route a o₁ n₁ h (x .2 .0) (subst (λ b. Tries N s t b (x .2 .0)) z (x .2 .1)) (x .2 .2) (goes-on-after o₁ .0 e)))
-      (λ m. route-acknowledged xs o n rest (x .0, m, x .2) g) (List·Memᴰ·cases-cons (x .1))
+  route-acknowledged xs o n h x g = let y = said-by xs o n h in settles (y .0) o (y .2 .0) (y .2 .1) g (route-accepted xs o n h x)
+
+  -- it is receive rejected only where one of them has a free path and no channel is there to take.
+  pub receive-rejected-route : (xs : List Attempt) (n : ℕ) → AttemptsSay N s t free r xs receive-rejected n → Route xs × (r ≡ none-available)
+  receive-rejected-route xs n h =
+      let x = said-by xs receive-rejected n h in
+      let y = receive-rejected-says (x .0) (x .2 .0) (x .2 .1) in
+      ((x .0, x .1, y .0), y .1)
 
   -- What the attempts of a list come to, made in turn, says so where each of them does.
   abbrev said : Attempt → Type 0
@@ -127,8 +138,9 @@ module _ (N : Network) (s t : ℕ) (free : ℕ → ℕ → Bool) (r : Receive) w
 
       go : (c : Bool) → goesOn (outcome r x) ≡ c → said a → AttemptsSay N s t free r (b ∷ bs) (runs r ys .outcome) (runs r ys .scouts)
           → AttemptsSay N s t free r (a ∷ b ∷ bs) (runs r (x ∷ ys) .outcome) (runs r (x ∷ ys) .scouts)
-      go true e i rest = rw (runs-on r x (attempted N free s t b) (map (attempted N free s t) bs) e) (goes-on (outcome r x) (scouts x) i e rest)
-      go false e i rest = rw (runs-stop r x (attempted N free s t b) (map (attempted N free s t) bs) e) (ends i e)
+      go true e i rest = rw (runs-on r x (attempted N free s t b) (map (attempted N free s t) bs) e)
+          (goes-on (scouts x) (subst (λ o. AttemptSays N s t free r a o (scouts x)) (goes-on-after (outcome r x) .0 e) i) rest)
+      go false e i rest = rw (runs-stop r x (attempted N free s t b) (map (attempted N free s t) bs) e) (ends i (λ z. clash (goes-on-after (outcome r x) .1 z) e))
 
 -- more ports for the first hop, more permitted paths
 wider : (N : Network) (s : ℕ) (ps qs : List ℕ) (t : ℕ) (w : Path) → ((p : ℕ) → p ∈ ps → p ∈ qs) → Permitted N s ps t w → Permitted N s qs t w
