@@ -94,15 +94,15 @@ module _ (N : Network) (s t : ℕ) (free : ℕ → ℕ → Bool) (r : Receive) w
   abbrev pub Route : List Attempt → Type 0
   Route xs = (a : Attempt) × (a ∈ xs) × ((w : Path) × Tries N s t a w × Free N free s w)
 
-  pub route-accepted : (xs : List Attempt) (o : Outcome) (n : ℕ) → AttemptsSay N s t free r xs o n → Route xs → o ≢ route-rejected
-  route-accepted _ o n (last {a} h) x =
+  pub not-route-rejected : (xs : List Attempt) (o : Outcome) (n : ℕ) → AttemptsSay N s t free r xs o n → Route xs → o ≢ route-rejected
+  not-route-rejected _ o n (last {a} h) x =
       let e = ⊎-elim (λ z. z) (λ z. absurd (List·Memᴰ·not-nil z)) (List·Memᴰ·cases-cons (x .1)) in
       no-route a o n h (x .2 .0) (subst (λ b. Tries N s t b (x .2 .0)) e (x .2 .1)) (x .2 .2)
-  route-accepted _ o n (ends h f) x = f
-  route-accepted _ o _ (goes-on {a} {later = xs} {n₂ = n} n₁ h rest) x =
+  not-route-rejected _ o n (ends h f) x = f
+  not-route-rejected _ o _ (goes-on {a} {later = xs} {n₂ = n} n₁ h rest) x =
       ⊎-elim
       (λ z. absurd (route-rejected-says a n₁ h (x .2 .0) (subst (λ b. Tries N s t b (x .2 .0)) z (x .2 .1)) (x .2 .2)))
-      (λ m. route-accepted xs o n rest (x .0, m, x .2)) (List·Memᴰ·cases-cons (x .1))
+      (λ m. not-route-rejected xs o n rest (x .0, m, x .2)) (List·Memᴰ·cases-cons (x .1))
 
   -- it is acknowledged exactly where one of them has a free path and a channel is there to take;
   pub acknowledged-route : (xs : List Attempt) (w : Path) (k n : ℕ) → AttemptsSay N s t free r xs (acknowledged w k) n → Route xs × (r ≡ channel k)
@@ -112,7 +112,7 @@ module _ (N : Network) (s t : ℕ) (free : ℕ → ℕ → Bool) (r : Receive) w
       ((x .0, x .1, (w, y .0, y .1)), y .2)
 
   pub route-acknowledged : (xs : List Attempt) (o : Outcome) (n : ℕ) → AttemptsSay N s t free r xs o n → Route xs → r ≢ none-available → Acknowledged o
-  route-acknowledged xs o n h x g = let y = said-by xs o n h in settles (y .0) o (y .2 .0) (y .2 .1) g (route-accepted xs o n h x)
+  route-acknowledged xs o n h x g = let y = said-by xs o n h in settles (y .0) o (y .2 .0) (y .2 .1) g (not-route-rejected xs o n h x)
 
   -- it is receive rejected only where one of them has a free path and no channel is there to take.
   pub receive-rejected-route : (xs : List Attempt) (n : ℕ) → AttemptsSay N s t free r xs receive-rejected n → Route xs × (r ≡ none-available)
@@ -140,7 +140,8 @@ module _ (N : Network) (s t : ℕ) (free : ℕ → ℕ → Bool) (r : Receive) w
           → AttemptsSay N s t free r (a ∷ b ∷ bs) (runs r (x ∷ ys) .outcome) (runs r (x ∷ ys) .scouts)
       go true e i rest = rw (runs-on r x (attempted N free s t b) (map (attempted N free s t) bs) e)
           (goes-on (scouts x) (subst (λ o. AttemptSays N s t free r a o (scouts x)) (goes-on-after (outcome r x) .0 e) i) rest)
-      go false e i rest = rw (runs-stop r x (attempted N free s t b) (map (attempted N free s t) bs) e) (ends i (λ z. clash (goes-on-after (outcome r x) .1 z) e))
+      go false e i rest = rw (runs-stop r x (attempted N free s t b) (map (attempted N free s t) bs) e)
+          (ends i (λ z. clash (goes-on-after (outcome r x) .1 z) e))
 
 -- more ports for the first hop, more permitted paths
 wider : (N : Network) (s : ℕ) (ps qs : List ℕ) (t : ℕ) (w : Path) → ((p : ℕ) → p ∈ ps → p ∈ qs) → Permitted N s ps t w → Permitted N s qs t w

@@ -10,7 +10,7 @@ use Rattle.paths.specs.Network.{Path}
 use Rattle.paths.specs.Send.{channel, none-available, Outcome, acknowledged, route-rejected, receive-rejected, Acknowledged, Attempt, SendResult}
 use Rattle.paths.specs.Sentences.{AttemptsSay}
 use Rattle.paths.specs.CubeNetwork.{attempts, send}
-use Rattle.paths.proofs.Send.{Route, route-accepted, acknowledged-route, route-acknowledged, receive-rejected-route, send-says, send-bounded}
+use Rattle.paths.proofs.Send.{Route, not-route-rejected, acknowledged-route, route-acknowledged, receive-rejected-route, send-says, send-bounded}
 use Rattle.table.specs.View.{View, view, receive, available, net, shapeOf}
 use Rattle.table.proofs.Receives.{chosen, none-chosen}
 use Rattle.search.specs.PassAnswer.{freeIn, pass-answer}
@@ -64,7 +64,7 @@ module _ (b : List ℕ) (c s t : ℕ) (tried : List Attempt) where
       (((λ z. no-route), (λ f. y)), ((λ z. absurd (omega arith)), (λ f. absurd (no-route (f .0)))))
     where
       no-route : SomeRoute (view b) s t tried → ⊥
-      no-route a = route-accepted (net (view b)) s t (freeIn (view b)) (receive (view b) t) tried route-rejected m said a refl
+      no-route a = not-route-rejected (net (view b)) s t (freeIn (view b)) (receive (view b) t) tried route-rejected m said a refl
   rejections receive-rejected m x h k n b′ q said =
       let y : x ≡ 11 = cc in
       let a = receive-rejected-route (net (view b)) s t (freeIn (view b)) (receive (view b) t) tried m said in
