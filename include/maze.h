@@ -59,7 +59,7 @@ extern "C" {
  * In a cube of dimension D nodes are numbered from 0 to 2^D - 1, and each has D ports, numbered from 0. The link out of port p goes to port p of
  * the node whose number has bit p changed; the link back is another one, with a state of its own. Each node has 8 send channels and 8 receive
  * channels, numbered from 0. Send channel c of node s has at most one circuit, number 8 * s + c + 1; 0 stands for none. A circuit
- * holds the links of its path and one receive channel of its target, which must be armed.
+ * holds the links of its path and one armed receive channel of its target.
  *
  * The table is MAZE_TABLE_BYTES bytes of the caller's, first written by maze_make:
  *   1 byte                             the dimension

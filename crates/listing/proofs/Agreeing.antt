@@ -32,9 +32,11 @@ unfolding rowFor
 row-alike b h k n none = refl
 row-alike b h k n (some a) =
     let s = represents-step b h k a in
-    ap₂ (λ (x : CallResult) (w : ℕ → ℕ → List ℕ). callRow n a x w) (s .result) (fun-ext (λ m. fun-ext (λ c. traced-alike (tableStep b a .state) (historyStep h a .state) (s .covered) m c)))
+    ap₂ (λ (x : CallResult) (w : ℕ → ℕ → List ℕ). callRow n a x w) (s .result)
+    (fun-ext (λ m. fun-ext (λ c. traced-alike (tableStep b a .state) (historyStep h a .state) (s .covered) m c)))
 
-represents-after : (b : List ℕ) (h : History) → Represents b h → (a : Option Call) → Represents (stateAfter tableStep b a) (stateAfter historyStep h a)
+represents-after : (b : List ℕ) (h : History) → Represents b h → (a : Option Call)
+    → Represents (stateAfter tableStep b a) (stateAfter historyStep h a)
 unfolding stateAfter
 represents-after b h k none = k
 represents-after b h k (some a) = represents-step b h k a .covered
@@ -42,14 +44,18 @@ represents-after b h k (some a) = represents-step b h k a .covered
 rows-alike : (ls : List (List ℕ)) (b : List ℕ) (h : History) (n : ℕ) → Represents b h → rows tableStep b n ls ≡ rows historyStep h n ls
 unfolding rows
 rows-alike [] b h n k = refl
-rows-alike (l ∷ ls) b h n k = ap₂ _∷_ (row-alike b h k n (asks l)) (rows-alike ls (stateAfter tableStep b (asks l)) (stateAfter historyStep h (asks l)) (suc n) (represents-after b h k (asks l)))
+rows-alike (l ∷ ls) b h n k =
+    ap₂ _∷_ (row-alike b h k n (asks l))
+    (rows-alike ls (stateAfter tableStep b (asks l)) (stateAfter historyStep h (asks l)) (suc n) (represents-after b h k (asks l)))
 
 pub list-alike : (b : List ℕ) (h : History) (input : List ℕ) → Represents b h → listing tableStep b input ≡ listing historyStep h input
 unfolding listing
-list-alike b h input k = ap (λ (rs : List Row). cond (ltb inputLimit (length input)) tooLong (header ++ rowsText rs)) (rows-alike (lines input) b h 1 k)
+list-alike b h input k =
+    ap (λ (rs : List Row). cond (ltb inputLimit (length input)) tooLong (header ++ rowsText rs)) (rows-alike (lines input) b h 1 k)
 
 start-represents : Represents (made 1) (record { dimension = 1; blocked = []; circuits = []; armed = [] })
-start-represents = record { bytes = made-bytes 1 (lit≤ tt); shows = view-made 1 (lit≤ tt) ∙ sym (made-view 1); valid = made-valid 1 (lit≤ tt) (lit≤ tt) }
+start-represents =
+    record { bytes = made-bytes 1 (lit≤ tt); shows = view-made 1 (lit≤ tt) ∙ sym (made-view 1); valid = made-valid 1 (lit≤ tt) (lit≤ tt) }
 
 -- Demand 3, of the list: what is printed is what the ownership history says.
 pub prints-history : (input : List ℕ) → printed input ≡ recorded input

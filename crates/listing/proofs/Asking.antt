@@ -31,7 +31,8 @@ joined-none none = refl
 joined-none (some ms) = refl
 
 -- one number more, put behind the others
-joined-more : (vs : List ℕ) (k n : ℕ) → k < length vs → (m : Option (List ℕ)) → joined (take k vs) (inFront (some n) m) ≡ joined (take (k + 1) (set vs k n)) m
+joined-more : (vs : List ℕ) (k n : ℕ) → k < length vs → (m : Option (List ℕ))
+    → joined (take k vs) (inFront (some n) m) ≡ joined (take (k + 1) (set vs k n)) m
 unfolding joined inFront
 joined-more vs k n h none = refl
 joined-more vs k n h (some ms) =
@@ -83,10 +84,13 @@ other-count x ns h = rw (ne-eqb (length ns) (numbersOf x) h)
 
 -- more than five numbers go with no letter
 over-five : (x : ℕ) (ns : List ℕ) → 5 < length ns → byLetter x ns ≡ none
-over-five x ns h = other-count x ns (λ e. let few = each-letter (λ n f. n ≤ 5) (lit≤ tt) (lit≤ tt) (lit≤ tt) (lit≤ tt) (lit≤ tt) (lit≤ tt) (lit≤ tt) (lit≤ tt) x in absurd (omega arith))
+over-five x ns h =
+    let few = each-letter (λ n f. n ≤ 5) (lit≤ tt) (lit≤ tt) (lit≤ tt) (lit≤ tt) (lit≤ tt) (lit≤ tt) (lit≤ tt) (lit≤ tt) x in
+    other-count x ns (λ e. omega arith)
 
 -- What holds of no numbers, and stays with one more in front, holds of the numbers that fields say.
-pub numbers-hold : (P : List (List ℕ) → List ℕ → Type 0) → P [] [] → ((f : List ℕ) (fs : List (List ℕ)) (n : ℕ) (ns : List ℕ) → n < 65536 → P fs ns → P (f ∷ fs) (n ∷ ns))
+pub numbers-hold : (P : List (List ℕ) → List ℕ → Type 0) → P [] []
+    → ((f : List ℕ) (fs : List (List ℕ)) (n : ℕ) (ns : List ℕ) → n < 65536 → P fs ns → P (f ∷ fs) (n ∷ ns))
     → (fs : List (List ℕ)) → IfRead (P fs) (numbers fs)
 unfolding numbers inFront
 numbers-hold P nil more [] = nil
@@ -106,7 +110,8 @@ many fs h x = go (numbers fs) (numbers-hold (λ fs ns. length ns ≡ length fs) 
     go (some ns) e = over-five x ns (omega arith)
 
 -- a letter with as many numbers as it has
-own-count : (x k : ℕ) (vs : List ℕ) → length vs ≡ 5 → k ≡ numbersOf x → byLetter x (take k vs) ≡ asked x (getD vs 0 0) (getD vs 1 0) (getD vs 2 0) (getD vs 3 0) (getD vs 4 0)
+own-count : (x k : ℕ) (vs : List ℕ) → length vs ≡ 5 → k ≡ numbersOf x
+    → byLetter x (take k vs) ≡ asked x (getD vs 0 0) (getD vs 1 0) (getD vs 2 0) (getD vs 3 0) (getD vs 4 0)
 unfolding byLetter
 own-count x k [] l e = absurd (omega arith)
 own-count x k (a ∷ []) l e = absurd (omega arith)
@@ -116,7 +121,9 @@ own-count x k (a ∷ b ∷ c ∷ d ∷ []) l e = absurd (omega arith)
 own-count x k (a ∷ b ∷ c ∷ d ∷ f ∷ []) l e = rw e (each-letter Own refl refl refl refl refl refl refl refl x)
   where
     Own : ℕ → (ℕ → ℕ → ℕ → ℕ → ℕ → Option Call) → Type 0
-    Own n g = let ns = take n (a ∷ b ∷ c ∷ d ∷ f ∷ []) in cond (eqb (length ns) n) (g (getD ns 0 0) (getD ns 1 0) (getD ns 2 0) (getD ns 3 0) (getD ns 4 0)) none ≡ g a b c d f
+    Own n g =
+        let ns = take n (a ∷ b ∷ c ∷ d ∷ f ∷ []) in
+        cond (eqb (length ns) n) (g (getD ns 0 0) (getD ns 1 0) (getD ns 2 0) (getD ns 3 0) (getD ns 4 0)) none ≡ g a b c d f
 own-count x k (a ∷ b ∷ c ∷ d ∷ f ∷ g ∷ vs) l e = absurd (omega arith)
 
 -- the lines that a first look refuses
@@ -158,9 +165,12 @@ second-byte [] h s e = absurd (omega arith)
 second-byte (x ∷ []) h s e = absurd (omega arith)
 second-byte (x ∷ y ∷ l) h s e = of-line (x ∷ y ∷ l) s ∙ go (eqb x space) (eqb y space) (ne-eqb y space e)
   where
-    go : (b c : Bool) → c ≡ false → ofFields (cond b ([] ∷ cond c ([] ∷ cut space ([] ∷ []) l) (onFirst y (cut space ([] ∷ []) l))) (onFirst x (cond c ([] ∷ cut space ([] ∷ []) l) (onFirst y (cut space ([] ∷ []) l))))) ≡ none
+    rest : List (List ℕ)
+    rest = cut space ([] ∷ []) l
+
+    go : (b c : Bool) → c ≡ false → ofFields (cond b ([] ∷ cond c ([] ∷ rest) (onFirst y rest)) (onFirst x (cond c ([] ∷ rest) (onFirst y rest)))) ≡ none
     go true c k = refl
-    go false c k = rw k (long-field x y (cut space ([] ∷ []) l))
+    go false c k = rw k (long-field x y rest)
 
 either-none : (b : Bool) → _≡_ {A = Option Call} (cond b none none) none
 either-none true = refl
@@ -187,14 +197,17 @@ letter-line [] h s e = absurd (omega arith)
 letter-line (x ∷ []) h s e = absurd (omega arith)
 letter-line (x ∷ y ∷ l) h s e =
     of-line (x ∷ y ∷ l) s
-    ∙ ⊎-elim (λ p. rw (eq-eqb x space p) (sym (ap (λ b. withNumbers b (numbers (cut space ([] ∷ []) l))) p ∙ space-asks (numbers (cut space ([] ∷ []) l))))) (λ p. rw (ne-eqb x space p, eq-eqb y space e)) (same? x space)
+    ∙ ⊎-elim
+    (λ p. rw (eq-eqb x space p) (sym (ap (λ b. withNumbers b (numbers (cut space ([] ∷ []) l))) p ∙ space-asks (numbers (cut space ([] ∷ []) l)))))
+    (λ p. rw (ne-eqb x space p, eq-eqb y space e)) (same? x space)
 
 -- numbers that were read into five places, by their count
 by-five : (x k : ℕ) (vs : List ℕ) → length vs ≡ 5 → k ≤ 5
     → cond (eqb k (numbersOf x)) (asked x (getD vs 0 0) (getD vs 1 0) (getD vs 2 0) (getD vs 3 0) (getD vs 4 0)) none ≡ byLetter x (take k vs)
 by-five x k vs l h =
     ⊎-elim (λ e. rw (eq-eqb k (numbersOf x) e) (sym (own-count x k vs l e)))
-    (λ e. rw (ne-eqb k (numbersOf x) e) (sym (other-count x (take k vs) (λ n. e (sym (length-take-le k vs (omega arith)) ∙ n))))) (same? k (numbersOf x))
+    (λ e. rw (ne-eqb k (numbersOf x) e) (sym (other-count x (take k vs) (λ n. e (sym (length-take-le k vs (omega arith)) ∙ n)))))
+    (same? k (numbersOf x))
 
 -- A line that a look at its numbers decides: what was read of the numbers behind the second byte, a space.
 pub line-read : (l : List ℕ) {vs : List ℕ} {k : ℕ} → 2 ≤ length l → length l ≤ longest → getD l 1 0 ≡ space → ReadNumbers (fields (drop 2 l)) vs k

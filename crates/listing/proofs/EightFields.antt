@@ -1,5 +1,5 @@
--- The sentences of document 01 about the lines of the printed list, as theorems over its definition: eight fields with one space between, a newline at the end,
--- one line for each input line, counted from 1.
+-- The sentences of document 01 about the lines of the printed list, as theorems over its definition: eight fields with one space between, a newline at the
+-- end, one line for each input line, counted from 1.
 -- Assumes nothing.
 use mathlib.Core.Path.{_≡_, refl, ap, ap₂, sym, _∙_}
 use mathlib.Core.Bool.{Bool, true, false, cond}
@@ -85,7 +85,8 @@ unfolding AllAbove Above
 above-header = search needs
 
 -- the line of every call shows its number and the call's answer
-pub line-shown : (n : ℕ) (a : Call) (x : CallResult) (way : ℕ → ℕ → List ℕ) → (callRow n a x way .line ≡ shows n) × (callRow n a x way .answer ≡ shows (x .number))
+pub line-shown : (n : ℕ) (a : Call) (x : CallResult) (way : ℕ → ℕ → List ℕ)
+    → (callRow n a x way .line ≡ shows n) × (callRow n a x way .answer ≡ shows (x .number))
 unfolding callRow
 line-shown n (making D) x way = (refl, refl)
 line-shown n (blocking m p) x way = (refl, refl)
@@ -110,7 +111,8 @@ module _ {S : Type 0} (makes : S → Call → After S) where
   eight-fields s n (l ∷ ls) =
       let r = rowFor makes s n (asks l) in
       let p = above-row s n (asks l) in
-      ap (map fields) (ended-line (eight r) (rowsText (rows makes (stateAfter makes s (asks l)) (suc n) ls)) p) ∙ ap₂ _∷_ (row-fields r p) (eight-fields (stateAfter makes s (asks l)) (suc n) ls)
+      ap (map fields) (ended-line (eight r) (rowsText (rows makes (stateAfter makes s (asks l)) (suc n) ls)) p)
+      ∙ ap₂ _∷_ (row-fields r p) (eight-fields (stateAfter makes s (asks l)) (suc n) ls)
 
   -- "one line per input line"
   pub one-line-each : (s : S) (n : ℕ) (ls : List (List ℕ)) → length (rows makes s n ls) ≡ length ls
@@ -129,15 +131,18 @@ module _ {S : Type 0} (makes : S → Call → After S) where
       line-is (some a) = unfold rowFor in line-shown n a _ _ .0
 
   -- the lines of the whole list count from 1
-  pub counts-from-one : (s : S) (input : List ℕ) → map (λ (r : Row). r .line) (rows makes s 1 (lines input)) ≡ map shows (from 1 (length (lines input)))
+  pub counts-from-one : (s : S) (input : List ℕ)
+      → map (λ (r : Row). r .line) (rows makes s 1 (lines input)) ≡ map shows (from 1 (length (lines input)))
   counts-from-one s input = counts-lines s 1 (lines input)
 
   -- The whole text of an input that is not too long: the header's eight words, and behind them the eight fields of each row.
-  pub whole-list : (s : S) (input : List ℕ) → length input ≤ inputLimit → map fields (lines (listing makes s input)) ≡ headerWords ∷ map eight (rows makes s 1 (lines input))
+  pub whole-list : (s : S) (input : List ℕ) → length input ≤ inputLimit
+      → map fields (lines (listing makes s input)) ≡ headerWords ∷ map eight (rows makes s 1 (lines input))
   unfolding listing header
   whole-list s input h =
       rw (le-ltb inputLimit (length input) h)
-      (ap (map fields) (ended-line headerWords (rowsText (rows makes s 1 (lines input))) above-header) ∙ ap₂ _∷_ (fields-spaced _ _ above-header) (eight-fields s 1 (lines input)))
+      (ap (map fields) (ended-line headerWords (rowsText (rows makes s 1 (lines input))) above-header)
+      ∙ ap₂ _∷_ (fields-spaced _ _ above-header) (eight-fields s 1 (lines input)))
 
   -- its lines: the header, and one for each input line
   pub lines-listed : (s : S) (input : List ℕ) → length input ≤ inputLimit → length (lines (listing makes s input)) ≡ suc (length (lines input))

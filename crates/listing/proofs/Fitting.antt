@@ -78,8 +78,9 @@ ArgumentsFit (disarming n k) = (n < 65536) × (k < 65536)
 given-letter : (x : ℕ) (ns : List ℕ) → Small ns → IfRead ArgumentsFit (byLetter x ns)
 unfolding byLetter
 given-letter x ns h =
-    if-read ArgumentsFit (eqb (length ns) (numbersOf x)) _ (each-letter (λ n f. IfRead ArgumentsFit (f (getD ns 0 0) (getD ns 1 0) (getD ns 2 0) (getD ns 3 0) (getD ns 4 0))) tt (h 0, h 1) (h 0, h 1) (h 0, h 1) (h 0, h 1)
-    (h 0, h 1) (h 0, h 1) tt x)
+    if-read ArgumentsFit (eqb (length ns) (numbersOf x)) _
+    (each-letter (λ n f. IfRead ArgumentsFit (f (getD ns 0 0) (getD ns 1 0) (getD ns 2 0) (getD ns 3 0) (getD ns 4 0)))
+    tt (h 0, h 1) (h 0, h 1) (h 0, h 1) (h 0, h 1) (h 0, h 1) (h 0, h 1) tt x)
 
 arguments-fit : (l : List ℕ) → IfRead ArgumentsFit (asks l)
 unfolding asks
@@ -129,7 +130,8 @@ module _ (b : List ℕ) (s c : ℕ) where
       let stands = open-stands (view b) (t .3) s c .0 (allowed (factsOf (view b)) trace (none-stops b trace e) .2) in
       let below = permitted-below (shapeOf (view b)) (t .2) refl _ _ (stands .path) (stands .permitted) in
       let hops = path-hops (shapeOf (view b)) _ _ _ (stands .path) (stands .permitted) .1 in
-      rw (path-is (view b) (circuitOf s c) stands) (path-width (stands .path) (omega arith) (turn-length (view b .dimension) (stands .path) (omega arith) below))
+      rw (path-is (view b) (circuitOf s c) stands)
+      (path-width (stands .path) (omega arith) (turn-length (view b .dimension) (stands .path) (omega arith) below))
 
   traced-width : width (path (traced tableStep b s c)) ≤ 9
   unfolding bytesOf
@@ -141,10 +143,14 @@ module _ (b : List ℕ) (s c t y v : ℕ) where
   opens = opening s c t y v
 
   open-scouts : scoutsOf (tableStep b opens .result) ≤ 123300
-  open-scouts = ⊎-elim (λ e. open-answers b s c t y v e .bounded) (λ e. subst (λ (x : After (List ℕ)). scoutsOf (x .result) ≤ 123300) (sym (table-step b opens .stopped e)) (lit≤ tt)) (same? (stoppedAt b opens) 0)
+  open-scouts =
+      ⊎-elim (λ e. open-answers b s c t y v e .bounded)
+      (λ e. subst (λ (x : After (List ℕ)). scoutsOf (x .result) ≤ 123300) (sym (table-step b opens .stopped e)) (lit≤ tt))
+      (same? (stoppedAt b opens) 0)
 
   open-receive : tableStep b opens .result .number ≡ 0 → receiveOf (tableStep b opens .result) < 8
-  open-receive z = ⊎-elim (λ e. open-answers b s c t y v e .lowest z .small) (λ e. absurd (e (table-step b opens .passed z))) (same? (stoppedAt b opens) 0)
+  open-receive z =
+      ⊎-elim (λ e. open-answers b s c t y v e .lowest z .small) (λ e. absurd (e (table-step b opens .passed z))) (same? (stoppedAt b opens) 0)
 
 -- the line of each call
 module _ (b : List ℕ) (n : ℕ) (small : n < 65536) where
@@ -154,18 +160,30 @@ module _ (b : List ℕ) (n : ℕ) (small : n < 65536) where
   call-length : (a : Call) → ArgumentsFit a → length (rowText (rowFor tableStep b n (some a))) ≤ 72
   unfolding rowFor callRow bytesOf
   call-length (making D) g = rw row-length (omega (arith, five-digits n small, answer-digits (making D)))
-  call-length (blocking m p) g = rw row-length (omega (arith, five-digits n small, answer-digits (blocking m p), five-digits m (g .0), five-digits p (g .1)))
-  call-length (unblocking m p) g = rw row-length (omega (arith, five-digits n small, answer-digits (unblocking m p), five-digits m (g .0), five-digits p (g .1)))
+  call-length (blocking m p) g =
+      rw row-length (omega (arith, five-digits n small, answer-digits (blocking m p), five-digits m (g .0), five-digits p (g .1)))
+  call-length (unblocking m p) g =
+      rw row-length (omega (arith, five-digits n small, answer-digits (unblocking m p), five-digits m (g .0), five-digits p (g .1)))
   call-length (opening s c t y v) g =
       let x = tableStep b (opening s c t y v) .result in
-      let receive = if-fits 1 (accepted x) (shows (receiveOf x)) (lit≤ tt) (λ e. decimal-length 0 (receiveOf x) (let l = open-receive b s c t y v (eqb-true _ 0 e) in omega arith)) in
-      let scouts = if-fits 6 (carriesScouts (x .number)) (shows (scoutsOf x)) (lit≤ tt) (λ e. decimal-length 5 (scoutsOf x) (let l = open-scouts b s c t y v in omega arith)) in
-      let ports = if-fits 9 (accepted x) (path (traced tableStep (tableStep b (opening s c t y v) .state) s c)) (lit≤ tt) (λ e. traced-width (tableStep b (opening s c t y v) .state) s c) in
-      rw row-length (omega (arith, five-digits n small, answer-digits (opening s c t y v), five-digits s (g .0), five-digits c (g .1), receive, scouts, ports))
-  call-length (closing s c) g = rw row-length (omega (arith, five-digits n small, answer-digits (closing s c), five-digits s (g .0), five-digits c (g .1)))
+      let receive =
+      if-fits 1 (accepted x) (shows (receiveOf x)) (lit≤ tt)
+      (λ e. decimal-length 0 (receiveOf x) (let l = open-receive b s c t y v (eqb-true _ 0 e) in omega arith)) in
+      let scouts =
+      if-fits 6 (carriesScouts (x .number)) (shows (scoutsOf x)) (lit≤ tt)
+      (λ e. decimal-length 5 (scoutsOf x) (let l = open-scouts b s c t y v in omega arith)) in
+      let ports =
+      if-fits 9 (accepted x) (path (traced tableStep (tableStep b (opening s c t y v) .state) s c)) (lit≤ tt)
+      (λ e. traced-width (tableStep b (opening s c t y v) .state) s c) in
+      rw row-length
+      (omega (arith, five-digits n small, answer-digits (opening s c t y v), five-digits s (g .0), five-digits c (g .1), receive, scouts, ports))
+  call-length (closing s c) g =
+      rw row-length (omega (arith, five-digits n small, answer-digits (closing s c), five-digits s (g .0), five-digits c (g .1)))
   call-length (tracing s c buffer) g = rw row-length (omega (arith, five-digits n small, answer-digits (tracing s c buffer)))
-  call-length (arming m k) g = rw row-length (omega (arith, five-digits n small, answer-digits (arming m k), five-digits m (g .0), five-digits k (g .1)))
-  call-length (disarming m k) g = rw row-length (omega (arith, five-digits n small, answer-digits (disarming m k), five-digits m (g .0), five-digits k (g .1)))
+  call-length (arming m k) g =
+      rw row-length (omega (arith, five-digits n small, answer-digits (arming m k), five-digits m (g .0), five-digits k (g .1)))
+  call-length (disarming m k) g =
+      rw row-length (omega (arith, five-digits n small, answer-digits (disarming m k), five-digits m (g .0), five-digits k (g .1)))
 
   unreadable-length : length (rowText (unreadable n)) ≤ 24
   unfolding unreadable bytesOf
@@ -178,7 +196,8 @@ module _ (b : List ℕ) (n : ℕ) (small : n < 65536) where
       go : (o : Option Call) → asks l ≡ o → IfRead ArgumentsFit o → length (rowText (rowFor tableStep b n o)) ≤ 24 * suc (length l)
       go none e g = unfold rowFor in omega (arith, unreadable-length)
       go (some a) e g =
-          ⊎-elim (λ h. absurd (let z : _≡_ {A = Option Call} none (some a) = sym (short-line l h) ∙ e in let y : _≡_ {A = ℕ} 0 1 = cc in omega arith)) (λ h. omega (arith, call-length a g)) (below-or 2 (length l))
+          ⊎-elim (λ h. absurd (let z : _≡_ {A = Option Call} none (some a) = sym (short-line l h) ∙ e in let y : _≡_ {A = ℕ} 0 1 = cc in omega arith))
+          (λ h. omega (arith, call-length a g)) (below-or 2 (length l))
 
 -- what the lines of an input take: its bytes, and one more where the last newline is absent
 abbrev taken : List (List ℕ) → ℕ
@@ -199,14 +218,17 @@ rows-length : (ls : List (List ℕ)) (b : List ℕ) (n : ℕ) → n + taken ls �
 unfolding rows rowsText
 rows-length [] b n h = omega arith
 rows-length (l ∷ ls) b n h =
-    omega (arith, length-append (rowText (rowFor tableStep b n (asks l))) (rowsText (rows tableStep (stateAfter tableStep b (asks l)) (suc n) ls)), line-length b n (omega arith) l, rows-length ls (stateAfter tableStep b (asks l)) (suc n) (omega arith))
+    let after = stateAfter tableStep b (asks l) in
+    let joined = length-append (rowText (rowFor tableStep b n (asks l))) (rowsText (rows tableStep after (suc n) ls)) in
+    omega (arith, joined, line-length b n (omega arith) l, rows-length ls after (suc n) (omega arith))
 
 -- The printed text of every input fits an output of the size that the listing function asks for.
 pub text-fits : (input : List ℕ) → length (printed input) ≤ outputBytes
 unfolding printed listing
 text-fits input = go (ltb inputLimit (length input)) refl
   where
-    go : (x : Bool) → ltb inputLimit (length input) ≡ x → length (cond x tooLong (header ++ rowsText (rows tableStep (made 1) 1 (lines input)))) ≤ outputBytes
+    go : (x : Bool) → ltb inputLimit (length input) ≡ x
+        → length (cond x tooLong (header ++ rowsText (rows tableStep (made 1) 1 (lines input)))) ≤ outputBytes
     go true e = unfold tooLong ended spaced in lit≤ tt
     go false e =
         let long : length header ≡ 51 = unfold header ended spaced in refl in

@@ -1,5 +1,5 @@
--- The call letters of document 01 and of document 02, (a): which call a line asks for, and what its printed line shows, field by field. The letters are written by their bytes:
--- F is 70, B 66, E 69, S 83, C 67, R 82 and D 68.
+-- The call letters of document 01 and of document 02, (a): which call a line asks for, and what its printed line shows, field by field. The letters are
+-- written by their bytes: F is 70, B 66, E 69, S 83, C 67, R 82 and D 68.
 -- Assumes nothing.
 use mathlib.Core.Path.{_≡_, refl, ap₂, _∙_}
 use mathlib.Core.Logic.{_≢_, _⊎_, inl, inr}
@@ -97,29 +97,34 @@ module _ {S : Type 0} (makes : S → Call → After S) (state : S) (n : ℕ) whe
 
   -- B and E: "node as given", "the port of B and E as given"
   pub block-shows : (node port : ℕ)
-      → shown (blocking node port) ≡ shows n ∷ letter 66 ∷ shows (answer (blocking node port) .number) ∷ shows node ∷ nothing ∷ nothing ∷ nothing ∷ shows port ∷ []
+      → shown (blocking node port)
+      ≡ shows n ∷ letter 66 ∷ shows (answer (blocking node port) .number) ∷ shows node ∷ nothing ∷ nothing ∷ nothing ∷ shows port ∷ []
   unfolding inOrder rowFor callRow
   block-shows node port = refl
 
   pub unblock-shows : (node port : ℕ)
-      → shown (unblocking node port) ≡ shows n ∷ letter 69 ∷ shows (answer (unblocking node port) .number) ∷ shows node ∷ nothing ∷ nothing ∷ nothing ∷ shows port ∷ []
+      → shown (unblocking node port)
+      ≡ shows n ∷ letter 69 ∷ shows (answer (unblocking node port) .number) ∷ shows node ∷ nothing ∷ nothing ∷ nothing ∷ shows port ∷ []
   unfolding inOrder rowFor callRow
   unblock-shows node port = refl
 
   -- C: "node as given", "channel as given"
   pub close-shows : (node channel : ℕ)
-      → shown (closing node channel) ≡ shows n ∷ letter 67 ∷ shows (answer (closing node channel) .number) ∷ shows node ∷ shows channel ∷ nothing ∷ nothing ∷ nothing ∷ []
+      → shown (closing node channel)
+      ≡ shows n ∷ letter 67 ∷ shows (answer (closing node channel) .number) ∷ shows node ∷ shows channel ∷ nothing ∷ nothing ∷ nothing ∷ []
   unfolding inOrder rowFor callRow
   close-shows node channel = refl
 
   -- R and D: "printing node and channel"
   pub arm-shows : (node channel : ℕ)
-      → shown (arming node channel) ≡ shows n ∷ letter 82 ∷ shows (answer (arming node channel) .number) ∷ shows node ∷ shows channel ∷ nothing ∷ nothing ∷ nothing ∷ []
+      → shown (arming node channel)
+      ≡ shows n ∷ letter 82 ∷ shows (answer (arming node channel) .number) ∷ shows node ∷ shows channel ∷ nothing ∷ nothing ∷ nothing ∷ []
   unfolding inOrder rowFor callRow
   arm-shows node channel = refl
 
   pub disarm-shows : (node channel : ℕ)
-      → shown (disarming node channel) ≡ shows n ∷ letter 68 ∷ shows (answer (disarming node channel) .number) ∷ shows node ∷ shows channel ∷ nothing ∷ nothing ∷ nothing ∷ []
+      → shown (disarming node channel)
+      ≡ shows n ∷ letter 68 ∷ shows (answer (disarming node channel) .number) ∷ shows node ∷ shows channel ∷ nothing ∷ nothing ∷ nothing ∷ []
   unfolding inOrder rowFor callRow
   disarm-shows node channel = refl
 
@@ -129,14 +134,16 @@ module _ {S : Type 0} (makes : S → Call → After S) (state : S) (n : ℕ) whe
 
     -- S: "node as given (source for S); channel as given; receive channel taken; scouts ..; ports in path order": those that a trace of this channel gives now
     pub acknowledged-shows : answer opens .number ≡ 0
-        → shown opens ≡ shows n ∷ letter 83 ∷ shows 0 ∷ shows node ∷ shows channel ∷ shows (receiveOf (answer opens)) ∷ shows (scoutsOf (answer opens))
+        → shown opens
+        ≡ shows n ∷ letter 83 ∷ shows 0 ∷ shows node ∷ shows channel ∷ shows (receiveOf (answer opens)) ∷ shows (scoutsOf (answer opens))
         ∷ path (traced makes (makes state opens .state) node channel) ∷ []
     unfolding inOrder rowFor callRow carriesScouts
     acknowledged-shows e = rw e
 
     -- S answered 10 or 11: "A refused S shows `-` for receive and ports."
     pub rejected-shows : (answer opens .number ≡ 10) ⊎ (answer opens .number ≡ 11)
-        → shown opens ≡ shows n ∷ letter 83 ∷ shows (answer opens .number) ∷ shows node ∷ shows channel ∷ nothing ∷ shows (scoutsOf (answer opens)) ∷ nothing ∷ []
+        → shown opens
+        ≡ shows n ∷ letter 83 ∷ shows (answer opens .number) ∷ shows node ∷ shows channel ∷ nothing ∷ shows (scoutsOf (answer opens)) ∷ nothing ∷ []
     unfolding inOrder rowFor callRow carriesScouts
     rejected-shows (inl e) = rw e
     rejected-shows (inr e) = rw e

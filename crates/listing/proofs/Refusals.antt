@@ -31,8 +31,10 @@ unfolding inOrder rowFor unreadable
 unreadable-line makes s n l e = ap (λ (a : Option Call). inOrder (rowFor makes s n a)) e
 
 -- "A refused S shows `-` for receive and ports."
-module _ {S : Type 0} (makes : S → Call → After S) (state : S) (line s c t y v : ℕ) (refused : makes state (opening s c t y v) .result .number ≢ 0) where
-  pub refused-row : (rowFor makes state line (some (opening s c t y v)) .receive ≡ nothing) × (rowFor makes state line (some (opening s c t y v)) .ports ≡ nothing)
+module _ {S : Type 0} (makes : S → Call → After S) (state : S) (line s c t y v : ℕ)
+    (refused : makes state (opening s c t y v) .result .number ≢ 0) where
+  pub refused-row : (rowFor makes state line (some (opening s c t y v)) .receive ≡ nothing)
+      × (rowFor makes state line (some (opening s c t y v)) .ports ≡ nothing)
   unfolding rowFor callRow
   refused-row = let e = ne-eqb (makes state (opening s c t y v) .result .number) 0 refused in (rw e, rw e)
 
@@ -53,7 +55,8 @@ is-sent n (inl e) = rw e
 is-sent n (inr (inl e)) = rw e
 is-sent n (inr (inr e)) = rw e
 
-pub scouts-row : {S : Type 0} (makes : S → Call → After S) (state : S) (line : ℕ) (a : Call) → Shown (rowFor makes state line (some a) .scouts) ↔ WasSent a (makes state a .result)
+pub scouts-row : {S : Type 0} (makes : S → Call → After S) (state : S) (line : ℕ) (a : Call)
+    → Shown (rowFor makes state line (some a) .scouts) ↔ WasSent a (makes state a .result)
 unfolding rowFor callRow Shown IsOpen
 scouts-row makes state line (making D) = ((λ p. absurd p), (λ p. p .0))
 scouts-row makes state line (blocking n p) = ((λ p. absurd p), (λ p. p .0))

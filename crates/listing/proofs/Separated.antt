@@ -49,7 +49,8 @@ above-spaced : (fs : List (List ℕ)) → AllAbove space fs → Above 31 (spaced
 unfolding AllAbove Above spaced
 above-spaced [] p = tt
 above-spaced (f ∷ []) p = above-less space 31 f (lit≤ tt) (p .0)
-above-spaced (f ∷ g ∷ fs) p = above-append 31 f (space ∷ spaced (g ∷ fs)) (above-less space 31 f (lit≤ tt) (p .0)) (lit< tt, above-spaced (g ∷ fs) (p .1))
+above-spaced (f ∷ g ∷ fs) p =
+    above-append 31 f (space ∷ spaced (g ∷ fs)) (above-less space 31 f (lit≤ tt) (p .0)) (lit< tt, above-spaced (g ∷ fs) (p .1))
 
 -- the bytes of a field are digits, a dash or a call letter
 above-digits : (k n : ℕ) → Above space (digits k n)
@@ -74,4 +75,5 @@ above-turn (p ∷ ps) = above-append space (decimal p) (inTurn ps) (above-decima
 -- such texts with one space between and a newline behind are one line
 pub ended-line : (fs : List (List ℕ)) (rest : List ℕ) → AllAbove space fs → lines (ended fs ++ rest) ≡ spaced fs ∷ lines rest
 unfolding ended lines
-ended-line fs rest p = ap (cut newline []) (append-assoc (spaced fs) (newline ∷ []) rest) ∙ cut-at newline 31 [] (spaced fs) rest (lit≤ tt) (above-spaced fs p)
+ended-line fs rest p =
+    ap (cut newline []) (append-assoc (spaced fs) (newline ∷ []) rest) ∙ cut-at newline 31 [] (spaced fs) rest (lit≤ tt) (above-spaced fs p)

@@ -1,5 +1,5 @@
--- The printed example of document 01, with the second line that document 02, (a), gives it, computed: the bytes of its input, and the bytes of its output.
--- And what a line of each letter asks for, from its bytes.
+-- The printed example of document 01, with the second line that document 02, (a), gives it, computed: the bytes of its input and of its output. And what
+-- a line of each letter asks for, from its bytes.
 -- Assumes nothing.
 use mathlib.Core.Path.{_≡_, refl}
 use mathlib.Core.List.{List, [], _∷_, map}

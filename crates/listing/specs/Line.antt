@@ -42,9 +42,9 @@ unfoldable pub numbers : List (List ℕ) → Option (List ℕ)
 numbers [] = some []
 numbers (f ∷ fs) = inFront (number f) (numbers fs)
 
--- "`F D` make, `B node port` block, `E node port` unblock, `S node channel target type vector` open, `C node channel` close"; document 02, (a): "Input letters
--- `R node channel` arm and `D node channel` disarm". How many numbers stand behind a call letter, 0 behind another byte, and the call that a letter asks for,
--- with as many of five numbers as it has:
+-- "`F D` make, `B node port` block, `E node port` unblock, `S node channel target type vector` open, `C node channel` close"; document 02, (a):
+-- "`R node channel` arm and `D node channel` disarm". How many numbers stand behind a call letter, 0 behind another byte, and the call that a letter
+-- asks for, with as many of five numbers as it has:
 unfoldable pub numbersOf : ℕ → ℕ
 numbersOf x =
     cond (eqb x letterF) 1

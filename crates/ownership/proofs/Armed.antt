@@ -33,7 +33,7 @@ pub disarm-armed : (h : History) (n k m q : ℕ) → armedOn (withArmed h (witho
 unfolding armedOn setAt
 disarm-armed h n k m q = dropped n k (h .armed) m q ∙ off-where (eqb m n && eqb q k) (hasLink (h .armed) m q)
 
--- "a close drops the arming of the channel that its circuit held": that whose number is the circuit's
+-- "Closing a circuit disarms its channel": that whose entry is the circuit's number, and no other
 pub close-armed : (h : History) → Valid h → (s c : ℕ) → c < 8 → (n k : ℕ)
     → armedOn (applied h (closing s c)) n k ≡ cond (eqb (viewOf h .receiver n k) (circuitOf s c)) false (armedOn h n k)
 unfolding armedOn applied viewOf

@@ -93,7 +93,7 @@ module _ (b : List ℕ) (small : AllBytes b) (a : Call) (e : stoppedAt b a ≡ 0
   bytes : Bytes b
   bytes = record { long = none-stops-length b a e; small = small }
 
-  encoded : (x : Call) → (form x .makes ≡ false → dimensionAt b ≤ 8) → Allowed (factsOf (view b)) x → writtenBy b x ≡ encode (updated (view b) x)
+  encoded : (x : Call) → (form x .isMaking ≡ false → dimensionAt b ≤ 8) → Allowed (factsOf (view b)) x → writtenBy b x ≡ encode (updated (view b) x)
   unfolding writtenBy updated Allowed factsOf view
   encoded (making D) most r = encode-shown (made D) (fresh D) (made-bytes D (omega (arith, r .1))) (view-made D (omega (arith, r .1)))
   encoded (blocking n p) most r =

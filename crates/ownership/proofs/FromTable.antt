@@ -114,8 +114,8 @@ module _ (v : View) (sound : Sound v) where
         let e = path-is v c (o .stands) in
         let there : f (o .stands .channel) ≡ true = rw e (eq-eqb _ c (o .stands .receives)) in
         let low : lowest f 8 0 ≤ o .stands .channel = lowest-found f 8 0 (o .stands .channel) (omega arith) there in
-        let onPathOf : f (lowest f 8 0) ≡ true = lowest-passes f 8 0 (omega (arith, o .stands .small)) in
-        o .stands .once _ _ (eqb-true _ c onPathOf) .1
+        let taken : f (lowest f 8 0) ≡ true = lowest-passes f 8 0 (omega (arith, o .stands .small)) in
+        o .stands .once _ _ (eqb-true _ c taken) .1
 
     link-number : (n p : ℕ) → (n, p) ∈ linksOf (netOn h) (circuitAt v c) → v .owner n p ≡ c
     unfolding circuitAt historyOf

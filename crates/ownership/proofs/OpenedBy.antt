@@ -66,7 +66,7 @@ lasted h a x m e z = ended h a x (rw (history-step h a .accepted e) at m) z
 pub opened-later : (h : History) (a : Call) (more : List Call) (x : Circuit) → OpenedBy (historyStep h a .state) more x → OpenedBy h (a ∷ more) x
 unfolding leaves
 opened-later h a more x z =
-    record { before = a ∷ z .before; type = z .type; vector = z .vector; after = z .after; split = ap (a ∷_) (z .split); onPathOf = z .onPathOf; acknowledges = z .acknowledges; lasts = z .lasts }
+    record { before = a ∷ z .before; type = z .type; vector = z .vector; after = z .after; split = ap (a ∷_) (z .split); not-stopped = z .not-stopped; acknowledges = z .acknowledges; lasts = z .lasts }
 
 -- any list: what is listed after it was listed before and nothing has ended it, or was opened by it
 pub listed-by : (calls : List Call) (h : History) (x : Circuit) → x ∈ historyAfter h calls .circuits
@@ -89,7 +89,7 @@ listed-by (a ∷ more) h x m =
           vector = z .1 .vector;
           after = more;
           split = ap (_∷ more) e;
-          onPathOf = subst (λ (u : Call). stoppedOn h u ≡ 0) e (z .0);
+          not-stopped = subst (λ (u : Call). stoppedOn h u ≡ 0) e (z .0);
           acknowledges = z .1 .acknowledges;
           lasts = subst (λ (u : Call). Lasts (x .source) (x .channel) (numbered more (historyResults (historyStep h u .state) more))) e l;
         }

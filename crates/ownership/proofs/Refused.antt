@@ -16,7 +16,7 @@ use Rattle.ownership.proofs.Steps.{table-step}
 
 -- "When refused, all but the number are 0, except that 10 and 11 carry their scouts."
 abbrev pub Zero : Call → CallResult → Type 0
-Zero a g = (g .values ≡ replicate (form a .values) 0) ⊎ (((g .number ≡ 10) ⊎ (g .number ≡ 11)) × (g .values ≡ 0 ∷ 0 ∷ scoutsOf g ∷ []))
+Zero a g = (g .values ≡ replicate (form a .valueCount) 0) ⊎ (((g .number ≡ 10) ⊎ (g .number ≡ 11)) × (g .values ≡ 0 ∷ 0 ∷ scoutsOf g ∷ []))
 
 -- what a call that no test stops gives where it is refused: its buffers as they were lent, and such values
 send-zero : (a : Call) (o : Outcome) (n : ℕ) → answered o n .number ≢ 0 → (answered o n .buffers ≡ []) × Zero a (answered o n)

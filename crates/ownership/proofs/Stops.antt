@@ -25,7 +25,7 @@ table-numbered b = avoiding 0 _ refl
 -- The tests of the lent table are all three, but for a making, which is stopped by the length alone. What holds of both lists holds of those of a call.
 pub lent-both : (P : List Test → Type 0) (b : List ℕ) (a : Call) → P (test (not (eqb (length b) tableLength)) 1 ∷ []) → P (tableTests b) → P (lentTests b a)
 unfolding lentTests
-lent-both P b a alone all = go (form a .makes)
+lent-both P b a alone all = go (form a .isMaking)
   where
     go : (x : Bool) → P (cond x (test (not (eqb (length b) tableLength)) 1 ∷ []) (tableTests b))
     go true = alone
@@ -40,7 +40,7 @@ unfolding stoppedAt
 none-stops b a e = refusal-both (lentTests b a) _ (lent-numbered b a) e .1
 
 -- and the table passes its tests, but for a making.
-pub none-stops-lent : (b : List ℕ) (a : Call) → form a .makes ≡ false → stoppedAt b a ≡ 0 → refusal (tableTests b) ≡ 0
+pub none-stops-lent : (b : List ℕ) (a : Call) → form a .isMaking ≡ false → stoppedAt b a ≡ 0 → refusal (tableTests b) ≡ 0
 unfolding stoppedAt lentTests
 none-stops-lent b a h e =
     let r : refusal (lentTests b a) ≡ 0 = refusal-both (lentTests b a) _ (lent-numbered b a) e .0 in

@@ -25,24 +25,24 @@ pub data Call : Type 0 where
 -- what a call is, whatever it is made on
 pub record CallForm : Type 0 where
   -- it makes the table, whatever that stored before
-  pub makes : Bool
+  pub isMaking : Bool
   -- how many values it answers beside its number
-  pub values : ℕ
+  pub valueCount : ℕ
   -- the buffers that it is lent beside the table, with their bytes
   pub buffers : List (List ℕ)
 
 -- a call on a made table that answers the number alone and is lent nothing else
 abbrev plain : CallForm
-plain = record { makes = false; values = 0; buffers = [] }
+plain = record { isMaking = false; valueCount = 0; buffers = [] }
 
 -- "An open answers number, hops, receive channel, scouts; a trace, number and hops; .. the rest the number alone."
 abbrev pub form : Call → CallForm
-form (making D) = record { makes = true; values = 0; buffers = [] }
+form (making D) = record { isMaking = true; valueCount = 0; buffers = [] }
 form (blocking n p) = plain
 form (unblocking n p) = plain
-form (opening s c t y v) = record { makes = false; values = 3; buffers = [] }
+form (opening s c t y v) = record { isMaking = false; valueCount = 3; buffers = [] }
 form (closing s c) = plain
-form (tracing s c buffer) = record { makes = false; values = 1; buffers = buffer ∷ [] }
+form (tracing s c buffer) = record { isMaking = false; valueCount = 1; buffers = buffer ∷ [] }
 form (arming n k) = plain
 form (disarming n k) = plain
 
@@ -74,7 +74,7 @@ only n = record { number = n; values = []; buffers = [] }
 
 -- "When refused, all but the number are 0": as many values as the call answers. Its buffers are as they were lent.
 abbrev pub refusedWith : ℕ → Call → CallResult
-refusedWith n a = record { number = n; values = replicate (form a .values) 0; buffers = lent a }
+refusedWith n a = record { number = n; values = replicate (form a .valueCount) 0; buffers = lent a }
 
 -- What an open answers after the search: ".. except that 10 and 11 carry their scouts."
 unfoldable pub answered : Outcome → ℕ → CallResult

@@ -33,7 +33,7 @@ factsOf v = record { dimension = v .dimension; held = heldIn v; isOpen = openIn 
 
 -- The tests of the lent table: a making is not stopped by what the table stored before.
 unfoldable pub lentTests : List ℕ → Call → List Test
-lentTests b a = cond (form a .makes) (test (not (eqb (length b) tableLength)) 1 ∷ []) (tableTests b)
+lentTests b a = cond (form a .isMaking) (test (not (eqb (length b) tableLength)) 1 ∷ []) (tableTests b)
 
 -- all tests of a call, in rising order of number. "The first that applies is the answer": its number, 0 where none does
 unfoldable pub stoppedAt : List ℕ → Call → ℕ

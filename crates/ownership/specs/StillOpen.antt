@@ -48,6 +48,6 @@ pub record OpenedBy (h : History) (calls : List Call) (x : Circuit) : Type 0 whe
   pub vector : ℕ
   pub after : List Call
   pub split : calls ≡ before ++ opening (x .source) (x .channel) (x .target) type vector ∷ after
-  pub onPathOf : stoppedOn (historyAfter h before) (opening (x .source) (x .channel) (x .target) type vector) ≡ 0
+  pub not-stopped : stoppedOn (historyAfter h before) (opening (x .source) (x .channel) (x .target) type vector) ≡ 0
   pub acknowledges : sendOn (historyAfter h before) (x .source) (x .target) type vector .outcome ≡ acknowledged (x .ports) (x .receive)
   pub lasts : Lasts (x .source) (x .channel) (numbered after (historyResults (historyStep (historyAfter h before) (opening (x .source) (x .channel) (x .target) type vector) .state) after))

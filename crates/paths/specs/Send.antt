@@ -18,7 +18,7 @@ pub data Receive : Type 0 where
 unfoldable pub lowestOf : (ℕ → Bool) → Receive
 lowestOf f = cond (eqb (lowest f channels 0) channels) none-available (channel (lowest f channels 0))
 
--- "With none, route rejected. With one, the target takes its lowest receive channel ..; if all are held, receive rejected."
+-- "With none, route rejected. With one", the target takes its channel; where there is none to take, receive rejected.
 pub data Outcome : Type 0 where
   acknowledged : Path → ℕ → Outcome
   route-rejected : Outcome

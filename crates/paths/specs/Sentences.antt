@@ -43,8 +43,8 @@ module _ (N : Network) (free : ℕ → ℕ → Bool) (s : ℕ) (vector : List �
   Says (none c) = NoneSays c
   Says (found w c) = FoundSays w c
 
-  -- What the answer of one pass says, given what the target's receive channels are: "With none, route rejected. With one, the target takes
-  -- its lowest receive channel ..; if all are held, receive rejected." The scouts are the pass's in each case.
+  -- What the answer of one pass says, given what the target's receive channels are: "With none, route rejected. With one", the
+  -- target takes the receive channel that is there to take; where there is none, receive rejected. The scouts are the pass's in each case.
   pub data AnswerSays (r : Receive) : Outcome → ℕ → Type 0 where
     says-acknowledged : {w : Path} {k c : ℕ} → r ≡ channel k → FoundSays w c → AnswerSays r (acknowledged w k) c
     says-receive-rejected : {w : Path} {c : ℕ} → r ≡ none-available → FoundSays w c → AnswerSays r receive-rejected c

@@ -91,7 +91,7 @@ unfolding factsOf view
 node-passed b s e f = let h = below s (2 ^ dimensionAt b) f in inside b e h h
 
 -- a call that no test stops: the table passes its tests, and the arguments are allowed
-none-applies : (b : List ℕ) (a : Call) → form a .makes ≡ false → {n : ℕ} → n ≡ stoppedAt b a → n ≡ 0 → (refusal (tableTests b) ≡ 0) × Allowed (factsOf (view b)) a
+none-applies : (b : List ℕ) (a : Call) → form a .isMaking ≡ false → {n : ℕ} → n ≡ stoppedAt b a → n ≡ 0 → (refusal (tableTests b) ≡ 0) × Allowed (factsOf (view b)) a
 none-applies b a q e z = (none-stops-lent b a q (sym e ∙ z), allowed (factsOf (view b)) a (none-stops b a (sym e ∙ z)))
 
 module _ {b : List ℕ} {m p n : ℕ} where

@@ -25,7 +25,7 @@ holdPath b c n (p ∷ w) = holdPath (putOwner b n p c) c (next n p) w
 pub data PassAnswer : Type 0 where
   pass-answer : (number hops receive scouts : ℕ) → List ℕ → PassAnswer
 
--- "With none, route rejected. With one, the target takes its lowest receive channel ..; if all are held, receive rejected." The path's links are
+-- "With none, route rejected. With one", the target takes the receive channel that is there to take; where there is none, receive rejected. The path's links are
 -- held where it is acknowledged; where it is rejected each byte is as it was. The receive channel is answered here and not yet held: that is for
 -- the pass above. h hops were made before the search came to node n.
 unfoldable pub answerOfPass : List ℕ → ℕ → ℕ → ℕ → Receive → PassResult → PassAnswer

@@ -107,21 +107,27 @@ same-length c = search needs
 
 returns : tie.Need-returns
 unfolding callRow
-returns c = rw (c .before .before .before .before .before .before .asked .given .1) (answered (c .before .before .before .make .ensures) (c .of-call .ensures _))
+returns c =
+    rw (c .before .before .before .before .before .before .asked .given .1)
+    (answered (c .before .before .before .make .ensures) (c .of-call .ensures _))
 
 same-length-2 : tie.Need-same-length-2
 same-length-2 c = search needs
 
 returns-2 : tie.Need-returns-2
 unfolding callRow
-returns-2 c = rw (c .before .before .before .before .before .before .before .before .asked2 .given .1) (answered (c .before .before .before .before .before .block .ensures) (c .of-call2 .ensures _))
+returns-2 c =
+    rw (c .before .before .before .before .before .before .before .before .asked2 .given .1)
+    (answered (c .before .before .before .before .before .block .ensures) (c .of-call2 .ensures _))
 
 same-length-3 : tie.Need-same-length-3
 same-length-3 c = search needs
 
 returns-3 : tie.Need-returns-3
 unfolding callRow
-returns-3 c = rw (c .before .before .before .before .before .before .before .before .asked3 .given .1) (answered (c .before .before .before .before .before .unblock .ensures) (c .of-call3 .ensures _))
+returns-3 c =
+    rw (c .before .before .before .before .before .before .before .before .asked3 .given .1)
+    (answered (c .before .before .before .before .before .unblock .ensures) (c .of-call3 .ensures _))
 
 same-length-4 : tie.Need-same-length-4
 same-length-4 c = search needs
@@ -130,28 +136,35 @@ same-length-5 : tie.Need-same-length-5
 same-length-5 c = search needs
 
 returns-4 : tie.Need-returns-4
-returns-4 c = rw (c .before .before .before .before .before .before .before .before .asked4 .given .1) (c .before .before .before .before .«open» .ensures)
+returns-4 c =
+    rw (c .before .before .before .before .before .before .before .before .asked4 .given .1) (c .before .before .before .before .«open» .ensures)
 
 same-length-6 : tie.Need-same-length-6
 same-length-6 c = search needs
 
 returns-5 : tie.Need-returns-5
 unfolding callRow
-returns-5 c = rw (c .before .before .before .before .before .before .before .asked5 .given .1) (answered (c .before .before .before .before .close .ensures) (c .of-call4 .ensures _))
+returns-5 c =
+    rw (c .before .before .before .before .before .before .before .asked5 .given .1)
+    (answered (c .before .before .before .before .close .ensures) (c .of-call4 .ensures _))
 
 same-length-7 : tie.Need-same-length-7
 same-length-7 c = search needs
 
 returns-6 : tie.Need-returns-6
 unfolding callRow
-returns-6 c = rw (c .before .before .before .before .before .before .before .asked6 .given .1) (answered (c .before .before .before .before .arm .ensures) (c .of-call5 .ensures _))
+returns-6 c =
+    rw (c .before .before .before .before .before .before .before .asked6 .given .1)
+    (answered (c .before .before .before .before .arm .ensures) (c .of-call5 .ensures _))
 
 same-length-8 : tie.Need-same-length-8
 same-length-8 c = search needs
 
 returns-7 : tie.Need-returns-7
 unfolding callRow
-returns-7 c = rw (c .before .before .before .before .before .before .before .asked7 .given .1) (answered (c .before .before .before .before .disarm .ensures) (c .of-call6 .ensures _))
+returns-7 c =
+    rw (c .before .before .before .before .before .before .before .asked7 .given .1)
+    (answered (c .before .before .before .before .disarm .ensures) (c .of-call6 .ensures _))
 
 returns-8 : tie.Need-returns-8
 unfolding unreadable
