@@ -267,7 +267,7 @@ maze_opened base_open(uint8_t *table, size_t table_len, uint16_t node, uint16_t 
     search.scouts = 0;
     search.found = available ? MAZE_ACCEPTED : MAZE_RECEIVE_REJECTED;
     answer.number = try_ports(&search, node, vector & table[MAZE_ENABLED_AT + node], 7);
-    if (answer.number && type == MAZE_TYPE_ALTERNATE_MAZE)
+    if (answer.number == MAZE_ROUTE_REJECTED && type == MAZE_TYPE_ALTERNATE_MAZE)
         answer.number = try_ports(&search, node, ports & ~(unsigned)vector & table[MAZE_ENABLED_AT + node], 7);
     answer.scouts = search.scouts;
     if (answer.number == MAZE_ACCEPTED) {

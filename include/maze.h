@@ -104,7 +104,7 @@ extern "C" {
 
 /* Routing types of maze_open. */
 #define MAZE_TYPE_MAZE 0           /* one pass, with the send vector given */
-#define MAZE_TYPE_ALTERNATE_MAZE 4 /* then, if it is rejected, a pass with the ports below the dimension that the vector left out */
+#define MAZE_TYPE_ALTERNATE_MAZE 4 /* then, if that is route rejected, a pass with the ports below the dimension that the vector left out */
 
 #define MAZE_HOPS_LARGEST 9        /* a permitted path has 1 to dimension + 1 hops */
 #define MAZE_SCOUTS_LARGEST 123300 /* both passes of a send together never send more */
@@ -152,10 +152,10 @@ uint16_t maze_disarm(uint8_t *table, size_t table_len, uint16_t node, uint16_t c
  * bit it and the target differ, those above a upward and then those from 0 up to a: the helical order. Each time a free link is tried, a scout, an
  * address packet, goes over it; where there is no way on it goes back, and the next port is tried. With no such path the pass is route rejected.
  * With one, the target takes its lowest receive channel that is armed and that no circuit holds; where there is none the pass is receive rejected,
- * with the scouts sent up to the end of that path. With MAZE_TYPE_ALTERNATE_MAZE, if this pass is rejected, either way, a second one begins with the
- * ports below the dimension that the vector left out; the answer is then that of the second pass, with the scouts of both. A second pass that no
- * port is left for is route rejected. An accepted open holds the links of the path and that receive channel, which stays armed; maze_trace tells
- * the path. Alters the entries of those and leaves the rest alone.
+ * with the scouts sent up to the end of that path. With MAZE_TYPE_ALTERNATE_MAZE, if this pass is route rejected, a second one begins with the ports
+ * below the dimension that the vector left out; the answer is then that of the second pass, with the scouts of both. A second pass that no port is
+ * left for is route rejected. A receive rejection ends the open: a second pass would come to the same target. An accepted open holds the links of
+ * the path and that receive channel, which stays armed; maze_trace tells the path. Alters the entries of those and leaves the rest alone.
  * Answers 0 with hops, receive channel and scouts, or the first of 1, 2, 3, 4, 5, 7, 8, 9, 10 and 11 that applies; 10 and 11 with scouts. A target
  * whose eight channels are all armed never gives 11: where a link into it is free, one of them is not held. */
 maze_opened maze_open(uint8_t *table, size_t table_len, uint16_t node, uint16_t channel, uint16_t target, uint16_t type, uint16_t vector);

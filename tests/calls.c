@@ -1,5 +1,5 @@
-/* The calls on a table from C, beside vectors worked by hand from document 01 and request (a) of document 02: the examples with the bytes of their
- * tables, each refusal at its edge, and that a refused call alters nothing.
+/* The calls on a table from C, beside vectors worked by hand from document 01 and requests (a) and (f) of document 02: the examples with the bytes of
+ * their tables, each refusal at its edge, and that a refused call alters nothing.
  *
  * A byte of a table is given by its place: the link out of port p of node n is held at 257 + 16 n + 2 p, receive channel c of node n at
  * 4353 + 16 n + 2 c, the enabled links of node n are at 1 + n, and its armed channels at 8449 + n. */
@@ -142,11 +142,17 @@ static const struct send unarmed[] = {
     {"none armed, to itself", 1, NONE, 0, 0, 0, 0, 1, 11, 0, 2, "", {{0, 0}}},
     {"none armed, nine hops", 8, NONE, 0, 0, 254, 0, 1, 11, 0, 9, "", {{0, 0}}},
     {"none armed, no path", 2, {{0, 0}, {0, 99}}, 0, 0, 1, 0, 1, 10, 0, 0, "", {{1, 2}}},
-    {"both passes receive rejected", 2, NONE, 0, 0, 3, 4, 1, 11, 0, 4, "", {{0, 0}}},
-    {"receive rejected, then a second pass with no port", 2, NONE, 0, 0, 3, 4, 3, 10, 0, 2, "", {{0, 0}}},
-    /* the second pass comes to node 2 and no further */
-    {"receive rejected, then route rejected", 2, {{2, 0}, {0, 99}}, 0, 0, 3, 4, 1, 10, 0, 3, "", {{3, 2}}},
+    /* type 4: a receive rejection in the first pass ends the send, whatever a second pass would find: a path, no port, or no way on from node 2 */
+    {"receive rejected, type 4", 2, NONE, 0, 0, 3, 4, 1, 11, 0, 2, "", {{0, 0}}},
+    {"receive rejected, type 4, no port left", 2, NONE, 0, 0, 3, 4, 3, 11, 0, 2, "", {{0, 0}}},
+    {"receive rejected, type 4, no other path", 2, {{2, 0}, {0, 99}}, 0, 0, 3, 4, 1, 11, 0, 2, "", {{3, 2}}},
+    {"receive rejected, type 4, to itself", 2, NONE, 2, 0, 2, 4, 2, 11, 0, 2, "", {{0, 0}}},
+    {"receive rejected, type 4, nine hops", 8, NONE, 0, 0, 254, 4, 1, 11, 0, 9, "", {{0, 0}}},
+    {"receive rejected, type 4, figure 7", 3, {{1, 2}, {3, 2}, {0, 99}}, 0, 0, 7, 4, 7, 11, 0, 5, "", {{2, 3}, {4, 3}}},
+    /* a route rejection does not, and then the scouts are those of both: to node 1 or to nodes 1 and 3, and then over the whole path */
     {"route rejected, then receive rejected", 2, {{1, 1}, {0, 99}}, 0, 0, 3, 4, 1, 11, 0, 3, "", {{2, 1}}},
+    {"route rejected, then receive rejected, figure 7", 3, {{1, 2}, {3, 2}, {0, 99}}, 0, 0, 7, 4, 1, 11, 0, 5, "", {{2, 3}, {4, 3}}},
+    {"no scout, then receive rejected", 2, {{0, 0}, {0, 99}}, 0, 0, 1, 4, 1, 11, 0, 3, "", {{1, 2}}},
     {"route rejected twice, none armed", 2, {{1, 1}, {2, 0}, {0, 99}}, 0, 0, 3, 4, 1, 10, 0, 2, "", {{2, 1}, {3, 2}}},
 };
 
@@ -275,6 +281,28 @@ static void receive_channels(void) {
     /* and then no link into it is free */
     got = maze_open(table, BYTES, 3, 0, 0, 4, 3);
     expect(got.number == 10 && got.hops == 0 && got.receive == 0 && got.scouts == 62, "all receive channels held", got.number, got.scouts);
+}
+
+/* Type 4 with the one armed channel of the target held: what a first pass finds decides whether there is a second. */
+static void second_pass(void) {
+    static const struct place two[] = {{257, 1}, {275, 1}, {4401, 1}, {259, 2}, {289, 2}, {4411, 2}, {8452, 33}, {0, 0}};
+    maze_opened got;
+    fresh(2);
+    arm(3, 0);
+    expect(maze_open(table, BYTES, 0, 0, 3, 4, 3).number == 0, "open on ports 0 and 1", 0, 0);
+    keep();
+    got = maze_open(table, BYTES, 0, 1, 3, 4, 2); /* the path over ports 1 and 0 is free */
+    expect(got.number == 11 && got.hops == 0 && got.receive == 0 && got.scouts == 2 && unaltered(), "found in the first pass", got.number, got.scouts);
+    got = maze_open(table, BYTES, 0, 1, 3, 4, 3);
+    expect(got.number == 11 && got.hops == 0 && got.receive == 0 && got.scouts == 2 && unaltered(), "found in the only pass", got.number, got.scouts);
+    got = maze_open(table, BYTES, 0, 1, 3, 4, 1); /* port 0 is held: the second pass finds that path */
+    expect(got.number == 11 && got.hops == 0 && got.receive == 0 && got.scouts == 2 && unaltered(), "found in the second pass", got.number, got.scouts);
+    got = maze_open(table, BYTES, 1, 0, 3, 4, 2); /* its own link to node 3 is held: the second pass goes by ports 0, 1 and 0 */
+    expect(got.number == 11 && got.hops == 0 && got.receive == 0 && got.scouts == 3 && unaltered(), "found through node 0", got.number, got.scouts);
+    arm(3, 5);
+    got = maze_open(table, BYTES, 0, 1, 3, 4, 1);
+    expect(got.number == 0 && got.hops == 2 && got.receive == 5 && got.scouts == 2, "accepted in the second pass", got.number, got.scouts);
+    expect_table("two circuits of type 4", 2, two);
 }
 
 /* ---- arming ---- */
@@ -803,6 +831,7 @@ int main(void) {
     example_9();
     most_scouts();
     receive_channels();
+    second_pass();
     lowest_armed();
     arming();
     blocking();

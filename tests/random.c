@@ -175,7 +175,7 @@ static struct {
     unsigned long calls, answers[LETTERS][NUMBERS], hops[10], rejected_1000, rejected_10000, most_scouts, second_accepted, second_rejected,
         through_source, to_itself, first_hop_away, nearly_full, nearly_full_accepted, full, all_received, one_changed, one_changed_sound,
         several_changed, several_changed_sound, mask_changed, mask_changed_sound, moved, laid, laid_sound, wrong_length, short_buffer;
-    unsigned long both_receive_rejected, receive_then_route, route_then_receive, passed_over, armed_again, armed_held, disarmed_again;
+    unsigned long receive_ended, receive_ended_no_port, route_then_receive, passed_over, armed_again, armed_held, disarmed_again;
 } seen;
 
 static void count_held(unsigned long *held, unsigned long *links) {
@@ -201,11 +201,11 @@ static void tally(const struct call *call, const struct answers *answers, unsign
         seen.full += held == links;
     }
     if (ref_last_send.passes == 2) {
-        int receive = ref_last_send.first == MAZE_RECEIVE_REJECTED;
         *(number == MAZE_ACCEPTED ? &seen.second_accepted : &seen.second_rejected) += 1;
-        seen.both_receive_rejected += receive && number == MAZE_RECEIVE_REJECTED;
-        seen.receive_then_route += receive && number == MAZE_ROUTE_REJECTED;
-        seen.route_then_receive += !receive && number == MAZE_RECEIVE_REJECTED;
+        seen.route_then_receive += number == MAZE_RECEIVE_REJECTED;
+    } else if (a[3] == MAZE_TYPE_ALTERNATE_MAZE && number == MAZE_RECEIVE_REJECTED) {
+        int all_ports = a[4] + 1u == 1u << MAZE_DIMENSION(now.table[1]);
+        *(all_ports ? &seen.receive_ended_no_port : &seen.receive_ended) += 1;
     }
     if (number == MAZE_ACCEPTED) {
         unsigned uphill = (a[0] ^ a[2]) >> ref_last_send.ports[0] & 1, passed_over = 0;
@@ -631,8 +631,8 @@ static void print_seen(void) {
     printf("\nfirst hop away from the target: %lu; through the source: %lu; to the source itself: %lu\n", seen.first_hop_away,
            seen.through_source, seen.to_itself);
     printf("second pass accepted: %lu; second pass rejected: %lu\n", seen.second_accepted, seen.second_rejected);
-    printf("both passes receive rejected: %lu; receive and then route rejected: %lu; route and then receive rejected: %lu\n",
-           seen.both_receive_rejected, seen.receive_then_route, seen.route_then_receive);
+    printf("type 4 ended by a receive rejection with a port left for a second pass: %lu; with none: %lu; route and then receive rejected: %lu\n",
+           seen.receive_ended, seen.receive_ended_no_port, seen.route_then_receive);
     printf("opens that passed over a channel not armed: %lu; armed ones armed again: %lu, of these held: %lu; disarmed ones again: %lu\n",
            seen.passed_over, seen.armed_again, seen.armed_held, seen.disarmed_again);
     printf("rejected after 1,000 scouts or more: %lu; after 10,000 or more: %lu; most scouts of a send: %lu\n", seen.rejected_1000,
@@ -680,8 +680,8 @@ int main(int count, char **arguments) {
             {"a second pass accepted", seen.second_accepted},
             {"a second pass rejected", seen.second_rejected},
             {"a receive rejection", seen.answers[letter_place('S')][MAZE_RECEIVE_REJECTED]},
-            {"both passes receive rejected", seen.both_receive_rejected},
-            {"a receive rejection and then a route rejection", seen.receive_then_route},
+            {"type 4 ended by a receive rejection with a port left for a second pass", seen.receive_ended},
+            {"type 4 ended by a receive rejection with no port left", seen.receive_ended_no_port},
             {"a route rejection and then a receive rejection", seen.route_then_receive},
             {"an open that passed over a channel not armed", seen.passed_over},
             {"a channel disarmed", seen.answers[letter_place('D')][MAZE_ACCEPTED] - seen.disarmed_again},

@@ -334,8 +334,8 @@ maze_opened ref_open(uint8_t *table, size_t table_len, uint16_t node, uint16_t c
         struct pass pass = run_pass(&call.cube, node, vector, target);
         answer.scouts = pass.scouts;
         ref_last_send.passes = 1;
-        ref_last_send.first = pass.number;
-        if (pass.number != MAZE_ACCEPTED && type == 4) {
+        /* request (f): a receive rejection ends the send, since a second pass would come to the same target */
+        if (pass.number == MAZE_ROUTE_REJECTED && type == 4) {
             unsigned others = 0;
             for (unsigned port = 0; port < call.cube.dimension; port++)
                 if (!bit(vector, port)) others += power(port);

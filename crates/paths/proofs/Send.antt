@@ -1,6 +1,6 @@
 -- A send's answer: that of the last attempt made, with the scouts of all.
 -- Assumes nothing.
-use mathlib.Core.Path.{_≡_, refl, subst}
+use mathlib.Core.Path.{_≡_, refl, ap, sym, subst}
 use mathlib.Core.Logic.{_↔_, _≢_, ⊎-elim}
 use mathlib.Core.Bool.{Bool, true, false, cond, true≢false}
 use mathlib.Core.List.{List, [], _∷_, map, List·Memᴰ·head, List·Memᴰ·tail, List·Memᴰ·not-nil, List·Memᴰ·cases-cons}
@@ -26,12 +26,12 @@ answer-says N free s vector t r (none c) h = says-route-rejected h
 answer-says N free s vector t (channel k) (found w c) h = says-acknowledged refl h
 answer-says N free s vector t none-available (found w c) h = says-receive-rejected refl h
 
--- A send goes on exactly where it is not acknowledged; then the next attempt's answer counts, and all scouts are added.
-pub goes-on-unless : (o : Outcome) → (goesOn o ≡ false) ↔ Acknowledged o
-unfolding goesOn Acknowledged
-goes-on-unless (acknowledged w c) = ((λ e. tt), (λ h. refl))
-goes-on-unless route-rejected = ((λ e. true≢false e), (λ h. absurd h))
-goes-on-unless receive-rejected = ((λ e. true≢false e), (λ h. absurd h))
+-- A send goes on exactly after a route rejection; then the next attempt's answer counts, and all scouts are added.
+pub goes-on-after : (o : Outcome) → (goesOn o ≡ true) ↔ (o ≡ route-rejected)
+unfolding goesOn
+goes-on-after (acknowledged w c) = ((λ e. absurd (true≢false (sym e))), (λ h. ap goesOn h))
+goes-on-after route-rejected = ((λ e. refl), (λ h. refl))
+goes-on-after receive-rejected = ((λ e. absurd (true≢false (sym e))), (λ h. ap goesOn h))
 
 pub runs-stop : (r : Receive) (x y : PassResult) (ys : List PassResult) → goesOn (outcome r x) ≡ false → runs r (x ∷ y ∷ ys) ≡ oneResult r x
 runs-stop r x y ys e = unfold runs in rw e
@@ -72,25 +72,39 @@ module _ (N : Network) (s t : ℕ) (free : ℕ → ℕ → Bool) (r : Receive) w
   unfolding AttemptSays Tries
   route-rejected-says (pass-over ps) n (says-route-rejected f) = f .nothing
 
-  -- where a channel is there to take, an attempt with a free path is acknowledged
-  finds : (a : Attempt) (o : Outcome) (n : ℕ) → AttemptSays N s t free r a o n → (w : Path) → Tries N s t a w → Free N free s w → r ≢ none-available
-      → Acknowledged o
+  -- where a channel is there to take, an attempt is acknowledged or route rejected
+  settles : (a : Attempt) (o : Outcome) (n : ℕ) → AttemptSays N s t free r a o n → r ≢ none-available → o ≢ route-rejected → Acknowledged o
   unfolding Acknowledged
-  finds a (acknowledged w k) n h v i f g = tt
-  finds a route-rejected n h v i f g = route-rejected-says a n h v i f
-  finds a receive-rejected n h v i f g = g (receive-rejected-says a n h .1)
+  settles a (acknowledged w k) n h g f = tt
+  settles a route-rejected n h g f = f refl
+  settles a receive-rejected n h g f = g (receive-rejected-says a n h .1)
+
+  -- route rejected, it has no free path
+  no-route : (a : Attempt) (o : Outcome) (n : ℕ) → AttemptSays N s t free r a o n → (w : Path) → Tries N s t a w → Free N free s w → o ≢ route-rejected
+  no-route a o n h w i f e = route-rejected-says a n (rw e at h) w i f
 
   -- The answer of a send is that of one of its attempts;
   pub said-by : (xs : List Attempt) (o : Outcome) (n : ℕ) → AttemptsSay N s t free r xs o n
       → (a : Attempt) × (a ∈ xs) × ((m : ℕ) × AttemptSays N s t free r a o m)
   said-by _ o n (last {a} h) = (a, List·Memᴰ·head refl, (n, h))
   said-by _ o n (ends {a} h e) = (a, List·Memᴰ·head refl, (n, h))
-  said-by _ o _ (goes-on {later = xs} {n₂ = n} o₁ n₁ h e rest) = let x = said-by xs o n rest in (x .0, List·Memᴰ·tail (x .1), x .2)
+  said-by _ o _ (goes-on {later = xs} {n₂ = n} n₁ h rest) = let x = said-by xs o n rest in (x .0, List·Memᴰ·tail (x .1), x .2)
 
-  -- it is acknowledged exactly where one of them has a free path and a channel is there to take.
+  -- it is not route rejected where one of them has a free path;
   abbrev pub Route : List Attempt → Type 0
   Route xs = (a : Attempt) × (a ∈ xs) × ((w : Path) × Tries N s t a w × Free N free s w)
 
+  pub not-route-rejected : (xs : List Attempt) (o : Outcome) (n : ℕ) → AttemptsSay N s t free r xs o n → Route xs → o ≢ route-rejected
+  not-route-rejected _ o n (last {a} h) x =
+      let e = ⊎-elim (λ z. z) (λ z. absurd (List·Memᴰ·not-nil z)) (List·Memᴰ·cases-cons (x .1)) in
+      no-route a o n h (x .2 .0) (subst (λ b. Tries N s t b (x .2 .0)) e (x .2 .1)) (x .2 .2)
+  not-route-rejected _ o n (ends h f) x = f
+  not-route-rejected _ o _ (goes-on {a} {later = xs} {n₂ = n} n₁ h rest) x =
+      ⊎-elim
+      (λ z. absurd (route-rejected-says a n₁ h (x .2 .0) (subst (λ b. Tries N s t b (x .2 .0)) z (x .2 .1)) (x .2 .2)))
+      (λ m. not-route-rejected xs o n rest (x .0, m, x .2)) (List·Memᴰ·cases-cons (x .1))
+
+  -- it is acknowledged exactly where one of them has a free path and a channel is there to take;
   pub acknowledged-route : (xs : List Attempt) (w : Path) (k n : ℕ) → AttemptsSay N s t free r xs (acknowledged w k) n → Route xs × (r ≡ channel k)
   acknowledged-route xs w k n h =
       let x = said-by xs (acknowledged w k) n h in
@@ -98,14 +112,14 @@ module _ (N : Network) (s t : ℕ) (free : ℕ → ℕ → Bool) (r : Receive) w
       ((x .0, x .1, (w, y .0, y .1)), y .2)
 
   pub route-acknowledged : (xs : List Attempt) (o : Outcome) (n : ℕ) → AttemptsSay N s t free r xs o n → Route xs → r ≢ none-available → Acknowledged o
-  route-acknowledged _ o n (last {a} h) x g =
-      let e = ⊎-elim (λ z. z) (λ z. absurd (List·Memᴰ·not-nil z)) (List·Memᴰ·cases-cons (x .1)) in
-      finds a o n h (x .2 .0) (subst (λ b. Tries N s t b (x .2 .0)) e (x .2 .1)) (x .2 .2) g
-  route-acknowledged _ o n (ends h e) x g = goes-on-unless o .0 e
-  route-acknowledged _ o _ (goes-on {a} {later = xs} {n₂ = n} o₁ n₁ h e rest) x g =
-      ⊎-elim
-      (λ z. absurd (clash e (goes-on-unless o₁ .1 (finds a o₁ n₁ h (x .2 .0) (subst (λ b. Tries N s t b (x .2 .0)) z (x .2 .1)) (x .2 .2) g))))
-      (λ m. route-acknowledged xs o n rest (x .0, m, x .2) g) (List·Memᴰ·cases-cons (x .1))
+  route-acknowledged xs o n h x g = let y = said-by xs o n h in settles (y .0) o (y .2 .0) (y .2 .1) g (not-route-rejected xs o n h x)
+
+  -- it is receive rejected only where one of them has a free path and no channel is there to take.
+  pub receive-rejected-route : (xs : List Attempt) (n : ℕ) → AttemptsSay N s t free r xs receive-rejected n → Route xs × (r ≡ none-available)
+  receive-rejected-route xs n h =
+      let x = said-by xs receive-rejected n h in
+      let y = receive-rejected-says (x .0) (x .2 .0) (x .2 .1) in
+      ((x .0, x .1, y .0), y .1)
 
   -- What the attempts of a list come to, made in turn, says so where each of them does.
   abbrev said : Attempt → Type 0
@@ -124,8 +138,10 @@ module _ (N : Network) (s t : ℕ) (free : ℕ → ℕ → Bool) (r : Receive) w
 
       go : (c : Bool) → goesOn (outcome r x) ≡ c → said a → AttemptsSay N s t free r (b ∷ bs) (runs r ys .outcome) (runs r ys .scouts)
           → AttemptsSay N s t free r (a ∷ b ∷ bs) (runs r (x ∷ ys) .outcome) (runs r (x ∷ ys) .scouts)
-      go true e i rest = rw (runs-on r x (attempted N free s t b) (map (attempted N free s t) bs) e) (goes-on (outcome r x) (scouts x) i e rest)
-      go false e i rest = rw (runs-stop r x (attempted N free s t b) (map (attempted N free s t) bs) e) (ends i e)
+      go true e i rest = rw (runs-on r x (attempted N free s t b) (map (attempted N free s t) bs) e)
+          (goes-on (scouts x) (subst (λ o. AttemptSays N s t free r a o (scouts x)) (goes-on-after (outcome r x) .0 e) i) rest)
+      go false e i rest = rw (runs-stop r x (attempted N free s t b) (map (attempted N free s t) bs) e)
+          (ends i (λ z. clash (goes-on-after (outcome r x) .1 z) e))
 
 -- more ports for the first hop, more permitted paths
 wider : (N : Network) (s : ℕ) (ps qs : List ℕ) (t : ℕ) (w : Path) → ((p : ℕ) → p ∈ ps → p ∈ qs) → Permitted N s ps t w → Permitted N s qs t w
@@ -167,7 +183,7 @@ module _ (S : Shape) where
     unfolding send attempts attempted runs
     maze-answers = refl
 
-    -- Routing type 4 stops where the first pass is acknowledged,
+    -- Routing type 4 stops where the first pass finds a path,
     pub alternate-stops : goesOn (outcome r first) ≡ false → send 4 S free r s vector t ≡ oneResult r first
     unfolding send attempts attempted
     alternate-stops e = runs-stop r first second [] e

@@ -5,6 +5,7 @@ pub mod Pass
 pub mod Send
 pub mod Sentences
 pub mod CubeNetwork
+pub mod OldRule
 pub mod Search
 pub mod Bound
 pub mod Recover

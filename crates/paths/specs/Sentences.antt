@@ -10,7 +10,7 @@ use Rattle.common.specs.Lists.{_∈_, Pairwise}
 use Rattle.paths.specs.Network.{Network, Path, freePath}
 use Rattle.paths.specs.Permitted.{Permitted, Beginning, ComesBefore}
 use Rattle.paths.specs.Pass.{PassResult, none, found}
-use Rattle.paths.specs.Send.{Receive, channel, none-available, Outcome, acknowledged, route-rejected, receive-rejected, Attempt, pass-over, goesOn}
+use Rattle.paths.specs.Send.{Receive, channel, none-available, Outcome, acknowledged, route-rejected, receive-rejected, Attempt, pass-over}
 
 -- c is the number of paths with P: a list holds exactly those, each once, and is c long
 pub record Number (P : Path → Type 0) (c : ℕ) : Type 0 where
@@ -59,10 +59,10 @@ module _ (N : Network) (s t : ℕ) where
     unfoldable pub AttemptSays : Attempt → Outcome → ℕ → Type 0
     AttemptSays (pass-over ports) o n = AnswerSays N free s ports t r o n
 
-    -- What a send says that makes the attempts of a list in turn. The last attempt, and one that ends the send, give its answer; after any other the
-    -- answer is that of the rest, and the scouts are added.
+    -- What a send says that makes the attempts of a list in turn. After a route rejection the next attempt is made, and the scouts are added. An
+    -- acknowledgement ends the send, and so does the other rejection: document 02, (f), "receive rejection in the first pass ends a type 4 send".
     pub data AttemptsSay : List Attempt → Outcome → ℕ → Type 0 where
       last : {a : Attempt} {o : Outcome} {n : ℕ} → AttemptSays a o n → AttemptsSay (a ∷ []) o n
-      ends : {a : Attempt} {later : List Attempt} {o : Outcome} {n : ℕ} → AttemptSays a o n → goesOn o ≡ false → AttemptsSay (a ∷ later) o n
-      goes-on : {a : Attempt} {later : List Attempt} {o₂ : Outcome} {n₂ : ℕ} (o : Outcome) (n : ℕ) → AttemptSays a o n → goesOn o ≡ true
+      ends : {a : Attempt} {later : List Attempt} {o : Outcome} {n : ℕ} → AttemptSays a o n → o ≢ route-rejected → AttemptsSay (a ∷ later) o n
+      goes-on : {a : Attempt} {later : List Attempt} {o₂ : Outcome} {n₂ : ℕ} (n : ℕ) → AttemptSays a route-rejected n
           → AttemptsSay later o₂ n₂ → AttemptsSay (a ∷ later) o₂ (n + n₂)

@@ -19,6 +19,10 @@ use Rattle.cube.specs.Cube.{channels}
 abbrev pub FreeRoute : View → ℕ → ℕ → Attempt → Type 0
 FreeRoute v s t a = (w : Path) × Tries (net v) s t a w × Free (net v) (freeIn v) s w
 
+-- one of the attempts has such a path
+abbrev pub SomeRoute : View → ℕ → ℕ → List Attempt → Type 0
+SomeRoute v s t xs = (a : Attempt) × (a ∈ xs) × FreeRoute v s t a
+
 -- a receive channel is available at a target; the lowest one that is
 abbrev pub Available : View → ℕ → Type 0
 Available v t = (k : ℕ) × (k < channels) × (available v t k ≡ true)
@@ -28,7 +32,8 @@ pub record Lowest (v : View) (t k : ℕ) : Type 0 where
   pub is-available : available v t k ≡ true
   pub first : (j : ℕ) → j < k → available v t j ≡ false
 
--- What a send of circuit c from s to t answers, and the bytes after it, on a table with the bytes b. An acknowledgement is number 0.
+-- What a send of circuit c from s to t answers, and the bytes after it, on a table with the bytes b. An acknowledgement is number 0, a route
+-- rejection 10, a receive rejection 11.
 pub record SendSays (b : List ℕ) (s t c type vector : ℕ) (number hops receives scouts : ℕ) (after : List ℕ) : Type 0 where
   pub outcome : Outcome
   -- the outcome and the scouts are those of the type's attempts: the first free permitted path, and the free beginnings up to it (AnswerSays)
@@ -36,7 +41,11 @@ pub record SendSays (b : List ℕ) (s t c type vector : ℕ) (number hops receiv
   -- the numbers and the bytes are those of that outcome: an acknowledged path's links and its receive channel are held, nothing else changes
   pub answer : pass-answer number hops receives scouts after ≡ sendAnswer b c s t (record { outcome = outcome; scouts = scouts })
   -- it is acknowledged exactly when one of its attempts has a free permitted path and the target has a receive channel available
-  pub exactly : (number ≡ 0) ↔ (((a : Attempt) × (a ∈ attempts (shapeOf (view b)) type vector) × FreeRoute (view b) s t a) × Available (view b) t)
+  pub exactly : (number ≡ 0) ↔ (SomeRoute (view b) s t (attempts (shapeOf (view b)) type vector) × Available (view b) t)
+  -- route rejected exactly when none of them has a free permitted path
+  pub rejected-route : (number ≡ 10) ↔ (SomeRoute (view b) s t (attempts (shapeOf (view b)) type vector) → ⊥)
+  -- receive rejected exactly when one of them has, and the target has no receive channel available
+  pub rejected-receive : (number ≡ 11) ↔ (SomeRoute (view b) s t (attempts (shapeOf (view b)) type vector) × (Available (view b) t → ⊥))
   pub lowest : number ≡ 0 → Lowest (view b) t receives
   -- a rejected search leaves each byte as it was
   pub unchanged : number ≢ 0 → after ≡ b
