@@ -10,6 +10,7 @@ pub mod Cone
 pub mod Bound
 pub mod CubeNetwork
 pub mod Send
+pub mod Helix
 pub mod Apart
 pub mod Recover
 pub mod Walks

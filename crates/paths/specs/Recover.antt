@@ -2,7 +2,7 @@
 -- take bound the way. That this gives the path back is proved (Recover).
 -- Assumes nothing.
 use mathlib.Core.Bool.{Bool, not, _&&_}
-use mathlib.Core.List.{List, [], _∷_, _++_}
+use mathlib.Core.List.{List, [], _++_}
 use Prim.Native.Nat.{ℕ, zero, suc}
 use lib.Dec.{eqb}
 use Rattle.common.specs.Lists.{keep, any}
