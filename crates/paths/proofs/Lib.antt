@@ -11,6 +11,8 @@ pub mod Bound
 pub mod CubeNetwork
 pub mod Send
 pub mod OldRule
+pub mod Helix
+pub mod Tried
 pub mod Apart
 pub mod Recover
 pub mod Walks

@@ -18,7 +18,7 @@ use Rattle.paths.proofs.Depth.{over-cons}
 use Rattle.paths.proofs.Beginnings.{Opens, over-mem, ways-all, ways-climb}
 
 -- rising ports, put into the helical order, stand as they are tried
-helical-pairwise : (a : ℕ) (ps : List ℕ) → Pairwise _<_ ps → Pairwise (Sooner a) (helical a ps)
+pub helical-pairwise : (a : ℕ) (ps : List ℕ) → Pairwise _<_ ps → Pairwise (Sooner a) (helical a ps)
 unfolding helical Sooner
 helical-pairwise a ps s =
     pairwise-append (keep (λ p. ltb a p) ps) (keep (λ p. leb p a) ps)
@@ -26,7 +26,7 @@ helical-pairwise a ps s =
     (pairwise-kept (λ p. leb p a) _<_ (Sooner a) ps (λ p q i j l. inr (inr (l, leb-true q a j))) s)
     (λ p q m k. inl (ltb-true a p (keep-mem _ ps m .1), leb-true q a (keep-mem _ ps k .1)))
 
-offered-pairwise : (N : Network) (t n : ℕ) → Pairwise _<_ (offered N t n)
+pub offered-pairwise : (N : Network) (t n : ℕ) → Pairwise _<_ (offered N t n)
 unfolding offered
 offered-pairwise N t n = keep-pairwise (N .offers t n) _<_ (from 0 (N .portBound)) (from-pairwise 0 (N .portBound))
 
@@ -68,7 +68,7 @@ beginnings-in-order N s vector t r =
     over-pairwise _<_ _ (λ p w m. ways-climb _ N t (N .next s p) p w m .0) (λ p. ways-pairwise N t _ (N .next s p) p) vector r
 
 -- nothing is tried, or comes, before itself; and of two only one comes before the other
-sooner-asym : (a p q : ℕ) → Sooner a p q → Sooner a q p → ⊥
+pub sooner-asym : (a p q : ℕ) → Sooner a p q → Sooner a q p → ⊥
 unfolding Sooner
 sooner-asym a p q h k =
     ⊎-elim (λ x. ⊎-elim (λ y. omega arith) (λ c. ⊎-elim (λ y. omega arith) (λ y. omega arith) c) k)

@@ -19,10 +19,10 @@ use Rattle.cube.specs.Helical.{portsOf}
 use Rattle.cube.proofs.Bits.{bit-flipped, bit-kept, bit-lt}
 use Rattle.cube.proofs.Axes.{axis-low}
 use Rattle.cube.proofs.Order.{ports-mem, ports-without}
-use Rattle.paths.specs.Network.{Network, Path, links, hasLink, Exactly}
+use Rattle.paths.specs.Network.{Network, Path, takeFirst, links, hasLink, Exactly}
 use Rattle.paths.specs.Permitted.{Permitted, SameLinks}
 use Rattle.paths.specs.CubeNetwork.{Shape, ports, network}
-use Rattle.paths.specs.Recover.{takeFirst, dropAxis, walkFrom, wayBack, firstHopChoices, pathOfLinks}
+use Rattle.paths.specs.Recover.{dropAxis, walkFrom, wayBack, firstHopChoices, pathOfLinks}
 use Rattle.paths.proofs.Links.{On, on-cases, on-first, on-later, on-none, link-true, true-link}
 use Rattle.paths.proofs.CubeNetwork.{ports-few}
 use Rattle.paths.proofs.Apart.{Avoids, Apart, LaterApart, apart-ports, onward-apart}

@@ -18,9 +18,9 @@ use Rattle.cube.specs.Axes.{axis}
 use Rattle.cube.specs.Helical.{portsOf}
 use Rattle.cube.proofs.Axes.{axis-low}
 use Rattle.cube.proofs.Order.{ports-mem, ports-without}
-use Rattle.paths.specs.Network.{Network, Path}
+use Rattle.paths.specs.Network.{Network, Path, takeFirst}
 use Rattle.paths.specs.CubeNetwork.{Shape, ports, network}
-use Rattle.paths.specs.Recover.{takeFirst, dropAxis, walkFrom, wayBack, pathOfLinks}
+use Rattle.paths.specs.Recover.{dropAxis, walkFrom, wayBack, pathOfLinks}
 use Rattle.paths.proofs.Links.{On, on-cases, on-none}
 use Rattle.paths.proofs.Apart.{Avoids, Apart, LaterApart}
 use Rattle.paths.proofs.Recover.{take-all, drop-mem, drop-shorter, first-choice}

@@ -2,7 +2,7 @@
 -- Assumes nothing.
 use mathlib.Core.Path.{_≡_, refl}
 use mathlib.Core.Bool.{Bool, true, _&&_, not}
-use mathlib.Core.List.{List, [], _∷_}
+use mathlib.Core.List.{List, [], _∷_, map}
 use Prim.Native.Nat.{ℕ}
 use lib.Dec.{eqb}
 use lib.ListN.{length}
@@ -11,13 +11,14 @@ use Rattle.cube.specs.Bits.{has, flip}
 use Rattle.cube.specs.Axes.{axis, present}
 use Rattle.cube.specs.Cube.{uphill}
 use Rattle.cube.specs.Helical.{helical}
-use Rattle.paths.specs.Network.{Path, Link, offered, end, links, hasLink, freePath}
-use Rattle.paths.specs.Pass.{over, ways, beginnings, scan, whole, pass, scouts}
+use Rattle.paths.specs.Network.{Path, Link, offered, takeFirst, end, links, hasLink, freePath}
+use Rattle.paths.specs.Pass.{PassResult, none, found, over, ways, beginnings, scan, whole, pass, scouts}
+use Rattle.paths.specs.Helix.{helixFrom, helixPath, freeFront, tryPaths}
 use Rattle.paths.specs.Send.{channel, none-available, Outcome, acknowledged, route-rejected, receive-rejected, received, attempted, outcome, SendResult, goesOn, runs}
 use Rattle.paths.specs.CubeNetwork.{Shape, ports, network, sendPorts, otherPorts, attempts, send}
 use Rattle.paths.specs.OldRule.{oldGoesOn, oldRuns, oldSend}
 use Rattle.paths.specs.Bound.{waysFrom, sendsFrom}
-use Rattle.paths.specs.Recover.{takeFirst, dropAxis, walkFrom, wayBack, firstHopChoices, pathOfLinks}
+use Rattle.paths.specs.Recover.{dropAxis, walkFrom, wayBack, firstHopChoices, pathOfLinks}
 
 -- every link is free but those listed
 abbrev freeBut : List Link → ℕ → ℕ → Bool
@@ -164,3 +165,71 @@ takenPaths = (0 ∷ 17 ∷ 1 ∷ []) ∷ (17 ∷ 0 ∷ 1 ∷ []) ∷ (0 ∷ 0 �
 paths-recovered : recovered takenPaths ≡ takenPaths
 unfolding pathOfLinks firstHopChoices wayBack walkFrom takeFirst dropAxis any network ports present axis keep from has flip links hasLink
 paths-recovered = refl
+
+-- Document 02, (b): helix paths, of ports that are uphill and of ports that are not.
+abbrev helixOf : Shape → ℕ → ℕ → ℕ → Path
+helixOf S = helixPath (network S)
+
+abbrev helixPaths : List Path
+helixPaths =
+    -- D 3, 0 to 7: ports 0, 1 and 2
+    helixOf (cube 3) 0 7 0
+    ∷ helixOf (cube 3) 0 7 1
+    ∷ helixOf (cube 3) 0 7 2
+    -- D 2, 0 to 1: port 1 leads away, and of both ports offered at 2 the arrival port is tried last
+    ∷ helixOf (cube 2) 0 1 1
+    -- D 3, 0 to 3: port 2 leads away, D + 1 hops
+    ∷ helixOf (cube 3) 0 3 2
+    -- D 1, node 0 to itself; with mask 1 the way back is over the partner
+    ∷ helixOf (cube 1) 0 0 0
+    ∷ helixOf (folded 1 1) 0 0 0
+    ∷ []
+
+abbrev helixPorts : List Path
+helixPorts =
+    (0 ∷ 1 ∷ 2 ∷ [])
+    ∷ (1 ∷ 2 ∷ 0 ∷ [])
+    ∷ (2 ∷ 0 ∷ 1 ∷ [])
+    ∷ (1 ∷ 0 ∷ 1 ∷ [])
+    ∷ (2 ∷ 0 ∷ 1 ∷ 2 ∷ [])
+    ∷ (0 ∷ 0 ∷ [])
+    ∷ (0 ∷ 17 ∷ [])
+    ∷ []
+
+helix-ports : helixPaths ≡ helixPorts
+unfolding helixPath helixFrom takeFirst network present axis keep from has flip uphill helical offered
+helix-ports = refl
+
+-- The helix paths of some ports tried in turn, all links free but those listed.
+abbrev triedOver : ℕ → List Link → ℕ → ℕ → List ℕ → PassResult
+triedOver D blocked s t ps = tryPaths (network (cube D)) (freeBut blocked) s 0 (map (helixOf (cube D) s t) ps)
+
+abbrev helixTrials : List PassResult
+helixTrials =
+    -- figure 7, links 1 to 5 and 3 to 7 blocked: port 0 alone, stopped at its third hop; then ports 0, 1 and 2
+    triedOver 3 ((1, 2) ∷ (3, 2) ∷ []) 0 7 (0 ∷ [])
+    ∷ triedOver 3 ((1, 2) ∷ (3, 2) ∷ []) 0 7 (0 ∷ 1 ∷ 2 ∷ [])
+    -- D 2, 0 to 1, port 1, nothing blocked; then link 2 to 3, its second hop, where a pass goes back through the source
+    ∷ triedOver 2 [] 0 1 (1 ∷ [])
+    ∷ triedOver 2 ((2, 0) ∷ []) 0 1 (1 ∷ [])
+    -- D 2, 0 to 3, ports 0 and 1: the first hop of the first blocked; then the second hop of each
+    ∷ triedOver 2 ((0, 0) ∷ []) 0 3 (0 ∷ 1 ∷ [])
+    ∷ triedOver 2 ((1, 1) ∷ (2, 0) ∷ []) 0 3 (0 ∷ 1 ∷ [])
+    -- D 2, 0 to 1, ports 0 and 1, links 0 to 1 and 3 to 1 blocked: the second path is stopped at its third hop
+    ∷ triedOver 2 ((0, 0) ∷ (3, 1) ∷ []) 0 1 (0 ∷ 1 ∷ [])
+    ∷ []
+
+abbrev helixResults : List PassResult
+helixResults =
+    none 2
+    ∷ found (1 ∷ 2 ∷ 0 ∷ []) 5
+    ∷ found (1 ∷ 0 ∷ 1 ∷ []) 3
+    ∷ none 1
+    ∷ found (1 ∷ 0 ∷ []) 2
+    ∷ none 2
+    ∷ none 2
+    ∷ []
+
+helix-trials : helixTrials ≡ helixResults
+unfolding tryPaths freeFront freePath helixPath helixFrom takeFirst network present axis keep from has flip uphill helical offered
+helix-trials = refl

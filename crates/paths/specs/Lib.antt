@@ -2,6 +2,7 @@
 pub mod Network
 pub mod Permitted
 pub mod Pass
+pub mod Helix
 pub mod Send
 pub mod Sentences
 pub mod CubeNetwork

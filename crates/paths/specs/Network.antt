@@ -29,6 +29,11 @@ Path = List ℕ
 abbrev pub Link : Type 0
 Link = ℕ × ℕ
 
+-- on by the first port of a list, where it has one
+unfoldable pub takeFirst : List ℕ → (ℕ → Path) → Path
+takeFirst [] on = []
+takeFirst (p ∷ ps) on = p ∷ on p
+
 -- where a path from n leads
 unfoldable pub end : Network → ℕ → Path → ℕ
 end N n [] = n

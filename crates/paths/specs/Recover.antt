@@ -2,18 +2,13 @@
 -- take bound the way. That this gives the path back is proved (Recover).
 -- Assumes nothing.
 use mathlib.Core.Bool.{Bool, not, _&&_}
-use mathlib.Core.List.{List, [], _∷_, _++_}
+use mathlib.Core.List.{List, [], _++_}
 use Prim.Native.Nat.{ℕ, zero, suc}
 use lib.Dec.{eqb}
 use Rattle.common.specs.Lists.{keep, any}
 use Rattle.cube.specs.Axes.{axis}
-use Rattle.paths.specs.Network.{Network, Path}
+use Rattle.paths.specs.Network.{Network, Path, takeFirst}
 use Rattle.paths.specs.CubeNetwork.{Shape, ports, network}
-
--- on by the first port of a list, where it has one
-unfoldable pub takeFirst : List ℕ → (ℕ → Path) → Path
-takeFirst [] on = []
-takeFirst (p ∷ ps) on = p ∷ on p
 
 -- the ports of a list that have another axis than p
 unfoldable pub dropAxis : ℕ → List ℕ → List ℕ

@@ -20,9 +20,9 @@ use Rattle.cube.specs.Cube.{NodeCount, next, sourceOf}
 use Rattle.cube.specs.Helical.{portsOf}
 use Rattle.cube.proofs.Bits.{has-and, zero-has, no-ports}
 use Rattle.cube.proofs.Ports.{count-of}
-use Rattle.paths.specs.Network.{end, links, hasLink}
+use Rattle.paths.specs.Network.{takeFirst, end, links, hasLink}
 use Rattle.paths.specs.CubeNetwork.{network}
-use Rattle.paths.specs.Recover.{takeFirst, walkFrom, firstHopChoices, pathOfLinks}
+use Rattle.paths.specs.Recover.{walkFrom, firstHopChoices, pathOfLinks}
 use Rattle.paths.proofs.CubeNetwork.{unfolded-ports}
 use Rattle.paths.proofs.Walks.{walk-fuel}
 use Rattle.table.specs.Layout.{dimensionAt}

@@ -15,8 +15,8 @@ use Rattle.cube.specs.Bits.{has}
 use Rattle.cube.specs.Cube.{next, sourceOf, NodeCount, Without}
 use Rattle.cube.proofs.Axes.{next-inside}
 use Rattle.cube.proofs.Ports.{without-power}
-use Rattle.paths.specs.Network.{Network, Path}
-use Rattle.paths.specs.Recover.{takeFirst, dropAxis, walkFrom}
+use Rattle.paths.specs.Network.{Network, Path, takeFirst}
+use Rattle.paths.specs.Recover.{dropAxis, walkFrom}
 use Rattle.table.specs.Layout.{dimensionAt}
 use Rattle.table.specs.View.{View, view}
 use Rattle.soundness.specs.SoundTest.{pathOf, isEmpty, tracedInto}
