@@ -11,6 +11,7 @@ pub mod Bound
 pub mod CubeNetwork
 pub mod Send
 pub mod Helix
+pub mod OldRule
 pub mod Apart
 pub mod Recover
 pub mod Walks

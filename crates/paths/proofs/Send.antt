@@ -1,6 +1,6 @@
 -- A send's answer: that of the last attempt made, with the scouts of all.
 -- Assumes nothing.
-use mathlib.Core.Path.{_≡_, refl, subst}
+use mathlib.Core.Path.{_≡_, refl, ap, sym, subst}
 use mathlib.Core.Logic.{_↔_, _≢_, ⊎-elim}
 use mathlib.Core.Bool.{Bool, true, false, cond, true≢false}
 use mathlib.Core.List.{List, [], _∷_, map, List·Memᴰ·head, List·Memᴰ·tail, List·Memᴰ·not-nil, List·Memᴰ·cases-cons}
@@ -25,12 +25,12 @@ answer-says N free s vector t r (none c) h = says-route-rejected h
 answer-says N free s vector t (channel k) (found w c) h = says-acknowledged refl h
 answer-says N free s vector t all-held (found w c) h = says-receive-rejected refl h
 
--- A send goes on exactly where it is not acknowledged; then the next attempt's answer counts, and all scouts are added.
-pub goes-on-unless : (o : Outcome) → (goesOn o ≡ false) ↔ Acknowledged o
-unfolding goesOn Acknowledged
-goes-on-unless (acknowledged w c) = ((λ e. tt), (λ h. refl))
-goes-on-unless route-rejected = ((λ e. true≢false e), (λ h. absurd h))
-goes-on-unless receive-rejected = ((λ e. true≢false e), (λ h. absurd h))
+-- A send goes on exactly after a route rejection; then the next attempt's answer counts, and all scouts are added.
+pub goes-on-after : (o : Outcome) → (goesOn o ≡ true) ↔ (o ≡ route-rejected)
+unfolding goesOn
+goes-on-after (acknowledged w c) = ((λ e. absurd (true≢false (sym e))), (λ h. ap goesOn h))
+goes-on-after route-rejected = ((λ e. refl), (λ h. refl))
+goes-on-after receive-rejected = ((λ e. absurd (true≢false (sym e))), (λ h. ap goesOn h))
 
 pub runs-stop : (r : Receive) (x y : PassResult) (ys : List PassResult) → goesOn (outcome r x) ≡ false → runs r (x ∷ y ∷ ys) ≡ oneResult r x
 runs-stop r x y ys e = unfold runs in rw e
@@ -67,12 +67,16 @@ module _ (N : Network) (s t : ℕ) (free : ℕ → ℕ → Bool) (r : Receive) w
   unfolding AttemptSays Tries
   route-rejected-says (pass-over ps) n (says-route-rejected f) = f .nothing
 
-  -- where a channel is there to take, an attempt with a free path is acknowledged
-  finds : (a : Attempt) (o : Outcome) (n : ℕ) → AttemptSays N s t free r a o n → (w : Path) → Tries N s t a w → Free N free s w → r ≢ all-held → Acknowledged o
+  -- where a channel is there to take, an attempt is acknowledged or route rejected
+  settles : (a : Attempt) (o : Outcome) (n : ℕ) → AttemptSays N s t free r a o n → r ≢ all-held → o ≢ route-rejected → Acknowledged o
   unfolding Acknowledged
-  finds a (acknowledged w k) n h v i f g = tt
-  finds a route-rejected n h v i f g = route-rejected-says a n h v i f
-  finds a receive-rejected n h v i f g = g (receive-rejected-says a n h .1)
+  settles a (acknowledged w k) n h g f = tt
+  settles a route-rejected n h g f = f refl
+  settles a receive-rejected n h g f = g (receive-rejected-says a n h .1)
+
+  -- route rejected, it has no free path
+  no-route : (a : Attempt) (o : Outcome) (n : ℕ) → AttemptSays N s t free r a o n → (w : Path) → Tries N s t a w → Free N free s w → o ≢ route-rejected
+  no-route a o n h w i f e = route-rejected-says a n (rw e at h) w i f
 
   -- The answer of a send is that of one of its attempts;
   pub said-by : (xs : List Attempt) (o : Outcome) (n : ℕ) → AttemptsSay N s t free r xs o n → (a : Attempt) × (a ∈ xs) × ((m : ℕ) × AttemptSays N s t free r a o m)
@@ -89,11 +93,12 @@ module _ (N : Network) (s t : ℕ) (free : ℕ → ℕ → Bool) (r : Receive) w
 
   pub route-acknowledged : (xs : List Attempt) (o : Outcome) (n : ℕ) → AttemptsSay N s t free r xs o n → Route xs → r ≢ all-held → Acknowledged o
   route-acknowledged _ o n (last {a} h) x g =
-      let e = ⊎-elim (λ z. z) (λ z. absurd (List·Memᴰ·not-nil z)) (List·Memᴰ·cases-cons (x .1)) in finds a o n h (x .2 .0) (subst (λ b. Tries N s t b (x .2 .0)) e (x .2 .1)) (x .2 .2) g
-  route-acknowledged _ o n (ends h e) x g = goes-on-unless o .0 e
+      let e = ⊎-elim (λ z. z) (λ z. absurd (List·Memᴰ·not-nil z)) (List·Memᴰ·cases-cons (x .1)) in
+      settles a o n h g (no-route a o n h (x .2 .0) (subst (λ b. Tries N s t b (x .2 .0)) e (x .2 .1)) (x .2 .2))
+  route-acknowledged _ o n (ends {a} h e) x g = settles a o n h g (λ z. clash (goes-on-after o .1 z) e)
   route-acknowledged _ o _ (goes-on {a} {later = xs} {n₂ = n} o₁ n₁ h e rest) x g =
       ⊎-elim
-      (λ z. absurd (clash e (goes-on-unless o₁ .1 (finds a o₁ n₁ h (x .2 .0) (subst (λ b. Tries N s t b (x .2 .0)) z (x .2 .1)) (x .2 .2) g))))
+      (λ z. absurd (no-route a o₁ n₁ h (x .2 .0) (subst (λ b. Tries N s t b (x .2 .0)) z (x .2 .1)) (x .2 .2) (goes-on-after o₁ .0 e)))
       (λ m. route-acknowledged xs o n rest (x .0, m, x .2) g) (List·Memᴰ·cases-cons (x .1))
 
   -- What the attempts of a list come to, made in turn, says so where each of them does.
@@ -154,7 +159,7 @@ module _ (S : Shape) where
     unfolding send attempts attempted runs
     maze-answers = refl
 
-    -- Routing type 4 stops where the first pass is acknowledged,
+    -- Routing type 4 stops where the first pass finds a path,
     pub alternate-stops : goesOn (outcome r first) ≡ false → send 4 S free r s vector t ≡ oneResult r first
     unfolding send attempts attempted
     alternate-stops e = runs-stop r first second [] e

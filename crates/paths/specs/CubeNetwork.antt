@@ -44,8 +44,8 @@ sendPorts S vector = keep (λ q. has vector (axis q)) (ports S)
 unfoldable pub otherPorts : Shape → ℕ → List ℕ
 otherPorts S vector = keep (λ q. not (has vector (axis q))) (ports S)
 
--- What a routing type tries: "0, maze: one pass, with the send vector given"; "4, alternate maze: a pass with the given vector. If it does not end
--- in an acknowledgement, a second", over the other ports.
+-- What a routing type tries: "0, maze: one pass, with the send vector given"; "4, alternate maze: a pass with the given vector", and then a second over
+-- the other ports, if that is not ended before (`goesOn`).
 unfoldable pub attempts : Shape → ℕ → ℕ → List Attempt
 attempts S type vector = pass-over (sendPorts S vector) ∷ cond (eqb type 4) (pass-over (otherPorts S vector) ∷ []) []
 

@@ -16,6 +16,7 @@ use Rattle.paths.specs.Pass.{PassResult, none, found, over, ways, beginn
 use Rattle.paths.specs.Helix.{helixFrom, helixPath, freeFront, tryPaths}
 use Rattle.paths.specs.Send.{channel, all-held, Outcome, acknowledged, route-rejected, receive-rejected, received, attempted, outcome, SendResult, goesOn, runs}
 use Rattle.paths.specs.CubeNetwork.{Shape, ports, network, sendPorts, otherPorts, attempts, send}
+use Rattle.paths.specs.OldRule.{oldGoesOn, oldRuns, oldSend}
 use Rattle.paths.specs.Bound.{waysFrom, sendsFrom}
 use Rattle.paths.specs.Recover.{dropAxis, walkFrom, wayBack, firstHopChoices, pathOfLinks}
 
@@ -71,14 +72,37 @@ acknowledged-second : send 4 (cube 2) (freeBut ((1, 1) ∷ [])) (channel 4) 0 1 
 unfolding send attempts attempted network ports sendPorts otherPorts present axis keep from has flip uphill helical offered end freePath over ways beginnings scan whole pass scouts received outcome goesOn runs
 acknowledged-second = refl
 
--- With all receive channels held: type 0 is receive rejected; type 4 goes on, and its second pass, with no port left, is route rejected.
+-- With all receive channels held: type 0 is receive rejected.
 receive-rejected-once : send 0 (cube 1) (freeBut []) all-held 0 1 1 ≡ answer receive-rejected 1
 unfolding send attempts attempted network ports sendPorts present axis keep from has flip uphill helical offered end freePath over ways beginnings scan whole pass scouts received outcome runs
 receive-rejected-once = refl
 
-receive-rejected-twice : send 4 (cube 1) (freeBut []) all-held 0 1 1 ≡ answer route-rejected 1
+-- Document 02, (f): "receive rejection in the first pass ends a type 4 send", and "the scouts are those of the first pass alone". The second would have
+-- had no port, or three scouts more.
+abbrev rejectedSends : List SendResult
+rejectedSends =
+    -- D 1, 0 to 1, vector 1
+    send 4 (cube 1) (freeBut []) all-held 0 1 1
+    -- D 2, 0 to 1, vector 1
+    ∷ send 4 (cube 2) (freeBut []) all-held 0 1 1
+    ∷ []
+
+receive-rejected-first : rejectedSends ≡ answer receive-rejected 1 ∷ answer receive-rejected 1 ∷ []
 unfolding send attempts attempted network ports sendPorts otherPorts present axis keep from has flip uphill helical offered end freePath over ways beginnings scan whole pass scouts received outcome goesOn runs
-receive-rejected-twice = refl
+receive-rejected-first = refl
+
+-- Before, they were route rejected with that scout, and receive rejected with four.
+abbrev oldRejectedSends : List SendResult
+oldRejectedSends = oldSend 4 (cube 1) (freeBut []) all-held 0 1 1 ∷ oldSend 4 (cube 2) (freeBut []) all-held 0 1 1 ∷ []
+
+rejected-before : oldRejectedSends ≡ answer route-rejected 1 ∷ answer receive-rejected 4 ∷ []
+unfolding oldSend attempts attempted network ports sendPorts otherPorts present axis keep from has flip uphill helical offered end freePath over ways beginnings scan whole pass scouts received outcome oldGoesOn oldRuns
+rejected-before = refl
+
+-- A first pass that finds no path does not end it: D 2, 0 to 3, vector 1, link 1 to 3 blocked. The first sends one scout, the second two.
+receive-rejected-second : send 4 (cube 2) (freeBut ((1, 1) ∷ [])) all-held 0 1 3 ≡ answer receive-rejected 3
+unfolding send attempts attempted network ports sendPorts otherPorts present axis keep from has flip uphill helical offered end freePath over ways beginnings scan whole pass scouts received outcome goesOn runs
+receive-rejected-second = refl
 
 -- A type 4 send that is acknowledged at once makes no second pass.
 acknowledged-at-once : send 4 (cube 2) (freeBut []) (channel 6) 0 1 1 ≡ answer (acknowledged (0 ∷ []) 6) 1

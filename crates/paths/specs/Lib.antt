@@ -6,6 +6,7 @@ pub mod Helix
 pub mod Send
 pub mod Sentences
 pub mod CubeNetwork
+pub mod OldRule
 pub mod Search
 pub mod Bound
 pub mod Recover

@@ -53,11 +53,12 @@ pub record SendResult : Type 0 where
 abbrev pub oneResult : Receive → PassResult → SendResult
 oneResult r x = record { outcome = outcome r x; scouts = scouts x }
 
--- "If it does not end in an acknowledgement, a second": the outcomes after which the next attempt is made
+-- The outcomes after which the next attempt is made. "If it does not end in an acknowledgement, a second"; but document 02, (f): "receive rejection
+-- in the first pass ends a type 4 send".
 unfoldable pub goesOn : Outcome → Bool
 goesOn (acknowledged w c) = false
 goesOn route-rejected = true
-goesOn receive-rejected = true
+goesOn receive-rejected = false
 
 -- Attempts made in turn, from what each comes to. "The answer is that of the last pass run; scouts of both are added." Where nothing is tried,
 -- nothing is found.

@@ -16,7 +16,7 @@ use Rattle.table.proofs.Receives.{chosen, none-chosen}
 use Rattle.search.specs.PassAnswer.{freeIn, pass-answer}
 use Rattle.search.specs.SendAnswer.{bytesAfterSend, answerOfOutcome, sendAnswer, sends, MaySend}
 use Rattle.search.specs.SendSays.{Available, Lowest, SendSays}
-use Rattle.search.proofs.Sends.{sent-goes-on, sent-scouts}
+use Rattle.search.proofs.Sends.{sent-leaves, sent-scouts}
 
 -- what the choice of a receive channel says
 module _ (v : View) (t : ℕ) where
@@ -53,7 +53,7 @@ demand-2 b s t c type vector may x h k n b′ q =
         (λ y. acknowledged-number b c s t o m x h k n b′ q (route-acknowledged (net (view b)) s t (freeIn (view b)) (receive (view b) t) tried o m said (y .0) (some-available (view b) t (y .1)))),
       );
       lowest = λ z. channel-lowest (view b) t k (route z .1);
-      unchanged = λ f. sent-goes-on b c s t o m q f .1;
+      unchanged = λ f. sent-leaves b c s t o m q f;
       bounded = rw counted (send-bounded (shapeOf (view b)) (freeIn (view b)) (receive (view b) t) s vector t type fits refl);
     }
   where

@@ -109,19 +109,26 @@ module _ (b : List ℕ) (c s t : ℕ) (r : Receive) where
       go all-held u = u
       go (channel j) u = let y : x ≡ 0 = cc in absurd (f y)
 
--- What the answer of a send tells: whether another pass follows, that a rejection leaves each byte as it was, and its scouts.
+-- What the answer of a send tells: whether another pass follows, as one does after a route rejection alone; that a rejection leaves each byte as it was;
+-- and its scouts.
 module _ (b : List ℕ) (c s t : ℕ) where
-  pub sent-stops : (o : Outcome) (m : ℕ) {x h k n : ℕ} {b₁ : List ℕ} → pass-answer x h k n b₁ ≡ sendAnswer b c s t (record { outcome = o; scouts = m }) → x ≡ 0 → goesOn o ≡ false
+  pub sent-stops : (o : Outcome) (m : ℕ) {x h k n : ℕ} {b₁ : List ℕ} → pass-answer x h k n b₁ ≡ sendAnswer b c s t (record { outcome = o; scouts = m }) → x ≢ 10 → goesOn o ≡ false
   unfolding sendAnswer bytesAfterSend answerOfOutcome goesOn
-  sent-stops (acknowledged w j) m q z = refl
-  sent-stops route-rejected m {x} q z = let y : x ≡ 10 = cc in absurd (omega arith)
-  sent-stops receive-rejected m {x} q z = let y : x ≡ 11 = cc in absurd (omega arith)
+  sent-stops (acknowledged w j) m q f = refl
+  sent-stops route-rejected m {x} q f = let y : x ≡ 10 = cc in absurd (f y)
+  sent-stops receive-rejected m q f = refl
 
-  pub sent-goes-on : (o : Outcome) (m : ℕ) {x h k n : ℕ} {b₁ : List ℕ} → pass-answer x h k n b₁ ≡ sendAnswer b c s t (record { outcome = o; scouts = m }) → x ≢ 0 → (goesOn o ≡ true) × (b₁ ≡ b)
+  pub sent-goes-on : (o : Outcome) (m : ℕ) {x h k n : ℕ} {b₁ : List ℕ} → pass-answer x h k n b₁ ≡ sendAnswer b c s t (record { outcome = o; scouts = m }) → x ≡ 10 → goesOn o ≡ true
   unfolding sendAnswer bytesAfterSend answerOfOutcome goesOn
-  sent-goes-on (acknowledged w j) m {x} q f = let y : x ≡ 0 = cc in absurd (f y)
-  sent-goes-on route-rejected m q f = (refl, cc)
-  sent-goes-on receive-rejected m q f = (refl, cc)
+  sent-goes-on (acknowledged w j) m {x} q z = let y : x ≡ 0 = cc in absurd (omega arith)
+  sent-goes-on route-rejected m q z = refl
+  sent-goes-on receive-rejected m {x} q z = let y : x ≡ 11 = cc in absurd (omega arith)
+
+  pub sent-leaves : (o : Outcome) (m : ℕ) {x h k n : ℕ} {b₁ : List ℕ} → pass-answer x h k n b₁ ≡ sendAnswer b c s t (record { outcome = o; scouts = m }) → x ≢ 0 → b₁ ≡ b
+  unfolding sendAnswer bytesAfterSend answerOfOutcome
+  sent-leaves (acknowledged w j) m {x} q f = let y : x ≡ 0 = cc in absurd (f y)
+  sent-leaves route-rejected m q f = cc
+  sent-leaves receive-rejected m q f = cc
 
   pub sent-scouts : (o : Outcome) (m : ℕ) {x h k n : ℕ} {b₁ : List ℕ} → pass-answer x h k n b₁ ≡ sendAnswer b c s t (record { outcome = o; scouts = m }) → n ≡ m
   unfolding sendAnswer bytesAfterSend answerOfOutcome
@@ -164,9 +171,9 @@ module _ {b : List ℕ} {s t c vector left : ℕ} (may : MaySend b s t c vector)
 
 -- A rejected pass leaves each byte of the table as it was: so does the first pass of a type 4 send, before the second begins.
 pub first-pass-leaves : (b : List ℕ) (s t c vector : ℕ) {x h k n : ℕ} {b₁ : List ℕ} → pass-answer x h k n b₁ ≡ sends b s t c 0 vector → x ≢ 0 → b₁ ≡ b
-first-pass-leaves b s t c vector q f = sent-goes-on b c s t _ _ (q ∙ one-pass b s t c vector) f .1
+first-pass-leaves b s t c vector q f = sent-leaves b c s t _ _ (q ∙ one-pass b s t c vector) f
 
--- A send of routing type 4: after a rejection, a second pass over the other ports on the same bytes.
+-- A send of routing type 4: after a route rejection, a second pass over the other ports on the same bytes.
 module _ {b : List ℕ} {s t c vector : ℕ} (may : MaySend b s t c vector) {x h k n : ℕ} {b₁ : List ℕ} (got : pass-answer x h k n b₁ ≡ sends b s t c 0 vector) where
   S : Shape
   S = shapeOf (view b)
@@ -184,13 +191,13 @@ module _ {b : List ℕ} {s t c vector : ℕ} (may : MaySend b s t c vector) {x h
   unfolding r first
   first-is = got ∙ one-pass b s t c vector
 
-  pub alternate-taken : x ≡ 0 → pass-answer x h k n b₁ ≡ sends b s t c 4 vector
+  pub alternate-ended : x ≢ 10 → pass-answer x h k n b₁ ≡ sends b s t c 4 vector
   unfolding sends r first
-  alternate-taken z =
-      first-is ∙ ap (sendAnswer b c s t) (sym (alternate-stops (shapeOf (view b)) (freeIn (view b)) r s vector t (sent-stops b c s t (outcome r first) (scouts first) first-is z)))
+  alternate-ended f =
+      first-is ∙ ap (sendAnswer b c s t) (sym (alternate-stops (shapeOf (view b)) (freeIn (view b)) r s vector t (sent-stops b c s t (outcome r first) (scouts first) first-is f)))
 
   -- the vector of the second pass, from the nodes of the cube
-  module _ {d nodes : ℕ} (read : d ≡ dimensionAt b) (counted : NodeCount d nodes) (f : x ≢ 0) where
+  module _ {d nodes : ℕ} (read : d ≡ dimensionAt b) (counted : NodeCount d nodes) (z : x ≡ 10) where
     abbrev others : ℕ
     others = bitXor (nodes - 1) vector
 
@@ -198,7 +205,7 @@ module _ {b : List ℕ} {s t c vector : ℕ} (may : MaySend b s t c vector) {x h
     others-are = rw (counted .value, read)
 
     pub same-bytes : b₁ ≡ b
-    same-bytes = first-pass-leaves b s t c vector got f
+    same-bytes = first-pass-leaves b s t c vector got (λ y. omega (arith, y, z))
 
     pub may-again : MaySend b₁ s t c others
     may-again =
@@ -235,7 +242,7 @@ module _ {b : List ℕ} {s t c vector : ℕ} (may : MaySend b s t c vector) {x h
           sent-counted b c s t (outcome r second) (scouts second) (n + n₂) second-is
           ∙ ap (λ m. sendAnswer b c s t (record { outcome = outcome r second; scouts = m }))
           (ap₂ _+_ (sent-scouts b c s t (outcome r first) (scouts first) first-is) (sent-scouts b c s t (outcome r second) (scouts second) second-is))
-          ∙ ap (sendAnswer b c s t) (sym (alternate-goes-on S (freeIn (view b)) r s vector t (sent-goes-on b c s t (outcome r first) (scouts first) first-is f .0)))
+          ∙ ap (sendAnswer b c s t) (sym (alternate-goes-on S (freeIn (view b)) r s vector t (sent-goes-on b c s t (outcome r first) (scouts first) first-is z)))
 
 -- Another type than 4 makes one pass.
 pub send-maze : (b : List ℕ) (s t c type vector : ℕ) → type ≢ 4 → sends b s t c 0 vector ≡ sends b s t c type vector

@@ -180,8 +180,8 @@ fn maze(
     got
 }
 
-// Routing type 4: where the pass is not acknowledged, a second one over the ports of the cube that are not in the vector. The answer is that of
-// the last pass, with the scouts of both.
+// Routing type 4: where the pass finds no path, a second one over the ports of the cube that are not in the vector. The answer is that of the last pass,
+// with the scouts of both. A receive rejection ends the send: the second pass would come to the same target.
 fn alternate_maze(
     t: &mut [u8],
     source: Node,
@@ -196,7 +196,7 @@ fn alternate_maze(
 {
     let others = (cube::node_count(table::dimension(t)) - 1) ^ vector;
     let got = maze(t, source, target, c, vector, first);
-    if got.number == refusal::ACCEPTED {
+    if got.number != refusal::ROUTE_REJECTED {
         return got;
     }
     let again = maze(t, source, target, c, others, first);

@@ -1,7 +1,7 @@
--- `search::alternate_maze` meets its contract: a second pass over the other ports where the first is not acknowledged, on the same bytes.
+-- `search::alternate_maze` meets its contract: a second pass over the other ports where the first is route rejected, on the same bytes.
 -- Assumes nothing.
 use native.Mathlib.Omega.{arith}
-use Rattle.search.proofs.Sends.{alternate-taken, may-again, few-scouts, alternate-again}
+use Rattle.search.proofs.Sends.{alternate-ended, may-again, few-scouts, alternate-again}
 use borrow.Author.Needs.{needs}
 use Rattle.search.proofs.alternate_maze.Statement.{statement}
 use Rattle.search.proofs.alternate_maze.Tie as tie
@@ -25,7 +25,7 @@ returns : tie.Need-returns
 returns c =
     let g = c .before .before .before .before in
     let s = g .before .before .before .before .before .before in
-    alternate-taken (s .pre .1) (g .maze .ensures) (c .if1 .taken)
+    alternate-ended (s .pre .1) (g .maze .ensures) (c .if1 .taken)
 
 maze-requires-2 : tie.Need-maze-requires-2
 maze-requires-2 c κs =
