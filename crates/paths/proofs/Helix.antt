@@ -1,31 +1,27 @@
--- The computed helix path is the helix path of its first port, and the only one. It is a permitted path, and of those that begin with that port the first;
--- it is short; and paths tried in turn say what document 02, (b), says of them.
+-- The computed helix path is the helix path of its first port, and the only one. It is a permitted path, of those that begin with that port the first, and
+-- short.
 -- Assumes nothing.
 use mathlib.Core.Path.{_≡_, refl, ap, sym, _∙_, subst}
 use mathlib.Core.Logic.{_⊎_, inl, inr, ⊎-elim, _≢_}
-use mathlib.Core.Bool.{Bool, true, false, cond}
-use mathlib.Core.List.{List, [], _∷_, _++_, map, cons≢nil, nil≢cons, List·Memᴰ·head, List·Memᴰ·tail, List·Memᴰ·not-nil, List·Memᴰ·cases-cons, List·Memᴰ·append-cases, List·Memᴰ·eq-of-singleton, Memᴰ·append-left, Memᴰ·append-right}
-use Prim.Native.Nat.{ℕ, zero, suc, _+_, _*_, _≤_, _<_}
+use mathlib.Core.List.{List, [], _∷_, _++_, map, cons≢nil, List·Memᴰ·head, List·Memᴰ·tail, List·Memᴰ·not-nil, List·Memᴰ·cases-cons}
+use Prim.Native.Nat.{ℕ, zero, suc, _≤_}
 use native.Mathlib.Omega.{arith}
-use native.Mathlib.Nat.{le-refl, le-trans, mul-le-mul}
+use native.Mathlib.Nat.{le-refl}
 use borrow.Author.Tests.{eq-eqb, ne-eqb}
-use lib.ListN.{length, take, drop, length-map, take-append-drop}
+use lib.ListN.{length}
 use Rattle.common.specs.Lists.{_∈_, Pairwise}
-use Rattle.common.proofs.Tests.{same?, clash, both, and}
-use Rattle.common.proofs.Lists.{all-cons, all-map, pairwise-at}
+use Rattle.common.proofs.Tests.{same?}
 use Rattle.cube.specs.Helical.{helical}
 use Rattle.cube.specs.Axes.{axis}
 use Rattle.cube.proofs.Bits.{flip-inside}
-use Rattle.cube.proofs.Order.{helical-mem, mem-helical, length-ports}
-use Rattle.paths.specs.Network.{Network, Path, offered, takeFirst, end, freePath, Nearing, Leading}
+use Rattle.cube.proofs.Order.{helical-mem, mem-helical}
+use Rattle.paths.specs.Network.{Network, Path, offered, takeFirst, end, Nearing, Leading}
 use Rattle.paths.specs.Permitted.{Onward, Permitted, Sooner, Before, ComesBefore}
-use Rattle.paths.specs.Pass.{PassResult, none, found, scouts}
-use Rattle.paths.specs.Helix.{helixFrom, helixPath, freeFront, tryPaths, FirstOffered, IsHelix, HelixPaths, no-path, path-more, Front, no-front, front-more, TriedFound, TriedNone, TriedSays}
-use Rattle.paths.specs.Sentences.{Free}
-use Rattle.paths.specs.CubeNetwork.{Shape, Node, ports, network, sendPorts}
+use Rattle.paths.specs.Helix.{helixFrom, helixPath, FirstOffered, IsHelix, HelixPaths, no-path, path-more}
+use Rattle.paths.specs.CubeNetwork.{Shape, Node, ports, network}
 use Rattle.paths.proofs.Order.{helical-pairwise, offered-pairwise, sooner-asym}
 use Rattle.paths.proofs.Words.{permitted-in-words}
-use Rattle.paths.proofs.CubeNetwork.{port-axis, cube-nearing, cube-leading, distance-within, path-hops, unfolded-send-ports}
+use Rattle.paths.proofs.CubeNetwork.{port-axis, cube-nearing, cube-leading, path-hops}
 use Rattle.paths.proofs.Recover.{take-all}
 
 -- the port that stands first in the helical order of those offered is the first offered, and there is no other
@@ -180,202 +176,6 @@ pub helix-short : (N : Network) (s t p : ℕ) → length (helixPath N s t p) ≤
 unfolding helixPath
 helix-short N s t p = omega (arith, helix-on-short (N .distance t (N .next s p)) N t (N .next s p) p)
 
--- one step of trying: a free path is found, another is counted and left
-module _ (N : Network) (free : ℕ → ℕ → Bool) (s c : ℕ) (w : Path) (ws : List Path) where
-  try-free : freePath N free s w ≡ true → tryPaths N free s c (w ∷ ws) ≡ found w (c + freeFront N free s w)
-  unfolding tryPaths
-  try-free e = rw e
-
-  try-on : freePath N free s w ≡ false → tryPaths N free s c (w ∷ ws) ≡ tryPaths N free s (c + freeFront N free s w) ws
-  try-on e = unfold tryPaths in rw e
-
-module _ (N : Network) (free : ℕ → ℕ → Bool) where
-  -- the computed count is that of the free hops at the front
-  front-is : (n : ℕ) (w : Path) → Front N free n w (freeFront N free n w)
-  unfolding freeFront freePath end
-  front-is n [] = record { front = []; rest = []; parts = refl; is-free = refl; stopped = λ q v e. absurd (nil≢cons e); hops = refl }
-  front-is n (p ∷ w) = go (free n p) refl (front-is (N .next n p) w)
-    where
-      go : (b : Bool) → free n p ≡ b → Front N free (N .next n p) w (freeFront N free (N .next n p) w) → Front N free n (p ∷ w) (freeFront N free n (p ∷ w))
-      go true e r = rw e record { front = p ∷ r .front; rest = r .rest; parts = ap (p ∷_) (r .parts); is-free = and e (r .is-free); stopped = r .stopped; hops = ap suc (r .hops) }
-      go false e r = rw e record { front = []; rest = p ∷ w; parts = refl; is-free = refl; stopped = λ q v i. let same : p ≡ q = cc in rw (← same) e; hops = refl }
-
-  -- A free path counts all its hops, and no path counts more than it has.
-  pub front-free : (n : ℕ) (w : Path) → freePath N free n w ≡ true → freeFront N free n w ≡ length w
-  unfolding freeFront freePath
-  front-free n [] e = refl
-  front-free n (p ∷ w) e = let b = both (free n p) (freePath N free (N .next n p) w) e in rw (b .0) (ap suc (front-free (N .next n p) w (b .1)))
-
-  pub front-most : (n : ℕ) (w : Path) → freeFront N free n w ≤ length w
-  unfolding freeFront
-  front-most n [] = omega arith
-  front-most n (p ∷ w) = go (free n p) (front-most (N .next n p) w)
-    where
-      go : (b : Bool) → freeFront N free (N .next n p) w ≤ length w → cond b (suc (freeFront N free (N .next n p) w)) 0 ≤ suc (length w)
-      go true h = omega arith
-      go false h = omega arith
-
-module _ (N : Network) (free : ℕ → ℕ → Bool) (s : ℕ) where
-  -- what paths tried in turn say, with the scouts that the trying itself adds to those sent before
-  found-after : (ws : List Path) (c : ℕ) {w : Path} {n : ℕ} → tryPaths N free s c ws ≡ found w n → (m : ℕ) × (n ≡ c + m) × TriedFound N free s ws w m
-  found-after [] c e = let z : _≡_ {A = ℕ} 0 1 = unfold tryPaths in cc in absurd (omega arith)
-  found-after (x ∷ xs) c {w} {n} e = go (freePath N free s x) refl (found-after xs (c + freeFront N free s x))
-    where
-      go : (b : Bool) → freePath N free s x ≡ b → (tryPaths N free s (c + freeFront N free s x) xs ≡ found w n → (m : ℕ) × (n ≡ c + freeFront N free s x + m) × TriedFound N free s xs w m)
-          → (m : ℕ) × (n ≡ c + m) × TriedFound N free s (x ∷ xs) w m
-      go true h ih =
-          let stopped : found x (c + freeFront N free s x) ≡ found w n = sym (try-free N free s c x xs h) ∙ e in
-          let same : x ≡ w = cc in
-          let sum : c + freeFront N free s x ≡ n = cc in (
-            freeFront N free s x + 0,
-            omega arith,
-            rw (← same) record {
-              before = [];
-              after = xs;
-              place = refl;
-              is-free = h;
-              first = λ v m. absurd (List·Memᴰ·not-nil m);
-              scouts = front-more (front-is N free s x) no-front;
-            },
-          )
-      go false h ih =
-          let r = ih (sym (try-on N free s c x xs h) ∙ e) in
-          let y = r .2 in (
-            freeFront N free s x + r .0,
-            omega (arith, r .1),
-            record {
-              before = x ∷ y .before;
-              after = y .after;
-              place = ap (x ∷_) (y .place);
-              is-free = y .is-free;
-              first = all-cons (λ v. freePath N free s v ≡ true → ⊥) (λ i. clash i h) (y .first);
-              scouts = front-more (front-is N free s x) (y .scouts);
-            },
-          )
-
-  none-after : (ws : List Path) (c : ℕ) {n : ℕ} → tryPaths N free s c ws ≡ none n → (m : ℕ) × (n ≡ c + m) × TriedNone N free s ws m
-  none-after [] c {n} e = let same : c ≡ n = unfold tryPaths in cc in (0, omega arith, record { nothing = λ v m. absurd (List·Memᴰ·not-nil m); scouts = no-front })
-  none-after (x ∷ xs) c {n} e = go (freePath N free s x) refl (none-after xs (c + freeFront N free s x))
-    where
-      go : (b : Bool) → freePath N free s x ≡ b → (tryPaths N free s (c + freeFront N free s x) xs ≡ none n → (m : ℕ) × (n ≡ c + freeFront N free s x + m) × TriedNone N free s xs m)
-          → (m : ℕ) × (n ≡ c + m) × TriedNone N free s (x ∷ xs) m
-      go true h ih = let stopped : found x (c + freeFront N free s x) ≡ none n = sym (try-free N free s c x xs h) ∙ e in let z : _≡_ {A = ℕ} 0 1 = cc in absurd (omega arith)
-      go false h ih =
-          let r = ih (sym (try-on N free s c x xs h) ∙ e) in (
-            freeFront N free s x + r .0,
-            omega (arith, r .1),
-            record {
-              nothing = all-cons (λ v. freePath N free s v ≡ true → ⊥) (λ i. clash i h) (r .2 .nothing);
-              scouts = front-more (front-is N free s x) (r .2 .scouts);
-            },
-          )
-
-  -- Paths tried in turn say what document 02, (b), says of them.
-  pub tried-says : (ws : List Path) (x : PassResult) → tryPaths N free s 0 ws ≡ x → TriedSays N free s ws x
-  tried-says ws (none c) e = let r = none-after ws 0 e in let same : r .0 ≡ c = omega (arith, r .1) in rw (← same) (r .2)
-  tried-says ws (found w c) e = let r = found-after ws 0 e in let same : r .0 ≡ c = omega (arith, r .1) in rw (← same) (r .2)
-
-  -- Each path sends at most as many scouts as it has hops.
-  pub tried-sends : (l : ℕ) (ws : List Path) (c : ℕ) → ((w : Path) → w ∈ ws → length w ≤ l) → scouts (tryPaths N free s c ws) ≤ c + length ws * l
-  unfolding scouts
-  tried-sends l [] c h = unfold tryPaths in omega arith
-  tried-sends l (x ∷ xs) c h = go (freePath N free s x) refl (tried-sends l xs (c + freeFront N free s x) (λ w m. h w (List·Memᴰ·tail m)))
-    where
-      few : freeFront N free s x ≤ l
-      few = omega (arith, front-most N free s x, h x (List·Memᴰ·head refl))
-
-      go : (b : Bool) → freePath N free s x ≡ b → scouts (tryPaths N free s (c + freeFront N free s x) xs) ≤ c + freeFront N free s x + length xs * l
-          → scouts (tryPaths N free s c (x ∷ xs)) ≤ c + suc (length xs) * l
-      go true e ih = rw (try-free N free s c x xs e) (omega (arith, few))
-      go false e ih = rw (try-on N free s c x xs e) (omega (arith, few))
-
--- the helix paths of a list of ports: each belongs to a port, and each port has one
-module _ (N : Network) (s t : ℕ) where
-  port-of : {ps : List ℕ} {ws : List Path} {w : Path} → HelixPaths N s t ps ws → w ∈ ws → (p : ℕ) × (p ∈ ps) × IsHelix N s t p w
-  port-of no-path m = absurd (List·Memᴰ·not-nil m)
-  port-of (path-more {p} h hs) (List·Memᴰ·head e) = (p, List·Memᴰ·head refl, rw e h)
-  port-of (path-more h hs) (List·Memᴰ·tail m) = let r = port-of hs m in (r .0, List·Memᴰ·tail (r .1), r .2)
-
-  path-of : {ps : List ℕ} {ws : List Path} {p : ℕ} → HelixPaths N s t ps ws → p ∈ ps → (w : Path) × (w ∈ ws) × IsHelix N s t p w
-  path-of no-path m = absurd (List·Memᴰ·not-nil m)
-  path-of (path-more {w = x} h hs) (List·Memᴰ·head e) = (x, List·Memᴰ·head refl, rw e h)
-  path-of (path-more h hs) (List·Memᴰ·tail m) = let r = path-of hs m in (r .0, List·Memᴰ·tail (r .1), r .2)
-
-  -- at a place among the paths stands the path of the port at that place
-  pub record Placed (ps : List ℕ) (before : List Path) (w : Path) : Type 0 where
-    pub port : ℕ
-    pub earlier : List ℕ
-    pub later : List ℕ
-    pub place : ps ≡ earlier ++ port ∷ later
-    pub is-helix : IsHelix N s t port w
-    pub paths : HelixPaths N s t earlier before
-
-  placed : (ps : List ℕ) (before : List Path) (w : Path) (after : List Path) → HelixPaths N s t ps (before ++ w ∷ after) → Placed ps before w
-  placed _ [] w after (path-more {p} {ps = ps} h hs) = record { port = p; earlier = []; later = ps; place = refl; is-helix = h; paths = no-path }
-  placed _ (x ∷ before) w after (path-more {p} {ps = ps} h hs) =
-      let r = placed ps before w after hs in
-      record { port = r .port; earlier = p ∷ r .earlier; later = r .later; place = ap (p ∷_) (r .place); is-helix = r .is-helix; paths = path-more h (r .paths) }
-
-  -- the path of a lower port comes first
-  lower-first : {p q : ℕ} {w v : Path} → p < q → IsHelix N s t p w → IsHelix N s t q v → ComesBefore w v
-  unfolding Before
-  lower-first l h k = rw (h .first .1, k .first .1) (inl l)
-
-  module _ (free : ℕ → ℕ → Bool) (ps : List ℕ) {ws : List Path} (paths : HelixPaths N s t ps ws) where
-    -- What is found is the helix path of one of the ports, and free;
-    pub tried-helix : {w : Path} {c : ℕ} → TriedFound N free s ws w c → (p : ℕ) × (p ∈ ps) × IsHelix N s t p w
-    tried-helix {w} f = port-of paths (rw (f .place) (Memᴰ·append-right (f .before) (List·Memᴰ·head refl)))
-
-    -- where the ports rise, it is the first of those that are free, in the order of document 01;
-    pub tried-first : Pairwise _<_ ps → {w : Path} {c : ℕ} → TriedFound N free s ws w c → (q : ℕ) → q ∈ ps → (v : Path) → IsHelix N s t q v → Free N free s v → (v ≡ w) ⊎ ComesBefore w v
-    tried-first rise {w} f q m v k i = ⊎-elim earlier (⊎-elim same later) (where-is (r .earlier) (rw (r .place) at m))
-      where
-        r : Placed ps (f .before) w
-        r = placed ps (f .before) w (f .after) (rw (f .place) at paths)
-
-        order : ((x : ℕ) → x ∈ r .later → r .port < x)
-        order = pairwise-at _<_ (r .earlier) (r .port) (r .later) (rw (r .place) at rise) .2
-
-        where-is : (xs : List ℕ) → q ∈ (xs ++ r .port ∷ r .later) → (q ∈ xs) ⊎ ((q ≡ r .port) ⊎ (q ∈ r .later))
-        where-is xs m = ⊎-elim inl (λ k. inr (List·Memᴰ·cases-cons k)) (List·Memᴰ·append-cases xs m)
-
-        earlier : q ∈ r .earlier → (v ≡ w) ⊎ ComesBefore w v
-        earlier m = let x = path-of (r .paths) m in absurd (f .first (x .0) (x .1) (rw (helix-only N s t q (x .2) k) i))
-
-        same : q ≡ r .port → (v ≡ w) ⊎ ComesBefore w v
-        same e = inl (helix-only N s t q k (rw e (r .is-helix)))
-
-        later : q ∈ r .later → (v ≡ w) ⊎ ComesBefore w v
-        later m = inr (lower-first (order q m) (r .is-helix) k)
-
-    -- and where nothing is found, none of them is free.
-    pub tried-nothing : {c : ℕ} → TriedNone N free s ws c → (p : ℕ) → p ∈ ps → (w : Path) → IsHelix N s t p w → Free N free s w → ⊥
-    tried-nothing f p m w h i = let x = path-of paths m in f .nothing (x .0) (x .1) (rw (helix-only N s t p (x .2) h) i)
-
--- Inclusion, for one test of free links: some helix path of the ports of a list is free, and some permitted path of a vector.
-abbrev pub FreeHelix : Network → (ℕ → ℕ → Bool) → ℕ → ℕ → List ℕ → Type 0
-FreeHelix N free s t ps = (p : ℕ) × (p ∈ ps) × ((w : Path) × IsHelix N s t p w × Free N free s w)
-
-abbrev pub FreePermitted : Network → (ℕ → ℕ → Bool) → ℕ → List ℕ → ℕ → Type 0
-FreePermitted N free s vector t = (w : Path) × Permitted N s vector t w × Free N free s w
-
--- the first of a list of ports that rise is the lowest of them
-pub lowest-port : (ps : List ℕ) → Pairwise _<_ ps → (p : ℕ) → p ∈ take 1 ps → (p ∈ ps) × ((q : ℕ) → q ∈ ps → p ≤ q)
-unfolding Pairwise
-lowest-port [] rise p m = absurd (List·Memᴰ·not-nil m)
-lowest-port (x ∷ ps) rise p m =
-    let e : p ≡ x = List·Memᴰ·eq-of-singleton m in
-    rw e (List·Memᴰ·head refl, all-cons (λ q. x ≤ q) (le-refl x) (λ q k. omega (arith, rise .0 q k)))
-
-module _ (N : Network) (free : ℕ → ℕ → Bool) (s t : ℕ) (ps : List ℕ) where
-  -- Where the helix path of the lowest port is free, some helix path is;
-  pub lowest-in-helix : FreeHelix N free s t (take 1 ps) → FreeHelix N free s t ps
-  lowest-in-helix h = (h .0, rw (take-append-drop 1 ps) at (Memᴰ·append-left (drop 1 ps) (h .1)), h .2)
-
-  -- and where some helix path is free, some permitted path of the vector is.
-  pub helix-in-permitted : FreeHelix N free s t ps → FreePermitted N free s ps t
-  helix-in-permitted h = (h .2 .0, helix-permitted N s t (h .0) (h .2 .1) ps (h .1), h .2 .2)
-
 -- In the cube:
 module _ (S : Shape) where
   -- every port has its helix path, which the definition computes,
@@ -385,27 +185,3 @@ module _ (S : Shape) where
   -- of 1 to D + 1 hops;
   pub helix-hops : (s t p : ℕ) (w : Path) → IsHelix (network S) s t p w → (1 ≤ length w) × (length w ≤ suc (S .dimension))
   helix-hops s t p w h = path-hops S s (p ∷ []) t w (helix-permitted (network S) s t p h (p ∷ []) (List·Memᴰ·head refl))
-
-  module _ (free : ℕ → ℕ → Bool) (s t : ℕ) where
-    -- so to try the helix paths of some ports sends at most D + 1 scouts for each,
-    abbrev pub triedHelix : List ℕ → PassResult
-    triedHelix ps = tryPaths (network S) free s 0 (map (helixPath (network S) s t) ps)
-
-    pub helix-scouts : (ps : List ℕ) → scouts (triedHelix ps) ≤ length ps * suc (S .dimension)
-    helix-scouts ps =
-        let short = all-map (λ w. length w ≤ suc (S .dimension)) (helixPath (network S) s t) ps (λ p m. omega (arith, helix-short (network S) s t p, distance-within S t (network S .next s p))) in
-        let sent = tried-sends (network S) free s (suc (S .dimension)) (map (helixPath (network S) s t) ps) 0 short in
-        omega (arith, rw (length-map ps (helixPath (network S) s t)) at sent)
-
-    -- which is 9 for one port
-    pub lowest-scouts : S .dimension ≤ 8 → (ps : List ℕ) → scouts (triedHelix (take 1 ps)) ≤ 9
-    lowest-scouts h [] = omega (arith, helix-scouts [])
-    lowest-scouts h (p ∷ ps) = omega (arith, helix-scouts (p ∷ []))
-
-    -- and 72 for those of any vector, where nothing is folded.
-    pub vector-scouts : S .dimension ≤ 8 → S .fold ≡ 0 → (v : ℕ) → scouts (triedHelix (sendPorts S v)) ≤ 72
-    vector-scouts h z v =
-        let most : suc (S .dimension) ≤ 9 = omega arith in le-trans (helix-scouts (sendPorts S v)) (mul-le-mul few most)
-      where
-        few : length (sendPorts S v) ≤ 8
-        few = rw (unfolded-send-ports S h z v) (omega (arith, length-ports (S .dimension) v))
