@@ -1,9 +1,9 @@
 -- A send's answer: that of the last attempt made, with the scouts of all.
 -- Assumes nothing.
 use mathlib.Core.Path.{_≡_, refl, ap, sym, subst}
-use mathlib.Core.Logic.{_↔_, _≢_, ⊎-elim}
+use mathlib.Core.Logic.{_⊎_, ⊎-elim, _↔_, _≢_}
 use mathlib.Core.Bool.{Bool, true, false, cond, true≢false}
-use mathlib.Core.List.{List, [], _∷_, map, List·Memᴰ·head, List·Memᴰ·tail, List·Memᴰ·not-nil, List·Memᴰ·cases-cons, List·Memᴰ·eq-of-singleton}
+use mathlib.Core.List.{List, [], _∷_, map, List·Memᴰ·head, List·Memᴰ·tail, List·Memᴰ·not-nil, List·Memᴰ·cases-cons}
 use Prim.Native.Nat.{ℕ, _+_, _≤_, _<_}
 use native.Mathlib.Omega.{arith}
 use lib.Dec.{eqb}
@@ -14,10 +14,10 @@ use Rattle.common.proofs.Tests.{clash}
 use Rattle.cube.specs.Axes.{axis}
 use Rattle.cube.proofs.Bits.{flip-inside}
 use Rattle.paths.specs.Network.{Network, Path}
-use Rattle.paths.specs.Permitted.{Permitted}
+use Rattle.paths.specs.Permitted.{Permitted, ComesBefore}
 use Rattle.paths.specs.Pass.{PassResult, none, found, pass, scouts}
 use Rattle.paths.specs.Helix.{helixPath}
-use Rattle.paths.specs.Send.{Receive, channel, all-held, Outcome, acknowledged, route-rejected, receive-rejected, Acknowledged, received, outcome, Attempt, pass-over, helix-paths, attempted, SendResult, oneResult, goesOn, runs}
+use Rattle.paths.specs.Send.{Receive, channel, all-held, Outcome, acknowledged, route-rejected, receive-rejected, Acknowledged, received, outcome, Attempt, pass-over, helix-paths, attempted, oneResult, goesOn, runs}
 use Rattle.paths.specs.Sentences.{Free, AnswerSays, says-acknowledged, says-receive-rejected, says-route-rejected, Tries, SearchSays, AttemptSays, AttemptsSay, last, ends, goes-on}
 use Rattle.paths.specs.CubeNetwork.{Shape, Node, ports, network, sendPorts, otherPorts, attempts, send}
 use Rattle.paths.proofs.CubeNetwork.{port-axis, send-port, other-port, send-ports-rise, cube-nearing, cube-leading, cube-says, scouts-bound}
@@ -59,12 +59,23 @@ runs-most r (x ∷ y ∷ ys) = go (goesOn (outcome r x)) refl (runs-most r (y �
     go true e h = rw (runs-on r x y ys e) (omega (arith, h))
     go false e h = rw (runs-stop r x y ys e) (omega arith)
 
+-- the ports over which an attempt leaves its source
+unfoldable portsTried : Attempt → List ℕ
+portsTried (pass-over ps) = ps
+portsTried (helix-paths ps) = ps
+
 -- What an attempt says, whatever it tries: acknowledged, it has a free path and a channel; receive rejected, a free path and none; route rejected, no free path.
 module _ (N : Network) (s t : ℕ) (free : ℕ → ℕ → Bool) where
   found-says : (a : Attempt) (w : Path) (c : ℕ) → SearchSays N s t free a (found w c) → Tries N s t a w × Free N free s w
   unfolding SearchSays Tries
   found-says (pass-over ps) w c f = (f .permitted, f .is-free)
   found-says (helix-paths ps) w c f = (tried-helix N s t free ps (f .1) (f .2), f .2 .is-free)
+
+  -- a path found comes before every other free path that is tried, where the ports rise
+  found-first : (a : Attempt) → Pairwise _<_ (portsTried a) → (w : Path) (c : ℕ) → SearchSays N s t free a (found w c) → (v : Path) → Tries N s t a v → Free N free s v → (v ≡ w) ⊎ ComesBefore w v
+  unfolding portsTried SearchSays Tries
+  found-first (pass-over ps) rise w c f v x = f .first v x
+  found-first (helix-paths ps) rise w c f v x = tried-first N s t free ps (f .1) rise (f .2) (x .0) (x .1) v (x .2)
 
   nothing-says : (a : Attempt) (c : ℕ) → SearchSays N s t free a (none c) → (w : Path) → Tries N s t a w → Free N free s w → ⊥
   unfolding SearchSays Tries
@@ -163,12 +174,11 @@ module _ (S : Shape) where
   CubePorts ps = Pairwise _<_ ps × ((q : ℕ) → q ∈ ps → q ∈ ports S)
 
   InCube : Attempt → Type 0
-  InCube (pass-over ps) = CubePorts ps
-  InCube (helix-paths ps) = CubePorts ps
+  InCube a = CubePorts (portsTried a)
 
   -- Every routing type makes such attempts, one at least;
   in-cube : (type vector : ℕ) (a : Attempt) → a ∈ attempts S type vector → InCube a
-  unfolding InCube CubePorts
+  unfolding InCube CubePorts portsTried
   in-cube type vector =
       each-type (λ xs. (a : Attempt) → a ∈ xs → InCube a) S type vector (one lowest) (one given) (one given)
       (all-cons InCube given (one (send-ports-rise S vector .1, λ q m. other-port S vector q .0 m .0)))
@@ -187,12 +197,18 @@ module _ (S : Shape) where
   tries-permitted s t type vector a m w h = go a (in-cube type vector a m) h
     where
       go : (a : Attempt) → InCube a → Tries (network S) s t a w → Permitted (network S) s (ports S) t w
-      go (pass-over ps) i h = unfold InCube CubePorts Tries in wider (network S) s ps (ports S) t w (i .1) h
-      go (helix-paths ps) i h = unfold InCube CubePorts Tries in helix-permitted (network S) s t (h .0) (h .2) (ports S) (i .1 (h .0) (h .1))
+      go (pass-over ps) i h = unfold InCube CubePorts portsTried Tries in wider (network S) s ps (ports S) t w (i .1) h
+      go (helix-paths ps) i h = unfold InCube CubePorts portsTried Tries in helix-permitted (network S) s t (h .0) (h .2) (ports S) (i .1 (h .0) (h .1))
+
+  -- an acknowledged one takes the first of those that are free, in the order of document 01;
+  pub acknowledged-first : (s t : ℕ) (free : ℕ → ℕ → Bool) (r : Receive) (type vector : ℕ) (a : Attempt) → a ∈ attempts S type vector
+      → (w : Path) (k n : ℕ) → AttemptSays (network S) s t free r a (acknowledged w k) n → (v : Path) → Tries (network S) s t a v → Free (network S) free s v → (v ≡ w) ⊎ ComesBefore w v
+  unfolding InCube CubePorts
+  acknowledged-first s t free r type vector a m w k n (says-acknowledged e f) = found-first (network S) s t free a (in-cube type vector a m .0) w n f
 
   -- and what each comes to says what the documents say of it.
   search-says : S .dimension ≤ 8 → (free : ℕ → ℕ → Bool) (s t : ℕ) → Node S s → Node S t → (a : Attempt) → InCube a → SearchSays (network S) s t free a (attempted (network S) free s t a)
-  unfolding SearchSays attempted InCube CubePorts
+  unfolding SearchSays attempted InCube CubePorts portsTried
   search-says h free s t i l (pass-over ps) c = cube-says S h free s ps t i l (c .0) (c .1)
   search-says h free s t i l (helix-paths ps) c = (
     map (helixPath (network S) s t) ps,
@@ -212,6 +228,22 @@ module _ (S : Shape) where
     pub maze-answers : send 0 S free r s vector t ≡ oneResult r first
     unfolding send attempts attempted runs
     maze-answers = refl
+
+    -- Routing types 1 and 3 answer what trying their helix paths comes to,
+    pub helix-answers : send 1 S free r s vector t ≡ oneResult r (triedHelix S free s t (sendPorts S vector))
+    unfolding send attempts attempted runs
+    helix-answers = refl
+
+    pub fixed-answers : send 3 S free r s vector t ≡ oneResult r (triedHelix S free s t (take 1 (sendPorts S vector)))
+    unfolding send attempts attempted runs
+    fixed-answers = refl
+
+    -- with at most 9 scouts for a path, which makes 72 for the ports of a vector where nothing is folded.
+    pub fixed-bounded : S .dimension ≤ 8 → send 3 S free r s vector t .scouts ≤ 9
+    fixed-bounded h = rw fixed-answers (lowest-scouts S free s t h (sendPorts S vector))
+
+    pub helix-bounded : S .dimension ≤ 8 → S .fold ≡ 0 → send 1 S free r s vector t .scouts ≤ 72
+    helix-bounded h z = rw helix-answers (vector-scouts S free s t h z vector)
 
     -- Routing type 4 stops where the first pass finds a path,
     pub alternate-stops : goesOn (outcome r first) ≡ false → send 4 S free r s vector t ≡ oneResult r first
