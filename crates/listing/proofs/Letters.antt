@@ -1,9 +1,8 @@
 -- The call letters of document 01: which call a line asks for, and what its printed line shows, field by field. The letters are written by their bytes:
 -- F is 70, B 66, E 69, S 83 and C 67.
 -- Assumes nothing.
-use mathlib.Core.Path.{_≡_, refl, ap, ap₂, sym, _∙_}
-use mathlib.Core.Logic.{_≢_}
-use mathlib.Core.Bool.{true, false, false≢true}
+use mathlib.Core.Path.{_≡_, refl, ap₂, _∙_}
+use mathlib.Core.Logic.{_≢_, _⊎_, inl, inr}
 use mathlib.Core.List.{List, [], _∷_, map}
 use mathlib.Core.Option.{some}
 use Prim.Native.Nat.{ℕ, _+_, _*_, _≤_, _<_}
@@ -115,14 +114,15 @@ module _ {S : Type 0} (makes : S → Call → After S) (state : S) (n : ℕ) whe
     unfolding inOrder rowFor callRow carriesScouts
     acknowledged-shows e = rw e
 
-    -- S refused after the search: "A refused S shows `-` for receive and ports."
-    pub rejected-shows : answer opens .number ≢ 0 → carriesScouts (answer opens .number) ≡ true
+    -- S answered 10 or 11: "A refused S shows `-` for receive and ports."
+    pub rejected-shows : (answer opens .number ≡ 10) ⊎ (answer opens .number ≡ 11)
         → shown opens ≡ shows n ∷ letter 83 ∷ shows (answer opens .number) ∷ shows node ∷ shows channel ∷ nothing ∷ shows (scoutsOf (answer opens)) ∷ nothing ∷ []
-    unfolding inOrder rowFor callRow
-    rejected-shows f e = rw (ne-eqb _ 0 f, e)
+    unfolding inOrder rowFor callRow carriesScouts
+    rejected-shows (inl e) = rw e
+    rejected-shows (inr e) = rw e
 
     -- S stopped before the search: "scouts (S answered 0, 10 or 11)", and not otherwise
-    pub stopped-shows : carriesScouts (answer opens .number) ≡ false
+    pub stopped-shows : answer opens .number ≢ 0 → answer opens .number ≢ 10 → answer opens .number ≢ 11
         → shown opens ≡ shows n ∷ letter 83 ∷ shows (answer opens .number) ∷ shows node ∷ shows channel ∷ nothing ∷ nothing ∷ nothing ∷ []
     unfolding inOrder rowFor callRow carriesScouts
-    stopped-shows e = rw (e, ne-eqb _ 0 (λ z. false≢true (sym e ∙ ap carriesScouts z)))
+    stopped-shows e f g = rw (ne-eqb _ 0 e, ne-eqb _ 10 f, ne-eqb _ 11 g)

@@ -15,9 +15,8 @@ use Rattle.common.specs.Lists.{from}
 use Rattle.common.specs.Tests.{Test, test, refusal}
 use Rattle.common.proofs.Tests.{same?, refused, passed, accepted as tests-accepted}
 use Rattle.paths.specs.Send.{Outcome, acknowledged, route-rejected, receive-rejected}
-use Rattle.table.specs.View.{view}
 use Rattle.soundness.specs.SoundTest.{tableTests}
-use Rattle.ownership.specs.Calls.{Call, making, blocking, unblocking, opening, closing, tracing, CallResult, scoutsOf, answered, CallFacts, callTests, resultOf, After}
+use Rattle.ownership.specs.Calls.{Call, making, blocking, unblocking, opening, closing, tracing, CallResult, answered, carriesScouts, CallFacts, callTests, resultOf, After}
 use Rattle.ownership.specs.OnTable.{lentTests, stoppedAt, tableStep}
 use Rattle.ownership.proofs.Steps.{table-step}
 use Rattle.text.specs.Text.{newline, space, digit, decimal}
@@ -231,12 +230,22 @@ unfolding Shown
 shown-if true n = ((λ p. refl), (λ e. tt))
 shown-if false n = ((λ p. absurd p), (λ e. absurd (false≢true e)))
 
+was-sent : (n : ℕ) → carriesScouts n ≡ true → (n ≡ 0) ⊎ ((n ≡ 10) ⊎ (n ≡ 11))
+unfolding carriesScouts
+was-sent n e = ⊎-elim inl (λ f. inr (⊎-elim inl (λ g. inr (eqb-true n 11 (rw (ne-eqb n 0 f, ne-eqb n 10 g) at e))) (same? n 10))) (same? n 0)
+
+is-sent : (n : ℕ) → (n ≡ 0) ⊎ ((n ≡ 10) ⊎ (n ≡ 11)) → carriesScouts n ≡ true
+unfolding carriesScouts
+is-sent n (inl e) = rw e
+is-sent n (inr (inl e)) = rw e
+is-sent n (inr (inr e)) = rw e
+
 pub scouts-row : {S : Type 0} (makes : S → Call → After S) (state : S) (line : ℕ) (a : Call) → Shown (rowFor makes state line (some a) .scouts) ↔ WasSent a (makes state a .result)
 unfolding rowFor callRow Shown IsOpen
 scouts-row makes state line (making D) = ((λ p. absurd p), (λ p. p .0))
 scouts-row makes state line (blocking n p) = ((λ p. absurd p), (λ p. p .0))
 scouts-row makes state line (unblocking n p) = ((λ p. absurd p), (λ p. p .0))
-scouts-row makes state line (opening s c t y v) = ((λ p. (tt, shown-if _ _ .0 p)), (λ p. shown-if _ _ .1 (p .1)))
+scouts-row makes state line (opening s c t y v) = ((λ p. (tt, was-sent _ (shown-if _ _ .0 p))), (λ p. shown-if _ _ .1 (is-sent _ (p .1))))
 scouts-row makes state line (closing s c) = ((λ p. absurd p), (λ p. p .0))
 scouts-row makes state line (tracing s c buffer) = ((λ p. absurd p), (λ p. p .0))
 

@@ -1,10 +1,10 @@
 -- What the theorems about the printed list say.
 -- Assumes nothing.
 use mathlib.Core.Path.{_≡_}
-use mathlib.Core.Bool.{true}
+use mathlib.Core.Logic.{_⊎_}
 use mathlib.Core.List.{List, [], _∷_, map}
 use Prim.Native.Nat.{ℕ, _≤_, _<_}
-use Rattle.ownership.specs.Calls.{Call, making, blocking, unblocking, opening, closing, tracing, CallResult, carriesScouts}
+use Rattle.ownership.specs.Calls.{Call, making, blocking, unblocking, opening, closing, tracing, CallResult}
 use Rattle.text.specs.Text.{decimal, largest}
 use Rattle.text.specs.Row.{Field, nothing, shows, letter, path, spaced}
 
@@ -36,7 +36,7 @@ IsOpen (tracing s c buffer) = ⊥
 
 -- "S answered 0, 10 or 11"
 abbrev pub WasSent : Call → CallResult → Type 0
-WasSent a x = IsOpen a × (carriesScouts (x .number) ≡ true)
+WasSent a x = IsOpen a × ((x .number ≡ 0) ⊎ ((x .number ≡ 10) ⊎ (x .number ≡ 11)))
 
 -- the input line of a call letter and the numbers behind it
 unfoldable pub lineOf : ℕ → List ℕ → List ℕ

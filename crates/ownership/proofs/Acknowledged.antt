@@ -22,7 +22,8 @@ module _ (S : Shape) (free : ℕ → ℕ → Bool) (r : Receive) (s t : ℕ) whe
     pub receives : r ≡ channel k
 
   -- A send that is acknowledged:
-  pub send-taken : (vector : ℕ) → S .dimension ≤ 8 → Node S s → Node S t → (w : Path) (k type : ℕ) → send type S free r s vector t .outcome ≡ acknowledged w k → Taken w k
+  pub send-taken : (vector : ℕ) → S .dimension ≤ 8 → Node S s → Node S t → (w : Path) (k type : ℕ)
+      → send type S free r s vector t .outcome ≡ acknowledged w k → Taken w k
   send-taken vector fits i l w k type e =
       let says = send-says S free r s vector t type fits i l in
       let x = said-by (network S) s t free r (attempts S type vector) _ _ (rw e at says) in

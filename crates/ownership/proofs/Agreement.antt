@@ -91,7 +91,8 @@ module _ (b : List ℕ) (h : History) (k : Represents b h) where
   result-same : (a : Call) → tableStep b a .result ≡ historyStep h a .result
   result-same a =
       ⊎-elim (λ e. table-step b a .result (stops-alike a ∙ e) ∙ results-alike a e ∙ sym (history-step h a .result e))
-      (λ f. rw (table-step b a .stopped (λ z. f (sym (stops-alike a) ∙ z)), history-step h a .stopped f) (ap (λ i. refusedWith i a) (stops-alike a))) (same? (stoppedOn h a) 0)
+      (λ f. rw (table-step b a .stopped (λ z. f (sym (stops-alike a) ∙ z)), history-step h a .stopped f) (ap (λ i. refusedWith i a) (stops-alike a)))
+      (same? (stoppedOn h a) 0)
 
   pub represents-step : (a : Call) → Step a
   represents-step a = record { result = result-same a; covered = ⊎-elim accepts refuses (same? (historyStep h a .result .number) 0) }
@@ -103,7 +104,8 @@ module _ (b : List ℕ) (h : History) (k : Represents b h) where
       accepts : historyStep h a .result .number ≡ 0 → Represents (tableStep b a .state) (historyStep h a .state)
       accepts e =
           let passes = history-step h a .passed e in
-          let bytes : tableStep b a .state ≡ bytesOf (applied h a) = table-step b a .accepted (number ∙ e) ∙ ap (λ v. encode (updated v a)) (k .shows) ∙ (unfold bytesOf in ap encode (sym (follows-view h (k .valid) a passes))) in
+          let shown : bytesOf (applied h a) ≡ encode (updated (viewOf h) a) = unfold bytesOf in ap encode (follows-view h (k .valid) a passes) in
+          let bytes = table-step b a .accepted (number ∙ e) ∙ ap (λ v. encode (updated v a)) (k .shows) ∙ sym shown in
           rw (bytes, history-step h a .accepted e) (bytes-represent (applied h a) (follows-valid h (k .valid) a passes))
 
       refuses : historyStep h a .result .number ≢ 0 → Represents (tableStep b a .state) (historyStep h a .state)
@@ -155,7 +157,7 @@ module _ (b : List ℕ) (h : History) (D : ℕ) (e : Accepted b (making D)) wher
 
   pub made-represents : Represents (tableStep b (making D) .state) (historyStep h (making D) .state)
   made-represents =
-      let m = made-shows b D e in
+      let m = made-shows b D (table-step b (making D) .passed e) in
       rw made-history record { bytes = m .bytes; shows = m .shows ∙ sym (made-view D); valid = made-valid D (m .least) (m .most) }
 
 -- The users' third demand. From any bytes, after an accepted making and any list of calls, refused ones included.

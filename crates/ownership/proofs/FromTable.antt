@@ -7,7 +7,6 @@ use mathlib.Core.List.{List, _∷_, map, Memᴰ·map, Memᴰ·of-map, Memᴰ·ap
 use Prim.Native.Nat.{ℕ, _*_, _^_, _≤_, _<_}
 use native.Mathlib.Omega.{arith}
 use lib.Dec.{eqb, ltb}
-use lib.ListN.{length}
 use borrow.Author.Tests.{eqb-true, eq-eqb, lt-ltb, not-true}
 use Rattle.common.specs.Lists.{_∈_, keep, from, lowest, Pairwise}
 use Rattle.common.specs.Tests.{refusal}

@@ -1,20 +1,19 @@
 -- What the calls say of any table that passes the tests of a lent table, whether a history covers it or not.
 -- Assumes nothing.
-use mathlib.Core.Path.{_≡_, refl, ap, sym, _∙_, subst}
+use mathlib.Core.Path.{_≡_, refl, ap, sym, _∙_}
 use mathlib.Core.Logic.{⊎-elim, _≢_, _↔_}
 use mathlib.Core.Bool.{true, false, not}
-use mathlib.Core.List.{List, [], _∷_}
+use mathlib.Core.List.{List, []}
 use Prim.Native.Nat.{ℕ, _^_, _<_}
 use native.Mathlib.Omega.{arith}
-use lib.Dec.{eqb, ltb}
-use lib.ListN.{length}
+use lib.Dec.{ltb}
 use borrow.Author.Tests.{eq-eqb, lt-ltb}
-use Rattle.common.specs.Tests.{test, refusal}
+use Rattle.common.specs.Tests.{refusal}
 use Rattle.common.proofs.Tests.{clash, same?, passed, accepted, refusal-before, refusal-after, Avoids, avoids, avoiding, never-answered}
 use Rattle.cube.specs.Cube.{circuitOf}
 use Rattle.cube.proofs.Bits.{no-bit-above}
 use Rattle.paths.specs.Send.{Outcome, acknowledged, route-rejected, receive-rejected}
-use Rattle.table.specs.Layout.{tableLength, dimensionAt, enabledAt, ownerAt}
+use Rattle.table.specs.Layout.{dimensionAt, enabledAt, ownerAt}
 use Rattle.table.specs.View.{View, view, heldIn}
 use Rattle.table.specs.Encode.{AllBytes, Bytes}
 use Rattle.soundness.specs.Sound.{CircuitSound, Sound}
@@ -53,7 +52,8 @@ may-open b s c t y v e =
     }
 
 -- the numbers of an outcome, as an open gives them and as a send answers them
-answer-same : (o : Outcome) (n : ℕ) (b : List ℕ) → pass-answer (answered o n .number) (hopsOf (answered o n)) (receiveOf (answered o n)) (scoutsOf (answered o n)) b ≡ answerOfOutcome o n b
+answer-same : (o : Outcome) (n : ℕ) (b : List ℕ)
+    → pass-answer (answered o n .number) (hopsOf (answered o n)) (receiveOf (answered o n)) (scoutsOf (answered o n)) b ≡ answerOfOutcome o n b
 unfolding answered answerOfOutcome
 answer-same (acknowledged w k) n b = refl
 answer-same route-rejected n b = refl

@@ -150,7 +150,8 @@ module _ (v : View) (sound : Sound v) (most : v .dimension ≤ 8) (t : ℕ) wher
       no-way-in (λ j h. eqb-false _ 0 (none-chosen _ e j h)) (arrival w) (c .1) (free-owner v _ _ (free-links (net v) (freeIn v) s w .0 free _ (c .0)))
 
   -- So no send is receive rejected.
-  send-receives : (s : ℕ) → s < 2 ^ v .dimension → (type vector : ℕ) (o : Outcome) (n : ℕ) → AttemptsSay (net v) s t (freeIn v) (receive v t) (attempts (shapeOf v) type vector) o n → o ≢ receive-rejected
+  send-receives : (s : ℕ) → s < 2 ^ v .dimension → (type vector : ℕ) (o : Outcome) (n : ℕ)
+      → AttemptsSay (net v) s t (freeIn v) (receive v t) (attempts (shapeOf v) type vector) o n → o ≢ receive-rejected
   send-receives s i type vector o n a q =
       let x = said-by (net v) s t (freeIn v) (receive v t) (attempts (shapeOf v) type vector) receive-rejected n (rw q at a) in
       let y = receive-rejected-says (net v) s t (freeIn v) (receive v t) (x .0) (x .2 .0) (x .2 .1) in

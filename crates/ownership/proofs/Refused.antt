@@ -2,35 +2,34 @@
 -- Assumes nothing.
 use mathlib.Core.Path.{_≡_, refl, _∙_}
 use mathlib.Core.Logic.{_⊎_, inl, inr, ⊎-elim, _≢_}
-use mathlib.Core.Bool.{true}
 use mathlib.Core.List.{List, [], _∷_, _++_}
 use Prim.Native.Nat.{ℕ}
 use lib.ListN.{replicate}
 use Rattle.common.proofs.Tests.{same?}
 use Rattle.paths.specs.Send.{Outcome, acknowledged, route-rejected, receive-rejected}
 use Rattle.table.specs.View.{view}
-use Rattle.ownership.specs.Calls.{Call, making, blocking, unblocking, opening, closing, tracing, form, lent, CallResult, scoutsOf, answered, carriesScouts, CallFacts, resultOf}
+use Rattle.ownership.specs.Calls.{Call, making, blocking, unblocking, opening, closing, tracing, form, lent, CallResult, scoutsOf, answered, CallFacts, resultOf}
 use Rattle.ownership.specs.OnTable.{factsOf, stoppedAt, tableStep}
 use Rattle.ownership.specs.Agrees.{tableAfter, leaves}
 use Rattle.ownership.proofs.Steps.{table-step}
 
 -- "When refused, all but the number are 0, except that 10 and 11 carry their scouts."
 abbrev pub Zero : Call → CallResult → Type 0
-Zero a g = (g .values ≡ replicate (form a .values) 0) ⊎ ((carriesScouts (g .number) ≡ true) × (g .values ≡ 0 ∷ 0 ∷ scoutsOf g ∷ []))
+Zero a g = (g .values ≡ replicate (form a .values) 0) ⊎ (((g .number ≡ 10) ⊎ (g .number ≡ 11)) × (g .values ≡ 0 ∷ 0 ∷ scoutsOf g ∷ []))
 
 -- what a call that no test stops gives where it is refused: its buffers as they were lent, and such values
 send-zero : (a : Call) (o : Outcome) (n : ℕ) → answered o n .number ≢ 0 → (answered o n .buffers ≡ []) × Zero a (answered o n)
-unfolding answered carriesScouts
+unfolding answered
 send-zero a (acknowledged w k) n f = absurd (f refl)
-send-zero a route-rejected n f = (refl, inr (refl, refl))
-send-zero a receive-rejected n f = (refl, inr (refl, refl))
+send-zero a route-rejected n f = (refl, inr (inl refl, refl))
+send-zero a receive-rejected n f = (refl, inr (inr refl, refl))
 
 result-refused : (f : CallFacts) (a : Call) → resultOf f a .number ≢ 0 → (resultOf f a .buffers ≡ lent a) × Zero a (resultOf f a)
 unfolding resultOf
 result-refused f (making D) h = absurd (h refl)
 result-refused f (blocking n p) h = absurd (h refl)
 result-refused f (unblocking n p) h = absurd (h refl)
-result-refused f (opening s c t y v) h = send-zero (opening s c t y v) (f .sends s t y v .outcome) (f .sends s t y v .scouts) h
+result-refused f (opening s c t y v) h = send-zero (opening s c t y v) (f .sends s t y v .outcome) _ h
 result-refused f (closing s c) h = absurd (h refl)
 result-refused f (tracing s c buffer) h = absurd (h refl)
 

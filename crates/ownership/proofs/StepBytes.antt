@@ -1,6 +1,6 @@
 -- What a call leaves of the bytes of a table: those that show the update of what the table showed.
 -- Assumes nothing.
-use mathlib.Core.Path.{_≡_, refl, ap, sym, _∙_, subst}
+use mathlib.Core.Path.{_≡_, refl, ap, sym, _∙_}
 use mathlib.Core.Logic.{⊎-elim, _≢_}
 use mathlib.Core.Bool.{Bool, true, false, cond, _&&_}
 use mathlib.Core.List.{List}
@@ -16,11 +16,10 @@ use Rattle.table.specs.Encode.{encode, Bytes}
 use Rattle.table.proofs.Encode.{encode-view}
 use Rattle.table.proofs.Encoded.{encode-bytes, view-encode}
 use Rattle.soundness.proofs.Soundness.{fresh-sound}
-use Rattle.ownership.specs.Calls.{Call, making, blocking, unblocking, opening, closing, tracing, answered, resultOf}
+use Rattle.ownership.specs.Calls.{Call, making, blocking, unblocking, opening, closing, tracing, CallResult, answered, resultOf}
 use Rattle.ownership.specs.Allowed.{Allowed}
 use Rattle.ownership.specs.Update.{sendIn, viewAfterSend, updated}
 use Rattle.ownership.specs.OnTable.{factsOf, stoppedAt, tableStep}
-use Rattle.ownership.specs.Agrees.{Accepted}
 use Rattle.ownership.proofs.Allowed.{allowed}
 use Rattle.ownership.proofs.Range.{sound-fits}
 use Rattle.ownership.proofs.Stops.{none-stops}
@@ -32,7 +31,7 @@ unfolding resultOf factsOf updated
 rejected-same v (making D) f = absurd (f refl)
 rejected-same v (blocking n p) f = absurd (f refl)
 rejected-same v (unblocking n p) f = absurd (f refl)
-rejected-same v (opening s c t y x) f = go (sendIn v s t y x .outcome) (sendIn v s t y x .scouts) f
+rejected-same v (opening s c t y x) f = go (sendIn v s t y x .outcome) _ f
   where
     go : (o : Outcome) (n : ℕ) → answered o n .number ≢ 0 → viewAfterSend v (circuitOf s c) s t o ≡ v
     go (acknowledged w k) n g = unfold answered in absurd (g refl)
@@ -47,11 +46,15 @@ module _ (b : List ℕ) (bytes : Bytes b) (a : Call) where
   step-encoded z = ⊎-elim (table-step b a .accepted) rejected (same? (tableStep b a .result .number) 0)
     where
       rejected : tableStep b a .result .number ≢ 0 → tableStep b a .state ≡ encode (updated (view b) a)
-      rejected f = table-step b a .refused f ∙ sym (ap encode (rejected-same (view b) a (rw (table-step b a .result z) at f)) ∙ encode-view b (bytes .long) (bytes .small))
+      rejected f =
+          let same = rejected-same (view b) a (rw (table-step b a .result z) at f) in
+          table-step b a .refused f ∙ sym (ap encode same ∙ encode-view b (bytes .long) (bytes .small))
 
   -- and where what is shown stays, each byte does
   step-same : updated (view b) a ≡ view b → tableStep b a .state ≡ b
-  step-same e = ⊎-elim (λ z. table-step b a .accepted z ∙ ap encode e ∙ encode-view b (bytes .long) (bytes .small)) (table-step b a .refused) (same? (tableStep b a .result .number) 0)
+  step-same e =
+      ⊎-elim (λ z. table-step b a .accepted z ∙ ap encode e ∙ encode-view b (bytes .long) (bytes .small)) (table-step b a .refused)
+      (same? (tableStep b a .result .number) 0)
 
 -- After an accepted making the table is a made one, whatever it was before.
 pub record Made (b : List ℕ) (D : ℕ) : Type 0 where
@@ -60,11 +63,12 @@ pub record Made (b : List ℕ) (D : ℕ) : Type 0 where
   pub bytes : Bytes b
   pub shows : view b ≡ fresh D
 
-pub made-shows : (b : List ℕ) (D : ℕ) → Accepted b (making D) → Made (tableStep b (making D) .state) D
+pub made-shows : (b : List ℕ) (D : ℕ) → stoppedAt b (making D) ≡ 0 → Made (tableStep b (making D) .state) D
 made-shows b D e =
-    let h : (1 ≤ D) × (D ≤ 8) = unfold Allowed in allowed (factsOf (view b)) (making D) (none-stops b (making D) (table-step b (making D) .passed e)) in
+    let h : (1 ≤ D) × (D ≤ 8) = unfold Allowed in allowed (factsOf (view b)) (making D) (none-stops b (making D) e) in
     let fits = sound-fits (fresh D) (unfold fresh in h .1) (fresh-sound D) in
-    rw (table-step b (making D) .accepted e) (unfold updated in record { least = h .0; most = h .1; bytes = encode-bytes (fresh D) fits; shows = view-encode (fresh D) fits })
+    let accepted : tableStep b (making D) .result .number ≡ 0 = unfold resultOf in ap (λ (g : CallResult). g .number) (table-step b (making D) .result e) in
+    rw (table-step b (making D) .accepted accepted) (unfold updated in record { least = h .0; most = h .1; bytes = encode-bytes (fresh D) fits; shows = view-encode (fresh D) fits })
 
 -- a link that is enabled or blocked already
 pub enabled-already : (v : View) (n p : ℕ) (on : Bool) → v .enabled n p ≡ on → setEnabled v n p on ≡ v

@@ -97,7 +97,7 @@ module _ (s c : ℕ) where
   step-accepted h (making D) e = step-making h D
   step-accepted h (blocking m p) e = step-same h _ (blocking m p) 0 refl (λ o. let u : _≡_ {A = ℕ} 0 1 = cc (o .3) in absurd (omega arith)) (λ z ends. absurd ends)
   step-accepted h (unblocking m p) e = step-same h _ (unblocking m p) 0 refl (λ o. let u : _≡_ {A = ℕ} 0 1 = cc (o .3) in absurd (omega arith)) (λ z ends. absurd ends)
-  step-accepted h (opening m d t y v) e = step-opening h m d t y v (sendOn h m t y v .scouts) (sendOn h m t y v .outcome) e
+  step-accepted h (opening m d t y v) e = step-opening h m d t y v _ (sendOn h m t y v .outcome) e
   step-accepted h (closing m d) e = step-closing h m d
   step-accepted h (tracing m d buffer) e = step-same h h (tracing m d buffer) 0 refl (λ o. let u : _≡_ {A = ℕ} 0 1 = cc (o .3) in absurd (omega arith)) (λ z ends. absurd ends)
 

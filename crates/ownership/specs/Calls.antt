@@ -77,7 +77,7 @@ answered (acknowledged w k) n = record { number = 0; values = length w ∷ k ∷
 answered route-rejected n = record { number = 10; values = 0 ∷ 0 ∷ n ∷ []; buffers = [] }
 answered receive-rejected n = record { number = 11; values = 0 ∷ 0 ∷ n ∷ []; buffers = [] }
 
--- the numbers that an open answers with its scouts
+-- the numbers that come with the scouts of an open: success, and the two of a rejected search
 unfoldable pub carriesScouts : ℕ → Bool
 carriesScouts n = eqb n 0 || eqb n 10 || eqb n 11
 
@@ -157,8 +157,8 @@ pub record After (S : Type 0) : Type 0 where
   pub state : S
   pub result : CallResult
 
--- A call on such a state, whose tests answer n and whose facts are a: what it gives, and, "Success is 0", the state that an accepted call leaves, or else, a
--- rejected search being a refusal like any other, "No refusal alters any lent byte".
+-- A call on a state whose facts are a, and whose tests answer n, 0 where none applies: what it gives, and the state that it leaves. That is `after` where the call
+-- is accepted: "Success is 0". Else it is `before`, also where the search is rejected: "No refusal alters any lent byte."
 unfoldable pub callOn : {S : Type 0} → S → S → CallFacts → ℕ → Call → After S
 callOn before after a n call =
     let g = cond (eqb n 0) (resultOf a call) (refusedWith n call) in record { state = cond (eqb (g .number) 0) after before; result = g }

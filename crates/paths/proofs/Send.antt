@@ -41,7 +41,8 @@ goes-on-after receive-rejected = ((λ e. absurd (true≢false (sym e))), (λ h. 
 pub runs-stop : (r : Receive) (x y : PassResult) (ys : List PassResult) → goesOn (outcome r x) ≡ false → runs r (x ∷ y ∷ ys) ≡ oneResult r x
 runs-stop r x y ys e = unfold runs in rw e
 
-pub runs-on : (r : Receive) (x y : PassResult) (ys : List PassResult) → goesOn (outcome r x) ≡ true → runs r (x ∷ y ∷ ys) ≡ record { outcome = runs r (y ∷ ys) .outcome; scouts = scouts x + runs r (y ∷ ys) .scouts }
+pub runs-on : (r : Receive) (x y : PassResult) (ys : List PassResult) → goesOn (outcome r x) ≡ true
+    → runs r (x ∷ y ∷ ys) ≡ record { outcome = runs r (y ∷ ys) .outcome; scouts = scouts x + runs r (y ∷ ys) .scouts }
 runs-on r x y ys e = unfold runs in rw e
 
 -- no more scouts than those of all attempts together
@@ -64,7 +65,8 @@ unfoldable portsTried : Attempt → List ℕ
 portsTried (pass-over ps) = ps
 portsTried (helix-paths ps) = ps
 
--- What an attempt says, whatever it tries: acknowledged, it has a free path and a channel; receive rejected, a free path and none; route rejected, no free path.
+-- What an attempt says, whatever it tries: acknowledged, it has a free path and a channel; receive rejected, a free path and no channel; route
+-- rejected, no free path.
 module _ (N : Network) (s t : ℕ) (free : ℕ → ℕ → Bool) where
   found-says : (a : Attempt) (w : Path) (c : ℕ) → SearchSays N s t free a (found w c) → Tries N s t a w × Free N free s w
   unfolding SearchSays Tries
@@ -104,7 +106,8 @@ module _ (N : Network) (s t : ℕ) (free : ℕ → ℕ → Bool) (r : Receive) w
   no-route a o n h w i f e = route-rejected-says a n (rw e at h) w i f
 
   -- The answer of a send is that of one of its attempts;
-  pub said-by : (xs : List Attempt) (o : Outcome) (n : ℕ) → AttemptsSay N s t free r xs o n → (a : Attempt) × (a ∈ xs) × ((m : ℕ) × AttemptSays N s t free r a o m)
+  pub said-by : (xs : List Attempt) (o : Outcome) (n : ℕ) → AttemptsSay N s t free r xs o n
+      → (a : Attempt) × (a ∈ xs) × ((m : ℕ) × AttemptSays N s t free r a o m)
   said-by _ o n (last {a} h) = (a, List·Memᴰ·head refl, (n, h))
   said-by _ o n (ends {a} h e) = (a, List·Memᴰ·head refl, (n, h))
   said-by _ o _ (goes-on {later = xs} {n₂ = n} o₁ n₁ h e rest) = let x = said-by xs o n rest in (x .0, List·Memᴰ·tail (x .1), x .2)
@@ -114,7 +117,10 @@ module _ (N : Network) (s t : ℕ) (free : ℕ → ℕ → Bool) (r : Receive) w
   Route xs = (a : Attempt) × (a ∈ xs) × ((w : Path) × Tries N s t a w × Free N free s w)
 
   pub acknowledged-route : (xs : List Attempt) (w : Path) (k n : ℕ) → AttemptsSay N s t free r xs (acknowledged w k) n → Route xs × (r ≡ channel k)
-  acknowledged-route xs w k n h = let x = said-by xs (acknowledged w k) n h in let y = acknowledged-says (x .0) w k (x .2 .0) (x .2 .1) in ((x .0, x .1, (w, y .0, y .1)), y .2)
+  acknowledged-route xs w k n h =
+      let x = said-by xs (acknowledged w k) n h in
+      let y = acknowledged-says (x .0) w k (x .2 .0) (x .2 .1) in
+      ((x .0, x .1, (w, y .0, y .1)), y .2)
 
   pub route-acknowledged : (xs : List Attempt) (o : Outcome) (n : ℕ) → AttemptsSay N s t free r xs o n → Route xs → r ≢ all-held → Acknowledged o
   route-acknowledged _ o n (last {a} h) x g =
@@ -141,7 +147,8 @@ module _ (N : Network) (s t : ℕ) (free : ℕ → ℕ → Bool) (r : Receive) w
       ys : List PassResult
       ys = map (attempted N free s t) (b ∷ bs)
 
-      go : (c : Bool) → goesOn (outcome r x) ≡ c → said a → AttemptsSay N s t free r (b ∷ bs) (runs r ys .outcome) (runs r ys .scouts) → AttemptsSay N s t free r (a ∷ b ∷ bs) (runs r (x ∷ ys) .outcome) (runs r (x ∷ ys) .scouts)
+      go : (c : Bool) → goesOn (outcome r x) ≡ c → said a → AttemptsSay N s t free r (b ∷ bs) (runs r ys .outcome) (runs r ys .scouts)
+          → AttemptsSay N s t free r (a ∷ b ∷ bs) (runs r (x ∷ ys) .outcome) (runs r (x ∷ ys) .scouts)
       go true e i rest = rw (runs-on r x (attempted N free s t b) (map (attempted N free s t) bs) e) (goes-on (outcome r x) (scouts x) i e rest)
       go false e i rest = rw (runs-stop r x (attempted N free s t b) (map (attempted N free s t) bs) e) (ends i e)
 
@@ -193,7 +200,8 @@ module _ (S : Shape) where
       lowest = (one-rises (sendPorts S vector), λ q m. given .1 q (lowest-port (sendPorts S vector) (given .0) q m .0))
 
   -- what they try are permitted paths of the cube;
-  pub tries-permitted : (s t type vector : ℕ) (a : Attempt) → a ∈ attempts S type vector → (w : Path) → Tries (network S) s t a w → Permitted (network S) s (ports S) t w
+  pub tries-permitted : (s t type vector : ℕ) (a : Attempt) → a ∈ attempts S type vector → (w : Path) → Tries (network S) s t a w
+      → Permitted (network S) s (ports S) t w
   tries-permitted s t type vector a m w h = go a (in-cube type vector a m) h
     where
       go : (a : Attempt) → InCube a → Tries (network S) s t a w → Permitted (network S) s (ports S) t w
@@ -251,7 +259,8 @@ module _ (S : Shape) where
     alternate-stops e = runs-stop r first second [] e
 
     -- and otherwise answers what the second comes to, with the scouts of both.
-    pub alternate-goes-on : goesOn (outcome r first) ≡ true → send 4 S free r s vector t ≡ record { outcome = outcome r second; scouts = scouts first + scouts second }
+    pub alternate-goes-on : goesOn (outcome r first) ≡ true
+        → send 4 S free r s vector t ≡ record { outcome = outcome r second; scouts = scouts first + scouts second }
     unfolding send attempts attempted runs
     alternate-goes-on e = rw e
 

@@ -9,7 +9,6 @@ use native.Mathlib.Omega.{arith}
 use lib.Dec.{leb}
 use lib.ListN.{length}
 use borrow.Author.Tests.{ne-eqb, le-leb, lt-leb}
-use Rattle.common.specs.Tests.{refusal}
 use Rattle.common.proofs.Tests.{refused, passed, accepted}
 use Rattle.cube.specs.Cube.{circuitOf}
 use Rattle.paths.specs.Send.{Outcome, acknowledged, route-rejected, receive-rejected}
@@ -41,8 +40,11 @@ module _ (b : List ℕ) (a : Call) {n : ℕ} (e : n ≡ stoppedAt b a) where
   pub call-stopped : n ≢ 0 → record { state = b; result = refusedWith n a } ≡ tableStep b a
   call-stopped f = sym (table-step b a .stopped (λ z. f (e ∙ z)) ∙ ap (λ i. record { state = b; result = refusedWith i a }) (sym e))
 
-  pub call-passed : n ≡ 0 → AllBytes b → {b₁ : List ℕ} {g : CallResult} → b₁ ≡ writtenBy b a → g ≡ resultOf (factsOf (view b)) a → record { state = b₁; result = g } ≡ tableStep b a
-  call-passed z small q r = let s = sym e ∙ z in λ i. record { state = (q ∙ sym (written-bytes b small a s)) i; result = (r ∙ sym (table-step b a .result s)) i }
+  pub call-passed : n ≡ 0 → AllBytes b → {b₁ : List ℕ} {g : CallResult} → b₁ ≡ writtenBy b a → g ≡ resultOf (factsOf (view b)) a
+      → record { state = b₁; result = g } ≡ tableStep b a
+  call-passed z small q r =
+      let s = sym e ∙ z in
+      λ i. record { state = (q ∙ sym (written-bytes b small a s)) i; result = (r ∙ sym (table-step b a .result s)) i }
 
 module _ (b : List ℕ) where
   -- a making
@@ -75,7 +77,8 @@ module _ (b : List ℕ) where
   pub call-opens : (s c t y v : ℕ) {m : ℕ} → m ≡ stoppedAt b (opening s c t y v) → m ≡ 0 → AllBytes b → {k : ℕ} → k ≡ circuitOf s c → {x h r n : ℕ} {b₁ : List ℕ} → pass-answer x h r n b₁ ≡ sends b s t k y v
       → done b₁ x (h ∷ r ∷ n ∷ []) [] ≡ tableStep b (opening s c t y v)
   unfolding writtenBy resultOf factsOf sends sendAnswer sendIn
-  call-opens s c t y v e z small q g = ap shown (g ∙ ap (λ i. sends b s t i y v) q) ∙ shown-same (sendIn (view b) s t y v .outcome) _ _ ∙ call-passed b (opening s c t y v) e z small refl refl
+  call-opens s c t y v e z small q g =
+      ap shown (g ∙ ap (λ i. sends b s t i y v) q) ∙ shown-same (sendIn (view b) s t y v .outcome) _ _ ∙ call-passed b (opening s c t y v) e z small refl refl
     where
       shown : PassAnswer → After (List ℕ)
       shown (pass-answer x h r n b₁) = done b₁ x (h ∷ r ∷ n ∷ []) []

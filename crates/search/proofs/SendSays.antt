@@ -30,18 +30,21 @@ module _ (v : View) (t : ℕ) where
 
 -- Acknowledged is number 0.
 module _ (b : List ℕ) (c s t : ℕ) where
-  acknowledged-number : (o : Outcome) (m x h k n : ℕ) (b′ : List ℕ) → pass-answer x h k n b′ ≡ sendAnswer b c s t (record { outcome = o; scouts = m }) → Acknowledged o → x ≡ 0
+  acknowledged-number : (o : Outcome) (m x h k n : ℕ) (b′ : List ℕ)
+      → pass-answer x h k n b′ ≡ sendAnswer b c s t (record { outcome = o; scouts = m }) → Acknowledged o → x ≡ 0
   unfolding sendAnswer bytesAfterSend answerOfOutcome Acknowledged
   acknowledged-number (acknowledged w j) m x h k n b′ q z = cc
 
-  number-acknowledged : (o : Outcome) (m x h k n : ℕ) (b′ : List ℕ) → pass-answer x h k n b′ ≡ sendAnswer b c s t (record { outcome = o; scouts = m }) → x ≡ 0 → (w : Path) × (o ≡ acknowledged w k)
+  number-acknowledged : (o : Outcome) (m x h k n : ℕ) (b′ : List ℕ)
+      → pass-answer x h k n b′ ≡ sendAnswer b c s t (record { outcome = o; scouts = m }) → x ≡ 0 → (w : Path) × (o ≡ acknowledged w k)
   unfolding sendAnswer bytesAfterSend answerOfOutcome
   number-acknowledged (acknowledged w j) m x h k n b′ q z = let y : j ≡ k = cc in (w, ap (acknowledged w) y)
   number-acknowledged route-rejected m x h k n b′ q z = let y : x ≡ 10 = cc in absurd (omega arith)
   number-acknowledged receive-rejected m x h k n b′ q z = let y : x ≡ 11 = cc in absurd (omega arith)
 
 -- The users' second demand: of any answer that the contract of `search::send` allows.
-pub demand-2 : (b : List ℕ) (s t c type vector : ℕ) → MaySend b s t c vector → (x h k n : ℕ) (b′ : List ℕ) → pass-answer x h k n b′ ≡ sends b s t c type vector → SendSays b s t c type vector x h k n b′
+pub demand-2 : (b : List ℕ) (s t c type vector : ℕ) → MaySend b s t c vector → (x h k n : ℕ) (b′ : List ℕ)
+    → pass-answer x h k n b′ ≡ sends b s t c type vector → SendSays b s t c type vector x h k n b′
 unfolding sends
 demand-2 b s t c type vector may x h k n b′ q =
     record {
@@ -50,7 +53,8 @@ demand-2 b s t c type vector may x h k n b′ q =
       answer = q ∙ ap (λ i. sendAnswer b c s t (record { outcome = o; scouts = i })) (sym counted);
       exactly = (
         (λ z. let r = route z in (r .0, let l = channel-lowest (view b) t k (r .1) in (k, l .small, l .is-available))),
-        (λ y. acknowledged-number b c s t o m x h k n b′ q (route-acknowledged (net (view b)) s t (freeIn (view b)) (receive (view b) t) tried o m said (y .0) (some-available (view b) t (y .1)))),
+        (λ y. acknowledged-number b c s t o m x h k n b′ q
+            (route-acknowledged (net (view b)) s t (freeIn (view b)) (receive (view b) t) tried o m said (y .0) (some-available (view b) t (y .1)))),
       );
       lowest = λ z. channel-lowest (view b) t k (route z .1);
       unchanged = λ f. sent-leaves b c s t o m q f;
