@@ -34,7 +34,8 @@ module _ (N : Network) (free : ℕ → ℕ → Bool) (s t : ℕ) (ps : List ℕ)
   helix-in-permitted h = (h .2 .0, helix-permitted N s t (h .0) (h .2 .1) ps (h .1), h .2 .2)
 
 -- a route of the only attempt
-only-route : (N : Network) (s t : ℕ) (free : ℕ → ℕ → Bool) (r : Receive) (a : Attempt) → Route N s t free r (a ∷ []) → (w : Path) × Tries N s t a w × Free N free s w
+only-route : (N : Network) (s t : ℕ) (free : ℕ → ℕ → Bool) (r : Receive) (a : Attempt) → Route N s t free r (a ∷ [])
+    → (w : Path) × Tries N s t a w × Free N free s w
 only-route N s t free r a x = subst (λ b. (w : Path) × Tries N s t b w × Free N free s w) (List·Memᴰ·eq-of-singleton (x .1)) (x .2)
 
 -- Sends over one network, free links, receive channel, source, vector and target, of two routing types:
@@ -45,14 +46,17 @@ module _ (S : Shape) (fits : S .dimension ≤ 8) (free : ℕ → ℕ → Bool) (
   abbrev RouteOf : ℕ → Type 0
   RouteOf type = Route (network S) s t free r (attempts S type vector)
 
+  says : (type : ℕ) → AttemptsSay (network S) s t free r (attempts S type vector) (AnswerOf type) (send type S free r s vector t .scouts)
+  says type = send-says S free r s vector t type fits source target
+
   -- where the one has no free path that the other has not, the other acknowledges all that it does.
   more-routes : (type other : ℕ) → (RouteOf type → RouteOf other) → Acknowledged (AnswerOf type) → Acknowledged (AnswerOf other)
   more-routes type other more = go (AnswerOf type) refl
     where
       go : (o : Outcome) → AnswerOf type ≡ o → Acknowledged o → Acknowledged (AnswerOf other)
       go (acknowledged w k) e a =
-          let x = acknowledged-route (network S) s t free r _ w k _ (subst (λ o. AttemptsSay (network S) s t free r (attempts S type vector) o (send type S free r s vector t .scouts)) e (send-says S free r s vector t type fits source target)) in
-          route-acknowledged (network S) s t free r _ _ _ (send-says S free r s vector t other fits source target) (more (x .0)) (λ h. taken (x .1) h)
+          let x = acknowledged-route (network S) s t free r _ w k _ (rw e at (says type)) in
+          route-acknowledged (network S) s t free r _ _ _ (says other) (more (x .0)) (taken (x .1))
         where
           taken : r ≡ channel k → r ≢ all-held
           taken e h = let z : _≡_ {A = ℕ} 0 1 = cc in omega arith

@@ -11,8 +11,6 @@ use lib.ListN.{take}
 use Rattle.common.specs.Lists.{_∈_, Pairwise}
 use Rattle.common.proofs.Lists.{all-cons}
 use Rattle.common.proofs.Tests.{clash}
-use Rattle.cube.specs.Axes.{axis}
-use Rattle.cube.proofs.Bits.{flip-inside}
 use Rattle.paths.specs.Network.{Network, Path}
 use Rattle.paths.specs.Permitted.{Permitted, ComesBefore}
 use Rattle.paths.specs.Pass.{PassResult, none, found, pass, scouts}
@@ -20,7 +18,7 @@ use Rattle.paths.specs.Helix.{helixPath}
 use Rattle.paths.specs.Send.{Receive, channel, all-held, Outcome, acknowledged, route-rejected, receive-rejected, Acknowledged, received, outcome, Attempt, pass-over, helix-paths, attempted, oneResult, goesOn, runs}
 use Rattle.paths.specs.Sentences.{Free, AnswerSays, says-acknowledged, says-receive-rejected, says-route-rejected, Tries, SearchSays, AttemptSays, AttemptsSay, last, ends, goes-on}
 use Rattle.paths.specs.CubeNetwork.{Shape, Node, ports, network, sendPorts, otherPorts, attempts, send}
-use Rattle.paths.proofs.CubeNetwork.{port-axis, send-port, other-port, send-ports-rise, cube-nearing, cube-leading, cube-says, scouts-bound}
+use Rattle.paths.proofs.CubeNetwork.{port-inside, send-port, other-port, send-ports-rise, cube-nearing, cube-leading, cube-says, scouts-bound}
 use Rattle.paths.proofs.Helix.{helix-permitted, helix-paths-are}
 use Rattle.paths.proofs.Tried.{tried-says, tried-helix, tried-first, tried-nothing, lowest-port, triedHelix, lowest-scouts, vector-scouts}
 
@@ -74,7 +72,8 @@ module _ (N : Network) (s t : ℕ) (free : ℕ → ℕ → Bool) where
   found-says (helix-paths ps) w c f = (tried-helix N s t free ps (f .1) (f .2), f .2 .is-free)
 
   -- a path found comes before every other free path that is tried, where the ports rise
-  found-first : (a : Attempt) → Pairwise _<_ (portsTried a) → (w : Path) (c : ℕ) → SearchSays N s t free a (found w c) → (v : Path) → Tries N s t a v → Free N free s v → (v ≡ w) ⊎ ComesBefore w v
+  found-first : (a : Attempt) → Pairwise _<_ (portsTried a) → (w : Path) (c : ℕ) → SearchSays N s t free a (found w c)
+      → (v : Path) → Tries N s t a v → Free N free s v → (v ≡ w) ⊎ ComesBefore w v
   unfolding portsTried SearchSays Tries
   found-first (pass-over ps) rise w c f v x = f .first v x
   found-first (helix-paths ps) rise w c f v x = tried-first N s t free ps (f .1) rise (f .2) (x .0) (x .1) v (x .2)
@@ -85,10 +84,12 @@ module _ (N : Network) (s t : ℕ) (free : ℕ → ℕ → Bool) where
   nothing-says (helix-paths ps) c f w x = tried-nothing N s t free ps (f .1) (f .2) (x .0) (x .1) w (x .2)
 
 module _ (N : Network) (s t : ℕ) (free : ℕ → ℕ → Bool) (r : Receive) where
-  pub acknowledged-says : (a : Attempt) (w : Path) (k n : ℕ) → AttemptSays N s t free r a (acknowledged w k) n → Tries N s t a w × Free N free s w × (r ≡ channel k)
+  pub acknowledged-says : (a : Attempt) (w : Path) (k n : ℕ) → AttemptSays N s t free r a (acknowledged w k) n
+      → Tries N s t a w × Free N free s w × (r ≡ channel k)
   acknowledged-says a w k n (says-acknowledged e f) = let x = found-says N s t free a w n f in (x .0, x .1, e)
 
-  pub receive-rejected-says : (a : Attempt) (n : ℕ) → AttemptSays N s t free r a receive-rejected n → ((w : Path) × Tries N s t a w × Free N free s w) × (r ≡ all-held)
+  pub receive-rejected-says : (a : Attempt) (n : ℕ) → AttemptSays N s t free r a receive-rejected n
+      → ((w : Path) × Tries N s t a w × Free N free s w) × (r ≡ all-held)
   receive-rejected-says a n (says-receive-rejected {w} e f) = let x = found-says N s t free a w n f in ((w, x .0, x .1), e)
 
   pub route-rejected-says : (a : Attempt) (n : ℕ) → AttemptSays N s t free r a route-rejected n → (w : Path) → Tries N s t a w → Free N free s w → ⊥
@@ -158,17 +159,24 @@ unfolding Permitted
 wider N s ps qs t (p ∷ w) h o = (h p (o .0), o .1)
 
 -- What holds of the attempts of each routing type holds of those of any.
-each-type : (P : List Attempt → Type 0) (S : Shape) (type vector : ℕ) → P (helix-paths (take 1 (sendPorts S vector)) ∷ []) → P (helix-paths (sendPorts S vector) ∷ [])
-    → P (pass-over (sendPorts S vector) ∷ []) → P (pass-over (sendPorts S vector) ∷ pass-over (otherPorts S vector) ∷ []) → P (attempts S type vector)
-unfolding attempts
-each-type P S type vector fixed helix maze alternate = go (eqb type 3) (eqb type 1) (eqb type 4)
-  where
-    go : (x y z : Bool)
-        → P (cond x (helix-paths (take 1 (sendPorts S vector)) ∷ []) (cond y (helix-paths (sendPorts S vector) ∷ []) (pass-over (sendPorts S vector) ∷ cond z (pass-over (otherPorts S vector) ∷ []) [])))
-    go true y z = fixed
-    go false true z = helix
-    go false false true = alternate
-    go false false false = maze
+module _ (P : List Attempt → Type 0) (S : Shape) (type vector : ℕ) where
+  abbrev given : List ℕ
+  given = sendPorts S vector
+
+  abbrev others : List ℕ
+  others = otherPorts S vector
+
+  each-type : P (helix-paths (take 1 given) ∷ []) → P (helix-paths given ∷ []) → P (pass-over given ∷ []) → P (pass-over given ∷ pass-over others ∷ [])
+      → P (attempts S type vector)
+  unfolding attempts
+  each-type fixed helix maze alternate = go (eqb type 3) (eqb type 1) (eqb type 4)
+    where
+      go : (x y z : Bool)
+          → P (cond x (helix-paths (take 1 given) ∷ []) (cond y (helix-paths given ∷ []) (pass-over given ∷ cond z (pass-over others ∷ []) [])))
+      go true y z = fixed
+      go false true z = helix
+      go false false true = alternate
+      go false false false = maze
 
 one-rises : (ps : List ℕ) → Pairwise _<_ (take 1 ps)
 unfolding Pairwise
@@ -210,18 +218,20 @@ module _ (S : Shape) where
 
   -- an acknowledged one takes the first of those that are free, in the order of document 01;
   pub acknowledged-first : (s t : ℕ) (free : ℕ → ℕ → Bool) (r : Receive) (type vector : ℕ) (a : Attempt) → a ∈ attempts S type vector
-      → (w : Path) (k n : ℕ) → AttemptSays (network S) s t free r a (acknowledged w k) n → (v : Path) → Tries (network S) s t a v → Free (network S) free s v → (v ≡ w) ⊎ ComesBefore w v
+      → (w : Path) (k n : ℕ) → AttemptSays (network S) s t free r a (acknowledged w k) n
+      → (v : Path) → Tries (network S) s t a v → Free (network S) free s v → (v ≡ w) ⊎ ComesBefore w v
   unfolding InCube CubePorts
   acknowledged-first s t free r type vector a m w k n (says-acknowledged e f) = found-first (network S) s t free a (in-cube type vector a m .0) w n f
 
   -- and what each comes to says what the documents say of it.
-  search-says : S .dimension ≤ 8 → (free : ℕ → ℕ → Bool) (s t : ℕ) → Node S s → Node S t → (a : Attempt) → InCube a → SearchSays (network S) s t free a (attempted (network S) free s t a)
+  search-says : S .dimension ≤ 8 → (free : ℕ → ℕ → Bool) (s t : ℕ) → Node S s → Node S t → (a : Attempt) → InCube a
+      → SearchSays (network S) s t free a (attempted (network S) free s t a)
   unfolding SearchSays attempted InCube CubePorts portsTried
   search-says h free s t i l (pass-over ps) c = cube-says S h free s ps t i l (c .0) (c .1)
   search-says h free s t i l (helix-paths ps) c = (
     map (helixPath (network S) s t) ps,
-    helix-paths-are (cube-nearing S t) (cube-leading S h t l) s ps (λ q m. unfold network in flip-inside (S .dimension) s (axis q) i (port-axis S q (c .1 q m))),
-    tried-says (network S) free s _ _ refl,
+    helix-paths-are (cube-nearing S t) (cube-leading S h t l) s ps (λ q m. port-inside S s q i (c .1 q m)),
+    tried-says (network S) free s _,
   )
 
   module _ (free : ℕ → ℕ → Bool) (r : Receive) (s vector t : ℕ) where
@@ -264,16 +274,20 @@ module _ (S : Shape) where
     unfolding send attempts attempted runs
     alternate-goes-on e = rw e
 
+    -- what a list of attempts comes to says so of it
+    said-of : List Attempt → Type 0
+    said-of xs =
+        let x = runs r (map (attempted (network S) free s t) xs) in
+        AttemptsSay (network S) s t free r xs (x .outcome) (x .scouts)
+
     module _ (type : ℕ) where
       -- A send says what document 01 says of it,
-      pub send-says : S .dimension ≤ 8 → Node S s → Node S t → AttemptsSay (network S) s t free r (attempts S type vector) (send type S free r s vector t .outcome) (send type S free r s vector t .scouts)
-      unfolding send
-      send-says h i l =
-          each-type (λ xs. ((a : Attempt) → a ∈ xs → InCube a) → AttemptsSay (network S) s t free r xs (runs r (map (attempted (network S) free s t) xs) .outcome) (runs r (map (attempted (network S) free s t) xs) .scouts))
-          S type vector all all all all (in-cube type vector)
+      pub send-says : S .dimension ≤ 8 → Node S s → Node S t
+          → AttemptsSay (network S) s t free r (attempts S type vector) (send type S free r s vector t .outcome) (send type S free r s vector t .scouts)
+      unfolding send said-of
+      send-says h i l = each-type (λ xs. ((a : Attempt) → a ∈ xs → InCube a) → said-of xs) S type vector all all all all (in-cube type vector)
         where
-          all : {a : Attempt} {xs : List Attempt} → ((b : Attempt) → b ∈ (a ∷ xs) → InCube b)
-              → AttemptsSay (network S) s t free r (a ∷ xs) (runs r (map (attempted (network S) free s t) (a ∷ xs)) .outcome) (runs r (map (attempted (network S) free s t) (a ∷ xs)) .scouts)
+          all : {a : Attempt} {xs : List Attempt} → ((b : Attempt) → b ∈ (a ∷ xs) → InCube b) → said-of (a ∷ xs)
           all {a} {xs} c = runs-say (network S) s t free r a xs (λ b m. answer-says _ r _ (search-says h free s t i l b (c b m)))
 
       -- and reports no more than 123,300 scouts, where nothing is folded.

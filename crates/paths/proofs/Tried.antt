@@ -1,6 +1,6 @@
 -- Paths tried in turn say what document 02, (b), says of them; and so do the helix paths of a list of ports.
 -- Assumes nothing.
-use mathlib.Core.Path.{_≡_, refl, ap, sym, _∙_}
+use mathlib.Core.Path.{_≡_, refl, ap}
 use mathlib.Core.Logic.{_⊎_, inl, inr, ⊎-elim}
 use mathlib.Core.Bool.{Bool, true, false, cond}
 use mathlib.Core.List.{List, [], _∷_, _++_, map, nil≢cons, List·Memᴰ·head, List·Memᴰ·tail, List·Memᴰ·not-nil, List·Memᴰ·cases-cons, List·Memᴰ·append-cases, List·Memᴰ·eq-of-singleton, Memᴰ·append-right}
@@ -37,9 +37,28 @@ module _ (N : Network) (free : ℕ → ℕ → Bool) where
   front-is n [] = record { front = []; rest = []; parts = refl; is-free = refl; stopped = λ q v e. absurd (nil≢cons e); hops = refl }
   front-is n (p ∷ w) = go (free n p) refl (front-is (N .next n p) w)
     where
-      go : (b : Bool) → free n p ≡ b → Front N free (N .next n p) w (freeFront N free (N .next n p) w) → Front N free n (p ∷ w) (freeFront N free n (p ∷ w))
-      go true e r = rw e record { front = p ∷ r .front; rest = r .rest; parts = ap (p ∷_) (r .parts); is-free = and e (r .is-free); stopped = r .stopped; hops = ap suc (r .hops) }
-      go false e r = rw e record { front = []; rest = p ∷ w; parts = refl; is-free = refl; stopped = λ q v i. let same : p ≡ q = cc in rw (← same) e; hops = refl }
+      go : (b : Bool) → free n p ≡ b → Front N free (N .next n p) w (freeFront N free (N .next n p) w)
+          → Front N free n (p ∷ w) (freeFront N free n (p ∷ w))
+      go true e r =
+          rw e
+          record {
+            front = p ∷ r .front;
+            rest = r .rest;
+            parts = ap (p ∷_) (r .parts);
+            is-free = and e (r .is-free);
+            stopped = r .stopped;
+            hops = ap suc (r .hops);
+          }
+      go false e r =
+          rw e
+          record {
+            front = [];
+            rest = p ∷ w;
+            parts = refl;
+            is-free = refl;
+            stopped = λ q v i. let same : p ≡ q = cc in rw (← same) e;
+            hops = refl;
+          }
 
   -- A free path counts all its hops, and no path counts more than it has.
   pub front-free : (n : ℕ) (w : Path) → freePath N free n w ≡ true → freeFront N free n w ≡ length w
@@ -57,64 +76,68 @@ module _ (N : Network) (free : ℕ → ℕ → Bool) where
       go false h = omega arith
 
 module _ (N : Network) (free : ℕ → ℕ → Bool) (s : ℕ) where
-  -- what paths tried in turn say, with the scouts that the trying itself adds to those sent before
-  found-after : (ws : List Path) (c : ℕ) {w : Path} {n : ℕ} → tryPaths N free s c ws ≡ found w n → (m : ℕ) × (n ≡ c + m) × TriedFound N free s ws w m
-  found-after [] c e = let z : _≡_ {A = ℕ} 0 1 = unfold tryPaths in cc in absurd (omega arith)
-  found-after (x ∷ xs) c {w} {n} e = go (freePath N free s x) refl (found-after xs (c + freeFront N free s x))
-    where
-      go : (b : Bool) → freePath N free s x ≡ b → (tryPaths N free s (c + freeFront N free s x) xs ≡ found w n → (m : ℕ) × (n ≡ c + freeFront N free s x + m) × TriedFound N free s xs w m)
-          → (m : ℕ) × (n ≡ c + m) × TriedFound N free s (x ∷ xs) w m
-      go true h ih =
-          let stopped : found x (c + freeFront N free s x) ≡ found w n = sym (try-free N free s c x xs h) ∙ e in
-          let same : x ≡ w = cc in
-          let sum : c + freeFront N free s x ≡ n = cc in (
-            freeFront N free s x + 0,
-            omega arith,
-            rw (← same) record {
-              before = [];
-              after = xs;
-              place = refl;
-              is-free = h;
-              first = λ v m. absurd (List·Memᴰ·not-nil m);
-              scouts = front-more (front-is N free s x) no-front;
-            },
-          )
-      go false h ih =
-          let r = ih (sym (try-on N free s c x xs h) ∙ e) in
-          let y = r .2 in (
-            freeFront N free s x + r .0,
-            omega (arith, r .1),
-            record {
-              before = x ∷ y .before;
-              after = y .after;
-              place = ap (x ∷_) (y .place);
-              is-free = y .is-free;
-              first = all-cons (λ v. freePath N free s v ≡ true → ⊥) (λ i. clash i h) (y .first);
-              scouts = front-more (front-is N free s x) (y .scouts);
-            },
-          )
+  -- what paths tried in turn say after c scouts: they send m more
+  After : ℕ → List Path → PassResult → Type 0
+  After c ws (none n) = (m : ℕ) × (n ≡ c + m) × TriedNone N free s ws m
+  After c ws (found w n) = (m : ℕ) × (n ≡ c + m) × TriedFound N free s ws w m
 
-  none-after : (ws : List Path) (c : ℕ) {n : ℕ} → tryPaths N free s c ws ≡ none n → (m : ℕ) × (n ≡ c + m) × TriedNone N free s ws m
-  none-after [] c {n} e = let same : c ≡ n = unfold tryPaths in cc in (0, omega arith, record { nothing = λ v m. absurd (List·Memᴰ·not-nil m); scouts = no-front })
-  none-after (x ∷ xs) c {n} e = go (freePath N free s x) refl (none-after xs (c + freeFront N free s x))
+  -- so does the trying of one more before them that is not free,
+  after-one : (c : ℕ) (x : Path) (xs : List Path) (y : PassResult) → freePath N free s x ≡ false → After (c + freeFront N free s x) xs y
+      → After c (x ∷ xs) y
+  unfolding After
+  after-one c x xs (none n) h r = (
+    freeFront N free s x + r .0,
+    omega (arith, r .1),
+    record {
+      nothing = all-cons (λ v. freePath N free s v ≡ true → ⊥) (λ i. clash i h) (r .2 .nothing);
+      scouts = front-more (front-is N free s x) (r .2 .scouts);
+    },
+  )
+  after-one c x xs (found w n) h r = (
+    freeFront N free s x + r .0,
+    omega (arith, r .1),
+    record {
+      before = x ∷ r .2 .before;
+      after = r .2 .after;
+      place = ap (x ∷_) (r .2 .place);
+      is-free = r .2 .is-free;
+      first = all-cons (λ v. freePath N free s v ≡ true → ⊥) (λ i. clash i h) (r .2 .first);
+      scouts = front-more (front-is N free s x) (r .2 .scouts);
+    },
+  )
+
+  -- and of a list that begins with a free one
+  after-free : (c : ℕ) (x : Path) (xs : List Path) → freePath N free s x ≡ true → After c (x ∷ xs) (found x (c + freeFront N free s x))
+  unfolding After
+  after-free c x xs h = (
+    freeFront N free s x + 0,
+    omega arith,
+    record {
+      before = [];
+      after = xs;
+      place = refl;
+      is-free = h;
+      first = λ v m. absurd (List·Memᴰ·not-nil m);
+      scouts = front-more (front-is N free s x) no-front;
+    },
+  )
+
+  tried-after : (ws : List Path) (c : ℕ) → After c ws (tryPaths N free s c ws)
+  tried-after [] c = unfold tryPaths After in (0, omega arith, record { nothing = λ v m. absurd (List·Memᴰ·not-nil m); scouts = no-front })
+  tried-after (x ∷ xs) c = go (freePath N free s x) refl (tried-after xs (c + freeFront N free s x))
     where
-      go : (b : Bool) → freePath N free s x ≡ b → (tryPaths N free s (c + freeFront N free s x) xs ≡ none n → (m : ℕ) × (n ≡ c + freeFront N free s x + m) × TriedNone N free s xs m)
-          → (m : ℕ) × (n ≡ c + m) × TriedNone N free s (x ∷ xs) m
-      go true h ih = let stopped : found x (c + freeFront N free s x) ≡ none n = sym (try-free N free s c x xs h) ∙ e in let z : _≡_ {A = ℕ} 0 1 = cc in absurd (omega arith)
-      go false h ih =
-          let r = ih (sym (try-on N free s c x xs h) ∙ e) in (
-            freeFront N free s x + r .0,
-            omega (arith, r .1),
-            record {
-              nothing = all-cons (λ v. freePath N free s v ≡ true → ⊥) (λ i. clash i h) (r .2 .nothing);
-              scouts = front-more (front-is N free s x) (r .2 .scouts);
-            },
-          )
+      go : (b : Bool) → freePath N free s x ≡ b → After (c + freeFront N free s x) xs (tryPaths N free s (c + freeFront N free s x) xs)
+          → After c (x ∷ xs) (tryPaths N free s c (x ∷ xs))
+      go true h r = rw (try-free N free s c x xs h) (after-free c x xs h)
+      go false h r = rw (try-on N free s c x xs h) (after-one c x xs _ h r)
 
   -- Paths tried in turn say what document 02, (b), says of them.
-  pub tried-says : (ws : List Path) (x : PassResult) → tryPaths N free s 0 ws ≡ x → TriedSays N free s ws x
-  tried-says ws (none c) e = let r = none-after ws 0 e in let same : r .0 ≡ c = omega (arith, r .1) in rw (← same) (r .2)
-  tried-says ws (found w c) e = let r = found-after ws 0 e in let same : r .0 ≡ c = omega (arith, r .1) in rw (← same) (r .2)
+  pub tried-says : (ws : List Path) → TriedSays N free s ws (tryPaths N free s 0 ws)
+  tried-says ws = go (tryPaths N free s 0 ws) (tried-after ws 0)
+    where
+      go : (x : PassResult) → After 0 ws x → TriedSays N free s ws x
+      go (none n) r = unfold After in (let same : r .0 ≡ n = omega (arith, r .1) in rw (← same) (r .2))
+      go (found w n) r = unfold After in (let same : r .0 ≡ n = omega (arith, r .1) in rw (← same) (r .2))
 
   -- Each path sends at most as many scouts as it has hops.
   pub tried-sends : (l : ℕ) (ws : List Path) (c : ℕ) → ((w : Path) → w ∈ ws → length w ≤ l) → scouts (tryPaths N free s c ws) ≤ c + length ws * l
@@ -155,7 +178,14 @@ module _ (N : Network) (s t : ℕ) where
   placed _ [] w after (path-more {p} {ps = ps} h hs) = record { port = p; earlier = []; later = ps; place = refl; is-helix = h; paths = no-path }
   placed _ (x ∷ before) w after (path-more {p} {ps = ps} h hs) =
       let r = placed ps before w after hs in
-      record { port = r .port; earlier = p ∷ r .earlier; later = r .later; place = ap (p ∷_) (r .place); is-helix = r .is-helix; paths = path-more h (r .paths) }
+      record {
+        port = r .port;
+        earlier = p ∷ r .earlier;
+        later = r .later;
+        place = ap (p ∷_) (r .place);
+        is-helix = r .is-helix;
+        paths = path-more h (r .paths);
+      }
 
   -- the path of a lower port comes first
   lower-first : {p q : ℕ} {w v : Path} → p < q → IsHelix N s t p w → IsHelix N s t q v → ComesBefore w v
@@ -168,7 +198,8 @@ module _ (N : Network) (s t : ℕ) where
     tried-helix {w} f = port-of paths (rw (f .place) (Memᴰ·append-right (f .before) (List·Memᴰ·head refl)))
 
     -- where the ports rise, it is the first of those that are free, in the order of document 01;
-    pub tried-first : Pairwise _<_ ps → {w : Path} {c : ℕ} → TriedFound N free s ws w c → (q : ℕ) → q ∈ ps → (v : Path) → IsHelix N s t q v → Free N free s v → (v ≡ w) ⊎ ComesBefore w v
+    pub tried-first : Pairwise _<_ ps → {w : Path} {c : ℕ} → TriedFound N free s ws w c
+        → (q : ℕ) → q ∈ ps → (v : Path) → IsHelix N s t q v → Free N free s v → (v ≡ w) ⊎ ComesBefore w v
     tried-first rise {w} f q m v k i = ⊎-elim earlier (⊎-elim same later) (where-is (r .earlier) (rw (r .place) at m))
       where
         r : Placed ps (f .before) w
@@ -208,9 +239,13 @@ module _ (S : Shape) (free : ℕ → ℕ → Bool) (s t : ℕ) where
 
   pub helix-scouts : (ps : List ℕ) → scouts (triedHelix ps) ≤ length ps * suc (S .dimension)
   helix-scouts ps =
-      let short = all-map (λ w. length w ≤ suc (S .dimension)) (helixPath (network S) s t) ps (λ p m. omega (arith, helix-short (network S) s t p, distance-within S t (network S .next s p))) in
       let sent = tried-sends (network S) free s (suc (S .dimension)) (map (helixPath (network S) s t) ps) 0 short in
       omega (arith, rw (length-map ps (helixPath (network S) s t)) at sent)
+    where
+      short : (w : Path) → w ∈ map (helixPath (network S) s t) ps → length w ≤ suc (S .dimension)
+      short =
+          all-map (λ w. length w ≤ suc (S .dimension)) (helixPath (network S) s t) ps
+          (λ p m. omega (arith, helix-short (network S) s t p, distance-within S t (network S .next s p)))
 
   -- which is 9 for one port
   pub lowest-scouts : S .dimension ≤ 8 → (ps : List ℕ) → scouts (triedHelix (take 1 ps)) ≤ 9

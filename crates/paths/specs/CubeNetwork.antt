@@ -46,8 +46,8 @@ otherPorts S vector = keep (λ q. not (has vector (axis q))) (ports S)
 
 -- What a routing type tries: "0, maze: one pass, with the send vector given"; "4, alternate maze: a pass with the given vector", and then a second over
 -- the other ports, if that is not ended before (`goesOn`).
--- Document 02, (b): "Type 3 takes the lowest port of the send vector, then at each node the first uphill port in helical order; if that path is not free, the send
--- is rejected at once. Type 1 tries such a path for each port of the send vector in rising order until one is free."
+-- Document 02, (b): "Type 3 takes the lowest port of the send vector, then at each node the first uphill port in helical order; if that path is not
+-- free, the send is rejected at once. Type 1 tries such a path for each port of the send vector in rising order until one is free."
 unfoldable pub attempts : Shape → ℕ → ℕ → List Attempt
 attempts S type vector =
     cond (eqb type 3) (helix-paths (take 1 (sendPorts S vector)) ∷ [])

@@ -1,5 +1,5 @@
--- What document 01 says of a pass and of a send, word for word, over the plain predicates, and document 02, (b), of helix paths. That the computed ones say it
--- is proved (Sentences, Helix, Send).
+-- What document 01 says of a pass and of a send, and document 02, (b), of helix paths, word for word, over the plain predicates. That the computed
+-- ones say it is proved (Sentences, Tried, Send).
 -- Assumes nothing.
 use mathlib.Core.Path.{_≡_}
 use mathlib.Core.Logic.{_⊎_, _≢_, _↔_}
