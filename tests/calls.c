@@ -390,6 +390,21 @@ static void arming(void) {
     arm(7, 0);
     expect(maze_open(table, BYTES, 0, 0, 7, 0, 7).number == 0, "armed again", 7, 0);
     expect_table("armed and held again", 3, sent);
+
+    /* circuits 256 and 2048, whose low byte is zero, hold a channel like any other; channel 7, and a node from 128 on, are armed like any other */
+    static const unsigned sources[] = {31, 255};
+    for (unsigned i = 0; i < 2; i++) {
+        unsigned source = sources[i], target = source ^ 1, last = i ? 7 : 0;
+        fresh(8);
+        arm(target, last);
+        got = maze_open(table, BYTES, (uint16_t)source, 7, (uint16_t)target, 0, 1);
+        expect(got.number == 0 && got.receive == last, "open of a round circuit number", source, got.receive);
+        keep();
+        expect(maze_disarm(table, BYTES, (uint16_t)target, (uint16_t)last) == 21 && unaltered(), "disarm a channel that it holds", source, last);
+        table[8449 + target] = 0;
+        keep();
+        expect(maze_disarm(table, BYTES, (uint16_t)target, (uint16_t)last) == 3 && unaltered(), "held and not armed", target, last);
+    }
 }
 
 /* ---- blocking ---- */
