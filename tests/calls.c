@@ -141,6 +141,7 @@ static const struct send unarmed[] = {
     {"none armed, figure 7", 3, {{1, 2}, {3, 2}, {0, 99}}, 0, 0, 7, 0, 7, 11, 0, 5, "", {{2, 3}, {4, 3}}},
     {"none armed, to itself", 1, NONE, 0, 0, 0, 0, 1, 11, 0, 2, "", {{0, 0}}},
     {"none armed, nine hops", 8, NONE, 0, 0, 254, 0, 1, 11, 0, 9, "", {{0, 0}}},
+    {"none armed, from node 200", 8, NONE, 200, 0, 201, 0, 1, 11, 0, 1, "", {{0, 0}}},
     {"none armed, no path", 2, {{0, 0}, {0, 99}}, 0, 0, 1, 0, 1, 10, 0, 0, "", {{1, 2}}},
     /* type 4: a receive rejection in the first pass ends the send, whatever a second pass would find: a path, no port, or no way on from node 2 */
     {"receive rejected, type 4", 2, NONE, 0, 0, 3, 4, 1, 11, 0, 2, "", {{0, 0}}},
@@ -390,6 +391,27 @@ static void arming(void) {
     arm(7, 0);
     expect(maze_open(table, BYTES, 0, 0, 7, 0, 7).number == 0, "armed again", 7, 0);
     expect_table("armed and held again", 3, sent);
+
+    /* blocking a link leaves the channel of the same number armed */
+    static const struct place one_blocked[] = {{1 + 5, 127}, {0, 0}};
+    fresh_armed(8);
+    expect(maze_block(table, BYTES, 5, 7) == 0, "block port 7", 5, 7);
+    expect_table("blocked, all armed", 8, one_blocked);
+
+    /* circuits 256 and 2048, whose low byte is zero, hold a channel like any other; channel 7, and a node from 128 on, are armed like any other */
+    static const unsigned sources[] = {31, 255};
+    for (unsigned i = 0; i < 2; i++) {
+        unsigned source = sources[i], target = source ^ 1, last = i ? 7 : 0;
+        fresh(8);
+        arm(target, last);
+        got = maze_open(table, BYTES, (uint16_t)source, 7, (uint16_t)target, 0, 1);
+        expect(got.number == 0 && got.receive == last, "open of a round circuit number", source, got.receive);
+        keep();
+        expect(maze_disarm(table, BYTES, (uint16_t)target, (uint16_t)last) == 21 && unaltered(), "disarm a channel that it holds", source, last);
+        table[8449 + target] = 0;
+        keep();
+        expect(maze_disarm(table, BYTES, (uint16_t)target, (uint16_t)last) == 3 && unaltered(), "held and not armed", target, last);
+    }
 }
 
 /* ---- blocking ---- */

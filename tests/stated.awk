@@ -4,6 +4,8 @@
 #     NAMES   the names asked for, where a field or a constructor stands for the type that has it; exit status 1 where one is not declared
 #     WHOLE   1: also every definition of the file. 2: also every theorem, and the file's `use` lines
 #
+# Where names are asked for, what the file brings in from files of proofs is printed too: the words of a statement come from definitions, or are seen here.
+#
 # A line that is neither of a declaration nor a `use`, `mod`, `infix`, `ruleset`, section header or line comment is not understood: it is printed as such, and so is a
 # block comment, so that nothing stands in a file unseen.
 BEGIN {
@@ -37,7 +39,7 @@ function ended(    i, name, text, at, signature) {
     name = declared(line[1])
     if (name == "") {
         for (i = 1; i <= lines; i++)
-            if (line[i] ~ /^use /) { if (WHOLE > 1) print KEY ": " line[i] }
+            if (line[i] ~ /^use /) { if (WHOLE > 1 || (NAMES != "" && line[i] ~ /^use Rattle·[a-z_]+(·proofs)?\.proofs\./)) print KEY ": " line[i] }
             else if (line[i] !~ /^(pub )?(mod|ruleset) / && at <= outer) print "== " KEY ": not understood: " line[i]
         lines = 0
         return

@@ -9,9 +9,9 @@ use borrow.Author.Tests.{eqb-true}
 use Rattle.common.specs.Lists.{keep, any}
 use Rattle.common.proofs.Lists.{any-some}
 use Rattle.cube.specs.Cube.{sourceOf}
-use Rattle.paths.specs.Network.{Path}
+use Rattle.paths.specs.Network.{Path, takeFirst}
 use Rattle.paths.specs.CubeNetwork.{ports}
-use Rattle.paths.specs.Recover.{takeFirst, firstHopChoices, pathOfLinks}
+use Rattle.paths.specs.Recover.{firstHopChoices, pathOfLinks}
 use Rattle.table.specs.View.{View, shapeOf, net, heldBy}
 use Rattle.soundness.specs.Sound.{CircuitSound, Sound}
 use Rattle.soundness.specs.SoundTest.{pathOf, isEmpty}

@@ -104,6 +104,11 @@ module _ (S : Shape) where
   pub port-offered : (t n q : ℕ) → q ∈ ports S → uphill t n (axis q) ≡ true → q ∈ offered (network S) t n
   port-offered t n q m u = rw (offered-is t n) (mem-keep (λ q. uphill t n (axis q)) (ports S) m u)
 
+  -- a hop over a port stays in the cube
+  pub port-inside : (n q : ℕ) → Node S n → q ∈ ports S → Node S (network S .next n q)
+  unfolding network
+  port-inside n q i m = flip-inside (S .dimension) n (axis q) i (port-axis q m)
+
   -- A hop over a port of uphill axis comes one nearer, over another it leads one farther.
   nearer : (t n q : ℕ) → q ∈ ports S → uphill t n (axis q) ≡ true → network S .distance t n ≡ suc (network S .distance t (network S .next n q))
   unfolding network
@@ -122,7 +127,7 @@ module _ (S : Shape) where
   pub cube-leading : S .dimension ≤ 8 → (t : ℕ) → Node S t → Leading (network S) t (Node S)
   cube-leading h t l =
       record {
-        inside = λ n q i m. unfold network in flip-inside (S .dimension) n (axis q) i (port-axis q (offered-port t n q m .0));
+        inside = λ n q i m. port-inside n q i (offered-port t n q m .0);
         leads = λ n i ne. some n i ne (offered (network S) t n) refl;
       }
     where
@@ -187,7 +192,7 @@ module _ (S : Shape) where
   pub cube-says : S .dimension ≤ 8 → (free : ℕ → ℕ → Bool) (s : ℕ) (vector : List ℕ) (t : ℕ) → Node S s → Node S t → Pairwise _<_ vector → ((q : ℕ) → q ∈ vector → q ∈ ports S)
       → Says (network S) free s vector t (pass (network S) free s vector t)
   cube-says h free s vector t i l rise there =
-      pass-says (cube-nearing t) (cube-leading h t l) s vector rise (λ q m. unfold network in flip-inside (S .dimension) s (axis q) i (port-axis q (there q m))) free _ refl
+      pass-says (cube-nearing t) (cube-leading h t l) s vector rise (λ q m. port-inside s q i (there q m)) free _ refl
 
 -- With fold mask 0 this is the cube of document 01.
 module _ (S : Shape) (h : S .dimension ≤ 8) (z : S .fold ≡ 0) where

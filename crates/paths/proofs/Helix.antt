@@ -1,9 +1,10 @@
--- The computed helix path is the helix path of its first port, and the only one. It is a permitted path, of those that begin with that port the first, and short.
+-- The computed helix path is the helix path of its first port, and the only one. It is a permitted path, of those that begin with that port the first,
+-- and short.
 -- Assumes nothing.
 use mathlib.Core.Path.{_≡_, refl, ap, sym, _∙_, subst}
 use mathlib.Core.Logic.{_⊎_, inl, inr, ⊎-elim, _≢_}
 use mathlib.Core.List.{List, [], _∷_, _++_, map, cons≢nil, List·Memᴰ·head, List·Memᴰ·tail, List·Memᴰ·not-nil, List·Memᴰ·cases-cons}
-use Prim.Native.Nat.{ℕ, zero, suc, _+_, _≤_}
+use Prim.Native.Nat.{ℕ, zero, suc, _≤_}
 use native.Mathlib.Omega.{arith}
 use native.Mathlib.Nat.{le-refl}
 use borrow.Author.Tests.{eq-eqb, ne-eqb}
@@ -15,9 +16,10 @@ use Rattle.cube.proofs.Order.{helical-mem, mem-helical}
 use Rattle.paths.specs.Network.{Network, Path, offered, takeFirst, end, Nearing, Leading}
 use Rattle.paths.specs.Permitted.{Onward, Permitted, Sooner, Before, ComesBefore}
 use Rattle.paths.specs.Helix.{helixFrom, helixPath, FirstOffered, IsHelix, HelixPaths, no-path, path-more}
-use Rattle.paths.specs.CubeNetwork.{Node}
+use Rattle.paths.specs.CubeNetwork.{Shape, Node, ports, network}
 use Rattle.paths.proofs.Order.{helical-pairwise, offered-pairwise, sooner-asym}
 use Rattle.paths.proofs.Words.{permitted-in-words}
+use Rattle.paths.proofs.CubeNetwork.{port-inside, cube-nearing, cube-leading, path-hops}
 use Rattle.paths.proofs.Recover.{take-all}
 
 -- the port that stands first in the helical order of those offered is the first offered, and there is no other
@@ -50,7 +52,8 @@ helix-before N t n a [] [] o i = inl refl
 helix-before N t n a [] (p ∷ v) o i = absurd (i .0 o)
 helix-before N t n a (q ∷ w) [] o i = absurd (o .0 i)
 helix-before N t n a (q ∷ w) (p ∷ v) o i =
-    ⊎-elim (λ e. same e (helix-before N t (N .next n q) q w v (o .2) (subst (λ x. Onward N t (N .next n x) v) e (i .2)))) (λ s. inr (inl s)) (o .1 .1 p (i .1))
+    let on : p ≡ q → Onward N t (N .next n q) v = λ e. subst (λ x. Onward N t (N .next n x) v) e (i .2) in
+    ⊎-elim (λ e. same e (helix-before N t (N .next n q) q w v (o .2) (on e))) (λ s. inr (inl s)) (o .1 .1 p (i .1))
   where
     same : p ≡ q → (v ≡ w) ⊎ Before (Sooner q) w v → (p ∷ v ≡ q ∷ w) ⊎ (Sooner a q p ⊎ ((q ≡ p) × Before (Sooner q) w v))
     same e (inl f) = inl (λ i. e i ∷ f i)
@@ -79,13 +82,16 @@ later-hop N t m [] a q v o = o .1
 later-hop N t m (b ∷ []) a q v o = later-hop N t (N .next m b) [] a q v (o .2)
 later-hop N t m (b ∷ c ∷ u) a q v o = later-hop N t (N .next m b) (c ∷ u) a q v (o .2)
 
-of-hops : (N : Network) (t m a : ℕ) (w : Path) → ((u : Path) (b q : ℕ) (v : Path) → a ∷ w ≡ u ++ b ∷ q ∷ v → FirstOffered N t (end N m (u ++ b ∷ [])) b q)
+of-hops : (N : Network) (t m a : ℕ) (w : Path)
+    → ((u : Path) (b q : ℕ) (v : Path) → a ∷ w ≡ u ++ b ∷ q ∷ v → FirstOffered N t (end N m (u ++ b ∷ [])) b q)
     → ((u : Path) (q : ℕ) (v : Path) → u ≢ [] → a ∷ w ≡ u ++ q ∷ v → end N m u ≢ t) → end N m (a ∷ w) ≡ t → Helix N t m (a ∷ w)
 unfolding Helix HelixOn end
 of-hops N t m a [] later before e = e
-of-hops N t m a (q ∷ w) later before e =
-    let rest = of-hops N t (N .next m a) q w (λ u b r v i. later (a ∷ u) b r v (ap (a ∷_) i)) (λ u r v some i. before (a ∷ u) r v cons≢nil (ap (a ∷_) i)) e in
-    (before (a ∷ []) q w cons≢nil refl, later [] a q w refl, rest)
+of-hops N t m a (q ∷ w) later before e = (
+  before (a ∷ []) q w cons≢nil refl,
+  later [] a q w refl,
+  of-hops N t (N .next m a) q w (λ u b r v i. later (a ∷ u) b r v (ap (a ∷_) i)) (λ u r v some i. before (a ∷ u) r v cons≢nil (ap (a ∷_) i)) e,
+)
 
 module _ (N : Network) (s t p : ℕ) where
   -- so what `IsHelix` says by places is what `HelixOn` says hop by hop
@@ -93,7 +99,8 @@ module _ (N : Network) (s t p : ℕ) where
   unfolding Helix
   helix-by-hops h =
       let e = h .first .1 in
-      (h .first .0, e, of-hops N t s p (h .first .0) (λ u a q v i. h .later u a q v (e ∙ i)) (λ u q v some i. h .not-before u q v some (e ∙ i)) (rw e at (h .arrives)))
+      let end = rw e at (h .arrives) in
+      (h .first .0, e, of-hops N t s p (h .first .0) (λ u a q v i. h .later u a q v (e ∙ i)) (λ u q v some i. h .not-before u q v some (e ∙ i)) end)
 
   permitted-on : (vector : List ℕ) (v : Path) → p ∈ vector → HelixOn N t (N .next s p) p v → Permitted N s vector t (p ∷ v)
   unfolding Permitted
@@ -129,8 +136,8 @@ module _ (N : Network) (s t p : ℕ) where
       rw (x .1) (⊎-elim (λ e. inl (ap (p ∷_) e)) (λ b. inr (inr (refl, b))) (helix-before N t (N .next s p) p (x .0) v (x .2) (i .1)))
 
 -- one step of the computed path: none at the target, and elsewhere by the first port of the helical order
-helix-step : (P : Path → Type 0) (k : ℕ) (N : Network) (t n a : ℕ) → (n ≡ t → P []) → (n ≢ t → P (takeFirst (helical a (offered N t n)) (λ p. helixFrom k N t (N .next n p) p)))
-    → P (helixFrom (suc k) N t n a)
+helix-step : (P : Path → Type 0) (k : ℕ) (N : Network) (t n a : ℕ) → (n ≡ t → P [])
+    → (n ≢ t → P (takeFirst (helical a (offered N t n)) (λ p. helixFrom k N t (N .next n p) p))) → P (helixFrom (suc k) N t n a)
 unfolding helixFrom
 helix-step P k N t n a there on = ⊎-elim (λ e. rw (eq-eqb n t e) (there e)) (λ off. rw (ne-eqb n t off) (on off)) (same? n t)
 
@@ -146,7 +153,8 @@ module _ {N : Network} {t : ℕ} {Node : ℕ → Type 0} (near : Nearing N t) (l
       helix-step (HelixOn N t n a) k N t n a (λ e. e)
       (λ off. go off (helical a (offered N t n)) refl (λ q m. computed-on k (N .next n q) q (omega (arith, near .nearer n q m)) (lead .inside n q i m)))
     where
-      go : n ≢ t → (ps : List ℕ) → helical a (offered N t n) ≡ ps → ((q : ℕ) → q ∈ offered N t n → HelixOn N t (N .next n q) q (helixFrom k N t (N .next n q) q))
+      go : n ≢ t → (ps : List ℕ) → helical a (offered N t n) ≡ ps
+          → ((q : ℕ) → q ∈ offered N t n → HelixOn N t (N .next n q) q (helixFrom k N t (N .next n q) q))
           → HelixOn N t n a (takeFirst ps (λ p. helixFrom k N t (N .next n p) p))
       go off [] e on = unfold takeFirst in arrived n i (λ p m. List·Memᴰ·not-nil (rw e at (mem-helical a (offered N t n) m)))
       go off (q ∷ qs) e on = let f = first-offered N t n a q qs e in unfold takeFirst in (off, f, on q (unfold FirstOffered in f .0))
@@ -171,3 +179,13 @@ helix-on-short (suc k) N t n a =
 pub helix-short : (N : Network) (s t p : ℕ) → length (helixPath N s t p) ≤ suc (N .distance t (N .next s p))
 unfolding helixPath
 helix-short N s t p = omega (arith, helix-on-short (N .distance t (N .next s p)) N t (N .next s p) p)
+
+-- In the cube:
+module _ (S : Shape) where
+  -- every port has its helix path, which the definition computes,
+  pub cube-helix : S .dimension ≤ 8 → (s t p : ℕ) → Node S s → Node S t → p ∈ ports S → IsHelix (network S) s t p (helixPath (network S) s t p)
+  cube-helix h s t p i l m = helix-is (cube-nearing S t) (cube-leading S h t l) s p (port-inside S s p i m)
+
+  -- of 1 to D + 1 hops;
+  pub helix-hops : (s t p : ℕ) (w : Path) → IsHelix (network S) s t p w → (1 ≤ length w) × (length w ≤ suc (S .dimension))
+  helix-hops s t p w h = path-hops S s (p ∷ []) t w (helix-permitted (network S) s t p h (p ∷ []) (List·Memᴰ·head refl))

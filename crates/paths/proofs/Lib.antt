@@ -10,9 +10,10 @@ pub mod Cone
 pub mod Bound
 pub mod CubeNetwork
 pub mod Send
-pub mod OldRule
+pub mod Inclusion
 pub mod Helix
 pub mod Tried
+pub mod OldRule
 pub mod Apart
 pub mod Recover
 pub mod Walks

@@ -1,27 +1,25 @@
--- Paths tried in turn say what document 02, (b), says of them: which is found, and how many scouts were sent; and which sends find what others find.
+-- Paths tried in turn say what document 02, (b), says of them; and so do the helix paths of a list of ports.
 -- Assumes nothing.
-use mathlib.Core.Path.{_≡_, refl, ap, sym, _∙_}
-use mathlib.Core.Logic.{_⊎_, inl, inr, ⊎-elim, _≢_}
+use mathlib.Core.Path.{_≡_, refl, ap}
+use mathlib.Core.Logic.{_⊎_, inl, inr, ⊎-elim}
 use mathlib.Core.Bool.{Bool, true, false, cond}
-use mathlib.Core.List.{List, [], _∷_, _++_, map, nil≢cons, List·Memᴰ·head, List·Memᴰ·tail, List·Memᴰ·not-nil, List·Memᴰ·cases-cons, List·Memᴰ·append-cases, List·Memᴰ·eq-of-singleton, Memᴰ·append-left, Memᴰ·append-right}
+use mathlib.Core.List.{List, [], _∷_, _++_, map, nil≢cons, List·Memᴰ·head, List·Memᴰ·tail, List·Memᴰ·not-nil, List·Memᴰ·cases-cons, List·Memᴰ·append-cases, List·Memᴰ·eq-of-singleton, Memᴰ·append-right}
 use Prim.Native.Nat.{ℕ, suc, _+_, _*_, _≤_, _<_}
 use native.Mathlib.Omega.{arith}
 use native.Mathlib.Nat.{le-refl, le-trans, mul-le-mul}
-use lib.ListN.{length, take, drop, length-map, take-append-drop}
+use lib.ListN.{length, take, length-map}
 use Rattle.common.specs.Lists.{_∈_, Pairwise}
 use Rattle.common.proofs.Tests.{clash, both, and}
 use Rattle.common.proofs.Lists.{all-cons, all-map, pairwise-at}
-use Rattle.cube.specs.Axes.{axis}
-use Rattle.cube.proofs.Bits.{flip-inside}
 use Rattle.cube.proofs.Order.{length-ports}
 use Rattle.paths.specs.Network.{Network, Path, end, freePath}
-use Rattle.paths.specs.Permitted.{Permitted, Before, ComesBefore}
+use Rattle.paths.specs.Permitted.{Before, ComesBefore}
 use Rattle.paths.specs.Pass.{PassResult, none, found, scouts}
 use Rattle.paths.specs.Helix.{helixPath, freeFront, tryPaths, IsHelix, HelixPaths, no-path, path-more, Front, no-front, front-more, TriedFound, TriedNone, TriedSays}
 use Rattle.paths.specs.Sentences.{Free}
-use Rattle.paths.specs.CubeNetwork.{Shape, Node, ports, network, sendPorts}
-use Rattle.paths.proofs.CubeNetwork.{port-axis, cube-nearing, cube-leading, distance-within, path-hops, unfolded-send-ports}
-use Rattle.paths.proofs.Helix.{helix-only, helix-permitted, helix-is, helix-short}
+use Rattle.paths.specs.CubeNetwork.{Shape, network, sendPorts}
+use Rattle.paths.proofs.CubeNetwork.{distance-within, unfolded-send-ports}
+use Rattle.paths.proofs.Helix.{helix-only, helix-short}
 
 -- one step of trying: a free path is found, another is counted and left
 module _ (N : Network) (free : ℕ → ℕ → Bool) (s c : ℕ) (w : Path) (ws : List Path) where
@@ -39,9 +37,28 @@ module _ (N : Network) (free : ℕ → ℕ → Bool) where
   front-is n [] = record { front = []; rest = []; parts = refl; is-free = refl; stopped = λ q v e. absurd (nil≢cons e); hops = refl }
   front-is n (p ∷ w) = go (free n p) refl (front-is (N .next n p) w)
     where
-      go : (b : Bool) → free n p ≡ b → Front N free (N .next n p) w (freeFront N free (N .next n p) w) → Front N free n (p ∷ w) (freeFront N free n (p ∷ w))
-      go true e r = rw e record { front = p ∷ r .front; rest = r .rest; parts = ap (p ∷_) (r .parts); is-free = and e (r .is-free); stopped = r .stopped; hops = ap suc (r .hops) }
-      go false e r = rw e record { front = []; rest = p ∷ w; parts = refl; is-free = refl; stopped = λ q v i. let same : p ≡ q = cc in rw (← same) e; hops = refl }
+      go : (b : Bool) → free n p ≡ b → Front N free (N .next n p) w (freeFront N free (N .next n p) w)
+          → Front N free n (p ∷ w) (freeFront N free n (p ∷ w))
+      go true e r =
+          rw e
+          record {
+            front = p ∷ r .front;
+            rest = r .rest;
+            parts = ap (p ∷_) (r .parts);
+            is-free = and e (r .is-free);
+            stopped = r .stopped;
+            hops = ap suc (r .hops);
+          }
+      go false e r =
+          rw e
+          record {
+            front = [];
+            rest = p ∷ w;
+            parts = refl;
+            is-free = refl;
+            stopped = λ q v i. let same : p ≡ q = cc in rw (← same) e;
+            hops = refl;
+          }
 
   -- A free path counts all its hops, and no path counts more than it has.
   pub front-free : (n : ℕ) (w : Path) → freePath N free n w ≡ true → freeFront N free n w ≡ length w
@@ -59,64 +76,68 @@ module _ (N : Network) (free : ℕ → ℕ → Bool) where
       go false h = omega arith
 
 module _ (N : Network) (free : ℕ → ℕ → Bool) (s : ℕ) where
-  -- what paths tried in turn say, with the scouts that the trying itself adds to those sent before
-  found-after : (ws : List Path) (c : ℕ) {w : Path} {n : ℕ} → tryPaths N free s c ws ≡ found w n → (m : ℕ) × (n ≡ c + m) × TriedFound N free s ws w m
-  found-after [] c e = let z : _≡_ {A = ℕ} 0 1 = unfold tryPaths in cc in absurd (omega arith)
-  found-after (x ∷ xs) c {w} {n} e = go (freePath N free s x) refl (found-after xs (c + freeFront N free s x))
-    where
-      go : (b : Bool) → freePath N free s x ≡ b → (tryPaths N free s (c + freeFront N free s x) xs ≡ found w n → (m : ℕ) × (n ≡ c + freeFront N free s x + m) × TriedFound N free s xs w m)
-          → (m : ℕ) × (n ≡ c + m) × TriedFound N free s (x ∷ xs) w m
-      go true h ih =
-          let stopped : found x (c + freeFront N free s x) ≡ found w n = sym (try-free N free s c x xs h) ∙ e in
-          let same : x ≡ w = cc in
-          let sum : c + freeFront N free s x ≡ n = cc in (
-            freeFront N free s x + 0,
-            omega arith,
-            rw (← same) record {
-              before = [];
-              after = xs;
-              place = refl;
-              is-free = h;
-              first = λ v m. absurd (List·Memᴰ·not-nil m);
-              scouts = front-more (front-is N free s x) no-front;
-            },
-          )
-      go false h ih =
-          let r = ih (sym (try-on N free s c x xs h) ∙ e) in
-          let y = r .2 in (
-            freeFront N free s x + r .0,
-            omega (arith, r .1),
-            record {
-              before = x ∷ y .before;
-              after = y .after;
-              place = ap (x ∷_) (y .place);
-              is-free = y .is-free;
-              first = all-cons (λ v. freePath N free s v ≡ true → ⊥) (λ i. clash i h) (y .first);
-              scouts = front-more (front-is N free s x) (y .scouts);
-            },
-          )
+  -- what paths tried in turn say after c scouts: they send m more
+  After : ℕ → List Path → PassResult → Type 0
+  After c ws (none n) = (m : ℕ) × (n ≡ c + m) × TriedNone N free s ws m
+  After c ws (found w n) = (m : ℕ) × (n ≡ c + m) × TriedFound N free s ws w m
 
-  none-after : (ws : List Path) (c : ℕ) {n : ℕ} → tryPaths N free s c ws ≡ none n → (m : ℕ) × (n ≡ c + m) × TriedNone N free s ws m
-  none-after [] c {n} e = let same : c ≡ n = unfold tryPaths in cc in (0, omega arith, record { nothing = λ v m. absurd (List·Memᴰ·not-nil m); scouts = no-front })
-  none-after (x ∷ xs) c {n} e = go (freePath N free s x) refl (none-after xs (c + freeFront N free s x))
+  -- so does the trying of one more before them that is not free,
+  after-one : (c : ℕ) (x : Path) (xs : List Path) (y : PassResult) → freePath N free s x ≡ false → After (c + freeFront N free s x) xs y
+      → After c (x ∷ xs) y
+  unfolding After
+  after-one c x xs (none n) h r = (
+    freeFront N free s x + r .0,
+    omega (arith, r .1),
+    record {
+      nothing = all-cons (λ v. freePath N free s v ≡ true → ⊥) (λ i. clash i h) (r .2 .nothing);
+      scouts = front-more (front-is N free s x) (r .2 .scouts);
+    },
+  )
+  after-one c x xs (found w n) h r = (
+    freeFront N free s x + r .0,
+    omega (arith, r .1),
+    record {
+      before = x ∷ r .2 .before;
+      after = r .2 .after;
+      place = ap (x ∷_) (r .2 .place);
+      is-free = r .2 .is-free;
+      first = all-cons (λ v. freePath N free s v ≡ true → ⊥) (λ i. clash i h) (r .2 .first);
+      scouts = front-more (front-is N free s x) (r .2 .scouts);
+    },
+  )
+
+  -- and of a list that begins with a free one
+  after-free : (c : ℕ) (x : Path) (xs : List Path) → freePath N free s x ≡ true → After c (x ∷ xs) (found x (c + freeFront N free s x))
+  unfolding After
+  after-free c x xs h = (
+    freeFront N free s x + 0,
+    omega arith,
+    record {
+      before = [];
+      after = xs;
+      place = refl;
+      is-free = h;
+      first = λ v m. absurd (List·Memᴰ·not-nil m);
+      scouts = front-more (front-is N free s x) no-front;
+    },
+  )
+
+  tried-after : (ws : List Path) (c : ℕ) → After c ws (tryPaths N free s c ws)
+  tried-after [] c = unfold tryPaths After in (0, omega arith, record { nothing = λ v m. absurd (List·Memᴰ·not-nil m); scouts = no-front })
+  tried-after (x ∷ xs) c = go (freePath N free s x) refl (tried-after xs (c + freeFront N free s x))
     where
-      go : (b : Bool) → freePath N free s x ≡ b → (tryPaths N free s (c + freeFront N free s x) xs ≡ none n → (m : ℕ) × (n ≡ c + freeFront N free s x + m) × TriedNone N free s xs m)
-          → (m : ℕ) × (n ≡ c + m) × TriedNone N free s (x ∷ xs) m
-      go true h ih = let stopped : found x (c + freeFront N free s x) ≡ none n = sym (try-free N free s c x xs h) ∙ e in let z : _≡_ {A = ℕ} 0 1 = cc in absurd (omega arith)
-      go false h ih =
-          let r = ih (sym (try-on N free s c x xs h) ∙ e) in (
-            freeFront N free s x + r .0,
-            omega (arith, r .1),
-            record {
-              nothing = all-cons (λ v. freePath N free s v ≡ true → ⊥) (λ i. clash i h) (r .2 .nothing);
-              scouts = front-more (front-is N free s x) (r .2 .scouts);
-            },
-          )
+      go : (b : Bool) → freePath N free s x ≡ b → After (c + freeFront N free s x) xs (tryPaths N free s (c + freeFront N free s x) xs)
+          → After c (x ∷ xs) (tryPaths N free s c (x ∷ xs))
+      go true h r = rw (try-free N free s c x xs h) (after-free c x xs h)
+      go false h r = rw (try-on N free s c x xs h) (after-one c x xs _ h r)
 
   -- Paths tried in turn say what document 02, (b), says of them.
-  pub tried-says : (ws : List Path) (x : PassResult) → tryPaths N free s 0 ws ≡ x → TriedSays N free s ws x
-  tried-says ws (none c) e = let r = none-after ws 0 e in let same : r .0 ≡ c = omega (arith, r .1) in rw (← same) (r .2)
-  tried-says ws (found w c) e = let r = found-after ws 0 e in let same : r .0 ≡ c = omega (arith, r .1) in rw (← same) (r .2)
+  pub tried-says : (ws : List Path) → TriedSays N free s ws (tryPaths N free s 0 ws)
+  tried-says ws = go (tryPaths N free s 0 ws) (tried-after ws 0)
+    where
+      go : (x : PassResult) → After 0 ws x → TriedSays N free s ws x
+      go (none n) r = unfold After in (let same : r .0 ≡ n = omega (arith, r .1) in rw (← same) (r .2))
+      go (found w n) r = unfold After in (let same : r .0 ≡ n = omega (arith, r .1) in rw (← same) (r .2))
 
   -- Each path sends at most as many scouts as it has hops.
   pub tried-sends : (l : ℕ) (ws : List Path) (c : ℕ) → ((w : Path) → w ∈ ws → length w ≤ l) → scouts (tryPaths N free s c ws) ≤ c + length ws * l
@@ -157,7 +178,14 @@ module _ (N : Network) (s t : ℕ) where
   placed _ [] w after (path-more {p} {ps = ps} h hs) = record { port = p; earlier = []; later = ps; place = refl; is-helix = h; paths = no-path }
   placed _ (x ∷ before) w after (path-more {p} {ps = ps} h hs) =
       let r = placed ps before w after hs in
-      record { port = r .port; earlier = p ∷ r .earlier; later = r .later; place = ap (p ∷_) (r .place); is-helix = r .is-helix; paths = path-more h (r .paths) }
+      record {
+        port = r .port;
+        earlier = p ∷ r .earlier;
+        later = r .later;
+        place = ap (p ∷_) (r .place);
+        is-helix = r .is-helix;
+        paths = path-more h (r .paths);
+      }
 
   -- the path of a lower port comes first
   lower-first : {p q : ℕ} {w v : Path} → p < q → IsHelix N s t p w → IsHelix N s t q v → ComesBefore w v
@@ -170,7 +198,8 @@ module _ (N : Network) (s t : ℕ) where
     tried-helix {w} f = port-of paths (rw (f .place) (Memᴰ·append-right (f .before) (List·Memᴰ·head refl)))
 
     -- where the ports rise, it is the first of those that are free, in the order of document 01;
-    pub tried-first : Pairwise _<_ ps → {w : Path} {c : ℕ} → TriedFound N free s ws w c → (q : ℕ) → q ∈ ps → (v : Path) → IsHelix N s t q v → Free N free s v → (v ≡ w) ⊎ ComesBefore w v
+    pub tried-first : Pairwise _<_ ps → {w : Path} {c : ℕ} → TriedFound N free s ws w c
+        → (q : ℕ) → q ∈ ps → (v : Path) → IsHelix N s t q v → Free N free s v → (v ≡ w) ⊎ ComesBefore w v
     tried-first rise {w} f q m v k i = ⊎-elim earlier (⊎-elim same later) (where-is (r .earlier) (rw (r .place) at m))
       where
         r : Placed ps (f .before) w
@@ -195,13 +224,6 @@ module _ (N : Network) (s t : ℕ) where
     pub tried-nothing : {c : ℕ} → TriedNone N free s ws c → (p : ℕ) → p ∈ ps → (w : Path) → IsHelix N s t p w → Free N free s w → ⊥
     tried-nothing f p m w h i = let x = path-of paths m in f .nothing (x .0) (x .1) (rw (helix-only N s t p (x .2) h) i)
 
--- Inclusion, for one test of free links: some helix path of the ports of a list is free, and some permitted path of a vector.
-abbrev pub FreeHelix : Network → (ℕ → ℕ → Bool) → ℕ → ℕ → List ℕ → Type 0
-FreeHelix N free s t ps = (p : ℕ) × (p ∈ ps) × ((w : Path) × IsHelix N s t p w × Free N free s w)
-
-abbrev pub FreePermitted : Network → (ℕ → ℕ → Bool) → ℕ → List ℕ → ℕ → Type 0
-FreePermitted N free s vector t = (w : Path) × Permitted N s vector t w × Free N free s w
-
 -- the first of a list of ports that rise is the lowest of them
 pub lowest-port : (ps : List ℕ) → Pairwise _<_ ps → (p : ℕ) → p ∈ take 1 ps → (p ∈ ps) × ((q : ℕ) → q ∈ ps → p ≤ q)
 unfolding Pairwise
@@ -210,45 +232,30 @@ lowest-port (x ∷ ps) rise p m =
     let e : p ≡ x = List·Memᴰ·eq-of-singleton m in
     rw e (List·Memᴰ·head refl, all-cons (λ q. x ≤ q) (le-refl x) (λ q k. omega (arith, rise .0 q k)))
 
-module _ (N : Network) (free : ℕ → ℕ → Bool) (s t : ℕ) (ps : List ℕ) where
-  -- Where the helix path of the lowest port is free, some helix path is;
-  pub lowest-in-helix : FreeHelix N free s t (take 1 ps) → FreeHelix N free s t ps
-  lowest-in-helix h = (h .0, rw (take-append-drop 1 ps) at (Memᴰ·append-left (drop 1 ps) (h .1)), h .2)
+module _ (S : Shape) (free : ℕ → ℕ → Bool) (s t : ℕ) where
+  -- In the cube the helix paths of some ports, tried in turn, send at most D + 1 scouts each,
+  abbrev pub triedHelix : List ℕ → PassResult
+  triedHelix ps = tryPaths (network S) free s 0 (map (helixPath (network S) s t) ps)
 
-  -- and where some helix path is free, some permitted path of the vector is.
-  pub helix-in-permitted : FreeHelix N free s t ps → FreePermitted N free s ps t
-  helix-in-permitted h = (h .2 .0, helix-permitted N s t (h .0) (h .2 .1) ps (h .1), h .2 .2)
+  pub helix-scouts : (ps : List ℕ) → scouts (triedHelix ps) ≤ length ps * suc (S .dimension)
+  helix-scouts ps =
+      let sent = tried-sends (network S) free s (suc (S .dimension)) (map (helixPath (network S) s t) ps) 0 short in
+      omega (arith, rw (length-map ps (helixPath (network S) s t)) at sent)
+    where
+      short : (w : Path) → w ∈ map (helixPath (network S) s t) ps → length w ≤ suc (S .dimension)
+      short =
+          all-map (λ w. length w ≤ suc (S .dimension)) (helixPath (network S) s t) ps
+          (λ p m. omega (arith, helix-short (network S) s t p, distance-within S t (network S .next s p)))
 
--- In the cube:
-module _ (S : Shape) where
-  -- every port has its helix path, which the definition computes,
-  pub cube-helix : S .dimension ≤ 8 → (s t p : ℕ) → Node S s → Node S t → p ∈ ports S → IsHelix (network S) s t p (helixPath (network S) s t p)
-  cube-helix h s t p i l m = helix-is (cube-nearing S t) (cube-leading S h t l) s p (unfold network in flip-inside (S .dimension) s (axis p) i (port-axis S p m))
+  -- which is 9 for one port
+  pub lowest-scouts : S .dimension ≤ 8 → (ps : List ℕ) → scouts (triedHelix (take 1 ps)) ≤ 9
+  lowest-scouts h [] = omega (arith, helix-scouts [])
+  lowest-scouts h (p ∷ ps) = omega (arith, helix-scouts (p ∷ []))
 
-  -- of 1 to D + 1 hops;
-  pub helix-hops : (s t p : ℕ) (w : Path) → IsHelix (network S) s t p w → (1 ≤ length w) × (length w ≤ suc (S .dimension))
-  helix-hops s t p w h = path-hops S s (p ∷ []) t w (helix-permitted (network S) s t p h (p ∷ []) (List·Memᴰ·head refl))
-
-  module _ (free : ℕ → ℕ → Bool) (s t : ℕ) where
-    -- so to try the helix paths of some ports sends at most D + 1 scouts for each,
-    abbrev pub triedHelix : List ℕ → PassResult
-    triedHelix ps = tryPaths (network S) free s 0 (map (helixPath (network S) s t) ps)
-
-    pub helix-scouts : (ps : List ℕ) → scouts (triedHelix ps) ≤ length ps * suc (S .dimension)
-    helix-scouts ps =
-        let short = all-map (λ w. length w ≤ suc (S .dimension)) (helixPath (network S) s t) ps (λ p m. omega (arith, helix-short (network S) s t p, distance-within S t (network S .next s p))) in
-        let sent = tried-sends (network S) free s (suc (S .dimension)) (map (helixPath (network S) s t) ps) 0 short in
-        omega (arith, rw (length-map ps (helixPath (network S) s t)) at sent)
-
-    -- which is 9 for one port
-    pub lowest-scouts : S .dimension ≤ 8 → (ps : List ℕ) → scouts (triedHelix (take 1 ps)) ≤ 9
-    lowest-scouts h [] = omega (arith, helix-scouts [])
-    lowest-scouts h (p ∷ ps) = omega (arith, helix-scouts (p ∷ []))
-
-    -- and 72 for those of any vector, where nothing is folded.
-    pub vector-scouts : S .dimension ≤ 8 → S .fold ≡ 0 → (v : ℕ) → scouts (triedHelix (sendPorts S v)) ≤ 72
-    vector-scouts h z v =
-        let most : suc (S .dimension) ≤ 9 = omega arith in le-trans (helix-scouts (sendPorts S v)) (mul-le-mul few most)
-      where
-        few : length (sendPorts S v) ≤ 8
-        few = rw (unfolded-send-ports S h z v) (omega (arith, length-ports (S .dimension) v))
+  -- and 72 for those of any vector, where nothing is folded.
+  pub vector-scouts : S .dimension ≤ 8 → S .fold ≡ 0 → (v : ℕ) → scouts (triedHelix (sendPorts S v)) ≤ 72
+  vector-scouts h z v =
+      let most : suc (S .dimension) ≤ 9 = omega arith in le-trans (helix-scouts (sendPorts S v)) (mul-le-mul few most)
+    where
+      few : length (sendPorts S v) ≤ 8
+      few = rw (unfolded-send-ports S h z v) (omega (arith, length-ports (S .dimension) v))

@@ -4,13 +4,13 @@ use mathlib.Core.Bool.{Bool, cond, not, _&&_}
 use mathlib.Core.List.{List, [], _∷_, map}
 use Prim.Native.Nat.{ℕ, _*_, _^_, _<_}
 use lib.Dec.{eqb, ltb}
-use lib.ListN.{length}
+use lib.ListN.{length, take}
 use Rattle.common.specs.Lists.{keep, from}
 use Rattle.cube.specs.Bits.{has}
 use Rattle.cube.specs.Cube.{channels, next, uphill}
 use Rattle.cube.specs.Axes.{axis, present}
 use Rattle.paths.specs.Network.{Network}
-use Rattle.paths.specs.Send.{Receive, Attempt, pass-over, attempted, SendResult, runs}
+use Rattle.paths.specs.Send.{Receive, Attempt, pass-over, helix-paths, attempted, SendResult, runs}
 
 -- what a network is read from: the dimension of the cube and its fold mask. Document 01's cube has fold mask 0.
 pub record Shape : Type 0 where
@@ -63,8 +63,13 @@ otherPorts S vector = keep (λ q. not (has vector (axis q))) (ports S)
 
 -- What a routing type tries: "0, maze: one pass, with the send vector given"; "4, alternate maze: a pass with the given vector", and then a second over
 -- the other ports, if that is not ended before (`goesOn`).
+-- Document 02, (b): "Type 3 takes the lowest port of the send vector, then at each node the first uphill port in helical order; if that path is not
+-- free, the send is rejected at once. Type 1 tries such a path for each port of the send vector in rising order until one is free."
 unfoldable pub attempts : Shape → ℕ → ℕ → List Attempt
-attempts S type vector = pass-over (sendPorts S vector) ∷ cond (eqb type 4) (pass-over (otherPorts S vector) ∷ []) []
+attempts S type vector =
+    cond (eqb type 3) (helix-paths (take 1 (sendPorts S vector)) ∷ [])
+    (cond (eqb type 1) (helix-paths (sendPorts S vector) ∷ [])
+    (pass-over (sendPorts S vector) ∷ cond (eqb type 4) (pass-over (otherPorts S vector) ∷ []) []))
 
 -- the send of a routing type
 unfoldable pub send : ℕ → Shape → (ℕ → ℕ → Bool) → Receive → ℕ → ℕ → ℕ → SendResult

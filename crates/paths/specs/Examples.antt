@@ -2,7 +2,7 @@
 -- Assumes nothing.
 use mathlib.Core.Path.{_≡_, refl}
 use mathlib.Core.Bool.{Bool, true, _&&_, not}
-use mathlib.Core.List.{List, [], _∷_, map}
+use mathlib.Core.List.{List, [], _∷_}
 use Prim.Native.Nat.{ℕ}
 use lib.Dec.{eqb}
 use lib.ListN.{length}
@@ -12,7 +12,7 @@ use Rattle.cube.specs.Axes.{axis, present}
 use Rattle.cube.specs.Cube.{uphill}
 use Rattle.cube.specs.Helical.{helical}
 use Rattle.paths.specs.Network.{Path, Link, offered, takeFirst, end, links, hasLink, freePath}
-use Rattle.paths.specs.Pass.{PassResult, none, found, over, ways, beginnings, scan, whole, pass, scouts}
+use Rattle.paths.specs.Pass.{over, ways, beginnings, scan, whole, pass, scouts}
 use Rattle.paths.specs.Helix.{helixFrom, helixPath, freeFront, tryPaths}
 use Rattle.paths.specs.Send.{channel, none-available, Outcome, acknowledged, route-rejected, receive-rejected, received, attempted, outcome, SendResult, goesOn, runs}
 use Rattle.paths.specs.CubeNetwork.{Shape, ports, network, sendPorts, otherPorts, attempts, send}
@@ -200,36 +200,43 @@ helix-ports : helixPaths ≡ helixPorts
 unfolding helixPath helixFrom takeFirst network present axis keep from has flip uphill helical offered
 helix-ports = refl
 
--- The helix paths of some ports tried in turn, all links free but those listed.
-abbrev triedOver : ℕ → List Link → ℕ → ℕ → List ℕ → PassResult
-triedOver D blocked s t ps = tryPaths (network (cube D)) (freeBut blocked) s 0 (map (helixOf (cube D) s t) ps)
-
-abbrev helixTrials : List PassResult
-helixTrials =
-    -- figure 7, links 1 to 5 and 3 to 7 blocked: port 0 alone, stopped at its third hop; then ports 0, 1 and 2
-    triedOver 3 ((1, 2) ∷ (3, 2) ∷ []) 0 7 (0 ∷ [])
-    ∷ triedOver 3 ((1, 2) ∷ (3, 2) ∷ []) 0 7 (0 ∷ 1 ∷ 2 ∷ [])
-    -- D 2, 0 to 1, port 1, nothing blocked; then link 2 to 3, its second hop, where a pass goes back through the source
-    ∷ triedOver 2 [] 0 1 (1 ∷ [])
-    ∷ triedOver 2 ((2, 0) ∷ []) 0 1 (1 ∷ [])
-    -- D 2, 0 to 3, ports 0 and 1: the first hop of the first blocked; then the second hop of each
-    ∷ triedOver 2 ((0, 0) ∷ []) 0 3 (0 ∷ 1 ∷ [])
-    ∷ triedOver 2 ((1, 1) ∷ (2, 0) ∷ []) 0 3 (0 ∷ 1 ∷ [])
-    -- D 2, 0 to 1, ports 0 and 1, links 0 to 1 and 3 to 1 blocked: the second path is stopped at its third hop
-    ∷ triedOver 2 ((0, 0) ∷ (3, 1) ∷ []) 0 1 (0 ∷ 1 ∷ [])
+-- "Two older products use routing types 3 and 1."
+abbrev helixSends : List SendResult
+helixSends =
+    -- figure 7, links 1 to 5 and 3 to 7 blocked: type 3 is stopped at its third hop; type 1 goes on to port 1, and type 4 finds that path too
+    send 3 (cube 3) (freeBut ((1, 2) ∷ (3, 2) ∷ [])) (channel 0) 0 7 7
+    ∷ send 1 (cube 3) (freeBut ((1, 2) ∷ (3, 2) ∷ [])) (channel 0) 0 7 7
+    ∷ send 4 (cube 3) (freeBut ((1, 2) ∷ (3, 2) ∷ [])) (channel 0) 0 7 7
+    -- D 2, 0 to 2, vector 3: the lowest port is taken, though it leads away
+    ∷ send 3 (cube 2) (freeBut []) (channel 5) 0 3 2
+    -- D 2, 0 to 1, vector 2, link 2 to 3 blocked, the second hop: types 3 and 1 do not go back through the source, as type 0 does in example 5
+    ∷ send 3 (cube 2) (freeBut ((2, 0) ∷ [])) (channel 0) 0 2 1
+    ∷ send 1 (cube 2) (freeBut ((2, 0) ∷ [])) (channel 0) 0 2 1
+    -- D 2, 0 to 3, vector 3: the first hop over port 0 blocked; then the second hop of both paths
+    ∷ send 3 (cube 2) (freeBut ((0, 0) ∷ [])) (channel 0) 0 3 3
+    ∷ send 1 (cube 2) (freeBut ((0, 0) ∷ [])) (channel 0) 0 3 3
+    ∷ send 1 (cube 2) (freeBut ((1, 1) ∷ (2, 0) ∷ [])) (channel 0) 0 3 3
+    -- the same with nothing blocked and no receive channel: no further path is tried
+    ∷ send 1 (cube 2) (freeBut []) none-available 0 3 3
+    -- D 2, mask 2, 0 to 3, vector 2, link 0 to 2 over port 1 blocked: the partner, port 16, is tried next
+    ∷ send 1 (folded 2 2) (freeBut ((0, 1) ∷ [])) (channel 0) 0 2 3
     ∷ []
 
-abbrev helixResults : List PassResult
-helixResults =
-    none 2
-    ∷ found (1 ∷ 2 ∷ 0 ∷ []) 5
-    ∷ found (1 ∷ 0 ∷ 1 ∷ []) 3
-    ∷ none 1
-    ∷ found (1 ∷ 0 ∷ []) 2
-    ∷ none 2
-    ∷ none 2
+abbrev helixAnswers : List SendResult
+helixAnswers =
+    answer route-rejected 2
+    ∷ answer (acknowledged (1 ∷ 2 ∷ 0 ∷ []) 0) 5
+    ∷ answer (acknowledged (1 ∷ 2 ∷ 0 ∷ []) 0) 5
+    ∷ answer (acknowledged (0 ∷ 1 ∷ 0 ∷ []) 5) 3
+    ∷ answer route-rejected 1
+    ∷ answer route-rejected 1
+    ∷ answer route-rejected 0
+    ∷ answer (acknowledged (1 ∷ 0 ∷ []) 0) 2
+    ∷ answer route-rejected 2
+    ∷ answer receive-rejected 2
+    ∷ answer (acknowledged (16 ∷ 0 ∷ []) 0) 2
     ∷ []
 
-helix-trials : helixTrials ≡ helixResults
-unfolding tryPaths freeFront freePath helixPath helixFrom takeFirst network present axis keep from has flip uphill helical offered
-helix-trials = refl
+helix-sends : helixSends ≡ helixAnswers
+unfolding send attempts attempted network ports sendPorts otherPorts present axis keep from has flip uphill helical offered end freePath over ways beginnings scan whole pass scouts helixPath helixFrom takeFirst freeFront tryPaths received outcome goesOn runs
+helix-sends = refl

@@ -1,5 +1,5 @@
--- Helix paths, of document 02, (b): behind a first port, at each node the first port offered in the helical order. Then what it comes to when paths are
--- tried one after another, and both once more in plain words. That the computed ones are so is proved (Helix).
+-- Helix paths, of document 02, (b): behind a first port, at each node the first port offered in the helical order. Then what it comes to when paths
+-- are tried one after another, and both once more in plain words. That the computed ones are so is proved (Helix, Tried).
 -- Assumes nothing.
 use mathlib.Core.Path.{_≡_}
 use mathlib.Core.Logic.{_⊎_, _≢_}

@@ -1,13 +1,14 @@
 -- A send: a list of attempts made in turn, and what becomes of the path that the last one found.
 -- Assumes nothing.
 use mathlib.Core.Bool.{Bool, true, false, cond}
-use mathlib.Core.List.{List, [], _∷_}
+use mathlib.Core.List.{List, [], _∷_, map}
 use Prim.Native.Nat.{ℕ, _+_}
 use lib.Dec.{eqb}
 use Rattle.common.specs.Lists.{lowest}
 use Rattle.paths.specs.Network.{Network, Path}
 use Rattle.paths.specs.Pass.{PassResult, none, found, pass, scouts}
 use Rattle.cube.specs.Cube.{channels}
+use Rattle.paths.specs.Helix.{helixPath, tryPaths}
 
 -- document 02, (a): "The target takes its lowest channel that is armed and not held": that channel, or none where there is no such channel
 pub data Receive : Type 0 where
@@ -38,13 +39,16 @@ unfoldable pub outcome : Receive → PassResult → Outcome
 outcome r (none c) = route-rejected
 outcome r (found w c) = received w r
 
--- What a send tries in turn: the permitted paths whose first hop is a port of a list, in one pass.
+-- What a send tries in turn: the permitted paths whose first hop is a port of a list, in one pass; or the helix path of each port of a list, one after
+-- another.
 pub data Attempt : Type 0 where
   pass-over : (ports : List ℕ) → Attempt
+  helix-paths : (ports : List ℕ) → Attempt
 
 -- what an attempt from s to t comes to
 unfoldable pub attempted : Network → (ℕ → ℕ → Bool) → ℕ → ℕ → Attempt → PassResult
 attempted N free s t (pass-over ports) = pass N free s ports t
+attempted N free s t (helix-paths ports) = tryPaths N free s 0 (map (helixPath N s t) ports)
 
 -- what a send answers: its outcome and the scouts of all its attempts
 pub record SendResult : Type 0 where

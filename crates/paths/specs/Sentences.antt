@@ -1,8 +1,9 @@
--- What document 01 says of a pass and of a send, word for word, over the plain predicates. That the computed ones say it is proved (Sentences, Send).
+-- What document 01 says of a pass and of a send, and document 02, (b), of helix paths, word for word, over the plain predicates. That the computed
+-- ones say it is proved (Sentences, Tried, Send).
 -- Assumes nothing.
 use mathlib.Core.Path.{_≡_}
 use mathlib.Core.Logic.{_⊎_, _≢_, _↔_}
-use mathlib.Core.Bool.{Bool, true, false}
+use mathlib.Core.Bool.{Bool, true}
 use mathlib.Core.List.{List, [], _∷_, _++_}
 use Prim.Native.Nat.{ℕ, _+_}
 use lib.ListN.{length}
@@ -10,7 +11,8 @@ use Rattle.common.specs.Lists.{_∈_, Pairwise}
 use Rattle.paths.specs.Network.{Network, Path, freePath}
 use Rattle.paths.specs.Permitted.{Permitted, Beginning, ComesBefore}
 use Rattle.paths.specs.Pass.{PassResult, none, found}
-use Rattle.paths.specs.Send.{Receive, channel, none-available, Outcome, acknowledged, route-rejected, receive-rejected, Attempt, pass-over}
+use Rattle.paths.specs.Helix.{IsHelix, HelixPaths, TriedSays}
+use Rattle.paths.specs.Send.{Receive, channel, none-available, Outcome, acknowledged, route-rejected, receive-rejected, Attempt, pass-over, helix-paths}
 
 -- c is the number of paths with P: a list holds exactly those, each once, and is c long
 pub record Number (P : Path → Type 0) (c : ℕ) : Type 0 where
@@ -43,26 +45,33 @@ module _ (N : Network) (free : ℕ → ℕ → Bool) (s : ℕ) (vector : List �
   Says (none c) = NoneSays c
   Says (found w c) = FoundSays w c
 
-  -- What the answer of one pass says, given what the target's receive channels are: "With none, route rejected. With one", the
-  -- target takes the receive channel that is there to take; where there is none, receive rejected. The scouts are the pass's in each case.
-  pub data AnswerSays (r : Receive) : Outcome → ℕ → Type 0 where
-    says-acknowledged : {w : Path} {k c : ℕ} → r ≡ channel k → FoundSays w c → AnswerSays r (acknowledged w k) c
-    says-receive-rejected : {w : Path} {c : ℕ} → r ≡ none-available → FoundSays w c → AnswerSays r receive-rejected c
-    says-route-rejected : {c : ℕ} → NoneSays c → AnswerSays r route-rejected c
+-- What the answer of one attempt says, given what its search says and what the target's receive channels are: "With none, route rejected. With one",
+-- the target takes the receive channel that is there to take; where there is none, receive rejected. The scouts are the search's in each case.
+pub data AnswerSays (Search : PassResult → Type 0) (r : Receive) : Outcome → ℕ → Type 0 where
+  says-acknowledged : {w : Path} {k c : ℕ} → r ≡ channel k → Search (found w c) → AnswerSays Search r (acknowledged w k) c
+  says-receive-rejected : {w : Path} {c : ℕ} → r ≡ none-available → Search (found w c) → AnswerSays Search r receive-rejected c
+  says-route-rejected : {c : ℕ} → Search (none c) → AnswerSays Search r route-rejected c
 
 module _ (N : Network) (s t : ℕ) where
   -- the paths that an attempt tries
   unfoldable pub Tries : Attempt → Path → Type 0
   Tries (pass-over ports) w = Permitted N s ports t w
+  Tries (helix-paths ports) w = (p : ℕ) × (p ∈ ports) × IsHelix N s t p w
 
-  module _ (free : ℕ → ℕ → Bool) (r : Receive) where
-    unfoldable pub AttemptSays : Attempt → Outcome → ℕ → Type 0
-    AttemptSays (pass-over ports) o n = AnswerSays N free s ports t r o n
+  module _ (free : ℕ → ℕ → Bool) where
+    -- what its search says: of a pass, and of the helix paths of its ports tried in their order
+    unfoldable pub SearchSays : Attempt → PassResult → Type 0
+    SearchSays (pass-over ports) x = Says N free s ports t x
+    SearchSays (helix-paths ports) x = (paths : List Path) × HelixPaths N s t ports paths × TriedSays N free s paths x
 
-    -- What a send says that makes the attempts of a list in turn. After a route rejection the next attempt is made, and the scouts are added. An
-    -- acknowledgement ends the send, and so does the other rejection: document 02, (f), "receive rejection in the first pass ends a type 4 send".
-    pub data AttemptsSay : List Attempt → Outcome → ℕ → Type 0 where
-      last : {a : Attempt} {o : Outcome} {n : ℕ} → AttemptSays a o n → AttemptsSay (a ∷ []) o n
-      ends : {a : Attempt} {later : List Attempt} {o : Outcome} {n : ℕ} → AttemptSays a o n → o ≢ route-rejected → AttemptsSay (a ∷ later) o n
-      goes-on : {a : Attempt} {later : List Attempt} {o₂ : Outcome} {n₂ : ℕ} (n : ℕ) → AttemptSays a route-rejected n
-          → AttemptsSay later o₂ n₂ → AttemptsSay (a ∷ later) o₂ (n + n₂)
+    module _ (r : Receive) where
+      abbrev pub AttemptSays : Attempt → Outcome → ℕ → Type 0
+      AttemptSays a = AnswerSays (SearchSays a) r
+
+      -- What a send says that makes the attempts of a list in turn. After a route rejection the next attempt is made, and the scouts are added. An
+      -- acknowledgement ends the send, and so does the other rejection: document 02, (f), "receive rejection in the first pass ends a type 4 send".
+      pub data AttemptsSay : List Attempt → Outcome → ℕ → Type 0 where
+        last : {a : Attempt} {o : Outcome} {n : ℕ} → AttemptSays a o n → AttemptsSay (a ∷ []) o n
+        ends : {a : Attempt} {later : List Attempt} {o : Outcome} {n : ℕ} → AttemptSays a o n → o ≢ route-rejected → AttemptsSay (a ∷ later) o n
+        goes-on : {a : Attempt} {later : List Attempt} {o₂ : Outcome} {n₂ : ℕ} (n : ℕ) → AttemptSays a route-rejected n
+            → AttemptsSay later o₂ n₂ → AttemptsSay (a ∷ later) o₂ (n + n₂)

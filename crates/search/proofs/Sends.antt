@@ -1,7 +1,7 @@
 -- A send as the code makes it: a pass from the source, the receive channel taken behind it, and the second pass of routing type 4.
 -- Assumes nothing.
 use mathlib.Core.Path.{_≡_, refl, ap, ap₂, sym, _∙_}
-use mathlib.Core.Logic.{_≢_}
+use mathlib.Core.Logic.{_⊎_, inl, inr, _≢_}
 use mathlib.Core.Bool.{true, false, not}
 use mathlib.Core.List.{List}
 use Prim.Native.Nat.{ℕ, _+_, _-_, _^_, _≤_, _<_}
@@ -11,7 +11,7 @@ use lib.Dec.{eqb, lit<}
 use lib.ListN.{length}
 use lib.Pow.{pow-pos}
 use lib.Bits.{bitXor, xor-lt}
-use borrow.Author.Tests.{ne-eqb, lt-ltb}
+use borrow.Author.Tests.{lt-ltb}
 use Rattle.cube.specs.Bits.{bitAt, has}
 use Rattle.cube.specs.Cube.{NodeCount}
 use Rattle.cube.proofs.Bits.{one-bit, bit-lt, bit-xor, has-bit}
@@ -20,7 +20,7 @@ use Rattle.cube.proofs.Order.{helical-last, ports-wider, ports-mem, length-port
 use Rattle.paths.specs.Pass.{PassResult, none, found, pass, scouts}
 use Rattle.paths.specs.Search.{trying, sending}
 use Rattle.paths.specs.Send.{Receive, channel, none-available, Outcome, acknowledged, route-rejected, receive-rejected, oneResult, received, outcome, goesOn}
-use Rattle.paths.specs.CubeNetwork.{Shape, network, sendPorts, otherPorts, attempts, send}
+use Rattle.paths.specs.CubeNetwork.{Shape, network, sendPorts, otherPorts}
 use Rattle.paths.proofs.Depth.{search-is-pass}
 use Rattle.paths.proofs.CubeNetwork.{distance-within, unfolded-send-ports, scouts-bound, other-vector}
 use Rattle.paths.proofs.Send.{maze-answers, alternate-stops, alternate-goes-on}
@@ -244,7 +244,7 @@ module _ {b : List ℕ} {s t c vector : ℕ} (may : MaySend b s t c vector) {x h
           (ap₂ _+_ (sent-scouts b c s t (outcome r first) (scouts first) first-is) (sent-scouts b c s t (outcome r second) (scouts second) second-is))
           ∙ ap (sendAnswer b c s t) (sym (alternate-goes-on S (freeIn (view b)) r s vector t (sent-goes-on b c s t (outcome r first) (scouts first) first-is z)))
 
--- Another type than 4 makes one pass.
-pub send-maze : (b : List ℕ) (s t c type vector : ℕ) → type ≢ 4 → sends b s t c 0 vector ≡ sends b s t c type vector
-unfolding sends send attempts
-send-maze b s t c type vector e = rw (ne-eqb type 4 e)
+-- Of types 0 and 4, one that is not 4 makes one pass.
+pub send-maze : (b : List ℕ) (s t c type vector : ℕ) → (type ≡ 0) ⊎ (type ≡ 4) → type ≢ 4 → sends b s t c 0 vector ≡ sends b s t c type vector
+send-maze b s t c type vector (inl e) f = ap (λ y. sends b s t c y vector) (sym e)
+send-maze b s t c type vector (inr e) f = absurd (f e)

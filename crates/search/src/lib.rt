@@ -1,5 +1,6 @@
 // The search for a free permitted path on a lent table.
 ghost use mathlib.Core.Path.{_≡_};
+ghost use mathlib.Core.Logic.{_⊎_};
 ghost use mathlib.Core.Bool.{true};
 ghost use Rattle.table.specs.LayoutContracts.{Within};
 ghost use Rattle.table.specs.View.{view};
@@ -219,6 +220,7 @@ pub fn send(
     vector: u16,
 ) -> Opened
     requires { ⌜ MaySend (now t) (source .0) (target .0) (c .0) vector ⌝ }
+    requires { ⌜ (routing ≡ 0) ⊎ (routing ≡ 4) ⌝ }
     ensures { λ r. ⌜ pass-answer (r .number) (r .hops) (r .receive) (r .scouts) (now (t .exit)) ≡ sends (now (t .entry)) (source .0) (target .0) (c .0) routing vector ⌝ }
 {
     let first = cube::first_ports();

@@ -32,7 +32,8 @@ returns-2 : tie.Need-returns-2
 returns-2 c =
     let g = c .before .before in
     let s = g .before .before .before .before .before .before in
-    g .maze .ensures ∙ send-maze (s .args .t .now) (s .args .source .0) (s .args .target .0) (s .args .c .0) (s .args .routing) (s .args .vector) (g .before .before .before .if1 .left)
+    g .maze .ensures ∙ send-maze (s .args .t .now) (s .args .source .0) (s .args .target .0) (s .args .c .0) (s .args .routing) (s .args .vector) (s .pre .1)
+    (g .before .before .before .if1 .left)
 
 pub send-spec : {M : Type 1} → statement M
 send-spec = tie.close (tie.spec first-ports-requires alternate-maze-requires maze-requires same-length returns same-length-2 returns-2)

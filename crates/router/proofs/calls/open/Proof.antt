@@ -25,16 +25,18 @@ send-requires : tie.Need-send-requires
 send-requires c κs =
     let m = c .before in
     let r = open-passed _ (m .before .before .«open» .ensures) (m .before .if1 .left) in
-    let nodes = node-room (r .0) in
-    record {
-      bytes = r .0 .long;
-      fits = r .0 .most;
-      source = omega (arith, r .0 .source);
-      target = omega (arith, r .0 .source, r .0 .target);
-      ports = omega (arith, nodes .0, r .2);
-      circuit = λ z. omega (arith, m .circuit-of .ensures, z);
-      small = omega (arith, nodes .1, r .0 .source, r .1, m .circuit-of .ensures);
-    }
+    let nodes = node-room (r .0) in (
+      record {
+        bytes = r .0 .long;
+        fits = r .0 .most;
+        source = omega (arith, r .0 .source);
+        target = omega (arith, r .0 .source, r .0 .target);
+        ports = omega (arith, nodes .0, r .2);
+        circuit = λ z. omega (arith, m .circuit-of .ensures, z);
+        small = omega (arith, nodes .1, r .0 .source, r .1, m .circuit-of .ensures);
+      },
+      r .3,
+    )
 
 same-length-2 : tie.Need-same-length-2
 same-length-2 c = search needs
