@@ -60,15 +60,15 @@ fn hold_helix(t: &mut [u8], source: Node, target: Node, port: Port, c: Circuit, 
     requires { ⌜ MayFollow (now t) (source .0) (target .0) (port .0) ⌝ }
     ensures { λ _. ⌜ now (t .exit) ≡ holdPath (now (t .entry)) (c .0) (source .0) (helixPath (net (view (now (t .entry)))) (source .0) (target .0) (port .0)) ⌝ }
 {
-    let mut at = source;
+    let mut node = source;
     let mut p = port;
     loop {
-        table::set_owner(t, at, p, c);
-        at = cube::neighbour(at, p);
-        if at.0 == target.0 {
+        table::set_owner(t, node, p, c);
+        node = cube::neighbour(node, p);
+        if node.0 == target.0 {
             return;
         }
-        p = cube::first_port(first, cube::uphill_vector(at, target), p);
+        p = cube::first_port(first, cube::uphill_vector(node, target), p);
     }
 }
 

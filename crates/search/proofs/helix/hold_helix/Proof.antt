@@ -10,10 +10,10 @@ use Rattle.search.specs.SearchContracts.{hopsLeft}
 use Rattle.search.proofs.Following.{Holding, holding-first, holding-arrived, holding-nearer, holding-more, hop-within, up-small}
 
 abbrev Inv-loop : tie.InvT-loop
-Inv-loop t₀ target c first at₀ p₀ t at p = Holding t₀ (at₀ .0) (target .0) (p₀ .0) (c .0) t (at .0) (p .0)
+Inv-loop t₀ target c first node₀ p₀ t node p = Holding t₀ (node₀ .0) (target .0) (p₀ .0) (c .0) t (node .0) (p .0)
 
 abbrev μ-loop : tie.MeasureT-loop
-μ-loop t₀ target c first at₀ p₀ t at p = hopsLeft t₀ (target .0) (next (at .0) (p .0))
+μ-loop t₀ target c first node₀ p₀ t node p = hopsLeft t₀ (target .0) (next (node .0) (p .0))
 
 loop-holds : tie.Need-loop-holds Inv-loop μ-loop
 loop-holds c = holding-first _ (c .before .pre .1)
