@@ -11,6 +11,8 @@ pub mod Bound
 pub mod CubeNetwork
 pub mod Send
 pub mod Inclusion
+pub mod Waiting
+pub mod Reach
 pub mod Helix
 pub mod Tried
 pub mod OldRule
