@@ -1,0 +1,3 @@
+-- The laws of the sweep.
+pub mod Marks
+pub mod Sweep
