@@ -13,6 +13,7 @@ pub mod Send
 pub mod Inclusion
 pub mod Waiting
 pub mod Reach
+pub mod ByType
 pub mod Helix
 pub mod Tried
 pub mod OldRule

@@ -1,14 +1,13 @@
 -- A pass finds a path exactly where a port of its vector may be taken and leads to a node that reaches the target.
 -- Assumes nothing.
 use mathlib.Core.Path.{_≡_, refl, ap, sym, _∙_}
-use mathlib.Core.Logic.{⊎-elim}
 use mathlib.Core.Bool.{Bool, true, false, cond, _&&_, _||_, or-false}
-use mathlib.Core.List.{List, [], _∷_, List·Memᴰ·not-nil}
-use Prim.Native.Nat.{ℕ, zero, suc, _≤_}
+use mathlib.Core.List.{List, [], _∷_}
+use Prim.Native.Nat.{ℕ, zero, suc}
 use native.Mathlib.Omega.{arith}
 use lib.Dec.{eqb}
 use Rattle.common.specs.Lists.{_∈_, any}
-use Rattle.common.proofs.Tests.{clash, is-false, both, and}
+use Rattle.common.proofs.Tests.{is-false}
 use Rattle.common.proofs.Lists.{any-some, some-any}
 use Rattle.cube.specs.Helical.{helical}
 use Rattle.cube.proofs.Order.{helical-mem, mem-helical}

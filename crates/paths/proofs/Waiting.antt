@@ -1,21 +1,21 @@
 -- Whether closing circuits could help a send, as it is computed and in the words of document 02, (c), is the same; and what it says of the send itself.
 -- Assumes nothing.
-use mathlib.Core.Path.{_≡_, refl, ap, sym, _∙_, fun-ext}
+use mathlib.Core.Path.{_≡_, refl, ap, _∙_, fun-ext}
 use mathlib.Core.Logic.{_↔_, _≢_}
 use mathlib.Core.Bool.{Bool, true, false, _||_}
-use mathlib.Core.List.{List, [], _∷_, map, List·Memᴰ·head, List·Memᴰ·tail}
+use mathlib.Core.List.{List, [], _∷_, List·Memᴰ·head, List·Memᴰ·tail}
 use Prim.Native.Nat.{ℕ, _≤_}
 use native.Mathlib.Omega.{arith}
 use Rattle.common.specs.Lists.{_∈_, any}
-use Rattle.common.proofs.Tests.{clash, is-false, both, and}
+use Rattle.common.proofs.Tests.{clash, is-false, and}
 use Rattle.paths.specs.Network.{Network, Path, Link, links, freePath}
 use Rattle.paths.specs.Pass.{PassResult, none, found}
-use Rattle.paths.specs.Send.{Receive, channel, none-available, Outcome, acknowledged, route-rejected, receive-rejected, Acknowledged, received, outcome, Attempt, attempted, goesOn, runs}
+use Rattle.paths.specs.Send.{Receive, channel, none-available, Outcome, acknowledged, route-rejected, receive-rejected, Acknowledged, received, outcome, Attempt, goesOn, runs}
 use Rattle.paths.specs.Sentences.{Free, Tries, AttemptsSay}
 use Rattle.paths.specs.CubeNetwork.{Shape, Node, network, attempts, send}
 use Rattle.paths.specs.Waiting.{findsPath, someAttempt, CrossesBlocked, AllEnabled, EveryPathBlocked, SomePathEnabled}
 use Rattle.paths.proofs.Words.{free-links}
-use Rattle.paths.proofs.Send.{goes-on-after, runs-stop, runs-on, Route, not-route-rejected, acknowledged-route, route-acknowledged, receive-rejected-route, send-says}
+use Rattle.paths.proofs.Send.{goes-on-after, runs-stop, runs-on, not-route-rejected, acknowledged-route, route-acknowledged, receive-rejected-route, send-says}
 
 -- a test that is not false is true
 is-true : (b : Bool) → (b ≡ false → ⊥) → b ≡ true
@@ -122,9 +122,9 @@ module _ (S : Shape) (fits : S .dimension ≤ 8) (s t type vector : ℕ) (source
   blocked-exactly enabled = (
     (λ e a m w i. crosses (network S) enabled s w (λ f. clash (finds-path enabled .1 (a, m, (w, i, f))) e)),
     (λ h. is-false _ (λ e.
-    let x = finds-path enabled .0 e in
-    let k = h (x .0) (x .1) (x .2 .0) (x .2 .1) in
-    not-crossed (network S) enabled s (x .2 .0) (x .2 .2) k)),
+        let x = finds-path enabled .0 e in
+        let k = h (x .0) (x .1) (x .2 .0) (x .2 .1) in
+        not-crossed (network S) enabled s (x .2 .0) (x .2 .2) k)),
   )
 
   -- With more links to take, what was found stays found.

@@ -1,21 +1,20 @@
 -- The sweep: some port of a vector passes a test, as a loop over its ports finds it.
 -- Assumes nothing.
-use mathlib.Core.Path.{_≡_, refl, ap, sym, _∙_}
+use mathlib.Core.Path.{_≡_, ap, sym, _∙_}
 use mathlib.Core.Logic.{_≢_, ⊎-elim}
-use mathlib.Core.Bool.{Bool, true, false, not, _&&_, _||_}
-use mathlib.Core.List.{List}
-use Prim.Native.Nat.{ℕ, _+_, _^_, _≤_, _<_}
+use mathlib.Core.Bool.{Bool, true, false, not}
+use Prim.Native.Nat.{ℕ, _^_, _<_}
 use native.Mathlib.Omega.{arith}
 use lib.Dec.{eqb}
-use borrow.Author.Tests.{eqb-true, eqb-false, eq-eqb, ne-eqb, not-true}
-use Rattle.common.specs.Lists.{_∈_, any, lowest}
-use Rattle.common.proofs.Tests.{clash, is-false, both, and, same?, below-or}
+use borrow.Author.Tests.{ne-eqb}
+use Rattle.common.specs.Lists.{any, lowest}
+use Rattle.common.proofs.Tests.{clash, is-false, both, and, below-or}
 use Rattle.common.proofs.Lists.{any-some, some-any}
 use Rattle.common.proofs.Lowest.{lowest-passes, lowest-before}
 use Rattle.cube.specs.Bits.{has}
 use Rattle.cube.specs.Cube.{next, Without}
 use Rattle.cube.specs.Helical.{portsOf}
-use Rattle.cube.proofs.Bits.{flip-inside, zero-has, no-ports}
+use Rattle.cube.proofs.Bits.{flip-inside, high-has, zero-has, no-ports}
 use Rattle.cube.proofs.Axes.{axis-low}
 use Rattle.cube.proofs.Order.{ports-mem, mem-ports}
 use Rattle.paths.proofs.Reach.{any-both}
@@ -24,6 +23,10 @@ use Rattle.paths.proofs.Reach.{any-both}
 pub lowest-of : (v : ℕ) → v < 256 → v ≢ 0 → (lowest (has v) 8 0 < 8) × (has v (lowest (has v) 8 0) ≡ true)
 lowest-of v h some =
     ⊎-elim (λ l. (l, lowest-passes (has v) 8 0 l)) (λ g. absurd (some (no-ports 8 v h (λ p l. lowest-before (has v) 8 0 p (omega arith) (omega arith))))) (below-or 8 (lowest (has v) 8 0))
+
+-- the ports of a vector below 2 ^ D are below D
+pub bit-below : (D v p : ℕ) → v < 2 ^ D → has v p ≡ true → p < D
+bit-below D v p h e = ⊎-elim (λ l. l) (λ l. absurd (clash e (high-has D v p h l))) (below-or D p)
 
 -- a port leads from one of 256 nodes to another
 pub port-below : (n p : ℕ) → n < 256 → p < 8 → next n p < 256

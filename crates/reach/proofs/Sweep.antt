@@ -1,40 +1,40 @@
 -- The sweep over the cube: nodes in rising order of the bits in which they differ from the target, each marked by the marks of nodes that differ in fewer.
 -- Assumes nothing.
 use mathlib.Core.Path.{_≡_, refl, ap, sym, _∙_}
-use mathlib.Core.Logic.{_≢_, _⊎_, inl, inr, ⊎-elim}
-use mathlib.Core.Bool.{Bool, true, false, not, _&&_, _||_}
+use mathlib.Core.Logic.{_≢_, _⊎_, ⊎-elim}
+use mathlib.Core.Bool.{Bool, true, false, _&&_, _||_}
 use mathlib.Core.List.{List}
 use Prim.Native.Nat.{ℕ, _+_, _-_, _^_, _≤_, _<_}
 use native.Mathlib.Omega.{arith}
 use lib.Dec.{eqb}
-use lib.ListN.{length, getD, set, length-set}
+use lib.ListN.{length, set, length-set}
 use lib.Seq.{getD-set-same, getD-set-other}
 use lib.Pow.{pow-pos}
 use lib.Bits.{bitXor, bitAnd, xor-lt, xor-self, xor-zero-l}
-use borrow.Author.Tests.{eqb-true, eq-eqb, ne-eqb}
+use borrow.Author.Tests.{eq-eqb, ne-eqb}
 use Rattle.common.specs.Lists.{_∈_, any}
-use Rattle.common.proofs.Tests.{clash, is-false, both, and, or-left, same?, below-or}
+use Rattle.common.proofs.Tests.{both, and, or-left, same?}
 use Rattle.cube.specs.Bits.{bitAt, has, flip}
 use Rattle.cube.specs.Cube.{next}
 use Rattle.cube.specs.Helical.{portsOf}
-use Rattle.cube.proofs.Bits.{bit-lt, two-bits, bit-xor, bit-flipped, bit-kept, same-bits, flip-inside, flip-drops, high-has, has-and}
+use Rattle.cube.proofs.Bits.{bit-lt, two-bits, bit-xor, bit-flipped, bit-kept, same-bits, flip-inside, flip-drops, has-and}
 use Rattle.cube.proofs.Axes.{axis-low}
 use Rattle.cube.proofs.Order.{ports-mem, mem-ports, ports-wider}
 use Rattle.cube.proofs.Ports.{below-256}
 use Rattle.paths.specs.Network.{Network, offered}
 use Rattle.paths.specs.Pass.{pass}
 use Rattle.paths.specs.Waiting.{findsPath}
-use Rattle.paths.specs.Reach.{reaches}
-use Rattle.paths.specs.CubeNetwork.{Shape, network, sendPorts}
-use Rattle.paths.proofs.CubeNetwork.{cube-nearing, unfolded-send-ports, unfolded-vector, unfolded-next}
+use Rattle.paths.specs.CubeNetwork.{network, sendPorts}
+use Rattle.paths.proofs.CubeNetwork.{cube-nearing, unfolded-send-ports, unfolded-vector}
 use Rattle.paths.proofs.Reach.{any-both, any-same, pass-reaches, reaches-step}
-use Rattle.table.specs.Layout.{tableLength, dimensionAt, enableBits}
+use Rattle.table.specs.Layout.{dimensionAt, enableBits}
 use Rattle.table.specs.View.{view, net, shapeOf}
 use Rattle.table.proofs.Entries.{enabled-has}
-use Rattle.reach.specs.Marks.{marked, leads, reachesOn, Marks, MaySweep, MayAsk}
+use Rattle.reach.specs.Marks.{marked, leads, reachesOn, Marks, MaySweep}
+use Rattle.reach.proofs.Marks.{bit-below}
 
 -- `^` with a number twice changes nothing, and a bit changed before or behind it is the same
-xor-back : (w x t : ℕ) → x < 2 ^ w → t < 2 ^ w → bitXor (bitXor x t) t ≡ x
+pub xor-back : (w x t : ℕ) → x < 2 ^ w → t < 2 ^ w → bitXor (bitXor x t) t ≡ x
 xor-back w x t h l =
     same-bits w (bitXor (bitXor x t) t) x (xor-lt w (bitXor x t) t (xor-lt w x t h l) l) h
     (λ p k. rw (bit-xor (bitXor x t) t p, bit-xor x t p) (two-bits (λ a b. bitXor (bitXor a b) b ≡ a) refl refl refl refl (bitAt x p) (bitAt t p) (bit-lt x p) (bit-lt t p)))
@@ -82,9 +82,9 @@ module _ (b : List ℕ) (t : ℕ) (may : MaySweep b t) where
 
   -- a port of a vector of the cube is a port of the cube, and leads to a node of it
   port-of : (v p : ℕ) → v < 2 ^ D → p ∈ portsOf 8 v → (p < D) × (has v p ≡ true)
-  port-of v p h m = let k = ports-mem 8 v m in (⊎-elim (λ l. l) (λ l. absurd (clash (k .1) (high-has D v p h l))) (below-or D p), k .1)
+  port-of v p h m = let k = ports-mem 8 v m in (bit-below D v p h (k .1), k .1)
 
-  leads-to : (n p : ℕ) → p < D → next n p ≡ flip n p
+  pub leads-to : (n p : ℕ) → p < D → next n p ≡ flip n p
   leads-to n p l = ap (flip n) (axis-low p (omega (arith, may .fits)))
 
   -- the enable bits of a node, as the code reads them
@@ -105,7 +105,7 @@ module _ (b : List ℕ) (t : ℕ) (may : MaySweep b t) where
   pub inside : (x : ℕ) → x < 2 ^ D → bitXor x t < 2 ^ D
   inside x h = xor-lt D x t h (may .target)
 
-  offered-there : (n : ℕ) → n < 2 ^ D → offered N t n ≡ portsOf 8 (bitXor n t)
+  pub offered-there : (n : ℕ) → n < 2 ^ D → offered N t n ≡ portsOf 8 (bitXor n t)
   unfolding view
   offered-there n i = unfolded-vector (shapeOf (view b)) (may .fits) refl 8 n t (may .fits) i (may .target)
 

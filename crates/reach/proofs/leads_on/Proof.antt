@@ -11,11 +11,6 @@ use Rattle.reach.specs.Marks.{leads, marked}
 use Rattle.reach.proofs.Marks.{lowest-of, port-below, none-passes, one-passes, rest-passes}
 use Rattle.reach.proofs.leads_on.Statement.{statement}
 use Rattle.reach.proofs.leads_on.Tie as tie
-use Rattle.reach.proofs.leads_on.Reads as reads
-use Rattle.reach.proofs.leads_on.Lts as lts
-use Rattle.cube.proofs.lowest_bit.Reads as lowest-bit-reads
-use Rattle.cube.proofs.neighbour.Reads as neighbour-reads
-use Rattle.cube.proofs.without.Reads as without-reads
 
 abbrev Inv-loop : tie.InvT-loop
 Inv-loop marks n vector left₀ left = (left < 256) × (leads marks (n .0) left ≡ leads marks (n .0) vector)
@@ -30,7 +25,7 @@ lowest-bit-requires : tie.Need-lowest-bit-requires Inv-loop μ-loop
 lowest-bit-requires c κs = c .before .loop .inv .0
 
 neighbour-requires : tie.Need-neighbour-requires Inv-loop μ-loop
-neighbour-requires c κs = 
+neighbour-requires c κs =
     let i = c .before in
     let low = lowest-of (i .before .loop .left) (i .before .loop .inv .0) (i .loop-test .taken) in
     omega (arith, c .lowest-bit .ensures)
@@ -39,7 +34,7 @@ cast-at : tie.Need-cast-at Inv-loop μ-loop
 cast-at c = search needs
 
 element-copy-out-if1 : tie.Need-element-copy-out-if1 Inv-loop μ-loop
-element-copy-out-if1 c = 
+element-copy-out-if1 c =
     let n = c .before in
     let o = n .before in
     let i = o .before in
@@ -49,7 +44,7 @@ element-copy-out-if1 c =
 
 returns : tie.Need-returns Inv-loop μ-loop
 unfolding leads
-returns c = 
+returns c =
     let n = c .before .before .before in
     let o = n .before in
     let i = o .before in
@@ -60,7 +55,7 @@ returns c =
     (ap (marked (s .args .marks .now)) (sym (n .neighbour .ensures)) ∙ eq-eqb _ 1 (c .if1 .taken)))
 
 without-requires : tie.Need-without-requires Inv-loop μ-loop
-without-requires c κs = 
+without-requires c κs =
     let o = c .before .before .before .before in
     let i = o .before in
     let low = rw (← o .lowest-bit .ensures) at (lowest-of (i .before .loop .left) (i .before .loop .inv .0) (i .loop-test .taken)) in
@@ -71,7 +66,7 @@ loop-less c = omega (arith, c .without .ensures .value, pow-pos (c .before .befo
 
 loop-again : tie.Need-loop-again Inv-loop μ-loop
 unfolding leads
-loop-again c = 
+loop-again c =
     let e = c .before in
     let n = e .before .before .before in
     let o = n .before in
@@ -80,12 +75,12 @@ loop-again c =
       omega (arith, c .without .ensures .value),
       rest-passes (λ p. marked (s .args .marks .now) (next (s .args .n .0) p)) (l .loop .left) (o .lowest-bit .result) (c .without .result) (c .without .ensures)
           (ap (marked (s .args .marks .now)) (sym (n .neighbour .ensures)) ∙ ne-eqb _ 1 (e .if1 .left))
-      ∙ l .loop .inv .1,
+          ∙ l .loop .inv .1,
     )
 
 returns-2 : tie.Need-returns-2 Inv-loop μ-loop
 unfolding leads
-returns-2 c = 
+returns-2 c =
     let l = c .before in
     let s = l .before in
     let none = none-passes (λ p. marked (s .args .marks .now) (next (s .args .n .0) p)) in

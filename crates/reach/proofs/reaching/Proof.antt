@@ -1,6 +1,6 @@
 -- `reach::reaching` meets its contract: the nodes that differ from the target in a vector below x are swept.
 -- Assumes nothing.
-use mathlib.Core.Path.{_≡_, refl, sym, ap, _∙_}
+use mathlib.Core.Path.{refl, _∙_}
 use Prim.Native.Nat.{_<_, _≤_, _-_, _^_}
 use native.Mathlib.Omega.{arith}
 use borrow.Author.Needs.{needs}
@@ -13,12 +13,6 @@ use Rattle.cube.proofs.Ports.{below-256, count-of}
 use Rattle.reach.proofs.Sweep.{Swept, inside, swept-target, swept-leads, swept-more, swept-all}
 use Rattle.reach.proofs.reaching.Statement.{statement}
 use Rattle.reach.proofs.reaching.Tie as tie
-use Rattle.reach.proofs.reaching.Reads as reads
-use Rattle.reach.proofs.reaching.Lts as lts
-use Rattle.cube.proofs.node_count.Reads as node-count-reads
-use Rattle.reach.proofs.leads_on.Reads as leads-on-reads
-use Rattle.table.proofs.dimension.Reads as dimension-reads
-use Rattle.table.proofs.enable_bits.Reads as enable-bits-reads
 
 abbrev Inv-loop : tie.InvT-loop
 Inv-loop t target count marks₀ first x₀ marks x = (1 ≤ x) × (x ≤ count) × Swept t (target .0) x marks
@@ -39,7 +33,7 @@ array-write-marks : tie.Need-array-write-marks Inv-loop μ-loop
 array-write-marks c = let p = c .before .before .before .before .pre in below-256 (p .fits) (p .target)
 
 loop-holds : tie.Need-loop-holds Inv-loop μ-loop
-loop-holds c = 
+loop-holds c =
     let n = c .before in
     let s = n .before .before .before in
     (omega arith, n .node-count .ensures .some, swept-target (s .args .t .now) (s .args .target .0) (s .pre) (replicate 256 0) refl)
@@ -48,7 +42,7 @@ cast-at : tie.Need-cast-at Inv-loop μ-loop
 cast-at c = search needs
 
 enable-bits-requires : tie.Need-enable-bits-requires Inv-loop μ-loop
-enable-bits-requires c κs = 
+enable-bits-requires c κs =
     let a = c .before .before .before in
     let l = a .before in
     let n = l .before .before in
@@ -59,7 +53,7 @@ enable-bits-requires c κs =
     record { bytes = s .pre .bytes; node = there; port = lit< tt }
 
 leads-on-requires : tie.Need-leads-on-requires Inv-loop μ-loop
-leads-on-requires c κs = 
+leads-on-requires c κs =
     let a = c .before .before .before .before in
     let l = a .before in
     let n = l .before .before in
@@ -70,7 +64,7 @@ leads-on-requires c κs =
     (there, lt-of-le-of-lt (and-le-l (l .loop .x) (c .enable-bits .result)) (below-256 (s .pre .fits) x))
 
 array-write-marks-2 : tie.Need-array-write-marks-2 Inv-loop μ-loop
-array-write-marks-2 c = 
+array-write-marks-2 c =
     let a = c .before .before .before .before .before in
     let l = a .before in
     let n = l .before .before in
@@ -81,17 +75,17 @@ array-write-marks-2 c =
     there
 
 add-x : tie.Need-add-x Inv-loop μ-loop
-add-x c = 
+add-x c =
     let a = c .before .before .before .before .before in
     omega (arith, a .loop-test .taken, a .before .before .before .node-count .ensures .most)
 
 loop-less : tie.Need-loop-less Inv-loop μ-loop
-loop-less c = 
+loop-less c =
     let a = c .before .before .before .before .before in
     omega (arith, a .loop-test .taken)
 
 loop-again : tie.Need-loop-again Inv-loop μ-loop
-loop-again c = 
+loop-again c =
     let a = c .before .before .before .before .before in
     let l = a .before in
     let n = l .before .before in
@@ -108,7 +102,7 @@ loop-again c =
     )
 
 returns : tie.Need-returns Inv-loop μ-loop
-returns c = 
+returns c =
     let l = c .before in
     let n = l .before .before in
     let s = n .before .before .before in
