@@ -31,12 +31,12 @@ module _ (v : View) (t : ℕ) where
 -- Acknowledged is number 0.
 module _ (b : List ℕ) (c s t : ℕ) where
   acknowledged-number : (o : Outcome) (m x h k n : ℕ) (b′ : List ℕ)
-      → pass-answer x h k n b′ ≡ sendAnswer b c s t (record { outcome = o; scouts = m }) → Acknowledged o → x ≡ 0
+      → pass-answer x h k n b′ ≡ sendAnswer helps b c s t (record { outcome = o; scouts = m }) → Acknowledged o → x ≡ 0
   unfolding sendAnswer bytesAfterSend answerOfOutcome Acknowledged
   acknowledged-number (acknowledged w j) m x h k n b′ q z = cc
 
   number-acknowledged : (o : Outcome) (m x h k n : ℕ) (b′ : List ℕ)
-      → pass-answer x h k n b′ ≡ sendAnswer b c s t (record { outcome = o; scouts = m }) → x ≡ 0 → (w : Path) × (o ≡ acknowledged w k)
+      → pass-answer x h k n b′ ≡ sendAnswer helps b c s t (record { outcome = o; scouts = m }) → x ≡ 0 → (w : Path) × (o ≡ acknowledged w k)
   unfolding sendAnswer bytesAfterSend answerOfOutcome
   number-acknowledged (acknowledged w j) m x h k n b′ q z = let y : j ≡ k = cc in (w, ap (acknowledged w) y)
   number-acknowledged route-rejected m x h k n b′ q z = let y : x ≡ 10 = cc in absurd (omega arith)
@@ -52,7 +52,7 @@ module _ (b : List ℕ) (c s t : ℕ) (tried : List Attempt) where
   Rejections x = ((x ≡ 10) ↔ (SomeRoute (view b) s t tried → ⊥)) × ((x ≡ 11) ↔ (SomeRoute (view b) s t tried × (Available (view b) t → ⊥)))
 
   rejections : (o : Outcome) (m x h k n : ℕ) (b′ : List ℕ)
-      → pass-answer x h k n b′ ≡ sendAnswer b c s t (record { outcome = o; scouts = m }) → Said o m → Rejections x
+      → pass-answer x h k n b′ ≡ sendAnswer helps b c s t (record { outcome = o; scouts = m }) → Said o m → Rejections x
   unfolding sendAnswer bytesAfterSend answerOfOutcome
   rejections (acknowledged w j) m x h k n b′ q said =
       let y : x ≡ 0 = cc in
@@ -78,7 +78,7 @@ demand-2 b s t c type vector may x h k n b′ q =
     record {
       outcome = o;
       says = rw counted said;
-      answer = q ∙ ap (λ i. sendAnswer b c s t (record { outcome = o; scouts = i })) (sym counted);
+      answer = q ∙ ap (λ i. sendAnswer helps b c s t (record { outcome = o; scouts = i })) (sym counted);
       exactly = (
         (λ z. let r = route z in (r .0, let l = channel-lowest (view b) t k (r .1) in (k, l .small, l .is-available))),
         (λ y. acknowledged-number b c s t o m x h k n b′ q

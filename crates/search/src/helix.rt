@@ -6,7 +6,7 @@ ghost use Rattle.table.specs.View.{view, net};
 ghost use Rattle.cube.specs.Helical.{FirstPorts};
 ghost use Rattle.paths.specs.Helix.{helixPath};
 ghost use Rattle.search.specs.PassAnswer.{holdPath, pass-answer};
-ghost use Rattle.search.specs.SendAnswer.{MaySend, sends};
+ghost use Rattle.search.specs.SendAnswer.{MaySend, searched};
 ghost use Rattle.search.specs.HelixContracts.{MayFollow, FrontOf, MayTryPaths, FirstFree};
 use common::refusal;
 use crate::LinkState;
@@ -96,7 +96,7 @@ fn first_free(t: &[u8], source: Node, target: Node, vector: u16, first: &[u8; 20
 pub fn try_each(t: &mut [u8], source: Node, target: Node, c: Circuit, vector: u16, first: &[u8; 2048]) -> Opened
     requires { ⌜ FirstPorts (now first) ⌝ }
     requires { ⌜ MaySend (now t) (source .0) (target .0) (c .0) vector ⌝ }
-    ensures { λ r. ⌜ pass-answer (r .number) (r .hops) (r .receive) (r .scouts) (now (t .exit)) ≡ sends (now (t .entry)) (source .0) (target .0) (c .0) 1 vector ⌝ }
+    ensures { λ r. ⌜ pass-answer (r .number) (r .hops) (r .receive) (r .scouts) (now (t .exit)) ≡ searched (now (t .entry)) (source .0) (target .0) (c .0) 1 vector ⌝ }
 {
     let found = first_free(t, source, target, vector, first);
     let port = found.port;
@@ -134,7 +134,7 @@ pub fn try_lowest(t: &mut [u8], source: Node, target: Node, c: Circuit, vector: 
     requires { ⌜ FirstPorts (now first) ⌝ }
     requires { ⌜ MaySend (now t) (source .0) (target .0) (c .0) vector ⌝ }
     requires { ⌜ vector ≢ 0 ⌝ }
-    ensures { λ r. ⌜ pass-answer (r .number) (r .hops) (r .receive) (r .scouts) (now (t .exit)) ≡ sends (now (t .entry)) (source .0) (target .0) (c .0) 3 vector ⌝ }
+    ensures { λ r. ⌜ pass-answer (r .number) (r .hops) (r .receive) (r .scouts) (now (t .exit)) ≡ searched (now (t .entry)) (source .0) (target .0) (c .0) 3 vector ⌝ }
 {
     let lowest = cube::first_port(first, vector, Port(7));
     let others = cube::without(vector, lowest);

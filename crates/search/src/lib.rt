@@ -6,7 +6,7 @@ ghost use Rattle.table.specs.View.{view};
 ghost use Rattle.cube.specs.Helical.{FirstPorts};
 ghost use Rattle.search.specs.PassAnswer.{stateIn, stateOf, pass-answer};
 ghost use Rattle.search.specs.SearchContracts.{Narrowed, tryAnswer, arriveAnswer, MayTry, MayArrive};
-ghost use Rattle.search.specs.SendAnswer.{MaySend, sends};
+ghost use Rattle.search.specs.SendAnswer.{MaySend, searched, sends};
 mod helix;
 
 use common::refusal;
@@ -189,7 +189,7 @@ fn maze(
 ) -> Opened
     requires { ⌜ FirstPorts (now first) ⌝ }
     requires { ⌜ MaySend (now t) (source .0) (target .0) (c .0) vector ⌝ }
-    ensures { λ r. ⌜ pass-answer (r .number) (r .hops) (r .receive) (r .scouts) (now (t .exit)) ≡ sends (now (t .entry)) (source .0) (target .0) (c .0) 0 vector ⌝ }
+    ensures { λ r. ⌜ pass-answer (r .number) (r .hops) (r .receive) (r .scouts) (now (t .exit)) ≡ searched (now (t .entry)) (source .0) (target .0) (c .0) 0 vector ⌝ }
 {
     let ports = enabled_ports(t, source, vector);
     let got = try_in_turn(t, source, target, c, ports, Port(7), 0, 0, first);
@@ -211,7 +211,7 @@ fn alternate_maze(
 ) -> Opened
     requires { ⌜ FirstPorts (now first) ⌝ }
     requires { ⌜ MaySend (now t) (source .0) (target .0) (c .0) vector ⌝ }
-    ensures { λ r. ⌜ pass-answer (r .number) (r .hops) (r .receive) (r .scouts) (now (t .exit)) ≡ sends (now (t .entry)) (source .0) (target .0) (c .0) 4 vector ⌝ }
+    ensures { λ r. ⌜ pass-answer (r .number) (r .hops) (r .receive) (r .scouts) (now (t .exit)) ≡ searched (now (t .entry)) (source .0) (target .0) (c .0) 4 vector ⌝ }
 {
     let others = (cube::node_count(table::dimension(t)) - 1) ^ vector;
     let got = maze(t, source, target, c, vector, first);
@@ -228,7 +228,35 @@ fn alternate_maze(
     }
 }
 
-// A send of a routing type, 0, 1, 3 or 4. The table of first ports is built once for all its hops.
+// The search of a routing type, 0, 1, 3 or 4.
+fn search(
+    t: &mut [u8],
+    source: Node,
+    target: Node,
+    c: Circuit,
+    routing: u16,
+    vector: u16,
+    first: &[u8; 2048],
+) -> Opened
+    requires { ⌜ FirstPorts (now first) ⌝ }
+    requires { ⌜ MaySend (now t) (source .0) (target .0) (c .0) vector ⌝ }
+    requires { ⌜ vector ≢ 0 ⌝ }
+    ensures { λ r. ⌜ pass-answer (r .number) (r .hops) (r .receive) (r .scouts) (now (t .exit)) ≡ searched (now (t .entry)) (source .0) (target .0) (c .0) routing vector ⌝ }
+{
+    if routing == 4 {
+        return alternate_maze(t, source, target, c, vector, first);
+    }
+    if routing == 3 {
+        return helix::try_lowest(t, source, target, c, vector, first);
+    }
+    if routing == 1 {
+        return helix::try_each(t, source, target, c, vector, first);
+    }
+    maze(t, source, target, c, vector, first)
+}
+
+// A send of a routing type. Where its search is route rejected, it asks whether a path that it may try has no blocked link: with none, waiting does not help.
+// The table of first ports is built once for all its hops.
 pub fn send(
     t: &mut [u8],
     source: Node,
@@ -242,14 +270,18 @@ pub fn send(
     ensures { λ r. ⌜ pass-answer (r .number) (r .hops) (r .receive) (r .scouts) (now (t .exit)) ≡ sends (now (t .entry)) (source .0) (target .0) (c .0) routing vector ⌝ }
 {
     let first = cube::first_ports();
-    if routing == 4 {
-        return alternate_maze(t, source, target, c, vector, &first);
+    let got = search(t, source, target, c, routing, vector, &first);
+    if got.number != refusal::ROUTE_REJECTED {
+        return got;
     }
-    if routing == 3 {
-        return helix::try_lowest(t, source, target, c, vector, &first);
+    if reach::some_path_enabled(t, source, target, routing, vector, &first) {
+        return got;
     }
-    if routing == 1 {
-        return helix::try_each(t, source, target, c, vector, &first);
+    let scouts = got.scouts;
+    Opened {
+        number: refusal::NO_ROUTE,
+        hops: 0,
+        receive: 0,
+        scouts,
     }
-    maze(t, source, target, c, vector, &first)
 }
