@@ -36,10 +36,10 @@ extern "C" {
 #define MAZE_BAD_NODE 4           /* a node, source or target, is not below 2 to the power of the dimension */
 #define MAZE_BAD_CHANNEL 5        /* a channel above 7 */
 #define MAZE_BAD_PORT 6           /* block, unblock: a port not below the dimension */
-#define MAZE_BAD_ROUTING_TYPE 7   /* open: neither MAZE_TYPE_MAZE nor MAZE_TYPE_ALTERNATE_MAZE */
+#define MAZE_BAD_ROUTING_TYPE 7   /* open: none of the four MAZE_TYPE_ numbers below */
 #define MAZE_BAD_SEND_VECTOR 8    /* open: zero, or a bit at or above the dimension */
 #define MAZE_CHANNEL_IN_USE 9     /* open: this send channel has an open circuit */
-#define MAZE_ROUTE_REJECTED 10    /* open: no free permitted path; carries the scouts */
+#define MAZE_ROUTE_REJECTED 10    /* open: none of the paths that the routing type may try is free; carries the scouts */
 #define MAZE_RECEIVE_REJECTED 11  /* open: no receive channel of the target is armed and not held; carries the scouts */
 #define MAZE_NO_CIRCUIT 12        /* close, trace: this send channel has no open circuit */
 #define MAZE_LINK_HELD 13         /* block: a circuit holds the link */
@@ -102,19 +102,21 @@ extern "C" {
 #define MAZE_CIRCUIT_NODE(circuit) (((circuit) - 1) / 8)
 #define MAZE_CIRCUIT_CHANNEL(circuit) (((circuit) - 1) % 8)
 
-/* Routing types of maze_open. */
-#define MAZE_TYPE_MAZE 0           /* one pass, with the send vector given */
-#define MAZE_TYPE_ALTERNATE_MAZE 4 /* then, if that is route rejected, a pass with the ports below the dimension that the vector left out */
+/* Routing types of maze_open, which tells what a helix path is. */
+#define MAZE_TYPE_MAZE 0           /* one pass over all permitted paths, with the send vector given */
+#define MAZE_TYPE_HELIX 1          /* the helix path of each port of the send vector, in rising order, until one is free */
+#define MAZE_TYPE_FIXED 3          /* the helix path of the lowest port of the send vector, and no other */
+#define MAZE_TYPE_ALTERNATE_MAZE 4 /* as 0; then, if that is route rejected, a pass with the ports below the dimension that the vector left out */
 
 #define MAZE_HOPS_LARGEST 9        /* a permitted path has 1 to dimension + 1 hops */
-#define MAZE_SCOUTS_LARGEST 123300 /* both passes of a send together never send more */
+#define MAZE_SCOUTS_LARGEST 123300 /* no send of any type sends more; MAZE_TYPE_FIXED sends 9 at most, MAZE_TYPE_HELIX 72 */
 #define MAZE_TRACE_BYTES 9         /* what maze_trace asks of its buffer */
 
 typedef struct {
     uint16_t number;
     uint16_t hops;    /* links of the path */
     uint16_t receive; /* the receive channel taken at the target */
-    uint32_t scouts;  /* address packets sent, in all passes */
+    uint32_t scouts;  /* address packets sent, in all passes or over all paths tried */
 } maze_opened;
 
 typedef struct {
@@ -147,15 +149,25 @@ uint16_t maze_arm(uint8_t *table, size_t table_len, uint16_t node, uint16_t chan
  * Answers 0, or the first of 1, 2, 3, 4, 5 and 21 that applies. */
 uint16_t maze_disarm(uint8_t *table, size_t table_len, uint16_t node, uint16_t channel);
 
-/* Opens the circuit of a send channel of a node: a pass looks for the first permitted path to the target, for the send vector (bit p for port p),
- * whose links are all free. The source tries the ports of the vector from 0 upward. A node that was reached on port a tries, of the ports in whose
- * bit it and the target differ, those above a upward and then those from 0 up to a: the helical order. Each time a free link is tried, a scout, an
- * address packet, goes over it; where there is no way on it goes back, and the next port is tried. With no such path the pass is route rejected.
- * With one, the target takes its lowest receive channel that is armed and that no circuit holds; where there is none the pass is receive rejected,
- * with the scouts sent up to the end of that path. With MAZE_TYPE_ALTERNATE_MAZE, if this pass is route rejected, a second one begins with the ports
- * below the dimension that the vector left out; the answer is then that of the second pass, with the scouts of both. A second pass that no port is
- * left for is route rejected. A receive rejection ends the open: a second pass would come to the same target. An accepted open holds the links of
- * the path and that receive channel, which stays armed; maze_trace tells the path. Alters the entries of those and leaves the rest alone.
+/* Opens the circuit of a send channel of a node.
+ *
+ * With MAZE_TYPE_MAZE a pass looks for the first permitted path to the target, for the send vector (bit p for port p), whose links are all free. The
+ * source tries the ports of the vector from 0 upward. A node that was reached on port a tries, of the ports in whose bit it and the target differ,
+ * those above a upward and then those from 0 up to a: the helical order. Each time a free link is tried, a scout, an address packet, goes over it;
+ * where there is no way on it goes back, and the next port is tried. With no such path the pass is route rejected. With one, the target takes its
+ * lowest receive channel that is armed and that no circuit holds; where there is none the pass is receive rejected, with the scouts sent up to the
+ * end of that path. With MAZE_TYPE_ALTERNATE_MAZE, if this pass is route rejected, a second one begins with the ports below the dimension that the
+ * vector left out; the answer is then that of the second pass, with the scouts of both. A second pass that no port is left for is route rejected.
+ *
+ * The helix path of a port begins with that port, whether it leads towards the target or away from it, and goes on at each node by the first port
+ * of the helical order there, up to the target. It is a permitted path. MAZE_TYPE_FIXED tries that of the lowest port of the vector alone: where
+ * it is not free, the open is route rejected at once. MAZE_TYPE_HELIX tries that of each port of the vector, from the lowest up, until one is free,
+ * and is route rejected where none is. A scout goes over each link of a path that is tried, up to the first link that is not free: a path adds the
+ * number of its free hops before that one, and all its hops where it is free. Of opens alike but for the type, in one table, MAZE_TYPE_HELIX
+ * accepts all that MAZE_TYPE_FIXED does, and MAZE_TYPE_MAZE all that MAZE_TYPE_HELIX does.
+ *
+ * Whatever the type, a receive rejection ends the open: a second pass, or another path, would come to the same target. An accepted open holds the
+ * links of the path and that receive channel, which stays armed; maze_trace tells the path. Alters the entries of those and leaves the rest alone.
  * Answers 0 with hops, receive channel and scouts, or the first of 1, 2, 3, 4, 5, 7, 8, 9, 10 and 11 that applies; 10 and 11 with scouts. A target
  * whose eight channels are all armed never gives 11: where a link into it is free, one of them is not held. */
 maze_opened maze_open(uint8_t *table, size_t table_len, uint16_t node, uint16_t channel, uint16_t target, uint16_t type, uint16_t vector);

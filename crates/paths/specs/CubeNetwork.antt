@@ -1,4 +1,4 @@
--- The cube as a network by axis, the ports of a send vector, and the routing types of document 01.
+-- The cube as a network by axis, the ports of a send vector, and the routing types.
 -- Assumes nothing.
 use mathlib.Core.Bool.{Bool, cond, not, _&&_}
 use mathlib.Core.List.{List, [], _∷_, map}

@@ -183,6 +183,8 @@ helixPaths =
     -- D 1, node 0 to itself; with mask 1 the way back is over the partner
     ∷ helixOf (cube 1) 0 0 0
     ∷ helixOf (folded 1 1) 0 0 0
+    -- D 2, mask 2, 0 to 1: port 1 leads away, 16 back to the source, and 0 on; where nothing is folded no helix path goes on past its source
+    ∷ helixOf (folded 2 2) 0 1 1
     ∷ []
 
 abbrev helixPorts : List Path
@@ -194,6 +196,7 @@ helixPorts =
     ∷ (2 ∷ 0 ∷ 1 ∷ 2 ∷ [])
     ∷ (0 ∷ 0 ∷ [])
     ∷ (0 ∷ 17 ∷ [])
+    ∷ (1 ∷ 16 ∷ 0 ∷ [])
     ∷ []
 
 helix-ports : helixPaths ≡ helixPorts
@@ -220,6 +223,8 @@ helixSends =
     ∷ send 1 (cube 2) (freeBut []) none-available 0 3 3
     -- D 2, mask 2, 0 to 3, vector 2, link 0 to 2 over port 1 blocked: the partner, port 16, is tried next
     ∷ send 1 (folded 2 2) (freeBut ((0, 1) ∷ [])) (channel 0) 0 2 3
+    -- D 3, mask 1, 0 to 7, vector 1, link 3 to 7 blocked: the paths of ports 0 and 17 share the link from 1 to 3, which counts twice
+    ∷ send 1 (folded 3 1) (freeBut ((3, 2) ∷ [])) (channel 0) 0 1 7
     ∷ []
 
 abbrev helixAnswers : List SendResult
@@ -235,6 +240,7 @@ helixAnswers =
     ∷ answer route-rejected 2
     ∷ answer receive-rejected 2
     ∷ answer (acknowledged (16 ∷ 0 ∷ []) 0) 2
+    ∷ answer route-rejected 4
     ∷ []
 
 helix-sends : helixSends ≡ helixAnswers

@@ -1,4 +1,4 @@
--- A send says what the users' second demand asks: for both routing types, on any table of a cube up to dimension 8.
+-- A send says what the users' second demand asks: for every routing type, on any table of a cube up to dimension 8.
 -- Assumes nothing.
 use mathlib.Core.Path.{_≡_, refl, ap, sym, _∙_, subst}
 use mathlib.Core.Logic.{_≢_, _↔_}

@@ -36,13 +36,14 @@ pub record Lowest (v : View) (t k : ℕ) : Type 0 where
 -- rejection 10, a receive rejection 11.
 pub record SendSays (b : List ℕ) (s t c type vector : ℕ) (number hops receives scouts : ℕ) (after : List ℕ) : Type 0 where
   pub outcome : Outcome
-  -- the outcome and the scouts are those of the type's attempts: the first free permitted path, and the free beginnings up to it (AnswerSays)
+  -- the outcome and the scouts are those of the type's attempts (AnswerSays): in a pass the first free permitted path and the free beginnings up to it; of helix
+  -- paths the first that is free and the free hops at the front of each path tried
   pub says : AttemptsSay (net (view b)) s t (freeIn (view b)) (receive (view b) t) (attempts (shapeOf (view b)) type vector) outcome scouts
   -- the numbers and the bytes are those of that outcome: an acknowledged path's links and its receive channel are held, nothing else changes
   pub answer : pass-answer number hops receives scouts after ≡ sendAnswer b c s t (record { outcome = outcome; scouts = scouts })
-  -- it is acknowledged exactly when one of its attempts has a free permitted path and the target has a receive channel available
+  -- it is acknowledged exactly when one of its attempts has a free path that it tries and the target has a receive channel available
   pub exactly : (number ≡ 0) ↔ (SomeRoute (view b) s t (attempts (shapeOf (view b)) type vector) × Available (view b) t)
-  -- route rejected exactly when none of them has a free permitted path
+  -- route rejected exactly when none of them has such a path
   pub rejected-route : (number ≡ 10) ↔ (SomeRoute (view b) s t (attempts (shapeOf (view b)) type vector) → ⊥)
   -- receive rejected exactly when one of them has, and the target has no receive channel available
   pub rejected-receive : (number ≡ 11) ↔ (SomeRoute (view b) s t (attempts (shapeOf (view b)) type vector) × (Available (view b) t → ⊥))
