@@ -33,13 +33,16 @@ module _ (b : List ℕ) (c s t : ℕ) {x h k n : ℕ} {b₁ : List ℕ} where
   rejected-as receive-rejected m q z = let y : x ≡ 11 = cc in absurd (omega arith)
 
 -- what is asked after a search that leaves each byte as it was
-pub may-ask : {b : List ℕ} {s t c vector : ℕ} → MaySend b s t c vector → MayAsk b s t vector
+may-ask : {b : List ℕ} {s t c vector : ℕ} → MaySend b s t c vector → MayAsk b s t vector
 may-ask may = record { sweep = record { bytes = may .bytes; fits = may .fits; target = may .target }; source = may .source; ports = may .ports }
 
 module _ (b : List ℕ) (s t c type vector : ℕ) {x h k n : ℕ} {b₁ : List ℕ} (got : pass-answer x h k n b₁ ≡ searched b s t c type vector) where
   pub search-leaves : x ≡ 10 → b₁ ≡ b
   unfolding searched
   search-leaves z = sent-leaves b c s t true _ _ got (λ y. omega (arith, y, z))
+
+  pub may-ask-after : MaySend b s t c vector → x ≡ 10 → MayAsk b₁ s t vector
+  may-ask-after may z = rw (search-leaves z) (may-ask may)
 
   pub judged-kept : x ≢ 10 → pass-answer x h k n b₁ ≡ sends b s t c type vector
   unfolding searched sends

@@ -16,8 +16,8 @@ same-length c = search needs
 returns : tie.Need-returns
 returns c =
     let g = c .before .before in
-    let e = g .before .before .before in
-    let s = e .before .before .before in
+    let e = g .before .before in
+    let s = e .before .before in
     g .alternate-maze .ensures ∙ ap (λ y. searched (s .args .t .now) (s .args .source .0) (s .args .target .0) (s .args .c .0) y (s .args .vector)) (sym (e .if1 .taken))
 
 try-lowest-requires : tie.Need-try-lowest-requires
@@ -29,8 +29,8 @@ same-length-2 c = search needs
 returns-2 : tie.Need-returns-2
 returns-2 c =
     let g = c .before .before in
-    let e = g .before .before .before in
-    let s = e .before .before .before .before in
+    let e = g .before .before in
+    let s = e .before .before .before in
     g .try-lowest .ensures ∙ ap (λ y. searched (s .args .t .now) (s .args .source .0) (s .args .target .0) (s .args .c .0) y (s .args .vector)) (sym (e .if2 .taken))
 
 try-each-requires : tie.Need-try-each-requires
@@ -42,8 +42,8 @@ same-length-3 c = search needs
 returns-3 : tie.Need-returns-3
 returns-3 c =
     let g = c .before .before in
-    let e = g .before .before .before in
-    let s = e .before .before .before .before .before in
+    let e = g .before .before in
+    let s = e .before .before .before .before in
     g .try-each .ensures ∙ ap (λ y. searched (s .args .t .now) (s .args .source .0) (s .args .target .0) (s .args .c .0) y (s .args .vector)) (sym (e .if3 .taken))
 
 maze-requires : tie.Need-maze-requires
@@ -55,8 +55,8 @@ same-length-4 c = search needs
 returns-4 : tie.Need-returns-4
 returns-4 c =
     let g = c .before .before in
-    let e = g .before .before .before in
-    let s = e .before .before .before .before .before in
+    let e = g .before .before in
+    let s = e .before .before .before .before in
     g .maze .ensures ∙ send-maze (s .args .t .now) (s .args .source .0) (s .args .target .0) (s .args .c .0) (s .args .routing) (s .args .vector)
     (e .before .before .if1 .left) (e .before .if2 .left) (e .if3 .left)
 
