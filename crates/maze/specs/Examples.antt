@@ -99,7 +99,7 @@ results =
     ∷ (done ∷ armed 1 ++ opened 0 2 0 2 ∷ traced 2 (0 ∷ 0 ∷ 9 ∷ 9 ∷ 9 ∷ 9 ∷ 9 ∷ 9 ∷ 9 ∷ []) ∷ [])
     ∷ (done ∷ armed 2 ++ opened 0 3 0 3 ∷ traced 3 (1 ∷ 0 ∷ 1 ∷ 9 ∷ 9 ∷ 9 ∷ 9 ∷ 9 ∷ 9 ∷ []) ∷ [])
     ∷ (done ∷ armed 2 ++ done ∷ opened 0 3 0 3 ∷ traced 3 (1 ∷ 1 ∷ 0 ∷ 9 ∷ 9 ∷ 9 ∷ 9 ∷ 9 ∷ 9 ∷ []) ∷ [])
-    ∷ (done ∷ armed 2 ++ done ∷ opened 10 0 0 0 ∷ [])
+    ∷ (done ∷ armed 2 ++ done ∷ opened 22 0 0 0 ∷ [])
     ∷ (done ∷ armed 2 ++ done ∷ opened 0 3 0 3 ∷ traced 3 (1 ∷ 0 ∷ 1 ∷ 9 ∷ 9 ∷ 9 ∷ 9 ∷ 9 ∷ 9 ∷ []) ∷ [])
     ∷ (done ∷ armed 1 ++ opened 0 1 0 1 ∷ opened 10 0 0 0 ∷ done ∷ opened 0 1 1 1 ∷ [])
     ∷ (alone (0 ∷ 1 ∷ 0 ∷ []) ∷ [])
