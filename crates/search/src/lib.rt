@@ -270,14 +270,14 @@ pub fn send(
     ensures { λ r. ⌜ pass-answer (r .number) (r .hops) (r .receive) (r .scouts) (now (t .exit)) ≡ sends (now (t .entry)) (source .0) (target .0) (c .0) routing vector ⌝ }
 {
     let first = cube::first_ports();
-    let got = search(t, source, target, c, routing, vector, &first);
-    if got.number != refusal::ROUTE_REJECTED {
-        return got;
+    let answer = search(t, source, target, c, routing, vector, &first);
+    if answer.number != refusal::ROUTE_REJECTED {
+        return answer;
     }
     if reach::some_path_enabled(t, source, target, routing, vector, &first) {
-        return got;
+        return answer;
     }
-    let scouts = got.scouts;
+    let scouts = answer.scouts;
     Opened {
         number: refusal::NO_ROUTE,
         hops: 0,
