@@ -11,6 +11,9 @@ pub mod Bound
 pub mod CubeNetwork
 pub mod Send
 pub mod Inclusion
+pub mod Waiting
+pub mod Reach
+pub mod ByType
 pub mod Helix
 pub mod Tried
 pub mod OldRule

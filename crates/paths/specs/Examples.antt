@@ -1,7 +1,7 @@
 -- Document 01, "Examples at the edges", 1 to 6: the definitions compute to what the paper says. Then small cubes with fold masks.
 -- Assumes nothing.
 use mathlib.Core.Path.{_≡_, refl}
-use mathlib.Core.Bool.{Bool, true, _&&_, not}
+use mathlib.Core.Bool.{Bool, true, false, _&&_, not}
 use mathlib.Core.List.{List, [], _∷_}
 use Prim.Native.Nat.{ℕ}
 use lib.Dec.{eqb}
@@ -16,6 +16,7 @@ use Rattle.paths.specs.Pass.{over, ways, beginnings, scan, whole, pass, 
 use Rattle.paths.specs.Helix.{helixFrom, helixPath, freeFront, tryPaths}
 use Rattle.paths.specs.Send.{channel, none-available, Outcome, acknowledged, route-rejected, receive-rejected, received, attempted, outcome, SendResult, goesOn, runs}
 use Rattle.paths.specs.CubeNetwork.{Shape, ports, network, sendPorts, otherPorts, attempts, send}
+use Rattle.paths.specs.Waiting.{findsPath, someAttempt}
 use Rattle.paths.specs.OldRule.{oldGoesOn, oldRuns, oldSend}
 use Rattle.paths.specs.Bound.{waysFrom, sendsFrom}
 use Rattle.paths.specs.Recover.{dropAxis, walkFrom, wayBack, firstHopChoices, pathOfLinks}
@@ -246,3 +247,33 @@ helixAnswers =
 helix-sends : helixSends ≡ helixAnswers
 unfolding send attempts attempted network ports sendPorts otherPorts present axis keep from has flip uphill helical offered end freePath over ways beginnings scan whole pass scouts helixPath helixFrom takeFirst freeFront tryPaths received outcome goesOn runs
 helix-sends = refl
+
+-- Document 02, (c): whether a path that a type may try crosses no blocked link.
+abbrev couldFind : ℕ → ℕ → List Link → ℕ → ℕ → ℕ → Bool
+couldFind type D blocked s vector t = someAttempt (network (cube D)) (freeBut blocked) s t (attempts (cube D) type vector)
+
+abbrev asked : List Bool
+asked =
+    -- "The type 0 half of example 6 becomes 22": D 2, 0 to 1, vector 1, link 0 to 1 blocked; the other half has the other vector's paths
+    couldFind 0 2 ((0, 0) ∷ []) 0 1 1
+    ∷ couldFind 4 2 ((0, 0) ∷ []) 0 1 1
+    -- D 2, 0 to 3, vector 1, link 1 to 3 blocked: each type by its own paths
+    ∷ couldFind 0 2 ((1, 1) ∷ []) 0 1 3
+    ∷ couldFind 1 2 ((1, 1) ∷ []) 0 1 3
+    ∷ couldFind 3 2 ((1, 1) ∷ []) 0 1 3
+    ∷ couldFind 4 2 ((1, 1) ∷ []) 0 1 3
+    -- the same with vector 3, over which the lowest port alone is blocked: type 3 has no second path
+    ∷ couldFind 3 2 ((1, 1) ∷ []) 0 3 3
+    ∷ couldFind 1 2 ((1, 1) ∷ []) 0 3 3
+    -- D 2, 0 to 1, vector 2, link 2 to 3 blocked: the helix path crosses it, another path of type 0 does not
+    ∷ couldFind 1 2 ((2, 0) ∷ []) 0 2 1
+    ∷ couldFind 0 2 ((2, 0) ∷ []) 0 2 1
+    -- a blocked link off every path: D 2, 0 to 3, vector 1, link 2 to 3
+    ∷ couldFind 0 2 ((2, 0) ∷ []) 0 1 3
+    -- D 1, node 0 to itself, the link back blocked
+    ∷ couldFind 0 1 ((1, 0) ∷ []) 0 1 0
+    ∷ []
+
+could-find : asked ≡ false ∷ true ∷ false ∷ false ∷ false ∷ true ∷ false ∷ true ∷ false ∷ true ∷ true ∷ false ∷ []
+unfolding findsPath someAttempt any attempts attempted network ports sendPorts otherPorts present axis keep from has flip uphill helical offered end freePath over ways beginnings scan whole pass helixPath helixFrom takeFirst freeFront tryPaths
+could-find = refl

@@ -8,6 +8,8 @@ pub mod Sentences
 pub mod CubeNetwork
 pub mod OldRule
 pub mod Search
+pub mod Waiting
+pub mod Reach
 pub mod Bound
 pub mod Recover
 pub mod Examples
