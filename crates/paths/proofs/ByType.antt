@@ -85,7 +85,7 @@ module _ (S : Shape) (allowed : ℕ → ℕ → Bool) (s t : ℕ) where
 
   both-vectors : (vector : ℕ) → passFinds (sendPorts S vector) || passFinds (otherPorts S vector) ≡ passFinds (ports S)
   both-vectors vector =
-      rw (pass-reaches (network S) allowed t s (sendPorts S vector), pass-reaches (network S) allowed t s (otherPorts S vector), pass-reaches (network S) allowed t s (ports S))
+      rw (finds (sendPorts S vector), finds (otherPorts S vector), finds (ports S))
       (same-truth _ _
       (λ e. ⊎-elim (λ i. let r = any-some on (sendPorts S vector) i in some-any on (ports S) (send-port S vector (r .0) .0 (r .1) .0) (r .2))
       (λ i. let r = any-some on (otherPorts S vector) i in some-any on (ports S) (other-port S vector (r .0) .0 (r .1) .0) (r .2)) (either _ _ e))
@@ -93,6 +93,9 @@ module _ (S : Shape) (allowed : ℕ → ℕ → Bool) (s t : ℕ) where
     where
       on : ℕ → Bool
       on p = allowed s p && reaches (network S) allowed t (network S .next s p)
+
+      finds : (ps : List ℕ) → passFinds ps ≡ any on ps
+      finds = pass-reaches (network S) allowed t s
 
       go : (p : ℕ) → p ∈ ports S → on p ≡ true → (b : Bool) → has vector (axis p) ≡ b → any on (sendPorts S vector) || any on (otherPorts S vector) ≡ true
       go p m i true h = or-left _ (some-any on (sendPorts S vector) (send-port S vector p .1 (m, h)) i)

@@ -115,4 +115,5 @@ module _ (N : Network) (allowed : ℕ → ℕ → Bool) (t : ℕ) where
           in-none n ∙ sym (ap (eqb n t ||_) nothing ∙ or-false (eqb n t))
       go (suc d) e =
           in-step d n
-          ∙ ap (eqb n t ||_) (any-same (onIn d n) on (offered N t n) (λ p m. let k : d ≡ N .distance t (N .next n p) = omega (arith, near .nearer n p m) in ap (λ j. onIn j n p) k))
+          ∙ ap (eqb n t ||_)
+          (any-same (onIn d n) on (offered N t n) (λ p m. let k : d ≡ N .distance t (N .next n p) = omega (arith, near .nearer n p m) in ap (λ j. onIn j n p) k))

@@ -25,15 +25,15 @@ use Rattle.table.specs.View.{view, net, shapeOf}
 use Rattle.table.proofs.Made.{ones}
 use Rattle.reach.specs.Marks.{helixEnabled, MayAsk}
 
-module _ (b : List ℕ) (s t type vector : ℕ) (may : MayAsk b s t vector) where
+module _ {b : List ℕ} {s t vector : ℕ} (may : MayAsk b s t vector) where
   abbrev D : ℕ
   D = dimensionAt b
 
   abbrev S : Shape
   S = shapeOf (view b)
 
-  abbrev Finds : Bool → Type 0
-  Finds r = r ≡ someAttempt (net (view b)) (view b .enabled) s t (attempts S type vector)
+  abbrev Finds : ℕ → Bool → Type 0
+  Finds type r = r ≡ someAttempt (net (view b)) (view b .enabled) s t (attempts S type vector)
 
   passFinds : ℕ → Bool
   passFinds v = findsPath (pass (net (view b)) (view b .enabled) s (sendPorts S v) t)
@@ -48,27 +48,27 @@ module _ (b : List ℕ) (s t type vector : ℕ) (may : MayAsk b s t vector) wher
       keep-all (λ q. has (2 ^ D - 1) (axis q)) (ports S)
       (λ q m. let l = port-axis S q m in ones D (axis q) (omega (arith, may .sweep .fits)) (omega (arith, may .sweep .fits)) ∙ lt-ltb (axis q) D l)
 
-  by-type : someAttempt (net (view b)) (view b .enabled) s t (attempts S type vector)
+  by-type : (type : ℕ) → someAttempt (net (view b)) (view b .enabled) s t (attempts S type vector)
       ≡ cond (eqb type 3) (any (helixEnabled b s t) (take 1 (portsOf 8 vector)))
       (cond (eqb type 1) (any (helixEnabled b s t) (portsOf 8 vector)) (cond (eqb type 4) (passFinds (2 ^ D - 1)) (passFinds vector)))
   unfolding helixEnabled passFinds
-  by-type = rw (all, ← given) (finds-by-type S (view b .enabled) s t type vector)
+  by-type type = rw (all, ← given) (finds-by-type S (view b .enabled) s t type vector)
 
   -- Type 3 finds what its lowest port finds,
-  pub fixed-finds : {r : Bool} → type ≡ 3 → r ≡ any (helixEnabled b s t) (take 1 (portsOf 8 vector)) → Finds r
-  fixed-finds e h = h ∙ sym (by-type ∙ rw (eq-eqb type 3 e))
+  pub fixed-finds : {type : ℕ} {r : Bool} → type ≡ 3 → r ≡ any (helixEnabled b s t) (take 1 (portsOf 8 vector)) → Finds type r
+  fixed-finds {type} e h = h ∙ sym (by-type type ∙ rw (eq-eqb type 3 e))
 
   -- type 1 what one of its ports finds,
-  pub helix-finds : {r : Bool} → type ≢ 3 → type ≡ 1 → r ≡ any (helixEnabled b s t) (portsOf 8 vector) → Finds r
-  helix-finds n e h = h ∙ sym (by-type ∙ rw (ne-eqb type 3 n, eq-eqb type 1 e))
+  pub helix-finds : {type : ℕ} {r : Bool} → type ≢ 3 → type ≡ 1 → r ≡ any (helixEnabled b s t) (portsOf 8 vector) → Finds type r
+  helix-finds {type} n e h = h ∙ sym (by-type type ∙ rw (ne-eqb type 3 n, eq-eqb type 1 e))
 
   -- type 4 what a pass over all ports finds,
-  pub alternate-finds : {r : Bool} → type ≢ 3 → type ≢ 1 → type ≡ 4 → {v : ℕ} → v ≡ 2 ^ D - 1
-      → r ≡ findsPath (pass (net (view b)) (view b .enabled) s (sendPorts S v) t) → Finds r
+  pub alternate-finds : {type : ℕ} {r : Bool} → type ≢ 3 → type ≢ 1 → type ≡ 4 → {v : ℕ} → v ≡ 2 ^ D - 1
+      → r ≡ findsPath (pass (net (view b)) (view b .enabled) s (sendPorts S v) t) → Finds type r
   unfolding passFinds
-  alternate-finds n m e i h = h ∙ ap passFinds i ∙ sym (by-type ∙ rw (ne-eqb type 3 n, ne-eqb type 1 m, eq-eqb type 4 e))
+  alternate-finds {type} n m e i h = h ∙ ap passFinds i ∙ sym (by-type type ∙ rw (ne-eqb type 3 n, ne-eqb type 1 m, eq-eqb type 4 e))
 
   -- and any other type what its pass finds.
-  pub maze-finds : {r : Bool} → type ≢ 3 → type ≢ 1 → type ≢ 4 → r ≡ findsPath (pass (net (view b)) (view b .enabled) s (sendPorts S vector) t) → Finds r
+  pub maze-finds : {type : ℕ} {r : Bool} → type ≢ 3 → type ≢ 1 → type ≢ 4 → r ≡ findsPath (pass (net (view b)) (view b .enabled) s (sendPorts S vector) t) → Finds type r
   unfolding passFinds
-  maze-finds n m k h = h ∙ sym (by-type ∙ rw (ne-eqb type 3 n, ne-eqb type 1 m, ne-eqb type 4 k))
+  maze-finds {type} n m k h = h ∙ sym (by-type type ∙ rw (ne-eqb type 3 n, ne-eqb type 1 m, ne-eqb type 4 k))

@@ -22,7 +22,8 @@ use Rattle.paths.proofs.Reach.{any-both}
 -- the lowest of eight bits of a vector that has one
 pub lowest-of : (v : ℕ) → v < 256 → v ≢ 0 → (lowest (has v) 8 0 < 8) × (has v (lowest (has v) 8 0) ≡ true)
 lowest-of v h some =
-    ⊎-elim (λ l. (l, lowest-passes (has v) 8 0 l)) (λ g. absurd (some (no-ports 8 v h (λ p l. lowest-before (has v) 8 0 p (omega arith) (omega arith))))) (below-or 8 (lowest (has v) 8 0))
+    ⊎-elim (λ l. (l, lowest-passes (has v) 8 0 l))
+    (λ g. absurd (some (no-ports 8 v h (λ p l. lowest-before (has v) 8 0 p (omega arith) (omega arith))))) (below-or 8 (lowest (has v) 8 0))
 
 -- the ports of a vector below 2 ^ D are below D
 pub bit-below : (D v p : ℕ) → v < 2 ^ D → has v p ≡ true → p < D

@@ -37,7 +37,8 @@ use Rattle.reach.proofs.Marks.{bit-below}
 pub xor-back : (w x t : ℕ) → x < 2 ^ w → t < 2 ^ w → bitXor (bitXor x t) t ≡ x
 xor-back w x t h l =
     same-bits w (bitXor (bitXor x t) t) x (xor-lt w (bitXor x t) t (xor-lt w x t h l) l) h
-    (λ p k. rw (bit-xor (bitXor x t) t p, bit-xor x t p) (two-bits (λ a b. bitXor (bitXor a b) b ≡ a) refl refl refl refl (bitAt x p) (bitAt t p) (bit-lt x p) (bit-lt t p)))
+    (λ p k. rw (bit-xor (bitXor x t) t p, bit-xor x t p)
+    (two-bits (λ a b. bitXor (bitXor a b) b ≡ a) refl refl refl refl (bitAt x p) (bitAt t p) (bit-lt x p) (bit-lt t p)))
 
 xor-flip : (w x t p : ℕ) → x < 2 ^ w → t < 2 ^ w → p < w → flip (bitXor x t) p ≡ bitXor (flip x p) t
 xor-flip w x t p h l k =

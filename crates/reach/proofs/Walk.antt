@@ -50,58 +50,68 @@ module _ (f : ℕ → Bool) (v : ℕ) where
 unfoldable pub hopsAfter : List ℕ → ℕ → ℕ → ℕ → ℕ
 hopsAfter b t n p = net (view b) .distance t (net (view b) .next n p)
 
-module _ (b : List ℕ) (t : ℕ) (may : MaySweep b t) where
+-- a hop over port p from node n to node m, in a table's cube, towards t
+pub record Hop (b : List ℕ) (t n p m : ℕ) : Type 0 where
+  pub may : MaySweep b t
+  pub node : n < 2 ^ dimensionAt b
+  pub port : p < dimensionAt b
+  pub leads : m ≡ next n p
+
+pub a-hop : {b : List ℕ} {t m : ℕ} (n p : ℕ) → MaySweep b t → n < 2 ^ dimensionAt b → p < dimensionAt b → m ≡ next n p → Hop b t n p m
+a-hop n p may i l e = record { may = may; node = i; port = l; leads = e }
+
+module _ {b : List ℕ} {t n p m : ℕ} (hop : Hop b t n p m) where
   abbrev D : ℕ
   D = dimensionAt b
 
   abbrev N : Network
   N = net (view b)
 
-  module _ (n p m : ℕ) (i : n < 2 ^ D) (l : p < D) (e : m ≡ next n p) where
-    -- a port leads to a node of the cube
-    pub node-there : m < 2 ^ D
-    node-there = rw (e, leads-to b t may n p l) (flip-inside D n p i l)
+  -- it stays in the cube
+  pub node-there : m < 2 ^ D
+  node-there = rw (hop .leads, leads-to b t (hop .may) n p (hop .port)) (flip-inside D n p (hop .node) (hop .port))
 
-    -- A walk stops at a blocked link, and ends with the hop that comes to the target;
-    pub walk-blocked : view b .enabled n p ≡ false → helixEnabled b n t p ≡ false
-    unfolding helixEnabled helixPath freePath
-    walk-blocked off = rw off
+  -- A walk stops at a blocked link, and ends with the hop that comes to the target;
+  pub walk-blocked : view b .enabled n p ≡ false → helixEnabled b n t p ≡ false
+  unfolding helixEnabled helixPath freePath
+  walk-blocked off = rw off
 
-    pub walk-ends : view b .enabled n p ≡ true → m ≡ t → helixEnabled b n t p ≡ true
-    unfolding helixEnabled network
-    walk-ends on there = rw (helix-ends N t n p (sym e ∙ there)) (unfold freePath in rw on)
+  pub walk-ends : view b .enabled n p ≡ true → m ≡ t → helixEnabled b n t p ≡ true
+  unfolding helixEnabled network
+  walk-ends on there = rw (helix-ends N t n p (sym (hop .leads) ∙ there)) (unfold freePath in rw on)
 
-    -- otherwise it goes on by the first port of the uphill vector, one hop nearer.
-    module _ (v : ℕ) (uphill : v ≡ bitXor m t) (off : m ≢ t) where
-      vector-small : v < 2 ^ D
-      vector-small = rw uphill (xor-lt D m t node-there (may .target))
+  -- otherwise it goes on by the first port of the uphill vector, one hop nearer.
+  module _ {v : ℕ} (uphill : v ≡ bitXor m t) (off : m ≢ t) where
+    vector-small : v < 2 ^ D
+    vector-small = rw uphill (xor-lt D m t node-there (hop .may .target))
 
-      vector-some : v ≢ 0
-      vector-some z = off (sym (xor-back D m t node-there (may .target)) ∙ ap (λ x. bitXor x t) (sym uphill ∙ z) ∙ xor-zero-l t)
+    vector-some : v ≢ 0
+    vector-some z = off (sym (xor-back D m t node-there (hop .may .target)) ∙ ap (λ x. bitXor x t) (sym uphill ∙ z) ∙ xor-zero-l t)
 
-      pub uphill-small : v < 256
-      uphill-small = below-256 (may .fits) vector-small
+    pub uphill-small : v < 256
+    uphill-small = below-256 (hop .may .fits) vector-small
 
-      module _ (q : ℕ) (chosen : q ≡ firstPort v p) where
-        tried : FirstTried 8 v p q
-        tried = rw chosen (first-of v p uphill-small vector-some)
+    module _ {q : ℕ} (chosen : q ≡ firstPort v p) where
+      tried : FirstTried 8 v p q
+      tried = rw chosen (first-of v p uphill-small vector-some)
 
-        pub port-there : q < D
-        port-there = bit-below D v q vector-small (tried .offered)
+      pub port-there : q < D
+      port-there = bit-below D v q vector-small (tried .offered)
 
-        order : helical p (offered N t m) ≡ q ∷ helical p (portsOf 8 (v - 2 ^ q))
-        order = rw (offered-there b t may m node-there, ← uphill) (tried .rest)
+      order : helical p (offered N t m) ≡ q ∷ helical p (portsOf 8 (v - 2 ^ q))
+      order = rw (offered-there b t (hop .may) m node-there, ← uphill) (tried .rest)
 
-        pub walk-on : view b .enabled n p ≡ true → helixEnabled b m t q ≡ helixEnabled b n t p
-        unfolding helixEnabled network
-        walk-on on =
-            let path : helixPath N n t p ≡ p ∷ helixPath N m t q =
-            rw e (helix-goes-on N t (cube-nearing (shapeOf (view b)) t) n p q _ (λ z. off (e ∙ z)) (rw e at order)) in
-            rw path (unfold freePath in rw (on, ← e) refl)
+      pub walk-on : view b .enabled n p ≡ true → helixEnabled b m t q ≡ helixEnabled b n t p
+      unfolding helixEnabled network
+      walk-on on =
+          let e = hop .leads in
+          let path : helixPath N n t p ≡ p ∷ helixPath N m t q =
+          rw e (helix-goes-on N t (cube-nearing (shapeOf (view b)) t) n p q _ (λ z. off (e ∙ z)) (rw e at order)) in
+          rw path (unfold freePath in rw (on, ← e) refl)
 
-        pub walk-nearer : hopsAfter b t m q < hopsAfter b t n p
-        unfolding hopsAfter network
-        walk-nearer =
-            let here : q ∈ offered N t m = helical-mem p (offered N t m) (rw order (List·Memᴰ·head refl)) in
-            let near = cube-nearing (shapeOf (view b)) t .nearer m q here in
-            rw (← e) (omega arith)
+      pub walk-nearer : hopsAfter b t m q < hopsAfter b t n p
+      unfolding hopsAfter network
+      walk-nearer =
+          let here : q ∈ offered N t m = helical-mem p (offered N t m) (rw order (List·Memᴰ·head refl)) in
+          let near = cube-nearing (shapeOf (view b)) t .nearer m q here in
+          rw (← hop .leads) (omega arith)

@@ -7,7 +7,7 @@ use Rattle.cube.proofs.Ports.{below-256}
 use Rattle.table.specs.Layout.{dimensionAt}
 use Rattle.table.specs.View.{view}
 use Rattle.reach.specs.Marks.{helixEnabled}
-use Rattle.reach.proofs.Walk.{hopsAfter, node-there, walk-blocked, walk-ends, uphill-small, port-there, walk-on, walk-nearer}
+use Rattle.reach.proofs.Walk.{hopsAfter, a-hop, node-there, walk-blocked, walk-ends, uphill-small, port-there, walk-on, walk-nearer}
 use Rattle.reach.proofs.helix_enabled.Statement.{statement}
 use Rattle.reach.proofs.helix_enabled.Tie as tie
 
@@ -23,8 +23,8 @@ loop-holds c = let p = c .before .pre .1 in (p .source, p .port, refl)
 
 enabled-requires : tie.Need-enabled-requires Inv-loop μ-loop
 enabled-requires c κs =
-    let p = c .before .before .pre .1 in
-    record { bytes = p .sweep .bytes; node = below-256 (p .sweep .fits) (c .loop .inv .0); port = omega (arith, c .loop .inv .1, p .sweep .fits) }
+    let may = c .before .before .pre .1 .sweep in
+    record { bytes = may .bytes; node = below-256 (may .fits) (c .loop .inv .0); port = omega (arith, c .loop .inv .1, may .fits) }
 
 neighbour-requires : tie.Need-neighbour-requires Inv-loop μ-loop
 neighbour-requires c κs =
@@ -35,14 +35,11 @@ returns : tie.Need-returns Inv-loop μ-loop
 unfolding view
 returns c =
     let n = c .before .before .before in
-    let t = n .before in
-    let e = t .before in
+    let h = n .before in
+    let e = h .before in
     let l = e .before in
-    let s = l .before .before in
-    let on = sym (e .enabled .ensures) ∙ t .if1 .taken in
-    sym (sym (l .loop .inv .2)
-    ∙ walk-ends (s .args .t .now) (s .args .target .0) (s .pre .1 .sweep) (l .loop .at .0) (l .loop .p .0) (n .neighbour .result .0) (l .loop .inv .0) (l .loop .inv .1)
-    (n .neighbour .ensures) on (c .if2 .taken))
+    let hop = a-hop (l .loop .at .0) (l .loop .p .0) (l .before .before .pre .1 .sweep) (l .loop .inv .0) (l .loop .inv .1) (n .neighbour .ensures) in
+    sym (sym (l .loop .inv .2) ∙ walk-ends hop (sym (e .enabled .ensures) ∙ h .if1 .taken) (c .if2 .taken))
 
 uphill-vector-requires : tie.Need-uphill-vector-requires Inv-loop μ-loop
 uphill-vector-requires c κs = tt
@@ -54,43 +51,33 @@ first-port-requires c κs =
     let h = n .before in
     let e = h .before in
     let l = e .before in
-    let s = l .before .before in
-    let b = s .args .t .now in
-    let t = s .args .target .0 in
-    let may = s .pre .1 .sweep in
-    (uphill-small b t may (l .loop .at .0) (l .loop .p .0) (n .neighbour .result .0) (l .loop .inv .0) (l .loop .inv .1) (n .neighbour .ensures) (c .uphill-vector .result) (c .uphill-vector .ensures .value) (f .if2 .left), omega (arith, l .loop .inv .1, may .fits), s .pre .0)
+    let hop = a-hop (l .loop .at .0) (l .loop .p .0) (l .before .before .pre .1 .sweep) (l .loop .inv .0) (l .loop .inv .1) (n .neighbour .ensures) in
+    (uphill-small hop (c .uphill-vector .ensures .value) (f .if2 .left), omega (arith, l .loop .inv .1, hop .may .fits), l .before .before .pre .0)
 
 loop-less : tie.Need-loop-less Inv-loop μ-loop
 loop-less c =
-    let f = c .before .before in
+    let u = c .before in
+    let f = u .before in
     let n = f .before .before .before in
     let h = n .before in
     let e = h .before in
     let l = e .before in
-    let s = l .before .before in
-    let b = s .args .t .now in
-    let t = s .args .target .0 in
-    let may = s .pre .1 .sweep in
-    walk-nearer b t may (l .loop .at .0) (l .loop .p .0) (n .neighbour .result .0) (l .loop .inv .0) (l .loop .inv .1) (n .neighbour .ensures) (c .before .uphill-vector .result) (c .before .uphill-vector .ensures .value) (f .if2 .left) (c .first-port .result .0) (c .first-port .ensures)
+    let hop = a-hop (l .loop .at .0) (l .loop .p .0) (l .before .before .pre .1 .sweep) (l .loop .inv .0) (l .loop .inv .1) (n .neighbour .ensures) in
+    walk-nearer hop (u .uphill-vector .ensures .value) (f .if2 .left) (c .first-port .ensures)
 
 loop-again : tie.Need-loop-again Inv-loop μ-loop
 unfolding view
 loop-again c =
-    let f = c .before .before in
+    let u = c .before in
+    let f = u .before in
     let n = f .before .before .before in
     let h = n .before in
     let e = h .before in
     let l = e .before in
-    let s = l .before .before in
-    let b = s .args .t .now in
-    let t = s .args .target .0 in
-    let may = s .pre .1 .sweep in
-    let u = c .before .uphill-vector in (
-      node-there b t may (l .loop .at .0) (l .loop .p .0) (n .neighbour .result .0) (l .loop .inv .0) (l .loop .inv .1) (n .neighbour .ensures),
-      port-there b t may (l .loop .at .0) (l .loop .p .0) (n .neighbour .result .0) (l .loop .inv .0) (l .loop .inv .1) (n .neighbour .ensures) (u .result) (u .ensures .value) (f .if2 .left) (c .first-port .result .0) (c .first-port .ensures),
-      walk-on b t may (l .loop .at .0) (l .loop .p .0) (n .neighbour .result .0) (l .loop .inv .0) (l .loop .inv .1) (n .neighbour .ensures) (u .result) (u .ensures .value) (f .if2 .left) (c .first-port .result .0) (c .first-port .ensures)
-          (sym (e .enabled .ensures) ∙ h .if1 .taken)
-          ∙ l .loop .inv .2,
+    let hop = a-hop (l .loop .at .0) (l .loop .p .0) (l .before .before .pre .1 .sweep) (l .loop .inv .0) (l .loop .inv .1) (n .neighbour .ensures) in (
+      node-there hop,
+      port-there hop (u .uphill-vector .ensures .value) (f .if2 .left) (c .first-port .ensures),
+      walk-on hop (u .uphill-vector .ensures .value) (f .if2 .left) (c .first-port .ensures) (sym (e .enabled .ensures) ∙ h .if1 .taken) ∙ l .loop .inv .2,
     )
 
 returns-2 : tie.Need-returns-2 Inv-loop μ-loop
@@ -98,10 +85,8 @@ unfolding view
 returns-2 c =
     let e = c .before in
     let l = e .before in
-    let s = l .before .before in
-    sym (sym (l .loop .inv .2)
-    ∙ walk-blocked (s .args .t .now) (s .args .target .0) (s .pre .1 .sweep) (l .loop .at .0) (l .loop .p .0) _ (l .loop .inv .0) (l .loop .inv .1) refl
-    (sym (e .enabled .ensures) ∙ c .if1 .left))
+    let hop = a-hop (l .loop .at .0) (l .loop .p .0) (l .before .before .pre .1 .sweep) (l .loop .inv .0) (l .loop .inv .1) refl in
+    sym (sym (l .loop .inv .2) ∙ walk-blocked hop (sym (e .enabled .ensures) ∙ c .if1 .left))
 
 pub helix-enabled-spec : {M : Type 1} → statement M
 helix-enabled-spec =

@@ -93,12 +93,13 @@ loop-again c =
     let count = count-of (n .before .dimension .ensures) (n .node-count .ensures .value) in
     let x : l .loop .x < 2 ^ dimensionAt (s .args .t .now) = omega (arith, a .loop-test .taken) in
     let b = s .args .t .now in
-    let t = s .args .target .0 in (
+    let t = s .args .target .0 in
+    let right =
+    swept-leads b t (s .pre) (l .loop .marks) (l .loop .x) (c .before .enable-bits .result) (omega (arith, l .loop .inv .0)) x (l .loop .inv .2)
+    (c .before .enable-bits .ensures .0) in (
       omega arith,
       omega (arith, a .loop-test .taken),
-      swept-more b t (s .pre) (l .loop .marks) (l .loop .x) (c .leads-on .result) x (l .loop .inv .2)
-          (c .leads-on .ensures ∙ swept-leads b t (s .pre) (l .loop .marks) (l .loop .x) (c .before .enable-bits .result) (omega (arith, l .loop .inv .0)) x (l .loop .inv .2)
-          (c .before .enable-bits .ensures .0)),
+      swept-more b t (s .pre) (l .loop .marks) (l .loop .x) (c .leads-on .result) x (l .loop .inv .2) (c .leads-on .ensures ∙ right),
     )
 
 returns : tie.Need-returns Inv-loop μ-loop

@@ -15,7 +15,7 @@ lowest-helix-requires c κs = search needs
 returns : tie.Need-returns
 returns c =
     let s = c .before .before .before in
-    fixed-finds (s .args .t .now) (s .args .source .0) (s .args .target .0) (s .args .routing) (s .args .vector) (s .pre .1) (c .before .if1 .taken) (c .lowest-helix .ensures)
+    fixed-finds (s .pre .1) (c .before .if1 .taken) (c .lowest-helix .ensures)
 
 any-helix-requires : tie.Need-any-helix-requires
 any-helix-requires c κs = search needs
@@ -25,7 +25,7 @@ returns-2 c =
     let y = c .before in
     let x = y .before in
     let s = x .before .before in
-    helix-finds (s .args .t .now) (s .args .source .0) (s .args .target .0) (s .args .routing) (s .args .vector) (s .pre .1) (x .if1 .left) (y .if2 .taken) (c .any-helix .ensures)
+    helix-finds (s .pre .1) (x .if1 .left) (y .if2 .taken) (c .any-helix .ensures)
 
 dimension-requires : tie.Need-dimension-requires
 dimension-requires c κs = search needs
@@ -52,7 +52,8 @@ returns-3 c =
     let y = z .before in
     let x = y .before in
     let s = x .before .before in
-    alternate-finds (s .args .t .now) (s .args .source .0) (s .args .target .0) (s .args .routing) (s .args .vector) (s .pre .1) (x .if1 .left) (y .if2 .left) (z .if3 .taken) (ap (_- 1) (count-of (d .dimension .ensures) (n .node-count .ensures .value))) (c .any-path .ensures)
+    let count = count-of (d .dimension .ensures) (n .node-count .ensures .value) in
+    alternate-finds (s .pre .1) (x .if1 .left) (y .if2 .left) (z .if3 .taken) (ap (_- 1) count) (c .any-path .ensures)
 
 any-path-requires-2 : tie.Need-any-path-requires-2
 any-path-requires-2 c κs = search needs
@@ -63,7 +64,7 @@ returns-4 c =
     let y = z .before in
     let x = y .before in
     let s = x .before .before in
-    maze-finds (s .args .t .now) (s .args .source .0) (s .args .target .0) (s .args .routing) (s .args .vector) (s .pre .1) (x .if1 .left) (y .if2 .left) (z .if3 .left) (c .any-path2 .ensures)
+    maze-finds (s .pre .1) (x .if1 .left) (y .if2 .left) (z .if3 .left) (c .any-path2 .ensures)
 
 pub some-path-enabled-spec : {M : Type 1} → statement M
 some-path-enabled-spec =
