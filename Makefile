@@ -64,16 +64,16 @@ $(ARCHIVE):
 	@echo 'there is no $(ARCHIVE): make library builds it' >&2; false
 
 # The main job: the printed list of document 01's example; then the console, which opens the circuit of the patent's figure 7, lists it, and draws the map of
-# links before and after it is closed; then what the words of example 8 say, and one that carries a code and an error. The same circuit as a picture is
-# target/examples/map.svg.
+# links before and after it is closed; then what the words of example 8 say, and one that carries a code and an error; then a picture of a larger cabinet.
 demo: library program
 	@mkdir -p target/examples
 	@for example in console words map_svg; do $(CC) $(CFLAGS) -Iinclude examples/$$example.c $(ARCHIVE) -o target/examples/$$example || exit 1; done
 	@$(LISTING) < examples/printed.txt
 	@target/examples/console < examples/figure7.txt
 	@target/examples/words 2175 2437 3649 3136 2240 2546
-	@target/examples/map_svg < examples/map.txt > target/examples/map.svg
-	@echo 'the map of examples/map.txt as a picture: target/examples/map.svg'
+	@rm -f target/examples/map.table && target/examples/console target/examples/map.table < examples/map.txt > target/examples/map.answers
+	@target/examples/map_svg < target/examples/map.table > target/examples/map.svg
+	@echo 'the links of a cabinet of 256 nodes as a picture, for a browser: target/examples/map.svg'
 
 # The gate: its last line is 'N passed, M failed'.
 test:

@@ -259,7 +259,7 @@ MAZE_INLINE unsigned maze_receive_circuit(const uint8_t *table, unsigned node, u
 #define MAZE_CIRCUIT_NODE(circuit) (((circuit) - 1) / 8)
 #define MAZE_CIRCUIT_CHANNEL(circuit) (((circuit) - 1) % 8)
 MAZE_INLINE unsigned maze_circuit(unsigned node, unsigned channel) {
-    return MAZE_CIRCUIT(node, channel);
+    return 8 * node + channel + 1;
 }
 MAZE_INLINE unsigned maze_circuit_node(unsigned circuit) {
     return MAZE_CIRCUIT_NODE(circuit);
