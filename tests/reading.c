@@ -127,7 +127,12 @@ static void far_away(void) {
     }
     expect((int)good, "nothing is read outside a table", 0, 0);
     expect(maze_link_circuit(copy, 255, 7) == 65535 && maze_receive_circuit(copy, 255, 7) == 65535, "two bytes to a circuit", 0, 0);
-    expect(maze_node_count(copy) == 0 && maze_link_node(copy, 0, 0) == MAZE_NODES, "a dimension that no cube has", maze_node_count(copy), 0);
+    for (at = 0; at < 256; at++) {
+        copy[MAZE_DIMENSION_AT] = (uint8_t)at;
+        good &= maze_node_count(copy) == (at >= 1 && at <= 8 ? 1u << at : 0) && maze_dimension(copy) == at;
+        good &= maze_link_node(copy, 0, 0) == (at >= 1 && at <= 8 ? 1u : MAZE_NODES);
+    }
+    expect((int)good, "dimensions that no cube has", 0, 0);
     expect(maze_circuit_receive(copy, 65535) == 0 && maze_circuit_receive(table, 0) == 0 && maze_circuit_receive(table, 65535) == 0, "circuits that are not open", 0, 0);
     for (at = 0; at < 2048; at++) good &= maze_circuit(at / 8, at % 8) == at + 1 && maze_circuit_node(at + 1) == at / 8 && maze_circuit_channel(at + 1) == at % 8;
     expect((int)good, "circuit numbers and back", 0, 0);
