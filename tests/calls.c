@@ -336,6 +336,8 @@ static void lowest_armed(void) {
     arm(7, 7);
     got = maze_open(table, BYTES, 0, 0, 7, 0, 7);
     expect(got.number == 0 && got.receive == 7 && got.scouts == 3, "the last channel", got.number, got.receive);
+    expect(table[8456] == 128, "the last channel is armed", 7, table[8456]);
+    expect(maze_close(table, BYTES, 0, 0) == 0 && table[8456] == 0, "close disarms the last channel", 7, table[8456]);
 }
 
 /* Arming sets one bit and disarming clears it; neither turns it round. */

@@ -39,6 +39,7 @@ use Rattle.search.specs.SendAnswer.{answerOfOutcome, sendAnswer}
 use Rattle.search.proofs.PassAnswer.{free-owner}
 use Rattle.ownership.specs.Calls.{Call, making, blocking, unblocking, opening, closing, tracing, arming, disarming, callTests, resultOf}
 use Rattle.ownership.specs.OnTable.{factsOf, lentTests, stoppedAt, tableStep}
+use Rattle.ownership.specs.AllArmed.{AllArmed, CubeArmed}
 use Rattle.ownership.proofs.Steps.{table-step}
 use Rattle.ownership.specs.Allowed.{Allowed}
 use Rattle.ownership.proofs.Allowed.{allowed}
@@ -182,10 +183,6 @@ rejected (acknowledged w k) n b e = absurd (omega (arith, e))
 rejected route-rejected n b e = absurd (omega (arith, e))
 rejected receive-rejected n b e = refl
 
--- all eight receive channels of a node are armed
-abbrev pub AllArmed : List ℕ → ℕ → Type 0
-AllArmed b n = (k : ℕ) → k < 8 → armedAt b n k ≡ true
-
 open-otherwise : (b : List ℕ) (s c t y v : ℕ) → AllArmed b t → stoppedAt b (opening s c t y v) ≡ 0
     → tableStep b (opening s c t y v) .result .number ≢ 11
 unfolding Allowed factsOf view sendAnswer answerNumber
@@ -205,9 +202,6 @@ pub never-full : (b : List ℕ) (s c t y v : ℕ) → AllArmed b t → tableStep
 never-full b s c t y v armed = never-stopped b (opening s c t y v) (open-otherwise b s c t y v armed)
 
 -- Where the receive channels of all nodes of the cube are armed, no call answers 11.
-abbrev pub CubeArmed : List ℕ → Type 0
-CubeArmed b = (n : ℕ) → n < 2 ^ dimensionAt b → AllArmed b n
-
 passed-otherwise : (b : List ℕ) → CubeArmed b → (a : Call) → stoppedAt b a ≡ 0 → tableStep b a .result .number ≢ 11
 unfolding Allowed factsOf view resultOf
 passed-otherwise b armed (making D) z e = omega (arith, rw (table-step b (making D) .result z) at e)

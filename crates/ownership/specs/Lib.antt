@@ -10,3 +10,4 @@ pub mod Invariant
 pub mod Agrees
 pub mod FromTable
 pub mod StillOpen
+pub mod AllArmed

@@ -72,7 +72,7 @@ acknowledged-second : send 4 (cube 2) (freeBut ((1, 1) ∷ [])) (channel 4) 0 1 
 unfolding send attempts attempted network ports sendPorts otherPorts present axis keep from has flip uphill helical offered end freePath over ways beginnings scan whole pass scouts received outcome goesOn runs
 acknowledged-second = refl
 
--- With all receive channels held: type 0 is receive rejected.
+-- With no receive channel to take: type 0 is receive rejected.
 receive-rejected-once : send 0 (cube 1) (freeBut []) none-available 0 1 1 ≡ answer receive-rejected 1
 unfolding send attempts attempted network ports sendPorts present axis keep from has flip uphill helical offered end freePath over ways beginnings scan whole pass scouts received outcome runs
 receive-rejected-once = refl

@@ -120,7 +120,7 @@ fn try_in_turn(
     }
 }
 
-// A scout arrives: at the target, whose lowest receive channel that nobody holds is answered, or at a node, which hands on to the trying of its
+// A scout arrives: at the target, whose lowest receive channel that is armed and not held is answered, or at a node, which hands on to the trying of its
 // uphill ports, those of them that are enabled.
 fn arrive(
     t: &mut [u8],
