@@ -210,6 +210,12 @@ uint16_t base_disarm(uint8_t *table, size_t table_len, uint16_t node, uint16_t c
     return MAZE_ACCEPTED;
 }
 
+/* The hops of a path: their nodes and ports, and the node where they end. */
+struct path {
+    uint8_t node[MAZE_HOPS_LARGEST + 1];
+    uint8_t port[MAZE_HOPS_LARGEST];
+};
+
 struct search {
     uint8_t *table;
     unsigned target, circuit, hops;
@@ -242,6 +248,36 @@ static uint16_t try_ports(struct search *search, unsigned node, unsigned vector,
     }
 }
 
+/* Follows a port, and then at each node the first port towards the target above the one arrived on, or else the lowest, as long as the links are
+ * free. Answers the hops of the path, 0 if it is not free; the scouts grow by its free hops. */
+static unsigned helix(const uint8_t *table, unsigned node, unsigned port, unsigned target, struct path *path, uint32_t *scouts) {
+    for (unsigned hops = 0;; hops++) {
+        unsigned towards, above;
+        if (!(table[MAZE_ENABLED_AT + node] >> port & 1) || entry(links(table, node), port)) return 0;
+        ++*scouts;
+        path->node[hops] = (uint8_t)node;
+        path->port[hops] = (uint8_t)port;
+        node ^= 1u << port;
+        if (node == target) return hops + 1;
+        towards = node ^ target;
+        above = towards & ~((2u << port) - 1);
+        port = lowest(above ? above : towards);
+    }
+}
+
+/* Tries the path of each port of `vector`, from the lowest up, and holds the links of the first that is free. */
+static uint16_t try_paths(struct search *search, unsigned node, unsigned vector) {
+    struct path path;
+    for (; vector; vector &= vector - 1) {
+        search->hops = helix(search->table, node, lowest(vector), search->target, &path, &search->scouts);
+        if (!search->hops) continue;
+        if (search->found == MAZE_ACCEPTED)
+            for (unsigned i = 0; i < search->hops; i++) set_entry(search->table + MAZE_LINKS_AT + ROW_BYTES * path.node[i], path.port[i], search->circuit);
+        return search->found;
+    }
+    return MAZE_ROUTE_REJECTED;
+}
+
 maze_opened base_open(uint8_t *table, size_t table_len, uint16_t node, uint16_t channel, uint16_t target, uint16_t type, uint16_t vector) {
     maze_opened answer = {0, 0, 0, 0};
     struct search search;
@@ -253,7 +289,7 @@ maze_opened base_open(uint8_t *table, size_t table_len, uint16_t node, uint16_t 
     ports = (1u << table[0]) - 1;
     if ((node | target) & ~ports) answer.number = MAZE_BAD_NODE;
     else if (channel >= MAZE_CHANNELS) answer.number = MAZE_BAD_CHANNEL;
-    else if (type != MAZE_TYPE_MAZE && type != MAZE_TYPE_ALTERNATE_MAZE) answer.number = MAZE_BAD_ROUTING_TYPE;
+    else if (type > MAZE_TYPE_ALTERNATE_MAZE || type == 2) answer.number = MAZE_BAD_ROUTING_TYPE;
     else if (vector == 0 || vector & ~ports) answer.number = MAZE_BAD_SEND_VECTOR;
     else if (held_by(links(table, node), MAZE_CIRCUIT(node, channel))) answer.number = MAZE_CHANNEL_IN_USE;
     if (answer.number) return answer;
@@ -266,7 +302,9 @@ maze_opened base_open(uint8_t *table, size_t table_len, uint16_t node, uint16_t 
     search.hops = 0;
     search.scouts = 0;
     search.found = available ? MAZE_ACCEPTED : MAZE_RECEIVE_REJECTED;
-    answer.number = try_ports(&search, node, vector & table[MAZE_ENABLED_AT + node], 7);
+    if (type == MAZE_TYPE_HELIX) answer.number = try_paths(&search, node, vector);
+    else if (type == MAZE_TYPE_FIXED) answer.number = try_paths(&search, node, vector & (0u - vector));
+    else answer.number = try_ports(&search, node, vector & table[MAZE_ENABLED_AT + node], 7);
     if (answer.number == MAZE_ROUTE_REJECTED && type == MAZE_TYPE_ALTERNATE_MAZE)
         answer.number = try_ports(&search, node, ports & ~(unsigned)vector & table[MAZE_ENABLED_AT + node], 7);
     answer.scouts = search.scouts;
@@ -278,13 +316,7 @@ maze_opened base_open(uint8_t *table, size_t table_len, uint16_t node, uint16_t 
     return answer;
 }
 
-/* The hops of a circuit of a sound table: their nodes and ports, and the node where they end. Answers their number, 0 if the circuit is not
- * open. */
-struct path {
-    uint8_t node[MAZE_HOPS_LARGEST + 1];
-    uint8_t port[MAZE_HOPS_LARGEST];
-};
-
+/* The hops of a circuit of a sound table. Answers their number, 0 if the circuit is not open. */
 static unsigned follow(const uint8_t *table, unsigned source, unsigned circuit, struct path *path) {
     unsigned node = source, hops = 0, ports = held_by(links(table, source), circuit), first;
     if (!ports) return 0;

@@ -61,6 +61,13 @@ static void walled(void) {
     for (unsigned port = 0; port < 8; port++) base_block(table, BYTES, (uint16_t)(254 ^ 1u << port), (uint16_t)port);
 }
 
+/* The links into node 255 blocked, but for the last one of the helix path of port 7 from node 0. */
+static void last_of_eight(void) {
+    armed(8);
+    for (unsigned port = 0; port < 8; port++)
+        if (port != 6) base_block(table, BYTES, (uint16_t)(255 ^ 1u << port), (uint16_t)port);
+}
+
 static void nine_hops(void) {
     armed(8);
     base_open(table, BYTES, 0, 0, 254, 0, 1);
@@ -139,9 +146,10 @@ static void mixed_channels(void) {
 
 /* ---- one turn of each line: answers a sum that both versions must agree on; its last two digits are the numbers that the calls answered ---- */
 
-/* What a turn is made with. Opens are on send channel 0; `other` is their target, the port of a link, or the channel that is traced or armed. */
+/* What a turn is made with. Opens are on send channel 0; `other` is their target, the port of a link, or the channel that is traced or armed; vector
+ * and routing type are those of an open. */
 struct with {
-    uint16_t node, other, vector;
+    uint16_t node, other, vector, type;
 };
 
 static unsigned long turn_make(const struct calls *c, struct with with) {
@@ -150,7 +158,7 @@ static unsigned long turn_make(const struct calls *c, struct with with) {
 }
 
 static unsigned long turn_open(const struct calls *c, struct with with) {
-    maze_opened opened = c->open(table, BYTES, with.node, 0, with.other, 0, with.vector);
+    maze_opened opened = c->open(table, BYTES, with.node, 0, with.other, with.type, with.vector);
     return opened.number + 100ul * opened.scouts;
 }
 
@@ -247,32 +255,37 @@ static const struct {
     unsigned turns;   /* of a round */
     unsigned divisor; /* calls of a turn that the time is given for; 1 for the whole turn */
 } lines[] = {
-    {"make, dimension 8", made_8, turn_make, {0, 0, 0}, MAZE_ACCEPTED, 10000, 1},
-    {"open and close, 3 hops, dimension 3", armed_3, turn_open_close, {0, 7, 7}, MAZE_ACCEPTED, 5000, 1},
-    {"open and close, 1 hop, dimension 8", armed_8, turn_open_close, {0, 1, 1}, MAZE_ACCEPTED, 5000, 1},
-    {"open and close, 8 hops", armed_8, turn_open_close, {0, 255, 255}, MAZE_ACCEPTED, 5000, 1},
-    {"open, 8 hops, receive rejected", made_8, turn_open, {0, 255, 255}, MAZE_RECEIVE_REJECTED, 5000, 1},
-    {"open, 77,940 scouts, rejected", walled, turn_open, {0, 254, 255}, MAZE_ROUTE_REJECTED, 10, 1},
-    {"block and unblock", armed_8, turn_block, {200, 5, 0}, MAZE_ACCEPTED, 5000, 1},
-    {"disarm and arm", armed_8, turn_arm, {200, 5, 0}, MAZE_ACCEPTED, 5000, 1},
-    {"trace of 9 hops", nine_hops, turn_trace, {0, 0, 0}, MAZE_ACCEPTED, 5000, 1},
-    {"2,047 circuits of 1 hop: open and close", full_of_short, turn_open_close, {0, 1, 1}, MAZE_ACCEPTED, 300, 1},
-    {"  open, rejected", full_of_short, turn_open, {0, 255, 255}, MAZE_ROUTE_REJECTED, 300, 1},
-    {"  block and unblock", full_of_short, turn_block, {0, 0, 0}, MAZE_ACCEPTED, 300, 1},
-    {"  disarm and arm", full_of_short, turn_arm, {1, 7, 0}, MAZE_ACCEPTED, 300, 1},
-    {"  trace", full_of_short, turn_trace, {255, 5, 0}, MAZE_ACCEPTED, 300, 1},
-    {"circuits of all lengths, 2,047 links: open and close", full_of_long, turn_open_close, {0, 1, 1}, MAZE_ACCEPTED, 300, 1},
-    {"  open, rejected", full_of_long, turn_open, {0, 255, 255}, MAZE_ROUTE_REJECTED, 300, 1},
-    {"  block and unblock", full_of_long, turn_block, {0, 0, 0}, MAZE_ACCEPTED, 300, 1},
-    {"  disarm and arm", full_of_long, turn_arm, {1, 0, 0}, MAZE_ACCEPTED, 300, 1},
-    {"  trace of 8 hops", full_of_long, turn_trace, {220, 1, 0}, MAZE_ACCEPTED, 300, 1},
-    {"reading a word, of 4,096", mixed_words, turn_words_read, {0, 0, 0}, MAZE_ACCEPTED, 50, 4096},
-    {"writing a word, of 1,024", mixed_words, turn_words_write, {0, 0, 0}, MAZE_ACCEPTED, 200, 1024},
-    {"a choice of the arbiter, few ask, of 1,024", few_requests, turn_arbitrate, {0, 0, 0}, MAZE_ACCEPTED, 200, 1024},
-    {"a choice of the arbiter, half ask, of 1,024", many_requests, turn_arbitrate, {0, 0, 0}, MAZE_ACCEPTED, 200, 1024},
-    {"100 data packets and an end of transmission", armed_3, turn_receive, {8, 0, 0}, MAZE_ACCEPTED, 5000, 1},
-    {"a word to a receive channel, of 4,096", mixed_words, turn_receive_words, {8, 0, 0}, MAZE_ACCEPTED, 50, 4096},
-    {"the overshoot of a receive channel, of 256", mixed_channels, turn_overshoots, {0, 0, 0}, MAZE_ACCEPTED, 1000, 256},
+    {"make, dimension 8", made_8, turn_make, {0, 0, 0, 0}, MAZE_ACCEPTED, 10000, 1},
+    {"open and close, 3 hops, dimension 3", armed_3, turn_open_close, {0, 7, 7, 0}, MAZE_ACCEPTED, 5000, 1},
+    {"open and close, 1 hop, dimension 8", armed_8, turn_open_close, {0, 1, 1, 0}, MAZE_ACCEPTED, 5000, 1},
+    {"open and close, 8 hops", armed_8, turn_open_close, {0, 255, 255, 0}, MAZE_ACCEPTED, 5000, 1},
+    {"open of type 3 and close, 8 hops", armed_8, turn_open_close, {0, 255, 255, MAZE_TYPE_FIXED}, MAZE_ACCEPTED, 5000, 1},
+    {"open of type 1 and close, 8 hops", armed_8, turn_open_close, {0, 255, 255, MAZE_TYPE_HELIX}, MAZE_ACCEPTED, 5000, 1},
+    {"open of type 1 and close, 8 paths tried", last_of_eight, turn_open_close, {0, 255, 255, MAZE_TYPE_HELIX}, MAZE_ACCEPTED, 5000, 1},
+    {"open of type 1, 7 paths tried, rejected", last_of_eight, turn_open, {0, 255, 127, MAZE_TYPE_HELIX}, MAZE_ROUTE_REJECTED, 5000, 1},
+    {"open of type 3, rejected", last_of_eight, turn_open, {0, 255, 255, MAZE_TYPE_FIXED}, MAZE_ROUTE_REJECTED, 5000, 1},
+    {"open, 8 hops, receive rejected", made_8, turn_open, {0, 255, 255, 0}, MAZE_RECEIVE_REJECTED, 5000, 1},
+    {"open, 77,940 scouts, rejected", walled, turn_open, {0, 254, 255, 0}, MAZE_ROUTE_REJECTED, 10, 1},
+    {"block and unblock", armed_8, turn_block, {200, 5, 0, 0}, MAZE_ACCEPTED, 5000, 1},
+    {"disarm and arm", armed_8, turn_arm, {200, 5, 0, 0}, MAZE_ACCEPTED, 5000, 1},
+    {"trace of 9 hops", nine_hops, turn_trace, {0, 0, 0, 0}, MAZE_ACCEPTED, 5000, 1},
+    {"2,047 circuits of 1 hop: open and close", full_of_short, turn_open_close, {0, 1, 1, 0}, MAZE_ACCEPTED, 300, 1},
+    {"  open, rejected", full_of_short, turn_open, {0, 255, 255, 0}, MAZE_ROUTE_REJECTED, 300, 1},
+    {"  block and unblock", full_of_short, turn_block, {0, 0, 0, 0}, MAZE_ACCEPTED, 300, 1},
+    {"  disarm and arm", full_of_short, turn_arm, {1, 7, 0, 0}, MAZE_ACCEPTED, 300, 1},
+    {"  trace", full_of_short, turn_trace, {255, 5, 0, 0}, MAZE_ACCEPTED, 300, 1},
+    {"circuits of all lengths, 2,047 links: open and close", full_of_long, turn_open_close, {0, 1, 1, 0}, MAZE_ACCEPTED, 300, 1},
+    {"  open, rejected", full_of_long, turn_open, {0, 255, 255, 0}, MAZE_ROUTE_REJECTED, 300, 1},
+    {"  block and unblock", full_of_long, turn_block, {0, 0, 0, 0}, MAZE_ACCEPTED, 300, 1},
+    {"  disarm and arm", full_of_long, turn_arm, {1, 0, 0, 0}, MAZE_ACCEPTED, 300, 1},
+    {"  trace of 8 hops", full_of_long, turn_trace, {220, 1, 0, 0}, MAZE_ACCEPTED, 300, 1},
+    {"reading a word, of 4,096", mixed_words, turn_words_read, {0, 0, 0, 0}, MAZE_ACCEPTED, 50, 4096},
+    {"writing a word, of 1,024", mixed_words, turn_words_write, {0, 0, 0, 0}, MAZE_ACCEPTED, 200, 1024},
+    {"a choice of the arbiter, few ask, of 1,024", few_requests, turn_arbitrate, {0, 0, 0, 0}, MAZE_ACCEPTED, 200, 1024},
+    {"a choice of the arbiter, half ask, of 1,024", many_requests, turn_arbitrate, {0, 0, 0, 0}, MAZE_ACCEPTED, 200, 1024},
+    {"100 data packets and an end of transmission", armed_3, turn_receive, {8, 0, 0, 0}, MAZE_ACCEPTED, 5000, 1},
+    {"a word to a receive channel, of 4,096", mixed_words, turn_receive_words, {8, 0, 0, 0}, MAZE_ACCEPTED, 50, 4096},
+    {"the overshoot of a receive channel, of 256", mixed_channels, turn_overshoots, {0, 0, 0, 0}, MAZE_ACCEPTED, 1000, 256},
 };
 
 /* ---- time ---- */

@@ -39,7 +39,7 @@
 #include <stddef.h>
 #include <stdint.h>
 
-#define MAZE_VERSION "0.6.0" /* CHANGELOG.md says what each version changes for a caller */
+#define MAZE_VERSION "0.7.0" /* CHANGELOG.md says what each version changes for a caller */
 
 /* The functions of this header are inline and static, so that they ask nothing of the library. */
 #if defined __cplusplus || (defined __STDC_VERSION__ && __STDC_VERSION__ >= 199901L)
@@ -62,10 +62,10 @@ extern "C" {
 #define MAZE_BAD_NODE 4           /* a node, source or target, is not in the cube */
 #define MAZE_BAD_CHANNEL 5        /* the channel is above 7 */
 #define MAZE_BAD_PORT 6           /* the port is not below the dimension */
-#define MAZE_BAD_ROUTING_TYPE 7   /* the routing type is neither 0 nor 4 */
+#define MAZE_BAD_ROUTING_TYPE 7   /* the routing type is none of 0, 1, 3 and 4 */
 #define MAZE_BAD_SEND_VECTOR 8    /* the send vector is zero or has a port that the cube lacks */
 #define MAZE_CHANNEL_IN_USE 9     /* the send channel has an open circuit */
-#define MAZE_ROUTE_REJECTED 10    /* no free permitted path */
+#define MAZE_ROUTE_REJECTED 10    /* none of the paths that the routing type may try is free */
 #define MAZE_RECEIVE_REJECTED 11  /* no receive channel of the target is armed and not held */
 #define MAZE_NO_CIRCUIT 12        /* the send channel has no open circuit */
 #define MAZE_LINK_HELD 13         /* a circuit holds the link */
@@ -120,19 +120,21 @@ extern "C" {
 #define MAZE_RECEIVES_AT 4353
 #define MAZE_ARMED_AT 8449
 
-/* Routing types of maze_open. */
-#define MAZE_TYPE_MAZE 0           /* one pass, with the send vector given */
-#define MAZE_TYPE_ALTERNATE_MAZE 4 /* if that is route rejected, a second pass: see maze_open */
+/* Routing types of maze_open, which tells what a helix path is. */
+#define MAZE_TYPE_MAZE 0           /* one pass over all permitted paths of the send vector */
+#define MAZE_TYPE_HELIX 1          /* the helix path of each port of the vector in turn */
+#define MAZE_TYPE_FIXED 3          /* the helix path of the lowest port of the vector alone */
+#define MAZE_TYPE_ALTERNATE_MAZE 4 /* as 0; if that is route rejected, a second pass */
 
 #define MAZE_HOPS_LARGEST 9        /* a permitted path has 1 to dimension + 1 hops */
-#define MAZE_SCOUTS_LARGEST 123300 /* both passes of a send together never send more */
+#define MAZE_SCOUTS_LARGEST 123300 /* no send sends more; of type 3 at most 9, of type 1 72 */
 #define MAZE_TRACE_BYTES 9         /* what maze_trace asks of its buffer */
 
 typedef struct {
     uint16_t number;
     uint16_t hops;    /* links of the path */
     uint16_t receive; /* the receive channel taken at the target */
-    uint32_t scouts;  /* address packets sent, in all passes */
+    uint32_t scouts;  /* address packets sent, in all passes or over all paths tried */
 } maze_opened;
 
 typedef struct {
@@ -165,20 +167,33 @@ uint16_t maze_arm(uint8_t *table, size_t table_len, uint16_t node, uint16_t chan
  * Answers 0, or the first of 1, 2, 3, 4, 5 and 21 that applies. */
 uint16_t maze_disarm(uint8_t *table, size_t table_len, uint16_t node, uint16_t channel);
 
-/* Opens the circuit of a send channel of a node: a pass looks for the first permitted path to the
- * target, for the send vector (bit p for port p), whose links are all free. The source tries the
- * ports of the vector from 0 upward. A node that was reached on port a tries, of the ports in whose
- * bit it and the target differ, those above a upward and then those from 0 up to a: the helical
- * order. Each time a free link is tried, a scout, an address packet, goes over it; where there is
- * no way on it goes back, and the next port is tried. With no such path the pass is route rejected.
- * With one, the target takes its lowest receive channel that is armed and that no circuit holds;
- * where there is none the pass is receive rejected, with the scouts sent up to the end of that
- * path. With MAZE_TYPE_ALTERNATE_MAZE, if this pass is route rejected, a second one begins with the
- * ports below the dimension that the vector left out; the answer is then that of the second pass,
- * with the scouts of both. A second pass that no port is left for is route rejected. A receive
- * rejection ends the open: a second pass would come to the same target. An accepted open holds the
- * links of the path and that receive channel, which stays armed; maze_trace tells the path. Alters
- * the entries of those and leaves the rest alone.
+/* Opens the circuit of a send channel of a node.
+ *
+ * With MAZE_TYPE_MAZE a pass looks for the first permitted path to the target, for the send vector
+ * (bit p for port p), whose links are all free. The source tries the ports of the vector from 0
+ * upward. A node that was reached on port a tries, of the ports in whose bit it and the target
+ * differ, those above a upward and then those from 0 up to a: the helical order. Each time a free
+ * link is tried, a scout, an address packet, goes over it; where there is no way on it goes back,
+ * and the next port is tried. With no such path the pass is route rejected. With one, the target
+ * takes its lowest receive channel that is armed and that no circuit holds; where there is none the
+ * pass is receive rejected, with the scouts sent up to the end of that path. With
+ * MAZE_TYPE_ALTERNATE_MAZE, if this pass is route rejected, a second one begins with the ports
+ * below the dimension that the vector left out; the answer is then that of the second pass, with
+ * the scouts of both. A second pass that no port is left for is route rejected.
+ *
+ * The helix path of a port begins with that port, whether it leads towards the target or away from
+ * it, and goes on at each node by the first port of the helical order there, up to the target. It
+ * is a permitted path. MAZE_TYPE_FIXED tries that of the lowest port of the vector alone: where it
+ * is not free, the open is route rejected at once. MAZE_TYPE_HELIX tries that of each port of the
+ * vector, from the lowest up, until one is free, and is route rejected where none is. A scout goes
+ * over each link of a path that is tried, up to the first link that is not free: a path adds the
+ * number of its free hops before that one, and all its hops where it is free. Of opens alike but
+ * for the type, in one table, MAZE_TYPE_HELIX accepts all that MAZE_TYPE_FIXED does, and
+ * MAZE_TYPE_MAZE all that MAZE_TYPE_HELIX does.
+ *
+ * Whatever the type, a receive rejection ends the open: a second pass, or another path, would come
+ * to the same target. An accepted open holds the links of the path and that receive channel, which
+ * stays armed; maze_trace tells the path. Alters the entries of those and leaves the rest alone.
  * Answers 0 with hops, receive channel and scouts, or the first of 1, 2, 3, 4, 5, 7, 8, 9, 10 and
  * 11 that applies; 10 and 11 with scouts. A target whose eight channels are all armed never gives
  * 11: where a link into it is free, one of them is not held. */
@@ -414,10 +429,10 @@ MAZE_INLINE const char *maze_refusal_text(unsigned number) {
     case MAZE_BAD_NODE: return "a node, source or target, is not in the cube";
     case MAZE_BAD_CHANNEL: return "the channel is above 7";
     case MAZE_BAD_PORT: return "the port is not below the dimension";
-    case MAZE_BAD_ROUTING_TYPE: return "the routing type is neither 0 nor 4";
+    case MAZE_BAD_ROUTING_TYPE: return "the routing type is none of 0, 1, 3 and 4";
     case MAZE_BAD_SEND_VECTOR: return "the send vector is zero or has a port that the cube lacks";
     case MAZE_CHANNEL_IN_USE: return "the send channel has an open circuit";
-    case MAZE_ROUTE_REJECTED: return "no free permitted path";
+    case MAZE_ROUTE_REJECTED: return "none of the paths that the routing type may try is free";
     case MAZE_RECEIVE_REJECTED: return "no receive channel of the target is armed and not held";
     case MAZE_NO_CIRCUIT: return "the send channel has no open circuit";
     case MAZE_LINK_HELD: return "a circuit holds the link";

@@ -1,5 +1,5 @@
-/* The calls on a table from C, beside vectors worked by hand from document 01 and requests (a) and (f) of document 02: the examples with the bytes of
- * their tables, each refusal at its edge, and that a refused call alters nothing.
+/* The calls on a table from C, beside vectors worked by hand from document 01 and requests (a), (b) and (f) of document 02: the examples with the bytes
+ * of their tables, each refusal at its edge, and that a refused call alters nothing.
  *
  * A byte of a table is given by its place: the link out of port p of node n is held at 257 + 16 n + 2 p, receive channel c of node n at
  * 4353 + 16 n + 2 c, the enabled links of node n are at 1 + n, and its armed channels at 8449 + n. */
@@ -135,6 +135,67 @@ static const struct send sends[] = {
     {"type 4 with one pass", 3, NONE, 0, 0, 7, 4, 7, 0, 0, 3, "012", {{257, 1}, {275, 1}, {309, 1}, {4465, 1}}},
 };
 
+/* Types 1 and 3, every channel armed first. The helix path of a port from 0 to 7 in dimension 3, by the nodes that it comes through:
+ *   port 0: 0, 1, 3, 7 over ports 0, 1, 2;  port 1: 0, 2, 6, 7 over 1, 2, 0;  port 2: 0, 4, 5, 7 over 2, 0, 1.
+ * Each hop behind the first is over the next port that leads to the target above the one arrived on, or else over the lowest. */
+static const struct send helix_sends[] = {
+    /* figure 7: of port 0's path 0 to 1 and 1 to 3 are free and 3 to 7 is blocked, 2 scouts; then port 1's is free, 3 scouts. A search finds that path
+     * too: it comes to 1 and 3, where there is no way on, and then to 2, 6 and 7. */
+    {"figure 7, type 0", 3, {{1, 2}, {3, 2}, {0, 99}}, 0, 0, 7, 0, 7, 0, 0, 5, "120", {{2, 3}, {4, 3}, {259, 1}, {293, 1}, {353, 1}, {4465, 1}}},
+    {"figure 7, type 1", 3, {{1, 2}, {3, 2}, {0, 99}}, 0, 0, 7, 1, 7, 0, 0, 5, "120", {{2, 3}, {4, 3}, {259, 1}, {293, 1}, {353, 1}, {4465, 1}}},
+    {"figure 7, type 3", 3, {{1, 2}, {3, 2}, {0, 99}}, 0, 0, 7, 3, 7, 10, 0, 2, "", {{2, 3}, {4, 3}}},
+    {"figure 7, type 4", 3, {{1, 2}, {3, 2}, {0, 99}}, 0, 0, 7, 4, 7, 0, 0, 5, "120", {{2, 3}, {4, 3}, {259, 1}, {293, 1}, {353, 1}, {4465, 1}}},
+    /* without its port 0, what is left of figure 7 begins with port 1; with port 0 alone no path is left to type 1 */
+    {"figure 7, type 3, vector 6", 3, {{1, 2}, {3, 2}, {0, 99}}, 0, 0, 7, 3, 6, 0, 0, 3, "120", {{2, 3}, {4, 3}, {259, 1}, {293, 1}, {353, 1}, {4465, 1}}},
+    {"figure 7, type 1, vector 1", 3, {{1, 2}, {3, 2}, {0, 99}}, 0, 0, 7, 1, 1, 10, 0, 2, "", {{2, 3}, {4, 3}}},
+    /* nothing blocked: the path of each port, in the helical order behind the port arrived on and not from 0, which would give 1, 0, 2 for port 1 */
+    {"type 3 by port 0", 3, NONE, 0, 0, 7, 3, 7, 0, 0, 3, "012", {{257, 1}, {275, 1}, {309, 1}, {4465, 1}}},
+    {"type 1 by port 0", 3, NONE, 0, 0, 7, 1, 7, 0, 0, 3, "012", {{257, 1}, {275, 1}, {309, 1}, {4465, 1}}},
+    {"type 3 by port 1", 3, NONE, 0, 0, 7, 3, 2, 0, 0, 3, "120", {{259, 1}, {293, 1}, {353, 1}, {4465, 1}}},
+    {"type 1 by port 1", 3, NONE, 0, 0, 7, 1, 6, 0, 0, 3, "120", {{259, 1}, {293, 1}, {353, 1}, {4465, 1}}},
+    {"type 3 by port 2", 3, NONE, 0, 0, 7, 3, 4, 0, 0, 3, "201", {{261, 1}, {321, 1}, {339, 1}, {4465, 1}}},
+    /* 3 to 7 blocked, vector 1: the path of port 0 has two free hops. A search goes back from 3 to 1 and finds 1 to 5 to 7: scouts to 1, 3, 5 and 7. */
+    {"acknowledged by type 0", 3, {{3, 2}, {0, 99}}, 0, 0, 7, 0, 1, 0, 0, 4, "021", {{4, 3}, {257, 1}, {277, 1}, {339, 1}, {4465, 1}}},
+    {"and not by type 1", 3, {{3, 2}, {0, 99}}, 0, 0, 7, 1, 1, 10, 0, 2, "", {{4, 3}}},
+    {"nor by type 3", 3, {{3, 2}, {0, 99}}, 0, 0, 7, 3, 1, 10, 0, 2, "", {{4, 3}}},
+    /* 0 to 1 blocked: the path of port 0 has no free hop, that of port 1 two */
+    {"acknowledged by type 1", 2, {{0, 0}, {0, 99}}, 0, 0, 3, 1, 3, 0, 0, 2, "10", {{1, 2}, {259, 1}, {289, 1}, {4401, 1}}},
+    {"and not by type 3, first hop blocked", 2, {{0, 0}, {0, 99}}, 0, 0, 3, 3, 3, 10, 0, 0, "", {{1, 2}}},
+    /* the lowest port leads away: to 1, there 2 is the next port above 0 and leads to 5, and from there 0 leads to 4; port 2 alone would do */
+    {"type 3, the lowest port leads away", 3, NONE, 0, 0, 4, 3, 5, 0, 0, 3, "020", {{257, 1}, {277, 1}, {337, 1}, {4417, 1}}},
+    {"type 1, the lowest port leads away", 3, NONE, 0, 0, 4, 1, 5, 0, 0, 3, "020", {{257, 1}, {277, 1}, {337, 1}, {4417, 1}}},
+    /* 1 to 5 blocked: one free hop for type 3; for type 1 that one and the one from 0 to 4 */
+    {"type 3, blocked behind a port that leads away", 3, {{1, 2}, {0, 99}}, 0, 0, 4, 3, 5, 10, 0, 1, "", {{2, 3}}},
+    {"type 1, blocked behind a port that leads away", 3, {{1, 2}, {0, 99}}, 0, 0, 4, 1, 5, 0, 0, 2, "2", {{2, 3}, {261, 1}, {4417, 1}}},
+    /* the port arrived on comes last: at 4 ports 0, 1 and 2 lead to 3, and 2 is the one arrived on */
+    {"type 3, first hop away", 3, NONE, 0, 0, 3, 3, 4, 0, 0, 4, "2012", {{261, 1}, {321, 1}, {339, 1}, {373, 1}, {4401, 1}}},
+    {"type 1, first hop away", 3, NONE, 0, 0, 3, 1, 4, 0, 0, 4, "2012", {{261, 1}, {321, 1}, {339, 1}, {373, 1}, {4401, 1}}},
+    {"type 3, example 4", 2, NONE, 0, 0, 1, 3, 2, 0, 0, 3, "101", {{259, 1}, {289, 1}, {307, 1}, {4369, 1}}},
+    /* example 5: type 0 goes back through the source. A helix path takes the port arrived on only where no other is left, so it comes to its source
+     * again only to end there: one free hop, then 2 to 3 is blocked. */
+    {"example 5, type 0", 2, {{2, 0}, {0, 99}}, 0, 0, 1, 0, 2, 0, 0, 3, "110", {{3, 2}, {257, 1}, {259, 1}, {291, 1}, {4369, 1}}},
+    {"example 5, type 1", 2, {{2, 0}, {0, 99}}, 0, 0, 1, 1, 2, 10, 0, 1, "", {{3, 2}}},
+    {"example 5, type 3", 2, {{2, 0}, {0, 99}}, 0, 0, 1, 3, 2, 10, 0, 1, "", {{3, 2}}},
+    {"example 6, type 1", 2, {{0, 0}, {0, 99}}, 0, 0, 1, 1, 1, 10, 0, 0, "", {{1, 2}}},
+    {"example 6, type 1, vector 3", 2, {{0, 0}, {0, 99}}, 0, 0, 1, 1, 3, 0, 0, 3, "101", {{1, 2}, {259, 1}, {289, 1}, {307, 1}, {4369, 1}}},
+    {"example 6, type 3", 2, {{0, 0}, {0, 99}}, 0, 0, 1, 3, 3, 10, 0, 0, "", {{1, 2}}},
+    /* to itself: out over the port and back over it. With 7 to 5 blocked, one free hop of port 1 and two of port 2, through node 1. */
+    {"type 3 to itself", 3, NONE, 5, 0, 5, 3, 6, 0, 0, 2, "11", {{339, 41}, {371, 41}, {4433, 41}}},
+    {"type 1 to itself", 1, NONE, 0, 0, 0, 1, 1, 0, 0, 2, "00", {{257, 1}, {273, 1}, {4353, 1}}},
+    {"type 1 to itself, no way back", 3, {{7, 1}, {0, 99}}, 5, 0, 5, 1, 6, 0, 0, 3, "22", {{8, 5}, {341, 41}, {277, 41}, {4433, 41}}},
+    {"type 3 to itself, no way back", 3, {{7, 1}, {0, 99}}, 5, 0, 5, 3, 6, 10, 0, 1, "", {{8, 5}}},
+    /* as long as paths get, and round past port 7 */
+    {"type 3, nine hops", 8, NONE, 0, 0, 254, 3, 1, 0, 0, 9, "012345670",
+     {{257, 1}, {275, 1}, {309, 1}, {375, 1}, {505, 1}, {763, 1}, {1277, 1}, {2303, 1}, {4337, 1}, {8417, 1}}},
+    {"type 1, nine hops", 8, NONE, 0, 0, 254, 1, 1, 0, 0, 9, "012345670",
+     {{257, 1}, {275, 1}, {309, 1}, {375, 1}, {505, 1}, {763, 1}, {1277, 1}, {2303, 1}, {4337, 1}, {8417, 1}}},
+    /* node 128 holds port 0 at 257 + 2048, then 129 port 1, 131, 135, 143, 159 and 191 port 6 at 257 + 3056 + 12 */
+    {"type 3, from port 7 on to 0", 8, NONE, 0, 0, 255, 3, 128, 0, 0, 8, "70123456",
+     {{271, 1}, {2305, 1}, {2323, 1}, {2357, 1}, {2423, 1}, {2553, 1}, {2811, 1}, {3325, 1}, {8433, 1}}},
+    {"type 3, a circuit above 255", 8, NONE, 200, 3, 201, 3, 1, 0, 0, 1, "0", {{3457, 68}, {3458, 6}, {7569, 68}, {7570, 6}}},
+    {"type 1, the last circuit", 8, NONE, 255, 7, 127, 1, 128, 0, 0, 1, "7", {{4352, 8}, {6386, 8}}},
+};
+
 /* With no channel armed: a path is found or not, and either way the table stays. */
 static const struct send unarmed[] = {
     {"none armed", 3, NONE, 0, 0, 7, 0, 7, 11, 0, 3, "", {{0, 0}}},
@@ -155,6 +216,17 @@ static const struct send unarmed[] = {
     {"route rejected, then receive rejected, figure 7", 3, {{1, 2}, {3, 2}, {0, 99}}, 0, 0, 7, 4, 1, 11, 0, 5, "", {{2, 3}, {4, 3}}},
     {"no scout, then receive rejected", 2, {{0, 0}, {0, 99}}, 0, 0, 1, 4, 1, 11, 0, 3, "", {{1, 2}}},
     {"route rejected twice, none armed", 2, {{1, 1}, {2, 0}, {0, 99}}, 0, 0, 3, 4, 1, 10, 0, 2, "", {{2, 1}, {3, 2}}},
+    /* types 1 and 3: the first path that is free ends the send, though those of ports 1 and 2 are free as well */
+    {"none armed, type 3", 3, NONE, 0, 0, 7, 3, 7, 11, 0, 3, "", {{0, 0}}},
+    {"none armed, type 1", 3, NONE, 0, 0, 7, 1, 7, 11, 0, 3, "", {{0, 0}}},
+    {"none armed, type 1, to itself", 3, NONE, 5, 0, 5, 1, 7, 11, 0, 2, "", {{0, 0}}},
+    {"none armed, type 1, nine hops", 8, NONE, 0, 0, 254, 1, 255, 11, 0, 9, "", {{0, 0}}},
+    /* the scouts of the path tried before it are counted: 2 and 3 */
+    {"none armed, figure 7, type 1", 3, {{1, 2}, {3, 2}, {0, 99}}, 0, 0, 7, 1, 7, 11, 0, 5, "", {{2, 3}, {4, 3}}},
+    {"none armed, figure 7, type 3", 3, {{1, 2}, {3, 2}, {0, 99}}, 0, 0, 7, 3, 7, 10, 0, 2, "", {{2, 3}, {4, 3}}},
+    {"none armed, type 1, first hop blocked", 2, {{0, 0}, {0, 99}}, 0, 0, 3, 1, 3, 11, 0, 2, "", {{1, 2}}},
+    {"none armed, type 3, first hop blocked", 2, {{0, 0}, {0, 99}}, 0, 0, 3, 3, 3, 10, 0, 0, "", {{1, 2}}},
+    {"none armed, type 1, no path", 2, {{1, 1}, {2, 0}, {0, 99}}, 0, 0, 3, 1, 3, 10, 0, 2, "", {{2, 1}, {3, 2}}},
 };
 
 /* On a table that fresh() or fresh_armed() left. */
@@ -304,6 +376,107 @@ static void second_pass(void) {
     got = maze_open(table, BYTES, 0, 1, 3, 4, 1);
     expect(got.number == 0 && got.hops == 2 && got.receive == 5 && got.scouts == 2, "accepted in the second pass", got.number, got.scouts);
     expect_table("two circuits of type 4", 2, two);
+}
+
+/* Types 1 and 3 past circuits that stand there. Dimension 3, from 0 to 7: circuit 25 holds the link from 3 to 7, the last of port 0's path. */
+static void held_hops(void) {
+    static const struct place one[] = {{309, 25}, {4465, 25}, {0, 0}};
+    static const struct place two[] = {{309, 25}, {4465, 25}, {259, 1}, {293, 1}, {353, 1}, {4467, 1}, {0, 0}};
+    static const struct place three[] = {{309, 25}, {4465, 25}, {259, 1}, {293, 1}, {353, 1}, {4467, 1}, {261, 2}, {321, 2}, {339, 2}, {4469, 2}, {0, 0}};
+    static const struct place closed[] = {{309, 25}, {4465, 25}, {261, 2}, {321, 2}, {339, 2}, {4469, 2}, {8456, 253}, {0, 0}};
+    maze_opened got;
+    fresh_armed(3);
+    got = maze_open(table, BYTES, 3, 0, 7, 3, 4);
+    expect(got.number == 0 && got.hops == 1 && got.receive == 0 && got.scouts == 1, "open from 3 to 7", got.number, got.scouts);
+    expect_table("the link from 3 to 7 held", 3, one);
+    keep();
+    for (unsigned type = 1; type <= 3; type += 2) { /* to 1 and to 3, and no further */
+        got = maze_open(table, BYTES, 0, 0, 7, (uint16_t)type, 1);
+        expect(got.number == 10 && got.hops == 0 && got.receive == 0 && got.scouts == 2 && unaltered(), "held at its third hop, type", type, got.scouts);
+    }
+    got = maze_open(table, BYTES, 0, 0, 7, 3, 7);
+    expect(got.number == 10 && got.hops == 0 && got.receive == 0 && got.scouts == 2 && unaltered(), "rejected at once", got.number, got.scouts);
+    got = maze_open(table, BYTES, 0, 0, 7, 1, 7); /* 2, and then the 3 of port 1's path */
+    expect(got.number == 0 && got.hops == 3 && got.receive == 1 && got.scouts == 5, "the next port", got.number, got.scouts);
+    expect_table("two circuits to 7", 3, two);
+    keep();
+    got = maze_open(table, BYTES, 0, 1, 7, 3, 6); /* its first hop is held */
+    expect(got.number == 10 && got.scouts == 0 && unaltered(), "held at its first hop", got.number, got.scouts);
+    got = maze_open(table, BYTES, 0, 1, 7, 1, 7); /* 2 of port 0, 0 of port 1, 3 of port 2 */
+    expect(got.number == 0 && got.hops == 3 && got.receive == 2 && got.scouts == 5, "the third port", got.number, got.scouts);
+    expect_table("three circuits to 7", 3, three);
+    keep();
+    got = maze_open(table, BYTES, 0, 2, 7, 1, 7);
+    expect(got.number == 10 && got.hops == 0 && got.receive == 0 && got.scouts == 2 && unaltered(), "no port left", got.number, got.scouts);
+    got = maze_open(table, BYTES, 0, 2, 7, 0, 7); /* a search comes to 1, 3 and 5 */
+    expect(got.number == 10 && got.scouts == 3 && unaltered(), "nor for a search", got.number, got.scouts);
+    expect_trace("type 3", 3, 0, "2");
+    expect_trace("type 1", 0, 0, "120");
+    expect_trace("type 1 again", 0, 1, "201");
+    expect(maze_close(table, BYTES, 0, 0) == 0, "close one of type 1", 0, 0);
+    expect_table("the others stay", 3, closed);
+
+    /* dimension 2, from 0 to 3, whose one armed channel is taken */
+    fresh(2);
+    arm(3, 0);
+    expect(maze_open(table, BYTES, 0, 0, 3, 1, 3).number == 0, "type 1 on ports 0 and 1", 0, 0);
+    keep();
+    got = maze_open(table, BYTES, 0, 1, 3, 1, 3); /* the path of port 0 is held at its first hop, that of port 1 is free */
+    expect(got.number == 11 && got.hops == 0 && got.receive == 0 && got.scouts == 2 && unaltered(), "free and no channel, type 1", got.number, got.scouts);
+    got = maze_open(table, BYTES, 0, 1, 3, 3, 2);
+    expect(got.number == 11 && got.hops == 0 && got.receive == 0 && got.scouts == 2 && unaltered(), "free and no channel, type 3", got.number, got.scouts);
+    got = maze_open(table, BYTES, 0, 1, 3, 3, 3); /* 10, though the path of port 1 would come to 11 */
+    expect(got.number == 10 && got.hops == 0 && got.receive == 0 && got.scouts == 0 && unaltered(), "held and no channel, type 3", got.number, got.scouts);
+}
+
+/* Dimension 8 with every link into the target blocked. From 0 to 254 the path of port 0 has nine hops, eight of them free, and those of ports 1 to 7
+ * have seven, six of them free. From 0 to 255 each of the eight has seven free hops; with the last link of port 7's path enabled, seven of them have
+ * seven and that one is free: the most scouts of a send of type 1. */
+static void helix_scouts(void) {
+    static const struct { uint16_t vector; unsigned long helix, fixed; } walled[] = {{255, 8 + 7 * 6, 8}, {1, 8, 8}, {128, 6, 6}, {170, 4 * 6, 6}, {254, 7 * 6, 6}};
+    maze_opened got;
+    fresh_armed(8);
+    for (unsigned port = 0; port < 8; port++) expect(maze_block(table, BYTES, (uint16_t)(254 ^ 1u << port), (uint16_t)port) == 0, "block into", 254, port);
+    keep();
+    for (size_t i = 0; i < sizeof walled / sizeof *walled; i++) {
+        got = maze_open(table, BYTES, 0, 0, 254, 1, walled[i].vector);
+        expect(got.number == 10 && got.scouts == walled[i].helix && got.hops == 0 && got.receive == 0 && unaltered(), "type 1 to 254", walled[i].vector, got.scouts);
+        got = maze_open(table, BYTES, 0, 0, 254, 3, walled[i].vector);
+        expect(got.number == 10 && got.scouts == walled[i].fixed && got.hops == 0 && got.receive == 0 && unaltered(), "type 3 to 254", walled[i].vector, got.scouts);
+    }
+    fresh_armed(8);
+    for (unsigned port = 0; port < 8; port++) expect(maze_block(table, BYTES, (uint16_t)(255 ^ 1u << port), (uint16_t)port) == 0, "block into", 255, port);
+    keep();
+    got = maze_open(table, BYTES, 0, 0, 255, 1, 255);
+    expect(got.number == 10 && got.scouts == 8 * 7 && got.hops == 0 && got.receive == 0 && unaltered(), "type 1 to 255", got.number, got.scouts);
+    expect(maze_unblock(table, BYTES, 191, 6) == 0, "unblock into 255", 191, 6);
+    got = maze_open(table, BYTES, 0, 0, 255, 1, 255);
+    expect(got.number == 0 && got.scouts == 7 * 7 + 8 && got.hops == 8 && got.receive == 0, "the last of eight paths", got.number, got.scouts);
+    expect_trace("the last of eight paths", 0, 0, "70123456");
+}
+
+/* Every choice of blocked links in dimension 2, every target and vector, from node 0: with sends alike but for type, type 1 acknowledges all that type
+ * 3 does, and type 0 all that type 1 does; and a send of type 1 with one port is one of type 3. One check for each target and vector; where it fails,
+ * the first wrong choice is named. */
+static void inclusion(void) {
+    static const uint16_t types[] = {3, 1, 0};
+    for (unsigned target = 0; target < 4; target++)
+        for (unsigned vector = 1; vector < 4; vector++) {
+            unsigned long wrong = 0, first = 0;
+            fresh_armed(2);
+            for (unsigned choice = 0; choice < 256; choice++) {
+                maze_opened got[3];
+                for (unsigned node = 0; node < 4; node++) table[1 + node] = choice >> 2 * node & 3;
+                for (unsigned i = 0; i < 3; i++) {
+                    got[i] = maze_open(table, BYTES, 0, 0, (uint16_t)target, types[i], (uint16_t)vector);
+                    if (got[i].number == 0) maze_close(table, BYTES, 0, 0), maze_arm(table, BYTES, (uint16_t)target, got[i].receive);
+                }
+                if ((got[0].number == 0 && got[1].number != 0) || (got[1].number == 0 && got[2].number != 0) ||
+                    (vector != 3 && (got[0].number != got[1].number || got[0].scouts != got[1].scouts)))
+                    if (wrong++ == 0) first = choice;
+            }
+            expect(wrong == 0, "types 3, 1 and 0 to a target, first wrong choice", target, first);
+        }
 }
 
 /* ---- arming ---- */
@@ -550,7 +723,7 @@ static void dimensions(void) {
 
 /* Nodes, channels, ports, types and vectors, just inside and outside, in every dimension. */
 static void ranges(void) {
-    static const uint16_t no_channel[] = {8, 9, 255, 256, 257, 263, 65535}, no_type[] = {1, 2, 3, 5, 6, 7, 8, 255, 256, 257, 260, 1024, 65535};
+    static const uint16_t no_channel[] = {8, 9, 255, 256, 257, 263, 65535}, no_type[] = {2, 5, 6, 7, 8, 255, 256, 257, 259, 260, 1024, 65535};
     for (unsigned dimension = 1; dimension <= 8; dimension++) {
         unsigned nodes = 1u << dimension, last = nodes - 1;
         unsigned no_node[] = {nodes, nodes + 1, 256, 256 + last, 257, 32768, 65535}, no_port[] = {dimension, dimension + 1, 8, 255, 256, 257, 65535};
@@ -573,11 +746,11 @@ static void ranges(void) {
             refused_open(4, BYTES, no_node[i], 1, 0, 0, 1);
             refused_open(4, BYTES, 0, 1, no_node[i], 0, 1);
             refused_open(4, BYTES, no_node[i], 1, no_node[i], 0, 1);
-            refused_open(4, BYTES, 0, 8, no_node[i], 1, 0);
+            refused_open(4, BYTES, 0, 8, no_node[i], 2, 0);
         }
         for (size_t i = 0; i < sizeof no_channel / sizeof *no_channel; i++) {
             refused_open(5, BYTES, 0, no_channel[i], 0, 0, 1);
-            refused_open(5, BYTES, 0, no_channel[i], 0, 1, 0); /* 5 before 7 and 8 */
+            refused_open(5, BYTES, 0, no_channel[i], 0, 2, 0); /* 5 before 7 and 8 */
             refused_arm(5, BYTES, 0, no_channel[i]);
             refused_arm(5, BYTES, last, no_channel[i]);
             refused_close(5, BYTES, 0, no_channel[i]);
@@ -593,9 +766,13 @@ static void ranges(void) {
         for (size_t i = 0; i < sizeof no_vector / sizeof *no_vector; i++) {
             refused_open(8, BYTES, 0, 1, 0, 0, no_vector[i]);
             refused_open(8, BYTES, 0, 0, 0, 4, no_vector[i]); /* 8 before 9 */
+            refused_open(8, BYTES, 0, 1, 0, 1, no_vector[i]);
+            refused_open(8, BYTES, 0, 0, 0, 3, no_vector[i]);
         }
         refused_open(9, BYTES, 0, 0, 0, 0, 1);
         refused_open(9, BYTES, 0, 0, last, 4, last);
+        refused_open(9, BYTES, 0, 0, last, 1, last);
+        refused_open(9, BYTES, 0, 0, last, 3, 1);
         refused_open(9, BYTES, last, 7, last, 0, 1);
         refused_close(12, BYTES, 0, 1);
         refused_close(12, BYTES, last, 6);
@@ -622,7 +799,7 @@ static uint16_t opened_and_closed(uint16_t node, uint16_t channel, uint16_t targ
 /* Every 16-bit value of each argument, on a table of dimension 3 with every channel armed and an open circuit: refused wherever the papers say so,
  * and nowhere else. One check for each argument; where it fails, the first wrong value is named. */
 static void sweeps(void) {
-    enum { ARGUMENTS = 16 };
+    enum { ARGUMENTS = 18 };
     unsigned long wrong[ARGUMENTS], first[ARGUMENTS];
     memset(wrong, 0, sizeof wrong);
     memset(first, 0, sizeof first);
@@ -641,7 +818,7 @@ static void sweeps(void) {
         got[4] = opened_and_closed(v, 0, 5, 0, 1), want[4] = v > 7 ? 4 : v == 0 ? 9 : 0;
         got[5] = opened_and_closed(0, v, 2, 0, 2), want[5] = v > 7 ? 5 : v == 0 ? 9 : 0;
         got[6] = opened_and_closed(6, 0, v, 0, 7), want[6] = v > 7 ? 4 : 0;
-        got[7] = opened_and_closed(6, 0, 7, v, 1), want[7] = v == 0 || v == 4 ? 0 : 7;
+        got[7] = opened_and_closed(6, 0, 7, v, 1), want[7] = v == 0 || v == 1 || v == 3 || v == 4 ? 0 : 7;
         got[8] = opened_and_closed(6, 0, 7, 0, v), want[8] = v == 0 || v > 7 ? 8 : 0;
         got[9] = maze_close(table, BYTES, 0, (uint16_t)(v == 0 ? 1 : v)), want[9] = v > 7 ? 5 : 12;
         got[10] = maze_trace(table, BYTES, v, 0, buffer, 8).number, want[10] = v > 7 ? 4 : v == 0 ? 14 : 12;
@@ -652,6 +829,9 @@ static void sweeps(void) {
         if (got[13] == 0) maze_arm(table, BYTES, 7, v);
         got[14] = maze_arm(table, BYTES, v, 6), want[14] = v > 7 ? 4 : 0;
         got[15] = maze_arm(table, BYTES, 6, v), want[15] = v > 7 ? 5 : 0;
+        /* the path of port 2 goes from 6 by 2 to 3, where the circuit holds the link to 7 */
+        got[16] = opened_and_closed(6, 0, 7, 1, v), want[16] = v == 0 || v > 7 ? 8 : v == 4 ? 10 : 0;
+        got[17] = opened_and_closed(6, 0, 7, 3, v), want[17] = v == 0 || v > 7 ? 8 : v == 4 ? 10 : 0;
         for (unsigned i = 0; i < ARGUMENTS; i++)
             if (got[i] != want[i] && wrong[i]++ == 0) first[i] = value;
         if (!unaltered() && wrong[11]++ == 0) first[11] = value;
@@ -849,6 +1029,7 @@ static void absent_nodes_armed(void) {
 
 int main(void) {
     for (size_t i = 0; i < sizeof sends / sizeof *sends; i++) fresh_armed(sends[i].dimension), run_send(&sends[i]);
+    for (size_t i = 0; i < sizeof helix_sends / sizeof *helix_sends; i++) fresh_armed(helix_sends[i].dimension), run_send(&helix_sends[i]);
     for (size_t i = 0; i < sizeof unarmed / sizeof *unarmed; i++) fresh(unarmed[i].dimension), run_send(&unarmed[i]);
     example_7();
     example_8();
@@ -856,6 +1037,9 @@ int main(void) {
     most_scouts();
     receive_channels();
     second_pass();
+    held_hops();
+    helix_scouts();
+    inclusion();
     lowest_armed();
     arming();
     blocking();

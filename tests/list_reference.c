@@ -118,6 +118,7 @@ static unsigned some(unsigned bound) {
 
 /* A channel of the target is armed before most opens; what is disarmed is mostly of the last target. */
 static void generate(unsigned lines) {
+    static const unsigned types[] = {0, 0, 1, 3, 4, 4};
     unsigned dimension = 1 + below(8), target = 0;
     printf("F %u\n", dimension);
     for (unsigned i = 1; i < lines; i++) {
@@ -137,7 +138,7 @@ static void generate(unsigned lines) {
         default:
             target = some(nodes);
             if (below(4) != 0) printf("R %u %u\n", target, some(8)), i++;
-            printf("S %u %u %u %u %u\n", some(nodes), some(8), target, below(12) == 0 ? 1 : below(2) * 4, below(10) == 0 ? 0 : some(nodes));
+            printf("S %u %u %u %u %u\n", some(nodes), some(8), target, below(12) == 0 ? 2 + below(7) : types[below(6)], below(10) == 0 ? 0 : some(nodes));
         }
     }
 }

@@ -176,6 +176,7 @@ static struct {
         through_source, to_itself, first_hop_away, nearly_full, nearly_full_accepted, full, all_received, one_changed, one_changed_sound,
         several_changed, several_changed_sound, mask_changed, mask_changed_sound, moved, laid, laid_sound, wrong_length, short_buffer;
     unsigned long receive_ended, receive_ended_no_port, route_then_receive, passed_over, armed_again, armed_held, disarmed_again;
+    unsigned long helix_first, helix_later, helix_none, helix_received, helix_received_later, fixed_taken, fixed_rejected, fixed_received, partly_free;
 } seen;
 
 static void count_held(unsigned long *held, unsigned long *links) {
@@ -200,7 +201,16 @@ static void tally(const struct call *call, const struct answers *answers, unsign
         seen.nearly_full_accepted += number == MAZE_ACCEPTED;
         seen.full += held == links;
     }
-    if (ref_last_send.passes == 2) {
+    if (a[3] == MAZE_TYPE_HELIX) {
+        unsigned later = ref_last_send.passes > 1;
+        if (number == MAZE_ACCEPTED) *(later ? &seen.helix_later : &seen.helix_first) += 1;
+        else if (number == MAZE_RECEIVE_REJECTED) *(later ? &seen.helix_received_later : &seen.helix_received) += 1;
+        else seen.helix_none += later;
+        seen.partly_free += scouts > ref_last_send.hops;
+    } else if (a[3] == MAZE_TYPE_FIXED) {
+        *(number == MAZE_ACCEPTED ? &seen.fixed_taken : number == MAZE_RECEIVE_REJECTED ? &seen.fixed_received : &seen.fixed_rejected) += 1;
+        seen.partly_free += scouts > ref_last_send.hops;
+    } else if (ref_last_send.passes == 2) {
         *(number == MAZE_ACCEPTED ? &seen.second_accepted : &seen.second_rejected) += 1;
         seen.route_then_receive += number == MAZE_RECEIVE_REJECTED;
     } else if (a[3] == MAZE_TYPE_ALTERNATE_MAZE && number == MAZE_RECEIVE_REJECTED) {
@@ -292,9 +302,20 @@ static unsigned any_vector(unsigned dimension, unsigned node, unsigned target) {
     }
 }
 
+static unsigned good_type(void) {
+    static const unsigned types[] = {0, 0, 0, 1, 1, 3, 4, 4, 4, 4};
+    return types[below(sizeof types / sizeof *types)];
+}
+
+/* One of the four routing types; now and then none of them. */
+static unsigned any_type(void) {
+    static const unsigned none[] = {2, 5, 6, 7, 8, 257, 259, 65535};
+    return one_in(60) ? none[below(sizeof none / sizeof *none)] : good_type();
+}
+
 static struct call any_send(unsigned dimension) {
     unsigned node = any_node(dimension), target = one_in(8) ? node : any_node(dimension);
-    return sending(node, one_in(8) ? below(8) : free_channel(node), target, one_in(3) ? 0 : 4, any_vector(dimension, node, target));
+    return sending(node, one_in(8) ? below(8) : free_channel(node), target, any_type(), any_vector(dimension, node, target));
 }
 
 /* A circuit that is open, by chance; or any node and channel. */
@@ -341,7 +362,7 @@ static unsigned odd_number(unsigned limit) {
 /* A call some of whose numbers are out of range. */
 static struct call odd_call(unsigned dimension) {
     static const uint16_t lengths[] = {0, 1, 256, MAZE_ARMED_AT, MAZE_TABLE_BYTES - 1, MAZE_TABLE_BYTES + 1, MAZE_TABLE_BYTES + SPARE};
-    static const unsigned types[] = {0, 4, 1, 2, 3, 5, 8, 256, 260, 65535};
+    static const unsigned types[] = {0, 4, 1, 2, 3, 5, 6, 7, 8, 256, 257, 259, 260, 65535};
     struct call call = any_send(dimension);
     call.letter = "FBESSSCTRD"[below(10)];
     if (call.letter == 'F') {
@@ -414,7 +435,7 @@ static void filled(unsigned dimension) {
     for (unsigned node = 0; node < nodes; node++)
         for (unsigned port = 0; port < dimension; port++)
             if (MAZE_LINK_CIRCUIT(now.table[1], node, port) == 0)
-                make_call(sending(node, free_channel(node), node ^ 1u << port, one_in(2) ? 0 : 4, 1u << port));
+                make_call(sending(node, free_channel(node), node ^ 1u << port, good_type(), 1u << port));
     for (unsigned i = 0; i < holes; i++) make_call(on_circuit('C', dimension));
     for (unsigned i = 0; i < 40; i++) make_call(any_send(dimension));
     for (unsigned i = 0; i < 60; i++) make_call(any_call(dimension));
@@ -446,7 +467,7 @@ static void walled(unsigned dimension) {
         for (unsigned j = 0; j < 3; j++) {
             node = target ^ all;
             if (!one_in(3)) node ^= 1u << below(dimension);
-            make_call(sending(node, free_channel(node), target, one_in(2) ? 0 : 4, one_in(2) ? all : any_vector(dimension, node, target)));
+            make_call(sending(node, free_channel(node), target, any_type(), one_in(2) ? all : any_vector(dimension, node, target)));
         }
         for (unsigned port = 0; port < dimension; port++) make_call(plain('E', target ^ 1u << port, port));
     }
@@ -605,7 +626,7 @@ static void contended(unsigned dimension) {
         case 3:
             if (circuit != 0) make_call(plain('C', MAZE_CIRCUIT_NODE(circuit), MAZE_CIRCUIT_CHANNEL(circuit)));
             break;
-        default: make_call(sending(node, free_channel(node), target, one_in(2) ? 0 : 4, any_vector(dimension, node, target)));
+        default: make_call(sending(node, free_channel(node), target, any_type(), any_vector(dimension, node, target)));
         }
     }
 }
@@ -633,6 +654,10 @@ static void print_seen(void) {
     printf("second pass accepted: %lu; second pass rejected: %lu\n", seen.second_accepted, seen.second_rejected);
     printf("type 4 ended by a receive rejection with a port left for a second pass: %lu; with none: %lu; route and then receive rejected: %lu\n",
            seen.receive_ended, seen.receive_ended_no_port, seen.route_then_receive);
+    printf("type 1 accepted on its first path: %lu; on a later one: %lu; none of several free: %lu; receive rejected: %lu; on a later path: %lu\n",
+           seen.helix_first, seen.helix_later, seen.helix_none, seen.helix_received, seen.helix_received_later);
+    printf("type 3 accepted: %lu; route rejected: %lu; receive rejected: %lu; of types 1 and 3, scouts on a path that is not free: %lu\n",
+           seen.fixed_taken, seen.fixed_rejected, seen.fixed_received, seen.partly_free);
     printf("opens that passed over a channel not armed: %lu; armed ones armed again: %lu, of these held: %lu; disarmed ones again: %lu\n",
            seen.passed_over, seen.armed_again, seen.armed_held, seen.disarmed_again);
     printf("rejected after 1,000 scouts or more: %lu; after 10,000 or more: %lu; most scouts of a send: %lu\n", seen.rejected_1000,
@@ -683,6 +708,16 @@ int main(int count, char **arguments) {
             {"type 4 ended by a receive rejection with a port left for a second pass", seen.receive_ended},
             {"type 4 ended by a receive rejection with no port left", seen.receive_ended_no_port},
             {"a route rejection and then a receive rejection", seen.route_then_receive},
+            {"type 1 accepted on its first path", seen.helix_first},
+            {"type 1 accepted on a later path", seen.helix_later},
+            {"type 1 with none of several paths free", seen.helix_none},
+            {"type 1 receive rejected on its first path", seen.helix_received},
+            {"type 1 receive rejected on a later path", seen.helix_received_later},
+            {"type 3 accepted", seen.fixed_taken},
+            {"type 3 route rejected", seen.fixed_rejected},
+            {"type 3 receive rejected", seen.fixed_received},
+            {"scouts on a helix path that is not free", seen.partly_free},
+            {"a type that is none of the four", seen.answers[letter_place('S')][MAZE_BAD_ROUTING_TYPE]},
             {"an open that passed over a channel not armed", seen.passed_over},
             {"a channel disarmed", seen.answers[letter_place('D')][MAZE_ACCEPTED] - seen.disarmed_again},
             {"a channel disarmed again", seen.disarmed_again},

@@ -3,6 +3,7 @@
  * - A call reads the table into a record of its own, works on that, and writes all 8,705 bytes back if it succeeds.
  * - A pass lists every beginning of every permitted path, from the highest port down and without looking at the table. Then it looks which of
  *   them are free, takes the first of the free paths by comparing paths as document 01 words it, and counts.
+ * - A helix path is looked for in such a list, as the one path each of whose later hops is by the first uphill port: no uphill port is tried before it.
  * - Soundness searches all the permitted paths that the links of a circuit allow, for one that uses them all. */
 #include "reference.h"
 
@@ -156,6 +157,13 @@ struct pass {
     struct path path;
 };
 
+/* The target of a path that is free takes its lowest receive channel that is armed and not held. */
+static void take_channel(const struct cube *cube, unsigned target, struct pass *pass) {
+    pass->number = MAZE_RECEIVE_REJECTED;
+    for (unsigned channel = SLOTS; channel-- > 0;)
+        if (cube->armed[target][channel] && cube->receive[target][channel] == 0) pass->number = MAZE_ACCEPTED, pass->receive = channel;
+}
+
 static struct pass run_pass(const struct cube *cube, unsigned source, unsigned vector, unsigned target) {
     struct pass pass = {MAZE_ROUTE_REJECTED, 0, 0, {0, 0, {0}}};
     size_t free_ones = 0;
@@ -170,9 +178,53 @@ static struct pass run_pass(const struct cube *cube, unsigned source, unsigned v
         if (!found || comes_before(cube->dimension, &beginnings[i], found) || is_beginning(&beginnings[i], found)) pass.scouts++;
     if (!found) return pass;
     pass.path = *found;
-    pass.number = MAZE_RECEIVE_REJECTED;
-    for (unsigned channel = SLOTS; channel-- > 0;)
-        if (cube->armed[target][channel] && cube->receive[target][channel] == 0) pass.number = MAZE_ACCEPTED, pass.receive = channel;
+    take_channel(cube, target, &pass);
+    return pass;
+}
+
+/* ---- helix paths ---- */
+
+/* Whether each hop behind the first is by the first port, of those uphill at its node, that is tried there. */
+static int is_helix(unsigned dimension, const struct path *path, unsigned source, unsigned target) {
+    unsigned node = source;
+    for (unsigned hop = 0; hop < path->hops; node = across(node, path->port[hop++])) {
+        struct path other = *path;
+        if (hop == 0) continue;
+        for (unsigned port = 0; port < dimension; port++) {
+            other.port[hop] = (unsigned char)port;
+            if (uphill(node, target, port) && tried_before(dimension, &other, hop) < tried_before(dimension, path, hop)) return 0;
+        }
+    }
+    return 1;
+}
+
+/* The one path that takes a port and then at each node the first uphill port in helical order. */
+static struct path helix_path(unsigned dimension, unsigned source, unsigned port, unsigned target) {
+    struct path found = {0, 0, {0}};
+    list_all(dimension, source, power(port), target);
+    for (size_t i = 0; i < listed; i++)
+        if (beginnings[i].ends && is_helix(dimension, &beginnings[i], source, target)) {
+            if (found.hops != 0) abort(); /* there is one alone */
+            found = beginnings[i];
+        }
+    if (found.hops == 0) abort();
+    return found;
+}
+
+/* The helix paths of the ports of a vector in rising order, `most` of them at most, until one is free. The scouts of each are its free beginnings:
+ * the free hops at its front. */
+static struct pass run_helix(const struct cube *cube, unsigned source, unsigned vector, unsigned target, unsigned most) {
+    struct pass pass = {MAZE_ROUTE_REJECTED, 0, 0, {0, 0, {0}}};
+    ref_last_send.passes = 0;
+    for (unsigned port = 0; port < cube->dimension && ref_last_send.passes < most && pass.path.hops == 0; port++) {
+        struct path path, beginning;
+        if (!bit(vector, port)) continue;
+        ref_last_send.passes++;
+        path = beginning = helix_path(cube->dimension, source, port, target);
+        for (beginning.hops = 1; beginning.hops <= path.hops; beginning.hops++) pass.scouts += (unsigned)is_free(cube, source, &beginning);
+        if (is_free(cube, source, &path)) pass.path = path;
+    }
+    if (pass.path.hops != 0) take_channel(cube, target, &pass);
     return pass;
 }
 
@@ -224,6 +276,26 @@ static int is_sound(const struct cube *cube) {
             if (h->receives != 1 || !goes_on(cube, circuit, h, node, 0)) return 0;
         }
     return 1;
+}
+
+/* ---- a send, of each routing type ---- */
+
+static struct pass run_type(const struct cube *cube, unsigned source, unsigned vector, unsigned target, unsigned type) {
+    struct pass pass;
+    unsigned first, others = 0;
+    if (type == 1) return run_helix(cube, source, vector, target, cube->dimension);
+    if (type == 3) return run_helix(cube, source, vector, target, 1); /* the lowest port, and then no other */
+    pass = run_pass(cube, source, vector, target);
+    first = pass.scouts;
+    ref_last_send.passes = 1;
+    /* request (f): a receive rejection ends the send, since a second pass would come to the same target */
+    if (type == 0 || pass.number != MAZE_ROUTE_REJECTED) return pass;
+    for (unsigned port = 0; port < cube->dimension; port++)
+        if (!bit(vector, port)) others += power(port);
+    pass = run_pass(cube, source, others, target);
+    pass.scouts += first;
+    ref_last_send.passes = 2;
+    return pass;
 }
 
 /* ---- the calls ---- */
@@ -326,23 +398,13 @@ maze_opened ref_open(uint8_t *table, size_t table_len, uint16_t node, uint16_t c
     test_node(&call, node);
     test_node(&call, target);
     test(&call, channel > 7, MAZE_BAD_CHANNEL);
-    test(&call, type != 0 && type != 4, MAZE_BAD_ROUTING_TYPE);
+    test(&call, type == 2 || type > 4, MAZE_BAD_ROUTING_TYPE);
     if (call.number == MAZE_ACCEPTED) test(&call, vector == 0 || vector >= power(call.cube.dimension), MAZE_BAD_SEND_VECTOR);
     circuit = 8u * node + channel + 1u;
     if (call.number == MAZE_ACCEPTED) test(&call, is_open(&call.cube, circuit), MAZE_CHANNEL_IN_USE);
     if (call.number == MAZE_ACCEPTED) {
-        struct pass pass = run_pass(&call.cube, node, vector, target);
+        struct pass pass = run_type(&call.cube, node, vector, target, type);
         answer.scouts = pass.scouts;
-        ref_last_send.passes = 1;
-        /* request (f): a receive rejection ends the send, since a second pass would come to the same target */
-        if (pass.number == MAZE_ROUTE_REJECTED && type == 4) {
-            unsigned others = 0;
-            for (unsigned port = 0; port < call.cube.dimension; port++)
-                if (!bit(vector, port)) others += power(port);
-            pass = run_pass(&call.cube, node, others, target);
-            answer.scouts += pass.scouts;
-            ref_last_send.passes = 2;
-        }
         ref_last_send.hops = pass.path.hops;
         memcpy(ref_last_send.ports, pass.path.port, sizeof ref_last_send.ports);
         call.number = pass.number;

@@ -1,4 +1,4 @@
-/* The calls on a table once more, written for checking: an independent reading of document 01 with requests (a) and (f) of document 02, which
+/* The calls on a table once more, written for checking: an independent reading of document 01 with requests (a), (b) and (f) of document 02, which
  * shares nothing with the library but the header's names. Signatures and answers are those of maze.h. */
 #ifndef REFERENCE_H
 #define REFERENCE_H
@@ -16,8 +16,8 @@ maze_traced ref_trace(const uint8_t *table, size_t table_len, uint16_t node, uin
 
 /* What the last open that came to its search did; for counting which cases a test has seen. */
 struct ref_send {
-    unsigned passes;                  /* 1 or 2; a second one follows a route rejection alone */
-    unsigned hops;                    /* of the path found in the last pass; 0 if there is none */
+    unsigned passes;                  /* 1 or 2; a second one follows a route rejection alone. Of types 1 and 3: the paths tried */
+    unsigned hops;                    /* of the path found last; 0 if there is none */
     uint8_t ports[MAZE_HOPS_LARGEST];
 };
 extern struct ref_send ref_last_send;

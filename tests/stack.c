@@ -64,7 +64,7 @@ static void holds(const char *name, unsigned long bytes, unsigned long limit) {
 
 /* Opens of every routing type and send vector: accepted, with no receive channel armed, and with every link into the target blocked. */
 static unsigned long most_of_opens(void) {
-    static const uint16_t types[] = {MAZE_TYPE_MAZE, MAZE_TYPE_ALTERNATE_MAZE};
+    static const uint16_t types[] = {MAZE_TYPE_MAZE, MAZE_TYPE_HELIX, MAZE_TYPE_FIXED, MAZE_TYPE_ALTERNATE_MAZE};
     unsigned long most = 0;
     unsigned hops[2] = {0, 0};
     for (unsigned round = 0; round < 3; round++) {

@@ -1,8 +1,8 @@
 -- No test of a call applies exactly where its arguments are allowed, on whatever the call is made: a table, or the history.
 -- Assumes nothing.
 use mathlib.Core.Path.{_≡_, refl, ap, ap₂, _∙_}
-use mathlib.Core.Logic.{_⊎_, inl, inr, ⊎-elim}
-use mathlib.Core.Bool.{Bool, true, false, not, _&&_, _||_, true≢false, and-false}
+use mathlib.Core.Logic.{_⊎_, ⊎-elim, ⊎-map, _↔_}
+use mathlib.Core.Bool.{Bool, true, false, not, _&&_, _||_}
 use mathlib.Core.List.{[]}
 use Prim.Native.Nat.{ℕ, _^_, _<_}
 use native.Mathlib.Omega.{arith}
@@ -10,7 +10,7 @@ use lib.Dec.{eqb, ltb, leb}
 use lib.ListN.{length}
 use borrow.Author.Tests.{eqb-true, eqb-false, eq-eqb, ne-eqb, ltb-true, ltb-false, lt-ltb, le-ltb, leb-true, le-leb, not-false}
 use Rattle.common.specs.Tests.{refusal}
-use Rattle.common.proofs.Tests.{neither, passed, accepted, first-passed, both}
+use Rattle.common.proofs.Tests.{neither, either, or-left, or-right, passed, accepted, first-passed, both}
 use Rattle.cube.proofs.Bits.{high-has, no-bit-above}
 use Rattle.ownership.specs.Calls.{Call, making, blocking, unblocking, opening, closing, tracing, arming, disarming, CallFacts, callTests}
 use Rattle.ownership.specs.Allowed.{Allowed}
@@ -20,17 +20,16 @@ use Rattle.ownership.specs.History.{History, factsOn, stoppedOn}
 pub below : (n m : ℕ) → not (ltb n m) ≡ false → n < m
 below n m e = ltb-true n m (not-false _ e)
 
--- a routing type that is 0 or 4
-a-type : (y : ℕ) → (not (eqb y 0) && not (eqb y 4)) ≡ false → (y ≡ 0) ⊎ (y ≡ 4)
-a-type y e = go (eqb y 0) refl (eqb y 4) refl
-  where
-    go : (u : Bool) → eqb y 0 ≡ u → (w : Bool) → eqb y 4 ≡ w → (y ≡ 0) ⊎ (y ≡ 4)
-    go true f w g = inl (eqb-true y 0 f)
-    go false f true g = inr (eqb-true y 4 g)
-    go false f false g = absurd (true≢false (rw (f, g) at e))
+-- one of two tests applies exactly where one of two reasons holds
+pub one-of : {P Q : Type 0} (b c : Bool) → (b ≡ true) ↔ P → (c ≡ true) ↔ Q → (b || c ≡ true) ↔ (P ⊎ Q)
+one-of b c p q = (λ e. ⊎-map (p .0) (q .0) (either b c e), ⊎-elim (λ h. or-left c (p .1 h)) (λ h. or-right b (q .1 h)))
 
-type-is : (y : ℕ) → (y ≡ 0) ⊎ (y ≡ 4) → (not (eqb y 0) && not (eqb y 4)) ≡ false
-type-is y = ⊎-elim (λ h. ap (λ w. not w && not (eqb y 4)) (eq-eqb y 0 h)) (λ h. ap (λ w. not (eqb y 0) && not w) (eq-eqb y 4 h) ∙ and-false (not (eqb y 0)))
+pub equals : (n m : ℕ) → (eqb n m ≡ true) ↔ (n ≡ m)
+equals n m = (eqb-true n m, eq-eqb n m)
+
+-- the four routing types
+a-type : (y : ℕ) → (eqb y 0 || (eqb y 1 || (eqb y 3 || eqb y 4)) ≡ true) ↔ ((y ≡ 0) ⊎ (y ≡ 1) ⊎ (y ≡ 3) ⊎ (y ≡ 4))
+a-type y = one-of _ _ (equals y 0) (one-of _ _ (equals y 1) (one-of _ _ (equals y 3) (equals y 4)))
 
 pub is-below : (n m : ℕ) → n < m → not (ltb n m) ≡ false
 is-below n m h = ap not (lt-ltb n m h)
@@ -63,7 +62,7 @@ allowed a (opening s c t y v) e =
     let x₅ = first-passed _ 9 _ (λ z. omega arith) (x₄ .1) in
     let ends = neither (not (ltb s (2 ^ a .dimension))) _ (x₁ .0) in
     let vector = neither (eqb v 0) _ (x₄ .0) in
-    (below s _ (ends .0), below t _ (ends .1), channel-small c (x₂ .0), eqb-false v 0 (vector .0), λ p l. high-has _ v p (below v _ (vector .1)) l, x₅ .0, a-type y (x₃ .0))
+    (below s _ (ends .0), below t _ (ends .1), channel-small c (x₂ .0), eqb-false v 0 (vector .0), λ p l. high-has _ v p (below v _ (vector .1)) l, x₅ .0, a-type y .0 (not-false _ (x₃ .0)))
 allowed a (closing s c) e =
     let x = first-passed _ 4 _ (λ z. omega arith) e in
     let y = first-passed _ 5 _ (λ z. omega arith) (x .1) in
@@ -92,7 +91,7 @@ allowed-passes a (making D) h = passed 2 [] (ap not (ap₂ _&&_ (le-leb 1 D (h .
 allowed-passes a (blocking n p) h = passed 4 _ (is-below n _ (h .0)) ∙ passed 6 _ (is-below p _ (h .1)) ∙ passed 13 _ (h .2) ∙ accepted
 allowed-passes a (unblocking n p) h = passed 4 _ (is-below n _ (h .0)) ∙ passed 6 _ (is-below p _ (h .1)) ∙ accepted
 allowed-passes a (opening s c t y v) h =
-    passed 4 _ (ap₂ _||_ (is-below s _ (h .0)) (is-below t _ (h .1))) ∙ passed 5 _ (channel-is c (h .2)) ∙ passed 7 _ (type-is y (h .6))
+    passed 4 _ (ap₂ _||_ (is-below s _ (h .0)) (is-below t _ (h .1))) ∙ passed 5 _ (channel-is c (h .2)) ∙ passed 7 _ (ap not (a-type y .1 (h .6)))
     ∙ passed 8 _ (ap₂ _||_ (ne-eqb v 0 (h .3)) (is-below v _ (no-bit-above _ v (h .4)))) ∙ passed 9 _ (h .5) ∙ accepted
 allowed-passes a (closing s c) h = passed 4 _ (is-below s _ (h .0)) ∙ passed 5 _ (channel-is c (h .1)) ∙ passed 12 _ (ap not (h .2)) ∙ accepted
 allowed-passes a (tracing s c buffer) h =

@@ -21,6 +21,7 @@ pub mod BytesAfter
 pub mod Refused
 pub mod Agreement
 pub mod OnSound
+pub mod TypesOnTable
 pub mod FromTable
 pub mod Corollaries
 pub mod Rising

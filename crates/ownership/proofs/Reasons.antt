@@ -1,7 +1,7 @@
 -- The number that a call answers for its arguments is the lowest whose reason holds.
 -- Assumes nothing.
 use mathlib.Core.Path.{_≡_, refl, ap, sym}
-use mathlib.Core.Logic.{_⊎_, ⊎-elim, ⊎-map, _≢_, _↔_}
+use mathlib.Core.Logic.{_⊎_, inl, inr, ⊎-elim, _≢_, _↔_}
 use mathlib.Core.Bool.{Bool, true, false, cond, not, _&&_, _||_, true≢false}
 use mathlib.Core.List.{List, [], _∷_}
 use Prim.Native.Nat.{ℕ, _^_, _≤_, _<_}
@@ -11,9 +11,10 @@ use lib.ListN.{length}
 use lib.Pow.{pow-mono}
 use borrow.Author.Tests.{eqb-true, eqb-false, eq-eqb, ne-eqb, ltb-true, ltb-false, lt-ltb, le-ltb, leb-false, lt-leb, not-true}
 use Rattle.common.specs.Tests.{Test, test, refusal}
-use Rattle.common.proofs.Tests.{both, and, either, or-left, or-right}
+use Rattle.common.proofs.Tests.{both, and, same?}
 use Rattle.cube.specs.Bits.{has}
 use Rattle.cube.proofs.Bits.{has-room, has-bit-above}
+use Rattle.ownership.proofs.Allowed.{one-of, equals}
 use Rattle.ownership.specs.Calls.{Call, making, blocking, unblocking, opening, closing, tracing, arming, disarming, CallFacts, callTests}
 use Rattle.ownership.specs.Reasons.{Reason, making-dimension, blocking-node, blocking-port, blocking-held, unblocking-node, unblocking-port}
 use Rattle.ownership.specs.Reasons.{opening-node, opening-channel, opening-type, opening-vector, opening-in-use}
@@ -79,9 +80,6 @@ closed b = (not-true b, ap not)
 itself : {P : Type 0} → P ↔ P
 itself = (λ h. h, λ h. h)
 
-one-of : {P Q : Type 0} (b c : Bool) → (b ≡ true) ↔ P → (c ≡ true) ↔ Q → (b || c ≡ true) ↔ (P ⊎ Q)
-one-of b c p q = (λ e. ⊎-map (p .0) (q .0) (either b c e), ⊎-elim (λ h. or-left c (p .1 h)) (λ h. or-right b (q .1 h)))
-
 both-of : {P Q : Type 0} (b c : Bool) → (b ≡ true) ↔ P → (c ≡ true) ↔ Q → (b && c ≡ true) ↔ (P × Q)
 both-of b c p q = (λ e. let r = both b c e in (p .0 (r .0), q .0 (r .1)), λ h. and (p .1 (h .0)) (q .1 (h .1)))
 
@@ -92,14 +90,31 @@ not-both false c = refl
 outside : (D : ℕ) → (not (leb 1 D && leb D 8) ≡ true) ↔ ((D < 1) ⊎ (8 < D))
 outside D = rw (not-both (leb 1 D) (leb D 8)) (one-of _ _ (above 1 D) (above D 8))
 
-no-type : (y : ℕ) → (not (eqb y 0) && not (eqb y 4) ≡ true) ↔ ((y ≢ 0) × (y ≢ 4))
-no-type y = both-of _ _ (differs y 0) (differs y 4)
+not-either : (b c : Bool) → not (b || c) ≡ (not b && not c)
+not-either true c = refl
+not-either false c = refl
+
+no-type : (y : ℕ) → (not (eqb y 0 || (eqb y 1 || (eqb y 3 || eqb y 4))) ≡ true) ↔ ((y ≡ 2) ⊎ (5 ≤ y))
+no-type y =
+    let four = both-of _ _ (differs y 0) (both-of _ _ (differs y 1) (both-of _ _ (differs y 3) (differs y 4))) in
+    rw (not-either (eqb y 0) (eqb y 1 || (eqb y 3 || eqb y 4)), not-either (eqb y 1) (eqb y 3 || eqb y 4), not-either (eqb y 3) (eqb y 4))
+    (λ e. left (four .0 e), λ h. four .1 (right h))
+  where
+    left : (y ≢ 0) × ((y ≢ 1) × ((y ≢ 3) × (y ≢ 4))) → (y ≡ 2) ⊎ (5 ≤ y)
+    left h = ⊎-elim inl (λ off. inr (go (ltb y 5) refl off)) (same? y 2)
+      where
+        go : (b : Bool) → ltb y 5 ≡ b → y ≢ 2 → 5 ≤ y
+        go true e off = absurd (omega (arith, ltb-true y 5 e, h .0, h .1 .0, h .1 .1 .0, h .1 .1 .1, off))
+        go false e off = ltb-false y 5 e
+
+    right : (y ≡ 2) ⊎ (5 ≤ y) → (y ≢ 0) × ((y ≢ 1) × ((y ≢ 3) × (y ≢ 4)))
+    right = ⊎-elim (λ e. ((λ z. omega arith), ((λ z. omega arith), ((λ z. omega arith), λ z. omega arith)))) (λ l. ((λ z. omega arith), ((λ z. omega arith), ((λ z. omega arith), λ z. omega arith))))
 
 bit-above : (D v : ℕ) → (not (ltb v (2 ^ D)) ≡ true) ↔ ((p : ℕ) × (D ≤ p) × (has v p ≡ true))
 bit-above D v = (λ e. has-bit-above D v (not-below v _ .0 e), λ h. not-below v _ .1 (omega (arith, pow-mono (h .1), has-room v (h .0) (h .2))))
 
 no-vector : (D v : ℕ) → (eqb v 0 || not (ltb v (2 ^ D)) ≡ true) ↔ ((v ≡ 0) ⊎ ((p : ℕ) × (D ≤ p) × (has v p ≡ true)))
-no-vector D v = one-of _ _ (eqb-true v 0, eq-eqb v 0) (bit-above D v)
+no-vector D v = one-of _ _ (equals v 0) (bit-above D v)
 
 module _ (a : CallFacts) where
   absent : (s t : ℕ) → (not (ltb s (2 ^ a .dimension)) || not (ltb t (2 ^ a .dimension)) ≡ true) ↔ ((2 ^ a .dimension ≤ s) ⊎ (2 ^ a .dimension ≤ t))

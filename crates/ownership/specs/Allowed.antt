@@ -15,7 +15,7 @@ Allowed a (blocking n p) = (n < 2 ^ a .dimension) × (p < a .dimension) × (a .h
 Allowed a (unblocking n p) = (n < 2 ^ a .dimension) × (p < a .dimension)
 Allowed a (opening s c t y v) =
     (s < 2 ^ a .dimension) × (t < 2 ^ a .dimension) × (c < 8) × (v ≢ 0) × ((p : ℕ) → a .dimension ≤ p → has v p ≡ false) × (a .isOpen s c ≡ false)
-    × ((y ≡ 0) ⊎ (y ≡ 4))
+    × ((y ≡ 0) ⊎ (y ≡ 1) ⊎ (y ≡ 3) ⊎ (y ≡ 4))
 Allowed a (closing s c) = (s < 2 ^ a .dimension) × (c < 8) × (a .isOpen s c ≡ true)
 Allowed a (tracing s c buffer) = (s < 2 ^ a .dimension) × (c < 8) × (a .isOpen s c ≡ true) × (9 ≤ length buffer)
 Allowed a (arming n k) = (n < 2 ^ a .dimension) × (k < 8)

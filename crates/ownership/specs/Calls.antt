@@ -121,9 +121,9 @@ channel c = test (ltb 7 c) 5
 abbrev pub port : CallFacts → ℕ → Test
 port a p = test (not (ltb p (a .dimension))) 6
 
--- "routing type neither 0 nor 4"; "send vector zero, or with a bit at or above D"
+-- "routing type neither 0 nor 4", and since document 02, (b), neither 1 nor 3; "send vector zero, or with a bit at or above D"
 abbrev pub routingType : ℕ → Test
-routingType y = test (not (eqb y 0) && not (eqb y 4)) 7
+routingType y = test (not (eqb y 0 || (eqb y 1 || (eqb y 3 || eqb y 4)))) 7
 
 abbrev pub sendVector : CallFacts → ℕ → Test
 sendVector a v = test (eqb v 0 || not (ltb v (2 ^ a .dimension))) 8

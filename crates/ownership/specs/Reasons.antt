@@ -29,8 +29,8 @@ pub data Reason (a : CallFacts) : Call → ℕ → Type 0 where
   opening-node : {s c t y v : ℕ} → (2 ^ a .dimension ≤ s) ⊎ (2 ^ a .dimension ≤ t) → Reason a (opening s c t y v) 4
   -- open, 5: "channel above 7"
   opening-channel : {s c t y v : ℕ} → 7 < c → Reason a (opening s c t y v) 5
-  -- open, 7: "routing type neither 0 nor 4"
-  opening-type : {s c t y v : ℕ} → (y ≢ 0) × (y ≢ 4) → Reason a (opening s c t y v) 7
+  -- open, 7: document 02, (b), "types 2, 5, 6, 7 and above"
+  opening-type : {s c t y v : ℕ} → (y ≡ 2) ⊎ (5 ≤ y) → Reason a (opening s c t y v) 7
   -- open, 8: "send vector zero, or with a bit at or above D"
   opening-vector : {s c t y v : ℕ} → (v ≡ 0) ⊎ ((p : ℕ) × (a .dimension ≤ p) × (has v p ≡ true)) → Reason a (opening s c t y v) 8
   -- open, 9: "this send channel has an open circuit"

@@ -38,6 +38,22 @@ only-route : (N : Network) (s t : ℕ) (free : ℕ → ℕ → Bool) (r : Receiv
     → (w : Path) × Tries N s t a w × Free N free s w
 only-route N s t free r a x = subst (λ b. (w : Path) × Tries N s t b w × Free N free s w) (List·Memᴰ·eq-of-singleton (x .1)) (x .2)
 
+-- A free path that type 3 may try is one that type 1 may try, and one of type 1 is one of type 0.
+module _ (S : Shape) (free : ℕ → ℕ → Bool) (r : Receive) (s vector t : ℕ) where
+  pub fixed-route : Route (network S) s t free r (attempts S 3 vector) → Route (network S) s t free r (attempts S 1 vector)
+  unfolding attempts Tries
+  fixed-route x =
+      let y = only-route (network S) s t free r (helix-paths (take 1 (sendPorts S vector))) x in
+      let z = lowest-in-helix (network S) free s t (sendPorts S vector) (y .1 .0, y .1 .1, (y .0, y .1 .2, y .2)) in
+      (helix-paths (sendPorts S vector), List·Memᴰ·head refl, (z .2 .0, (z .0, z .1, z .2 .1), z .2 .2))
+
+  pub helix-route : Route (network S) s t free r (attempts S 1 vector) → Route (network S) s t free r (attempts S 0 vector)
+  unfolding attempts Tries
+  helix-route x =
+      let y = only-route (network S) s t free r (helix-paths (sendPorts S vector)) x in
+      let z = helix-in-permitted (network S) free s t (sendPorts S vector) (y .1 .0, y .1 .1, (y .0, y .1 .2, y .2)) in
+      (pass-over (sendPorts S vector), List·Memᴰ·head refl, z)
+
 -- Sends over one network, free links, receive channel, source, vector and target, of two routing types:
 module _ (S : Shape) (fits : S .dimension ≤ 8) (free : ℕ → ℕ → Bool) (r : Receive) (s vector t : ℕ) (source : Node S s) (target : Node S t) where
   abbrev AnswerOf : ℕ → Outcome
@@ -65,18 +81,8 @@ module _ (S : Shape) (fits : S .dimension ≤ 8) (free : ℕ → ℕ → Bool) (
 
   -- "type 1 acknowledges all that type 3 does,
   pub fixed-in-helix : Acknowledged (AnswerOf 3) → Acknowledged (AnswerOf 1)
-  unfolding attempts Tries
-  fixed-in-helix =
-      more-routes 3 1
-      (λ x. let y = only-route (network S) s t free r (helix-paths (take 1 (sendPorts S vector))) x in
-      let z = lowest-in-helix (network S) free s t (sendPorts S vector) (y .1 .0, y .1 .1, (y .0, y .1 .2, y .2)) in
-      (helix-paths (sendPorts S vector), List·Memᴰ·head refl, (z .2 .0, (z .0, z .1, z .2 .1), z .2 .2)))
+  fixed-in-helix = more-routes 3 1 (fixed-route S free r s vector t)
 
   -- and type 0 all that type 1 does."
   pub helix-in-maze : Acknowledged (AnswerOf 1) → Acknowledged (AnswerOf 0)
-  unfolding attempts Tries
-  helix-in-maze =
-      more-routes 1 0
-      (λ x. let y = only-route (network S) s t free r (helix-paths (sendPorts S vector)) x in
-      let z = helix-in-permitted (network S) free s t (sendPorts S vector) (y .1 .0, y .1 .1, (y .0, y .1 .2, y .2)) in
-      (pass-over (sendPorts S vector), List·Memᴰ·head refl, z))
+  helix-in-maze = more-routes 1 0 (helix-route S free r s vector t)

@@ -23,11 +23,11 @@ use Rattle.paths.proofs.Helix.{helix-only, helix-short}
 
 -- one step of trying: a free path is found, another is counted and left
 module _ (N : Network) (free : ℕ → ℕ → Bool) (s c : ℕ) (w : Path) (ws : List Path) where
-  try-free : freePath N free s w ≡ true → tryPaths N free s c (w ∷ ws) ≡ found w (c + freeFront N free s w)
+  pub try-free : freePath N free s w ≡ true → tryPaths N free s c (w ∷ ws) ≡ found w (c + freeFront N free s w)
   unfolding tryPaths
   try-free e = rw e
 
-  try-on : freePath N free s w ≡ false → tryPaths N free s c (w ∷ ws) ≡ tryPaths N free s (c + freeFront N free s w) ws
+  pub try-on : freePath N free s w ≡ false → tryPaths N free s c (w ∷ ws) ≡ tryPaths N free s (c + freeFront N free s w) ws
   try-on e = unfold tryPaths in rw e
 
 module _ (N : Network) (free : ℕ → ℕ → Bool) where

@@ -1,7 +1,7 @@
 -- The tests of a call, one after another: what each return of the functions that make them answers, and what is known where none applies.
 -- Assumes nothing.
 use mathlib.Core.Path.{_≡_, refl, ap, sym, _∙_}
-use mathlib.Core.Logic.{_⊎_, _≢_}
+use mathlib.Core.Logic.{_≢_}
 use mathlib.Core.Bool.{Bool, true, false, not, _||_}
 use mathlib.Core.List.{List, [], _∷_, _++_}
 use Prim.Native.Nat.{ℕ, _^_, _≤_, _<_}
@@ -113,11 +113,11 @@ module _ {b : List ℕ} {m k n : ℕ} where
   disarm-passed e z = let r = none-applies b (disarming m k) refl e z in (inside b (r .0) (r .1 .0) (r .1 .0), r .1 .1)
 
 pub open-passed : {b : List ℕ} {s c t : ℕ} (y : ℕ) {v n : ℕ} → n ≡ stoppedAt b (opening s c t y v) → n ≡ 0
-    → Inside b s t × (c < 8) × (v < 2 ^ dimensionAt b) × ((y ≡ 0) ⊎ (y ≡ 4))
+    → Inside b s t × (c < 8) × (v < 2 ^ dimensionAt b) × (v ≢ 0)
 unfolding Allowed factsOf view
 open-passed {b} {s} {c} {t} y {v} e z =
     let r = none-applies b (opening s c t y v) refl e z in
-    (inside b (r .0) (r .1 .0) (r .1 .1), r .1 .2, no-bit-above (dimensionAt b) v (r .1 .4), r .1 .6)
+    (inside b (r .0) (r .1 .0) (r .1 .1), r .1 .2, no-bit-above (dimensionAt b) v (r .1 .4), r .1 .3)
 
 module _ {b : List ℕ} {s c : ℕ} where
   pub close-passed : {n : ℕ} → n ≡ stoppedAt b (closing s c) → n ≡ 0 → Inside b s s × (c < 8) × (openIn (view b) s c ≡ true)

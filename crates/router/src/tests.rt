@@ -49,6 +49,12 @@ fn no_type(routing: u16) -> bool
     if routing == 0 {
         return false;
     }
+    if routing == 1 {
+        return false;
+    }
+    if routing == 3 {
+        return false;
+    }
     routing != 4
 }
 

@@ -2,5 +2,7 @@
 pub mod PassAnswer
 pub mod Narrow
 pub mod SearchContracts
+pub mod Following
 pub mod Sends
+pub mod HelixSends
 pub mod SendSays

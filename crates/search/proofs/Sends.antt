@@ -1,7 +1,7 @@
 -- A send as the code makes it: a pass from the source, the receive channel taken behind it, and the second pass of routing type 4.
 -- Assumes nothing.
 use mathlib.Core.Path.{_≡_, refl, ap, ap₂, sym, _∙_}
-use mathlib.Core.Logic.{_⊎_, inl, inr, _≢_}
+use mathlib.Core.Logic.{_≢_}
 use mathlib.Core.Bool.{true, false, not}
 use mathlib.Core.List.{List}
 use Prim.Native.Nat.{ℕ, _+_, _-_, _^_, _≤_, _<_}
@@ -11,16 +11,16 @@ use lib.Dec.{eqb, lit<}
 use lib.ListN.{length}
 use lib.Pow.{pow-pos}
 use lib.Bits.{bitXor, xor-lt}
-use borrow.Author.Tests.{lt-ltb}
+use borrow.Author.Tests.{lt-ltb, ne-eqb}
 use Rattle.cube.specs.Bits.{bitAt, has}
 use Rattle.cube.specs.Cube.{NodeCount}
 use Rattle.cube.proofs.Bits.{one-bit, bit-lt, bit-xor, has-bit}
-use Rattle.cube.specs.Helical.{portsOf}
+use Rattle.cube.specs.Helical.{helical, portsOf}
 use Rattle.cube.proofs.Order.{helical-last, ports-wider, ports-mem, length-ports}
 use Rattle.paths.specs.Pass.{PassResult, none, found, pass, scouts}
 use Rattle.paths.specs.Search.{trying, sending}
 use Rattle.paths.specs.Send.{Receive, channel, none-available, Outcome, acknowledged, route-rejected, receive-rejected, oneResult, received, outcome, goesOn}
-use Rattle.paths.specs.CubeNetwork.{Shape, network, sendPorts, otherPorts}
+use Rattle.paths.specs.CubeNetwork.{Shape, network, sendPorts, otherPorts, attempts, send}
 use Rattle.paths.proofs.Depth.{search-is-pass}
 use Rattle.paths.proofs.CubeNetwork.{distance-within, unfolded-send-ports, scouts-bound, other-vector}
 use Rattle.paths.proofs.Send.{maze-answers, alternate-stops, alternate-goes-on}
@@ -40,16 +40,19 @@ use Rattle.search.proofs.SearchContracts.{farthest-most}
 abbrev passOf : List ℕ → ℕ → ℕ → ℕ → PassResult
 passOf b s t vector = pass (net (view b)) (freeIn (view b)) s (sendPorts (shapeOf (view b)) vector) t
 
-module _ {b : List ℕ} {s t c vector : ℕ} (may : MaySend b s t c vector) where
-  ports-listed : portsOf 8 vector ≡ sendPorts (shapeOf (view b)) vector
-  ports-listed = (unfold view in ports-wider (dimensionAt b) 8 vector (may .fits) (may .ports) ∙ sym (unfolded-send-ports (shapeOf (view b)) (may .fits) refl vector))
+-- "a send tries ports from 0 upward", as after an arrival on port 7
+pub ports-in-turn : (b : List ℕ) (vector : ℕ) → dimensionAt b ≤ 8 → vector < 2 ^ dimensionAt b → helical 7 (portsOf 8 vector) ≡ sendPorts (shapeOf (view b)) vector
+ports-in-turn b vector fits small =
+    helical-last 7 (portsOf 8 vector) (λ p m. let r = ports-mem 8 vector m in omega arith)
+    ∙ (unfold view in ports-wider (dimensionAt b) 8 vector fits small ∙ sym (unfolded-send-ports (shapeOf (view b)) fits refl vector))
 
+module _ {b : List ℕ} {s t c vector : ℕ} (may : MaySend b s t c vector) where
   -- ports after arrival port 7 are tried from 0 upward: the search is the pass
   pub tries-pass : tryAnswer b t c s vector 7 0 0 ≡ answerOfPass b c s 0 (receive (view b) t) (passOf b s t vector)
   unfolding tryAnswer
   tries-pass =
       ap (answerOfPass b c s 0 (receive (view b) t))
-      (ap (λ ps. trying (freeIn (view b) s) (arrivalAfter (net (view b)) (freeIn (view b)) t s) ps 0) (helical-last 7 (portsOf 8 vector) (λ p m. let r = ports-mem 8 vector m in omega arith) ∙ ports-listed)
+      (ap (λ ps. trying (freeIn (view b) s) (arrivalAfter (net (view b)) (freeIn (view b)) t s) ps 0) (ports-in-turn b vector (may .fits) (may .ports))
       ∙ (unfold sending arrivalAfter in search-is-pass (net (view b)) (freeIn (view b)) s (sendPorts (shapeOf (view b)) vector) t))
 
   near : farthestAfter b t s vector ≤ 8
@@ -244,7 +247,7 @@ module _ {b : List ℕ} {s t c vector : ℕ} (may : MaySend b s t c vector) {x h
           (ap₂ _+_ (sent-scouts b c s t (outcome r first) (scouts first) first-is) (sent-scouts b c s t (outcome r second) (scouts second) second-is))
           ∙ ap (sendAnswer b c s t) (sym (alternate-goes-on S (freeIn (view b)) r s vector t (sent-goes-on b c s t (outcome r first) (scouts first) first-is z)))
 
--- Of types 0 and 4, one that is not 4 makes one pass.
-pub send-maze : (b : List ℕ) (s t c type vector : ℕ) → (type ≡ 0) ⊎ (type ≡ 4) → type ≢ 4 → sends b s t c 0 vector ≡ sends b s t c type vector
-send-maze b s t c type vector (inl e) f = ap (λ y. sends b s t c y vector) (sym e)
-send-maze b s t c type vector (inr e) f = absurd (f e)
+-- A type that is none of the others makes one pass.
+pub send-maze : (b : List ℕ) (s t c type vector : ℕ) → type ≢ 4 → type ≢ 3 → type ≢ 1 → sends b s t c 0 vector ≡ sends b s t c type vector
+unfolding sends send attempts
+send-maze b s t c type vector f g h = rw (ne-eqb type 3 g, ne-eqb type 1 h, ne-eqb type 4 f)

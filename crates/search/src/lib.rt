@@ -1,6 +1,6 @@
 // The search for a free permitted path on a lent table.
 ghost use mathlib.Core.Path.{_≡_};
-ghost use mathlib.Core.Logic.{_⊎_};
+ghost use mathlib.Core.Logic.{_≢_};
 ghost use mathlib.Core.Bool.{true};
 ghost use Rattle.table.specs.LayoutContracts.{Within};
 ghost use Rattle.table.specs.View.{view};
@@ -8,6 +8,8 @@ ghost use Rattle.cube.specs.Helical.{FirstPorts};
 ghost use Rattle.search.specs.PassAnswer.{freeIn, pass-answer};
 ghost use Rattle.search.specs.SearchContracts.{Narrowed, Enabled, tryAnswer, arriveAnswer, MayTry, MayArrive};
 ghost use Rattle.search.specs.SendAnswer.{MaySend, sends};
+mod helix;
+
 use common::refusal;
 use cube::Circuit;
 use cube::Node;
@@ -210,7 +212,7 @@ fn alternate_maze(
     }
 }
 
-// A send of routing type 0 or 4. The table of first ports is built once for all its hops.
+// A send of a routing type, 0, 1, 3 or 4. The table of first ports is built once for all its hops.
 pub fn send(
     t: &mut [u8],
     source: Node,
@@ -220,13 +222,18 @@ pub fn send(
     vector: u16,
 ) -> Opened
     requires { ⌜ MaySend (now t) (source .0) (target .0) (c .0) vector ⌝ }
-    requires { ⌜ (routing ≡ 0) ⊎ (routing ≡ 4) ⌝ }
+    requires { ⌜ vector ≢ 0 ⌝ }
     ensures { λ r. ⌜ pass-answer (r .number) (r .hops) (r .receive) (r .scouts) (now (t .exit)) ≡ sends (now (t .entry)) (source .0) (target .0) (c .0) routing vector ⌝ }
 {
     let first = cube::first_ports();
     if routing == 4 {
-        alternate_maze(t, source, target, c, vector, &first)
-    } else {
-        maze(t, source, target, c, vector, &first)
+        return alternate_maze(t, source, target, c, vector, &first);
     }
+    if routing == 3 {
+        return helix::try_lowest(t, source, target, c, vector, &first);
+    }
+    if routing == 1 {
+        return helix::try_each(t, source, target, c, vector, &first);
+    }
+    maze(t, source, target, c, vector, &first)
 }

@@ -1,0 +1,49 @@
+-- What an open of one routing type acknowledges, one of another does too: of the calls themselves, on one table, whatever its bytes.
+-- Assumes nothing.
+use mathlib.Core.Path.{_≡_, refl, _∙_}
+use mathlib.Core.Logic.{_⊎_, inl, inr}
+use mathlib.Core.List.{List}
+use Prim.Native.Nat.{ℕ}
+use Rattle.paths.specs.CubeNetwork.{attempts}
+use Rattle.paths.proofs.Inclusion.{fixed-route, helix-route}
+use Rattle.table.specs.View.{view, receive, shapeOf}
+use Rattle.search.specs.PassAnswer.{freeIn}
+use Rattle.search.specs.SendSays.{SomeRoute}
+use Rattle.ownership.specs.Calls.{opening}
+use Rattle.ownership.specs.OnTable.{factsOf, stoppedAt, tableStep}
+use Rattle.ownership.specs.Allowed.{Allowed}
+use Rattle.ownership.proofs.Allowed.{allowed, allowed-passes}
+use Rattle.ownership.proofs.Stops.{none-stops, none-stops-lent, pass-tests, stopped-is}
+use Rattle.ownership.proofs.Steps.{table-step}
+use Rattle.ownership.proofs.OnSound.{open-answers}
+
+module _ (b : List ℕ) (s c t v : ℕ) where
+  -- what an open of a routing type answers
+  abbrev pub numberOf : ℕ → ℕ
+  numberOf y = tableStep b (opening s c t y v) .result .number
+
+  -- no test but that of the type looks at the type
+  another-type : (y z : ℕ) → (z ≡ 0) ⊎ (z ≡ 1) ⊎ (z ≡ 3) ⊎ (z ≡ 4) → stoppedAt b (opening s c t y v) ≡ 0 → stoppedAt b (opening s c t z v) ≡ 0
+  unfolding Allowed
+  another-type y z k e =
+      let p = pass-tests b (none-stops-lent b (opening s c t y v) refl e) in
+      let r = allowed (factsOf (view b)) (opening s c t y v) (none-stops b (opening s c t y v) e) in
+      stopped-is b (p .0) (p .1) (p .2) (p .3) (opening s c t z v)
+      ∙ allowed-passes (factsOf (view b)) (opening s c t z v) (r .0, r .1, r .2, r .3, r .4, r .5, k)
+
+  abbrev RouteOf : ℕ → Type 0
+  RouteOf y = SomeRoute (view b) s t (attempts (shapeOf (view b)) y v)
+
+  more-routes : (y z : ℕ) → (z ≡ 0) ⊎ (z ≡ 1) ⊎ (z ≡ 3) ⊎ (z ≡ 4) → (RouteOf y → RouteOf z) → numberOf y ≡ 0 → numberOf z ≡ 0
+  more-routes y z k more n =
+      let e = table-step b (opening s c t y v) .passed n in
+      let h = open-answers b s c t y v e .exactly .0 n in
+      open-answers b s c t z v (another-type y z k e) .exactly .1 (more (h .0), h .1)
+
+  -- "for one table and sends alike but for type, type 1 acknowledges all that type 3 does,
+  pub fixed-open-in-helix : numberOf 3 ≡ 0 → numberOf 1 ≡ 0
+  fixed-open-in-helix = more-routes 3 1 (inr (inl refl)) (fixed-route (shapeOf (view b)) (freeIn (view b)) (receive (view b) t) s v t)
+
+  -- and type 0 all that type 1 does."
+  pub helix-open-in-maze : numberOf 1 ≡ 0 → numberOf 0 ≡ 0
+  helix-open-in-maze = more-routes 1 0 (inl refl) (helix-route (shapeOf (view b)) (freeIn (view b)) (receive (view b) t) s v t)

@@ -1,0 +1,80 @@
+-- `search::helix::free_front` meets its contract: what is still to go gives the whole path.
+-- Assumes nothing.
+use mathlib.Core.Path.{refl, sym, _∙_}
+use native.Mathlib.Omega.{arith}
+use borrow.Author.Needs.{needs}
+use Rattle.search.proofs.helix.free_front.Statement.{statement}
+use Rattle.search.proofs.helix.free_front.Tie as tie
+use Rattle.cube.specs.Cube.{next}
+use Rattle.search.specs.SearchContracts.{hopsLeft}
+use Rattle.search.proofs.Following.{Looking, looking-first, looking-stopped, looking-arrived, looking-nearer, looking-more, hop-within, up-small}
+
+abbrev Inv-loop : tie.InvT-loop
+Inv-loop t target first at₀ p₀ hops₀ at p hops = Looking t (at₀ .0) (target .0) (p₀ .0) (at .0) (p .0) hops
+
+abbrev μ-loop : tie.MeasureT-loop
+μ-loop t target first at₀ p₀ hops₀ at p hops = hopsLeft t (target .0) (next (at .0) (p .0))
+
+loop-holds : tie.Need-loop-holds Inv-loop μ-loop
+loop-holds c = looking-first (c .before .pre .1)
+
+link-free-requires : tie.Need-link-free-requires Inv-loop μ-loop
+link-free-requires c κs = hop-within (c .loop .inv .may) refl
+
+neighbour-requires : tie.Need-neighbour-requires Inv-loop μ-loop
+neighbour-requires c κs = let l = c .before .before in omega (arith, l .loop .inv .may .port, l .loop .inv .may .fits)
+
+add-hops : tie.Need-add-hops Inv-loop μ-loop
+add-hops c = omega (arith, c .before .before .before .loop .inv .few)
+
+returns : tie.Need-returns Inv-loop μ-loop
+returns c =
+    let a = c .before .before .before in
+    let f = a .before .before in
+    looking-arrived (f .before .loop .inv) (sym (f .link-free .ensures) ∙ a .before .if1 .taken) (a .neighbour .ensures) (c .if2 .taken)
+
+uphill-vector-requires : tie.Need-uphill-vector-requires Inv-loop μ-loop
+uphill-vector-requires c κs = search needs
+
+first-port-requires : tie.Need-first-port-requires Inv-loop μ-loop
+first-port-requires c κs =
+    let a = c .before .before .before .before in
+    let l = a .before .before .before in
+    let may = l .loop .inv .may in
+    (up-small may (a .neighbour .ensures) (c .uphill-vector .ensures .value), omega (arith, may .port, may .fits), l .before .before .pre .0)
+
+loop-less : tie.Need-loop-less Inv-loop μ-loop
+loop-less c =
+    let u = c .before in
+    let a = u .before .before .before .before in
+    let f = a .before .before in
+    omega (arith, looking-nearer (f .before .loop .inv) (sym (f .link-free .ensures) ∙ a .before .if1 .taken) (a .neighbour .ensures) (u .before .if2 .left) (u .uphill-vector .ensures .value) (c .first-port .ensures))
+
+loop-again : tie.Need-loop-again Inv-loop μ-loop
+loop-again c =
+    let u = c .before in
+    let a = u .before .before .before .before in
+    let f = a .before .before in
+    looking-more (f .before .loop .inv) (sym (f .link-free .ensures) ∙ a .before .if1 .taken) (a .neighbour .ensures) (u .before .if2 .left) (u .uphill-vector .ensures .value) (c .first-port .ensures)
+
+returns-2 : tie.Need-returns-2 Inv-loop μ-loop
+returns-2 c =
+    let f = c .before in
+    looking-stopped (f .before .loop .inv) (sym (f .link-free .ensures) ∙ c .if1 .left)
+
+pub free-front-spec : {M : Type 1} → statement M
+free-front-spec =
+    tie.close
+    (tie.spec
+    Inv-loop
+    μ-loop
+    loop-holds
+    link-free-requires
+    neighbour-requires
+    add-hops
+    returns
+    uphill-vector-requires
+    first-port-requires
+    loop-less
+    loop-again
+    returns-2)
