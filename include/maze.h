@@ -5,10 +5,10 @@
  * maze_receive_start and maze_receive_overshoot, which refuse nothing, answer a channel and a
  * count. The tests of a call run in rising order of number, and the first that applies is the
  * answer. A refused call alters no byte lent to it and answers zero beside its number; only
- * MAZE_ROUTE_REJECTED and MAZE_RECEIVE_REJECTED carry their scouts, and a receive channel comes
- * back as it was. Numbers are tested at their whole width and never cut: node 256 is not node 0.
- * But C itself cuts a number that is wider than the parameter before the call is made, so that
- * 65536 arrives as 0; the warning -Wconversion tells.
+ * MAZE_ROUTE_REJECTED, MAZE_RECEIVE_REJECTED and MAZE_NO_ROUTE carry their scouts, and a receive
+ * channel comes back as it was. Numbers are tested at their whole width and never cut: node 256 is
+ * not node 0. But C itself cuts a number that is wider than the parameter before the call is made,
+ * so that 65536 arrives as 0; the warning -Wconversion tells.
  *
  * What the caller sees to:
  * - A pointer to bytes comes with a length, and points to at least that many bytes that stay valid
@@ -39,7 +39,7 @@
 #include <stddef.h>
 #include <stdint.h>
 
-#define MAZE_VERSION "0.7.0" /* CHANGELOG.md says what each version changes for a caller */
+#define MAZE_VERSION "0.8.0" /* CHANGELOG.md says what each version changes for a caller */
 
 /* The functions of this header are inline and static, so that they ask nothing of the library. */
 #if defined __cplusplus || (defined __STDC_VERSION__ && __STDC_VERSION__ >= 199901L)
@@ -65,7 +65,7 @@ extern "C" {
 #define MAZE_BAD_ROUTING_TYPE 7   /* the routing type is none of 0, 1, 3 and 4 */
 #define MAZE_BAD_SEND_VECTOR 8    /* the send vector is zero or has a port that the cube lacks */
 #define MAZE_CHANNEL_IN_USE 9     /* the send channel has an open circuit */
-#define MAZE_ROUTE_REJECTED 10    /* none of the paths that the routing type may try is free */
+#define MAZE_ROUTE_REJECTED 10    /* no path that the type may try is free; closing may help */
 #define MAZE_RECEIVE_REJECTED 11  /* no receive channel of the target is armed and not held */
 #define MAZE_NO_CIRCUIT 12        /* the send channel has no open circuit */
 #define MAZE_LINK_HELD 13         /* a circuit holds the link */
@@ -77,6 +77,7 @@ extern "C" {
 #define MAZE_CARRIED_TOO_LARGE 19 /* the command cannot carry the number */
 #define MAZE_UNREADABLE_LINE 20   /* the line cannot be read; the printed list alone gives it */
 #define MAZE_CHANNEL_HELD 21      /* a circuit holds the receive channel */
+#define MAZE_NO_ROUTE 22          /* every path that the type may try crosses a blocked link */
 #define MAZE_CHANNEL_STOPPED 30   /* the receive channel is stopped */
 #define MAZE_BAD_REQUESTER 31     /* a request bit is at 26 or above, or the record is above 25 */
 
@@ -194,9 +195,16 @@ uint16_t maze_disarm(uint8_t *table, size_t table_len, uint16_t node, uint16_t c
  * Whatever the type, a receive rejection ends the open: a second pass, or another path, would come
  * to the same target. An accepted open holds the links of the path and that receive channel, which
  * stays armed; maze_trace tells the path. Alters the entries of those and leaves the rest alone.
- * Answers 0 with hops, receive channel and scouts, or the first of 1, 2, 3, 4, 5, 7, 8, 9, 10 and
- * 11 that applies; 10 and 11 with scouts. A target whose eight channels are all armed never gives
- * 11: where a link into it is free, one of them is not held. */
+ *
+ * An open that is route rejected is answered by 10 or by 22. 10: one of the paths that it may try
+ * has no blocked link, so it may be accepted once circuits are closed; with every circuit closed
+ * and a receive channel of the target armed it is. 22: each of them crosses a blocked link, so the
+ * same open stays route rejected until a link is unblocked, whatever is closed. The paths that it
+ * may try are, with MAZE_TYPE_ALTERNATE_MAZE, those of both passes; which of them the search came
+ * to does not matter. Either number carries the scouts of the search.
+ * Answers 0 with hops, receive channel and scouts, or the first of 1, 2, 3, 4, 5, 7, 8, 9, 10, 11
+ * and 22 that applies; 10, 11 and 22 with scouts. A target whose eight channels are all armed never
+ * gives 11: where a link into it is free, one of them is not held. */
 maze_opened maze_open(uint8_t *table, size_t table_len, uint16_t node, uint16_t channel,
                       uint16_t target, uint16_t type, uint16_t vector);
 
@@ -432,7 +440,7 @@ MAZE_INLINE const char *maze_refusal_text(unsigned number) {
     case MAZE_BAD_ROUTING_TYPE: return "the routing type is none of 0, 1, 3 and 4";
     case MAZE_BAD_SEND_VECTOR: return "the send vector is zero or has a port that the cube lacks";
     case MAZE_CHANNEL_IN_USE: return "the send channel has an open circuit";
-    case MAZE_ROUTE_REJECTED: return "none of the paths that the routing type may try is free";
+    case MAZE_ROUTE_REJECTED: return "no path that the type may try is free";
     case MAZE_RECEIVE_REJECTED: return "no receive channel of the target is armed and not held";
     case MAZE_NO_CIRCUIT: return "the send channel has no open circuit";
     case MAZE_LINK_HELD: return "a circuit holds the link";
@@ -444,6 +452,7 @@ MAZE_INLINE const char *maze_refusal_text(unsigned number) {
     case MAZE_CARRIED_TOO_LARGE: return "the command cannot carry the number";
     case MAZE_UNREADABLE_LINE: return "the line cannot be read";
     case MAZE_CHANNEL_HELD: return "a circuit holds the receive channel";
+    case MAZE_NO_ROUTE: return "every path that the type may try crosses a blocked link";
     case MAZE_CHANNEL_STOPPED: return "the receive channel is stopped";
     case MAZE_BAD_REQUESTER: return "a request bit is at 26 or above, or the record is above 25";
     default: return "unknown number";
