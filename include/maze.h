@@ -39,7 +39,7 @@
 #include <stddef.h>
 #include <stdint.h>
 
-#define MAZE_VERSION "0.8.0" /* CHANGELOG.md says what each version changes for a caller */
+#define MAZE_VERSION "0.8.1" /* CHANGELOG.md says what each version changes for a caller */
 
 /* The functions of this header are inline and static, so that they ask nothing of the library. */
 #if defined __cplusplus || (defined __STDC_VERSION__ && __STDC_VERSION__ >= 199901L)
