@@ -199,8 +199,8 @@ uint16_t maze_disarm(uint8_t *table, size_t table_len, uint16_t node, uint16_t c
  * An open that is route rejected is answered by 10 or by 22. 10: one of the paths that it may try
  * has no blocked link, so it may be accepted once circuits are closed; with every circuit closed
  * and a receive channel of the target armed it is. 22: each of them crosses a blocked link, so the
- * same open stays route rejected until a link is unblocked, whatever is closed. The paths that it
- * may try are, with MAZE_TYPE_ALTERNATE_MAZE, those of both passes; which of them the search came
+ * same open stays so until a link is unblocked or the table is made anew. The paths that it may
+ * try are, with MAZE_TYPE_ALTERNATE_MAZE, those of both passes; which of them the search came
  * to does not matter. Either number carries the scouts of the search.
  * Answers 0 with hops, receive channel and scouts, or the first of 1, 2, 3, 4, 5, 7, 8, 9, 10, 11
  * and 22 that applies; 10, 11 and 22 with scouts. A target whose eight channels are all armed never
