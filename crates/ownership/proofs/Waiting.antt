@@ -190,7 +190,7 @@ not-off false x e = e
 updated-fewer : (v : View) (a : Call) → RepairsNothing a → Fewer (updated v a) v
 unfolding updated withoutCircuit setArmed setEnabled setAt
 updated-fewer v _ (a-block {n} {p}) = record { dimension = refl; fewer = λ m q e. not-off (eqb m n && eqb q p) _ e }
-updated-fewer v _ (an-open {s} {c} {t} {y} {x}) = same-fewer (sent-same v (circuitOf s c) s t (sendIn v s t y x .outcome))
+updated-fewer w _ (an-open {s} {c} {t} {y} {v}) = same-fewer (sent-same w (circuitOf s c) s t (sendIn w s t y v .outcome))
 updated-fewer v _ a-close = record { dimension = refl; fewer = λ m q e. e }
 updated-fewer v _ a-trace = record { dimension = refl; fewer = λ m q e. e }
 updated-fewer v _ an-arming = record { dimension = refl; fewer = λ m q e. e }
