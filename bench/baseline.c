@@ -278,6 +278,52 @@ static uint16_t try_paths(struct search *search, unsigned node, unsigned vector)
     return MAZE_ROUTE_REJECTED;
 }
 
+/* Whether a path over enabled links, held or not, goes from a node by a port of `vector` and then towards the target. One sweep over the nodes that
+ * may lie on such a path, in rising order of how they differ from the target: a node has a way on if a port towards the target leads to one that has. */
+static int enabled_way(const uint8_t *table, unsigned node, unsigned target, unsigned vector) {
+    const uint8_t *enabled = table + MAZE_ENABLED_AT;
+    unsigned ports, differs = 0;
+    uint8_t way[MAZE_NODES];
+    vector &= enabled[node];
+    if (!vector) return 0;
+    ports = (node ^ target) | vector;
+    way[0] = 1;
+    while ((differs = (differs - ports) & ports) != 0) {
+        unsigned on = differs & enabled[differs ^ target];
+        way[differs] = 0;
+        for (; on && !way[differs]; on &= on - 1) way[differs] = way[differs ^ (on & (0u - on))];
+    }
+    for (; vector; vector &= vector - 1)
+        if (way[node ^ target ^ (vector & (0u - vector))]) return 1;
+    return 0;
+}
+
+/* Whether the helix path of a port has enabled links alone, held or not. */
+static int enabled_helix(const uint8_t *table, unsigned node, unsigned port, unsigned target) {
+    while (table[MAZE_ENABLED_AT + node] >> port & 1) {
+        unsigned towards = (node ^= 1u << port) ^ target, above = towards & ~((2u << port) - 1);
+        if (!towards) return 1;
+        port = lowest(above ? above : towards);
+    }
+    return 0;
+}
+
+static int any_enabled_helix(const uint8_t *table, unsigned node, unsigned vector, unsigned target) {
+    for (; vector; vector &= vector - 1)
+        if (enabled_helix(table, node, lowest(vector), target)) return 1;
+    return 0;
+}
+
+/* Whether the closing of circuits may help a send that was route rejected. */
+static int may_help(const uint8_t *table, unsigned node, unsigned target, unsigned type, unsigned vector) {
+    switch (type) {
+    case MAZE_TYPE_HELIX: return any_enabled_helix(table, node, vector, target);
+    case MAZE_TYPE_FIXED: return enabled_helix(table, node, lowest(vector), target);
+    case MAZE_TYPE_MAZE: return enabled_way(table, node, target, vector);
+    default: return enabled_way(table, node, target, (1u << table[0]) - 1); /* the two passes together have every port */
+    }
+}
+
 maze_opened base_open(uint8_t *table, size_t table_len, uint16_t node, uint16_t channel, uint16_t target, uint16_t type, uint16_t vector) {
     maze_opened answer = {0, 0, 0, 0};
     struct search search;
@@ -308,6 +354,7 @@ maze_opened base_open(uint8_t *table, size_t table_len, uint16_t node, uint16_t 
     if (answer.number == MAZE_ROUTE_REJECTED && type == MAZE_TYPE_ALTERNATE_MAZE)
         answer.number = try_ports(&search, node, ports & ~(unsigned)vector & table[MAZE_ENABLED_AT + node], 7);
     answer.scouts = search.scouts;
+    if (answer.number == MAZE_ROUTE_REJECTED && !may_help(table, node, target, type, vector)) answer.number = MAZE_NO_ROUTE;
     if (answer.number == MAZE_ACCEPTED) {
         answer.hops = (uint16_t)search.hops;
         answer.receive = (uint16_t)lowest(available);

@@ -81,6 +81,21 @@ static void full_of_short(void) {
             if (node != 0 || port != 0) base_open(table, BYTES, (uint16_t)node, (uint16_t)port, (uint16_t)(node ^ 1u << port), 0, (uint16_t)(1u << port));
 }
 
+/* The same with the links out of node 0, or into node 255, closed and blocked: no open from the one to the other can succeed. Send channel 0 of node 0
+ * is left. */
+static void full_but_blocked(void) {
+    full_of_short();
+    for (unsigned port = 0; port < MAZE_PORTS; port++) base_close(table, BYTES, 0, (uint16_t)port), base_block(table, BYTES, 0, (uint16_t)port);
+}
+
+static void full_into_blocked(void) {
+    full_of_short();
+    for (unsigned port = 0; port < MAZE_PORTS; port++) {
+        uint16_t node = (uint16_t)(255 ^ 1u << port);
+        base_close(table, BYTES, node, (uint16_t)port), base_block(table, BYTES, node, (uint16_t)port);
+    }
+}
+
 /* Circuits of all lengths first, until none finds a path, and then every free link by a circuit of its own, but for the link from node 0 to
  * node 1. */
 static void full_of_long(void) {
@@ -262,15 +277,18 @@ static const struct {
     {"open of type 3 and close, 8 hops", armed_8, turn_open_close, {0, 255, 255, MAZE_TYPE_FIXED}, MAZE_ACCEPTED, 5000, 1},
     {"open of type 1 and close, 8 hops", armed_8, turn_open_close, {0, 255, 255, MAZE_TYPE_HELIX}, MAZE_ACCEPTED, 5000, 1},
     {"open of type 1 and close, 8 paths tried", last_of_eight, turn_open_close, {0, 255, 255, MAZE_TYPE_HELIX}, MAZE_ACCEPTED, 5000, 1},
-    {"open of type 1, 7 paths tried, rejected", last_of_eight, turn_open, {0, 255, 127, MAZE_TYPE_HELIX}, MAZE_ROUTE_REJECTED, 5000, 1},
-    {"open of type 3, rejected", last_of_eight, turn_open, {0, 255, 255, MAZE_TYPE_FIXED}, MAZE_ROUTE_REJECTED, 5000, 1},
+    {"open of type 1, 7 paths tried, rejected", last_of_eight, turn_open, {0, 255, 127, MAZE_TYPE_HELIX}, MAZE_NO_ROUTE, 5000, 1},
+    {"open of type 3, rejected", last_of_eight, turn_open, {0, 255, 255, MAZE_TYPE_FIXED}, MAZE_NO_ROUTE, 5000, 1},
     {"open, 8 hops, receive rejected", made_8, turn_open, {0, 255, 255, 0}, MAZE_RECEIVE_REJECTED, 5000, 1},
-    {"open, 77,940 scouts, rejected", walled, turn_open, {0, 254, 255, 0}, MAZE_ROUTE_REJECTED, 10, 1},
+    {"open, 77,940 scouts, rejected", walled, turn_open, {0, 254, 255, 0}, MAZE_NO_ROUTE, 10, 1},
     {"block and unblock", armed_8, turn_block, {200, 5, 0, 0}, MAZE_ACCEPTED, 5000, 1},
     {"disarm and arm", armed_8, turn_arm, {200, 5, 0, 0}, MAZE_ACCEPTED, 5000, 1},
     {"trace of 9 hops", nine_hops, turn_trace, {0, 0, 0, 0}, MAZE_ACCEPTED, 5000, 1},
     {"2,047 circuits of 1 hop: open and close", full_of_short, turn_open_close, {0, 1, 1, 0}, MAZE_ACCEPTED, 300, 1},
     {"  open, rejected", full_of_short, turn_open, {0, 255, 255, 0}, MAZE_ROUTE_REJECTED, 300, 1},
+    {"  open, rejected, links into the target blocked", full_into_blocked, turn_open, {0, 255, 255, 0}, MAZE_NO_ROUTE, 300, 1},
+    {"  open, rejected, links out of the source blocked", full_but_blocked, turn_open, {0, 255, 255, 0}, MAZE_NO_ROUTE, 300, 1},
+    {"  open of type 1, rejected", full_of_short, turn_open, {0, 255, 255, MAZE_TYPE_HELIX}, MAZE_ROUTE_REJECTED, 300, 1},
     {"  block and unblock", full_of_short, turn_block, {0, 0, 0, 0}, MAZE_ACCEPTED, 300, 1},
     {"  disarm and arm", full_of_short, turn_arm, {1, 7, 0, 0}, MAZE_ACCEPTED, 300, 1},
     {"  trace", full_of_short, turn_trace, {255, 5, 0, 0}, MAZE_ACCEPTED, 300, 1},

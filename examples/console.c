@@ -48,6 +48,7 @@ static const char *refusal_name(unsigned number) {
     case MAZE_LINK_HELD: return "a circuit holds the link";
     case MAZE_BUFFER_SHORT: return "the buffer is too short";
     case MAZE_CHANNEL_HELD: return "a circuit holds the receive channel";
+    case MAZE_NO_ROUTE: return "no route past the blocked links";
     default: return "unknown number";
     }
 }
@@ -74,7 +75,7 @@ static void say_opened(maze_opened opened, uint16_t node, uint16_t channel) {
     if (opened.number == MAZE_ACCEPTED) {
         printf("opened after %lu scouts on receive channel %u: ", (unsigned long)opened.scouts, (unsigned)opened.receive);
         say_ports(node, channel);
-    } else if (opened.number == MAZE_ROUTE_REJECTED || opened.number == MAZE_RECEIVE_REJECTED) {
+    } else if (opened.number == MAZE_ROUTE_REJECTED || opened.number == MAZE_RECEIVE_REJECTED || opened.number == MAZE_NO_ROUTE) {
         printf("refused as %u, %s after %lu scouts\n", (unsigned)opened.number, refusal_name(opened.number), (unsigned long)opened.scouts);
     } else {
         say(opened.number, "");

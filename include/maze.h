@@ -2,9 +2,9 @@
  *
  * Every call finishes, takes any numbers, and answers MAZE_ACCEPTED or a refusal number; maze_receive_start and maze_receive_overshoot, which
  * refuse nothing, answer a channel and a count. The tests of a call run in rising order of number, and the first that applies is the answer. A
- * refused call alters no byte lent to it and answers zero beside its number; only MAZE_ROUTE_REJECTED and MAZE_RECEIVE_REJECTED carry their
- * scouts, and a receive channel comes back as it was. Numbers are tested at their whole width and never cut: node 256 is not node 0. (C itself
- * cuts a wider number to the width of the parameter before the call.)
+ * refused call alters no byte lent to it and answers zero beside its number; only MAZE_ROUTE_REJECTED, MAZE_RECEIVE_REJECTED and MAZE_NO_ROUTE
+ * carry their scouts, and a receive channel comes back as it was. Numbers are tested at their whole width and never cut: node 256 is not node 0.
+ * (C itself cuts a wider number to the width of the parameter before the call.)
  *
  * What the caller sees to:
  * - A pointer to bytes comes with a length, and points to at least that many bytes that stay valid during the call; those of a table may be
@@ -39,7 +39,7 @@ extern "C" {
 #define MAZE_BAD_ROUTING_TYPE 7   /* open: none of the four MAZE_TYPE_ numbers below */
 #define MAZE_BAD_SEND_VECTOR 8    /* open: zero, or a bit at or above the dimension */
 #define MAZE_CHANNEL_IN_USE 9     /* open: this send channel has an open circuit */
-#define MAZE_ROUTE_REJECTED 10    /* open: none of the paths that the routing type may try is free; carries the scouts */
+#define MAZE_ROUTE_REJECTED 10    /* open: no path that the routing type may try is free, but one has no blocked link; carries the scouts */
 #define MAZE_RECEIVE_REJECTED 11  /* open: no receive channel of the target is armed and not held; carries the scouts */
 #define MAZE_NO_CIRCUIT 12        /* close, trace: this send channel has no open circuit */
 #define MAZE_LINK_HELD 13         /* block: a circuit holds the link */
@@ -51,6 +51,7 @@ extern "C" {
 #define MAZE_CARRIED_TOO_LARGE 19 /* writing: the command cannot carry the number */
 #define MAZE_UNREADABLE_LINE 20   /* the printed list: a line that cannot be read; no call here gives it */
 #define MAZE_CHANNEL_HELD 21      /* disarm: a circuit holds the receive channel */
+#define MAZE_NO_ROUTE 22          /* open: every path that the routing type may try crosses a blocked link, so waiting does not help; carries the scouts */
 #define MAZE_CHANNEL_STOPPED 30   /* a packet to a receive channel that is stopped */
 #define MAZE_BAD_REQUESTER 31     /* arbitrate: a request bit at 26 or above, or a record above 25 */
 
@@ -168,8 +169,13 @@ uint16_t maze_disarm(uint8_t *table, size_t table_len, uint16_t node, uint16_t c
  *
  * Whatever the type, a receive rejection ends the open: a second pass, or another path, would come to the same target. An accepted open holds the
  * links of the path and that receive channel, which stays armed; maze_trace tells the path. Alters the entries of those and leaves the rest alone.
- * Answers 0 with hops, receive channel and scouts, or the first of 1, 2, 3, 4, 5, 7, 8, 9, 10 and 11 that applies; 10 and 11 with scouts. A target
- * whose eight channels are all armed never gives 11: where a link into it is free, one of them is not held. */
+ *
+ * An open that is route rejected is answered by 10 or by 22. 10: one of the paths that it may try has no blocked link, so it may be accepted once
+ * circuits are closed; with every circuit closed and a receive channel of the target armed it is. 22: each of them crosses a blocked link, so the same
+ * open stays so until a link is unblocked or the table is made anew. The paths that it may try are, with MAZE_TYPE_ALTERNATE_MAZE, those of both
+ * passes; which of them the search came to does not matter. Either number carries the scouts of the search.
+ * Answers 0 with hops, receive channel and scouts, or the first of 1, 2, 3, 4, 5, 7, 8, 9, 10, 11 and 22 that applies; 10, 11 and 22 with scouts. A
+ * target whose eight channels are all armed never gives 11: where a link into it is free, one of them is not held. */
 maze_opened maze_open(uint8_t *table, size_t table_len, uint16_t node, uint16_t channel, uint16_t target, uint16_t type, uint16_t vector);
 
 /* Closes the circuit of a send channel of a node: frees its links and its receive channel, disarms that channel, and leaves the rest alone. The

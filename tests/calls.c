@@ -1,5 +1,5 @@
-/* The calls on a table from C, beside vectors worked by hand from document 01 and requests (a), (b) and (f) of document 02: the examples with the bytes
- * of their tables, each refusal at its edge, and that a refused call alters nothing.
+/* The calls on a table from C, beside vectors worked by hand from document 01 and requests (a), (b), (c) and (f) of document 02: the examples with the
+ * bytes of their tables, each refusal at its edge, and that a refused call alters nothing.
  *
  * A byte of a table is given by its place: the link out of port p of node n is held at 257 + 16 n + 2 p, receive channel c of node n at
  * 4353 + 16 n + 2 c, the enabled links of node n are at 1 + n, and its armed channels at 8449 + n. */
@@ -107,14 +107,14 @@ struct send {
 
 #define NONE {{0, 99}}
 
-/* With every channel armed first. */
+/* With every channel armed first. No circuit is open before the send: where it is route rejected, blocked links alone are in the way, and that is 22. */
 static const struct send sends[] = {
     {"example 1", 3, NONE, 0, 0, 7, 0, 7, 0, 0, 3, "012", {{257, 1}, {275, 1}, {309, 1}, {4465, 1}}},
     {"example 2", 3, {{1, 2}, {3, 2}, {0, 99}}, 0, 0, 7, 0, 7, 0, 0, 5, "120", {{2, 3}, {4, 3}, {259, 1}, {293, 1}, {353, 1}, {4465, 1}}},
     {"example 3", 1, NONE, 0, 0, 0, 0, 1, 0, 0, 2, "00", {{257, 1}, {273, 1}, {4353, 1}}},
     {"example 4", 2, NONE, 0, 0, 1, 0, 2, 0, 0, 3, "101", {{259, 1}, {289, 1}, {307, 1}, {4369, 1}}},
     {"example 5", 2, {{2, 0}, {0, 99}}, 0, 0, 1, 0, 2, 0, 0, 3, "110", {{3, 2}, {257, 1}, {259, 1}, {291, 1}, {4369, 1}}},
-    {"example 6, type 0", 2, {{0, 0}, {0, 99}}, 0, 0, 1, 0, 1, 10, 0, 0, "", {{1, 2}}},
+    {"example 6, type 0", 2, {{0, 0}, {0, 99}}, 0, 0, 1, 0, 1, 22, 0, 0, "", {{1, 2}}},
     {"example 6, type 4", 2, {{0, 0}, {0, 99}}, 0, 0, 1, 4, 1, 0, 0, 3, "101", {{1, 2}, {259, 1}, {289, 1}, {307, 1}, {4369, 1}}},
     /* Circuit 1604 is 6 * 256 + 68, circuit 2048 is 8 * 256. */
     {"a circuit above 255", 8, NONE, 200, 3, 201, 0, 1, 0, 0, 1, "0", {{3457, 68}, {3458, 6}, {7569, 68}, {7570, 6}}},
@@ -125,13 +125,13 @@ static const struct send sends[] = {
      {{257, 1}, {275, 1}, {309, 1}, {375, 1}, {505, 1}, {763, 1}, {1277, 1}, {2303, 1}, {4337, 1}, {8417, 1}}},
     {"first hop away", 3, NONE, 0, 0, 3, 0, 4, 0, 0, 4, "2012", {{261, 1}, {321, 1}, {339, 1}, {373, 1}, {4401, 1}}},
     {"out and back", 3, NONE, 5, 0, 5, 0, 6, 0, 0, 2, "11", {{339, 41}, {371, 41}, {4433, 41}}},
-    {"one pass rejected", 2, {{1, 1}, {0, 99}}, 0, 0, 3, 0, 1, 10, 0, 1, "", {{2, 1}}},
+    {"one pass rejected", 2, {{1, 1}, {0, 99}}, 0, 0, 3, 0, 1, 22, 0, 1, "", {{2, 1}}},
     {"a second pass accepted", 2, {{1, 1}, {0, 99}}, 0, 0, 3, 4, 1, 0, 0, 3, "10", {{2, 1}, {259, 1}, {289, 1}, {4401, 1}}},
     /* the first pass finds its only link blocked; the second goes back from node 1, and then by port 2 */
     {"a second pass past a blocked link", 5, {{0, 1}, {1, 4}, {0, 99}}, 0, 0, 17, 4, 2, 0, 0, 5, "2402",
      {{1, 29}, {2, 15}, {261, 1}, {329, 1}, {577, 1}, {597, 1}, {4625, 1}}},
-    {"both passes rejected", 2, {{1, 1}, {2, 0}, {0, 99}}, 0, 0, 3, 4, 1, 10, 0, 2, "", {{2, 1}, {3, 2}}},
-    {"a second pass with no port", 2, {{1, 1}, {2, 0}, {0, 99}}, 0, 0, 3, 4, 3, 10, 0, 2, "", {{2, 1}, {3, 2}}},
+    {"both passes rejected", 2, {{1, 1}, {2, 0}, {0, 99}}, 0, 0, 3, 4, 1, 22, 0, 2, "", {{2, 1}, {3, 2}}},
+    {"a second pass with no port", 2, {{1, 1}, {2, 0}, {0, 99}}, 0, 0, 3, 4, 3, 22, 0, 2, "", {{2, 1}, {3, 2}}},
     {"type 4 with one pass", 3, NONE, 0, 0, 7, 4, 7, 0, 0, 3, "012", {{257, 1}, {275, 1}, {309, 1}, {4465, 1}}},
 };
 
@@ -143,11 +143,11 @@ static const struct send helix_sends[] = {
      * too: it comes to 1 and 3, where there is no way on, and then to 2, 6 and 7. */
     {"figure 7, type 0", 3, {{1, 2}, {3, 2}, {0, 99}}, 0, 0, 7, 0, 7, 0, 0, 5, "120", {{2, 3}, {4, 3}, {259, 1}, {293, 1}, {353, 1}, {4465, 1}}},
     {"figure 7, type 1", 3, {{1, 2}, {3, 2}, {0, 99}}, 0, 0, 7, 1, 7, 0, 0, 5, "120", {{2, 3}, {4, 3}, {259, 1}, {293, 1}, {353, 1}, {4465, 1}}},
-    {"figure 7, type 3", 3, {{1, 2}, {3, 2}, {0, 99}}, 0, 0, 7, 3, 7, 10, 0, 2, "", {{2, 3}, {4, 3}}},
+    {"figure 7, type 3", 3, {{1, 2}, {3, 2}, {0, 99}}, 0, 0, 7, 3, 7, 22, 0, 2, "", {{2, 3}, {4, 3}}},
     {"figure 7, type 4", 3, {{1, 2}, {3, 2}, {0, 99}}, 0, 0, 7, 4, 7, 0, 0, 5, "120", {{2, 3}, {4, 3}, {259, 1}, {293, 1}, {353, 1}, {4465, 1}}},
     /* without its port 0, what is left of figure 7 begins with port 1; with port 0 alone no path is left to type 1 */
     {"figure 7, type 3, vector 6", 3, {{1, 2}, {3, 2}, {0, 99}}, 0, 0, 7, 3, 6, 0, 0, 3, "120", {{2, 3}, {4, 3}, {259, 1}, {293, 1}, {353, 1}, {4465, 1}}},
-    {"figure 7, type 1, vector 1", 3, {{1, 2}, {3, 2}, {0, 99}}, 0, 0, 7, 1, 1, 10, 0, 2, "", {{2, 3}, {4, 3}}},
+    {"figure 7, type 1, vector 1", 3, {{1, 2}, {3, 2}, {0, 99}}, 0, 0, 7, 1, 1, 22, 0, 2, "", {{2, 3}, {4, 3}}},
     /* nothing blocked: the path of each port, in the helical order behind the port arrived on and not from 0, which would give 1, 0, 2 for port 1 */
     {"type 3 by port 0", 3, NONE, 0, 0, 7, 3, 7, 0, 0, 3, "012", {{257, 1}, {275, 1}, {309, 1}, {4465, 1}}},
     {"type 1 by port 0", 3, NONE, 0, 0, 7, 1, 7, 0, 0, 3, "012", {{257, 1}, {275, 1}, {309, 1}, {4465, 1}}},
@@ -156,16 +156,16 @@ static const struct send helix_sends[] = {
     {"type 3 by port 2", 3, NONE, 0, 0, 7, 3, 4, 0, 0, 3, "201", {{261, 1}, {321, 1}, {339, 1}, {4465, 1}}},
     /* 3 to 7 blocked, vector 1: the path of port 0 has two free hops. A search goes back from 3 to 1 and finds 1 to 5 to 7: scouts to 1, 3, 5 and 7. */
     {"acknowledged by type 0", 3, {{3, 2}, {0, 99}}, 0, 0, 7, 0, 1, 0, 0, 4, "021", {{4, 3}, {257, 1}, {277, 1}, {339, 1}, {4465, 1}}},
-    {"and not by type 1", 3, {{3, 2}, {0, 99}}, 0, 0, 7, 1, 1, 10, 0, 2, "", {{4, 3}}},
-    {"nor by type 3", 3, {{3, 2}, {0, 99}}, 0, 0, 7, 3, 1, 10, 0, 2, "", {{4, 3}}},
+    {"and not by type 1", 3, {{3, 2}, {0, 99}}, 0, 0, 7, 1, 1, 22, 0, 2, "", {{4, 3}}},
+    {"nor by type 3", 3, {{3, 2}, {0, 99}}, 0, 0, 7, 3, 1, 22, 0, 2, "", {{4, 3}}},
     /* 0 to 1 blocked: the path of port 0 has no free hop, that of port 1 two */
     {"acknowledged by type 1", 2, {{0, 0}, {0, 99}}, 0, 0, 3, 1, 3, 0, 0, 2, "10", {{1, 2}, {259, 1}, {289, 1}, {4401, 1}}},
-    {"and not by type 3, first hop blocked", 2, {{0, 0}, {0, 99}}, 0, 0, 3, 3, 3, 10, 0, 0, "", {{1, 2}}},
+    {"and not by type 3, first hop blocked", 2, {{0, 0}, {0, 99}}, 0, 0, 3, 3, 3, 22, 0, 0, "", {{1, 2}}},
     /* the lowest port leads away: to 1, there 2 is the next port above 0 and leads to 5, and from there 0 leads to 4; port 2 alone would do */
     {"type 3, the lowest port leads away", 3, NONE, 0, 0, 4, 3, 5, 0, 0, 3, "020", {{257, 1}, {277, 1}, {337, 1}, {4417, 1}}},
     {"type 1, the lowest port leads away", 3, NONE, 0, 0, 4, 1, 5, 0, 0, 3, "020", {{257, 1}, {277, 1}, {337, 1}, {4417, 1}}},
     /* 1 to 5 blocked: one free hop for type 3; for type 1 that one and the one from 0 to 4 */
-    {"type 3, blocked behind a port that leads away", 3, {{1, 2}, {0, 99}}, 0, 0, 4, 3, 5, 10, 0, 1, "", {{2, 3}}},
+    {"type 3, blocked behind a port that leads away", 3, {{1, 2}, {0, 99}}, 0, 0, 4, 3, 5, 22, 0, 1, "", {{2, 3}}},
     {"type 1, blocked behind a port that leads away", 3, {{1, 2}, {0, 99}}, 0, 0, 4, 1, 5, 0, 0, 2, "2", {{2, 3}, {261, 1}, {4417, 1}}},
     /* the port arrived on comes last: at 4 ports 0, 1 and 2 lead to 3, and 2 is the one arrived on */
     {"type 3, first hop away", 3, NONE, 0, 0, 3, 3, 4, 0, 0, 4, "2012", {{261, 1}, {321, 1}, {339, 1}, {373, 1}, {4401, 1}}},
@@ -174,16 +174,16 @@ static const struct send helix_sends[] = {
     /* example 5: type 0 goes back through the source. A helix path takes the port arrived on only where no other is left, so it comes to its source
      * again only to end there: one free hop, then 2 to 3 is blocked. */
     {"example 5, type 0", 2, {{2, 0}, {0, 99}}, 0, 0, 1, 0, 2, 0, 0, 3, "110", {{3, 2}, {257, 1}, {259, 1}, {291, 1}, {4369, 1}}},
-    {"example 5, type 1", 2, {{2, 0}, {0, 99}}, 0, 0, 1, 1, 2, 10, 0, 1, "", {{3, 2}}},
-    {"example 5, type 3", 2, {{2, 0}, {0, 99}}, 0, 0, 1, 3, 2, 10, 0, 1, "", {{3, 2}}},
-    {"example 6, type 1", 2, {{0, 0}, {0, 99}}, 0, 0, 1, 1, 1, 10, 0, 0, "", {{1, 2}}},
+    {"example 5, type 1", 2, {{2, 0}, {0, 99}}, 0, 0, 1, 1, 2, 22, 0, 1, "", {{3, 2}}},
+    {"example 5, type 3", 2, {{2, 0}, {0, 99}}, 0, 0, 1, 3, 2, 22, 0, 1, "", {{3, 2}}},
+    {"example 6, type 1", 2, {{0, 0}, {0, 99}}, 0, 0, 1, 1, 1, 22, 0, 0, "", {{1, 2}}},
     {"example 6, type 1, vector 3", 2, {{0, 0}, {0, 99}}, 0, 0, 1, 1, 3, 0, 0, 3, "101", {{1, 2}, {259, 1}, {289, 1}, {307, 1}, {4369, 1}}},
-    {"example 6, type 3", 2, {{0, 0}, {0, 99}}, 0, 0, 1, 3, 3, 10, 0, 0, "", {{1, 2}}},
+    {"example 6, type 3", 2, {{0, 0}, {0, 99}}, 0, 0, 1, 3, 3, 22, 0, 0, "", {{1, 2}}},
     /* to itself: out over the port and back over it. With 7 to 5 blocked, one free hop of port 1 and two of port 2, through node 1. */
     {"type 3 to itself", 3, NONE, 5, 0, 5, 3, 6, 0, 0, 2, "11", {{339, 41}, {371, 41}, {4433, 41}}},
     {"type 1 to itself", 1, NONE, 0, 0, 0, 1, 1, 0, 0, 2, "00", {{257, 1}, {273, 1}, {4353, 1}}},
     {"type 1 to itself, no way back", 3, {{7, 1}, {0, 99}}, 5, 0, 5, 1, 6, 0, 0, 3, "22", {{8, 5}, {341, 41}, {277, 41}, {4433, 41}}},
-    {"type 3 to itself, no way back", 3, {{7, 1}, {0, 99}}, 5, 0, 5, 3, 6, 10, 0, 1, "", {{8, 5}}},
+    {"type 3 to itself, no way back", 3, {{7, 1}, {0, 99}}, 5, 0, 5, 3, 6, 22, 0, 1, "", {{8, 5}}},
     /* as long as paths get, and round past port 7 */
     {"type 3, nine hops", 8, NONE, 0, 0, 254, 3, 1, 0, 0, 9, "012345670",
      {{257, 1}, {275, 1}, {309, 1}, {375, 1}, {505, 1}, {763, 1}, {1277, 1}, {2303, 1}, {4337, 1}, {8417, 1}}},
@@ -203,7 +203,7 @@ static const struct send unarmed[] = {
     {"none armed, to itself", 1, NONE, 0, 0, 0, 0, 1, 11, 0, 2, "", {{0, 0}}},
     {"none armed, nine hops", 8, NONE, 0, 0, 254, 0, 1, 11, 0, 9, "", {{0, 0}}},
     {"none armed, from node 200", 8, NONE, 200, 0, 201, 0, 1, 11, 0, 1, "", {{0, 0}}},
-    {"none armed, no path", 2, {{0, 0}, {0, 99}}, 0, 0, 1, 0, 1, 10, 0, 0, "", {{1, 2}}},
+    {"none armed, no path", 2, {{0, 0}, {0, 99}}, 0, 0, 1, 0, 1, 22, 0, 0, "", {{1, 2}}},
     /* type 4: a receive rejection in the first pass ends the send, whatever a second pass would find: a path, no port, or no way on from node 2 */
     {"receive rejected, type 4", 2, NONE, 0, 0, 3, 4, 1, 11, 0, 2, "", {{0, 0}}},
     {"receive rejected, type 4, no port left", 2, NONE, 0, 0, 3, 4, 3, 11, 0, 2, "", {{0, 0}}},
@@ -215,7 +215,7 @@ static const struct send unarmed[] = {
     {"route rejected, then receive rejected", 2, {{1, 1}, {0, 99}}, 0, 0, 3, 4, 1, 11, 0, 3, "", {{2, 1}}},
     {"route rejected, then receive rejected, figure 7", 3, {{1, 2}, {3, 2}, {0, 99}}, 0, 0, 7, 4, 1, 11, 0, 5, "", {{2, 3}, {4, 3}}},
     {"no scout, then receive rejected", 2, {{0, 0}, {0, 99}}, 0, 0, 1, 4, 1, 11, 0, 3, "", {{1, 2}}},
-    {"route rejected twice, none armed", 2, {{1, 1}, {2, 0}, {0, 99}}, 0, 0, 3, 4, 1, 10, 0, 2, "", {{2, 1}, {3, 2}}},
+    {"route rejected twice, none armed", 2, {{1, 1}, {2, 0}, {0, 99}}, 0, 0, 3, 4, 1, 22, 0, 2, "", {{2, 1}, {3, 2}}},
     /* types 1 and 3: the first path that is free ends the send, though those of ports 1 and 2 are free as well */
     {"none armed, type 3", 3, NONE, 0, 0, 7, 3, 7, 11, 0, 3, "", {{0, 0}}},
     {"none armed, type 1", 3, NONE, 0, 0, 7, 1, 7, 11, 0, 3, "", {{0, 0}}},
@@ -223,10 +223,10 @@ static const struct send unarmed[] = {
     {"none armed, type 1, nine hops", 8, NONE, 0, 0, 254, 1, 255, 11, 0, 9, "", {{0, 0}}},
     /* the scouts of the path tried before it are counted: 2 and 3 */
     {"none armed, figure 7, type 1", 3, {{1, 2}, {3, 2}, {0, 99}}, 0, 0, 7, 1, 7, 11, 0, 5, "", {{2, 3}, {4, 3}}},
-    {"none armed, figure 7, type 3", 3, {{1, 2}, {3, 2}, {0, 99}}, 0, 0, 7, 3, 7, 10, 0, 2, "", {{2, 3}, {4, 3}}},
+    {"none armed, figure 7, type 3", 3, {{1, 2}, {3, 2}, {0, 99}}, 0, 0, 7, 3, 7, 22, 0, 2, "", {{2, 3}, {4, 3}}},
     {"none armed, type 1, first hop blocked", 2, {{0, 0}, {0, 99}}, 0, 0, 3, 1, 3, 11, 0, 2, "", {{1, 2}}},
-    {"none armed, type 3, first hop blocked", 2, {{0, 0}, {0, 99}}, 0, 0, 3, 3, 3, 10, 0, 0, "", {{1, 2}}},
-    {"none armed, type 1, no path", 2, {{1, 1}, {2, 0}, {0, 99}}, 0, 0, 3, 1, 3, 10, 0, 2, "", {{2, 1}, {3, 2}}},
+    {"none armed, type 3, first hop blocked", 2, {{0, 0}, {0, 99}}, 0, 0, 3, 3, 3, 22, 0, 0, "", {{1, 2}}},
+    {"none armed, type 1, no path", 2, {{1, 1}, {2, 0}, {0, 99}}, 0, 0, 3, 1, 3, 22, 0, 2, "", {{2, 1}, {3, 2}}},
 };
 
 /* On a table that fresh() or fresh_armed() left. */
@@ -310,7 +310,7 @@ static void most_scouts(void) {
         for (unsigned port = 0; port < 8; port++) expect(maze_block(table, BYTES, (uint16_t)(254 ^ 1u << port), (uint16_t)port) == 0, "block into", 254, port);
         keep();
         got = maze_open(table, BYTES, 0, 0, 254, 4, vectors[i]);
-        expect(got.number == 10 && got.scouts == 77940 && got.hops == 0 && got.receive == 0, "most scouts", got.number, got.scouts);
+        expect(got.number == 22 && got.scouts == 77940 && got.hops == 0 && got.receive == 0, "most scouts", got.number, got.scouts);
         expect(unaltered(), "most scouts, bytes", vectors[i], 0);
     }
 }
@@ -440,15 +440,15 @@ static void helix_scouts(void) {
     keep();
     for (size_t i = 0; i < sizeof walled / sizeof *walled; i++) {
         got = maze_open(table, BYTES, 0, 0, 254, 1, walled[i].vector);
-        expect(got.number == 10 && got.scouts == walled[i].helix && got.hops == 0 && got.receive == 0 && unaltered(), "type 1 to 254", walled[i].vector, got.scouts);
+        expect(got.number == 22 && got.scouts == walled[i].helix && got.hops == 0 && got.receive == 0 && unaltered(), "type 1 to 254", walled[i].vector, got.scouts);
         got = maze_open(table, BYTES, 0, 0, 254, 3, walled[i].vector);
-        expect(got.number == 10 && got.scouts == walled[i].fixed && got.hops == 0 && got.receive == 0 && unaltered(), "type 3 to 254", walled[i].vector, got.scouts);
+        expect(got.number == 22 && got.scouts == walled[i].fixed && got.hops == 0 && got.receive == 0 && unaltered(), "type 3 to 254", walled[i].vector, got.scouts);
     }
     fresh_armed(8);
     for (unsigned port = 0; port < 8; port++) expect(maze_block(table, BYTES, (uint16_t)(255 ^ 1u << port), (uint16_t)port) == 0, "block into", 255, port);
     keep();
     got = maze_open(table, BYTES, 0, 0, 255, 1, 255);
-    expect(got.number == 10 && got.scouts == 8 * 7 && got.hops == 0 && got.receive == 0 && unaltered(), "type 1 to 255", got.number, got.scouts);
+    expect(got.number == 22 && got.scouts == 8 * 7 && got.hops == 0 && got.receive == 0 && unaltered(), "type 1 to 255", got.number, got.scouts);
     expect(maze_unblock(table, BYTES, 191, 6) == 0, "unblock into 255", 191, 6);
     got = maze_open(table, BYTES, 0, 0, 255, 1, 255);
     expect(got.number == 0 && got.scouts == 7 * 7 + 8 && got.hops == 8 && got.receive == 0, "the last of eight paths", got.number, got.scouts);
@@ -477,6 +477,207 @@ static void inclusion(void) {
             }
             expect(wrong == 0, "types 3, 1 and 0 to a target, first wrong choice", target, first);
         }
+}
+
+/* ---- will waiting help? ---- */
+
+/* Every link that is enabled is held by a circuit of its own: that of port p of node n by send channel p, which ends on receive channel p. */
+static void hold_all(unsigned dimension) {
+    for (unsigned node = 0; node < 1u << dimension; node++)
+        for (unsigned port = 0; port < dimension; port++)
+            if (table[1 + node] >> port & 1)
+                table[257 + 16 * node + 2 * port] = table[4353 + 16 * (node ^ 1u << port) + 2 * port] = (uint8_t)(8 * node + port + 1);
+}
+
+/* Some links blocked and all others held: 22 where every path of the type crosses a blocked one, and 10 otherwise; no scout is sent. With nothing held
+ * the same send is then 22, with the scouts given, or acknowledged. The paths from 0 to 7 in dimension 3 are as above for types 1 and 3; of the search,
+ * those of port 0 are 0, 1, 2 and 0, 2, 1. */
+static const struct {
+    const char *what;
+    unsigned dimension;
+    struct { unsigned node, port; } blocked[9];
+    uint16_t node, target, type, vector;
+    unsigned number, scouts;
+} edges[] = {
+    {"its first link, type 0", 3, {{0, 0}, {0, 99}}, 0, 7, 0, 1, 22, 0},
+    {"its first link, type 1", 3, {{0, 0}, {0, 99}}, 0, 7, 1, 1, 22, 0},
+    {"its first link, type 3", 3, {{0, 0}, {0, 99}}, 0, 7, 3, 1, 22, 0},
+    {"its first link, another port left, type 0", 3, {{0, 0}, {0, 99}}, 0, 7, 0, 3, 10, 0},
+    {"its first link, another port left, type 1", 3, {{0, 0}, {0, 99}}, 0, 7, 1, 5, 10, 0},
+    {"its first link, another port left, type 3", 3, {{0, 0}, {0, 99}}, 0, 7, 3, 7, 22, 0},
+    {"its first link, type 4", 3, {{0, 0}, {0, 99}}, 0, 7, 4, 1, 10, 0},
+    /* one link within: port 0's helix path crosses 1 to 3 and 3 to 7, the other path of the search 1 to 5 and 5 to 7 */
+    {"1 to 3, type 0", 3, {{1, 1}, {0, 99}}, 0, 7, 0, 1, 10, 0},
+    {"1 to 3, type 1", 3, {{1, 1}, {0, 99}}, 0, 7, 1, 1, 22, 1},
+    {"1 to 3, type 3", 3, {{1, 1}, {0, 99}}, 0, 7, 3, 7, 22, 1},
+    {"1 to 3, type 1, port 1 too", 3, {{1, 1}, {0, 99}}, 0, 7, 1, 3, 10, 0},
+    {"3 to 7, type 0", 3, {{3, 2}, {0, 99}}, 0, 7, 0, 1, 10, 0},
+    {"3 to 7, type 3", 3, {{3, 2}, {0, 99}}, 0, 7, 3, 1, 22, 2},
+    {"1 to 5, type 3", 3, {{1, 2}, {0, 99}}, 0, 7, 3, 1, 10, 0},
+    {"1 to 5, type 1", 3, {{1, 2}, {0, 99}}, 0, 7, 1, 1, 10, 0},
+    {"1 to 3 and 1 to 5, type 0", 3, {{1, 1}, {1, 2}, {0, 99}}, 0, 7, 0, 1, 22, 1},
+    {"1 to 3 and 5 to 7, type 0", 3, {{1, 1}, {5, 1}, {0, 99}}, 0, 7, 0, 1, 22, 2},
+    {"3 to 7 and 5 to 7, type 0", 3, {{3, 2}, {5, 1}, {0, 99}}, 0, 7, 0, 1, 22, 3},
+    {"3 to 7 and 5 to 7, port 1 too, type 0", 3, {{3, 2}, {5, 1}, {0, 99}}, 0, 7, 0, 3, 10, 0},
+    {"a link of each helix path, type 1", 3, {{3, 2}, {2, 2}, {5, 1}, {0, 99}}, 0, 7, 1, 7, 22, 2 + 1 + 2},
+    {"a link of each helix path, type 0", 3, {{3, 2}, {2, 2}, {5, 1}, {0, 99}}, 0, 7, 0, 7, 10, 0},
+    {"a link of each helix path but one, type 1", 3, {{3, 2}, {5, 1}, {0, 99}}, 0, 7, 1, 7, 10, 0},
+    /* blocked and on no path: links back, out of the target, and of nodes that no path comes through */
+    {"links off every path, type 0", 3, {{1, 0}, {7, 0}, {2, 2}, {6, 0}, {4, 0}, {0, 2}, {0, 99}}, 0, 7, 0, 1, 10, 0},
+    {"links off every path, type 1", 3, {{1, 0}, {7, 0}, {2, 2}, {6, 0}, {4, 0}, {0, 2}, {0, 99}}, 0, 7, 1, 1, 10, 0},
+    {"links off every path, type 3", 3, {{1, 0}, {7, 0}, {2, 2}, {6, 0}, {4, 0}, {0, 2}, {0, 99}}, 0, 7, 3, 1, 10, 0},
+    {"links off every path, type 4", 3, {{1, 0}, {7, 0}, {7, 1}, {7, 2}, {3, 0}, {0, 99}}, 0, 7, 4, 1, 10, 0},
+    /* type 4 in dimension 2, from 0 to 3: port 0 goes by 1, port 1 by 2. It is 22 where both vectors are cut off, and neither alone decides. */
+    {"the first vector, type 4", 2, {{1, 1}, {0, 99}}, 0, 3, 4, 1, 10, 0},
+    {"the first vector, type 0", 2, {{1, 1}, {0, 99}}, 0, 3, 0, 1, 22, 1},
+    {"the second vector, type 4", 2, {{2, 0}, {0, 99}}, 0, 3, 4, 1, 10, 0},
+    {"the second vector, type 0", 2, {{2, 0}, {0, 99}}, 0, 3, 0, 1, 10, 0},
+    {"both vectors, type 4", 2, {{1, 1}, {2, 0}, {0, 99}}, 0, 3, 4, 1, 22, 2},
+    {"both vectors, the other way about", 2, {{1, 1}, {2, 0}, {0, 99}}, 0, 3, 4, 2, 22, 2},
+    {"no second vector, type 4", 2, {{1, 1}, {2, 0}, {0, 99}}, 0, 3, 4, 3, 22, 2},
+    {"no second vector, one path left", 2, {{1, 1}, {0, 99}}, 0, 3, 4, 3, 10, 0},
+    {"dimension 1, type 4", 1, {{0, 0}, {0, 99}}, 0, 1, 4, 1, 22, 0},
+    /* the first hop leads away: from 0 to 1 by port 1, over 2 to 3 to 1 or back over 2 to 0 to 1 */
+    {"2 to 3, type 0", 2, {{2, 0}, {0, 99}}, 0, 1, 0, 2, 10, 0},
+    {"2 to 3, type 1", 2, {{2, 0}, {0, 99}}, 0, 1, 1, 2, 22, 1},
+    {"2 to 3 and 0 to 1, type 0", 2, {{2, 0}, {0, 0}, {0, 99}}, 0, 1, 0, 2, 22, 2},
+    {"3 to 1 and 0 to 1, type 0", 2, {{3, 1}, {0, 0}, {0, 99}}, 0, 1, 0, 2, 22, 3},
+    {"3 to 1 and 2 to 0, type 0", 2, {{3, 1}, {2, 1}, {0, 99}}, 0, 1, 0, 2, 22, 2},
+    {"3 to 1 and 2 to 0, type 4", 2, {{3, 1}, {2, 1}, {0, 99}}, 0, 1, 4, 2, 10, 0},
+    /* to itself: out and back over one port */
+    {"no way back, type 0", 2, {{1, 0}, {0, 99}}, 0, 0, 0, 1, 22, 1},
+    {"no way back, type 3", 2, {{1, 0}, {0, 99}}, 0, 0, 3, 3, 22, 1},
+    {"no way back, type 1", 2, {{1, 0}, {0, 99}}, 0, 0, 1, 3, 10, 0},
+    {"no way back, type 4", 2, {{1, 0}, {0, 99}}, 0, 0, 4, 1, 10, 0},
+    {"no way back and no way out, type 4", 2, {{1, 0}, {0, 1}, {0, 99}}, 0, 0, 4, 1, 22, 1},
+};
+
+static void waiting_edges(void) {
+    for (size_t i = 0; i < sizeof edges / sizeof *edges; i++) {
+        maze_opened got;
+        for (int all_held = 0; all_held < 2; all_held++) {
+            fresh_armed(edges[i].dimension);
+            for (size_t j = 0; edges[i].blocked[j].port != 99; j++) table[1 + edges[i].blocked[j].node] &= (uint8_t)~(1u << edges[i].blocked[j].port);
+            if (all_held) hold_all(edges[i].dimension);
+            keep();
+            got = maze_open(table, BYTES, edges[i].node, 7, edges[i].target, edges[i].type, edges[i].vector);
+            if (!all_held && edges[i].number == 10) {
+                expect(got.number == 0, edges[i].what, 0, got.number);
+                continue;
+            }
+            expect(got.number == edges[i].number && got.hops == 0 && got.receive == 0 && unaltered(), edges[i].what, edges[i].number, got.number);
+            expect(got.scouts == (all_held ? 0 : edges[i].scouts), edges[i].what, edges[i].scouts, got.scouts);
+        }
+    }
+}
+
+/* Every choice of blocked links in dimension 2, every target, type and vector, from node 0, and all channels armed. With no circuit open an open is
+ * accepted or answered by 22, and with every enabled link held it is 10 where it was accepted and 22 where it was not. One check for each target, type
+ * and vector; where it fails, the first wrong choice is named. */
+static void waiting_choices(void) {
+    static const uint16_t types[] = {0, 1, 3, 4};
+    static uint8_t made[BYTES];
+    fresh_armed(2);
+    memcpy(made, table, BYTES);
+    for (unsigned target = 0; target < 4; target++)
+        for (unsigned i = 0; i < 12; i++) {
+            const uint16_t type = types[i % 4], vector = (uint16_t)(1 + i / 4);
+            unsigned long wrong = 0, first = 0;
+            for (unsigned choice = 0; choice < 256; choice++) {
+                maze_opened idle, held;
+                memcpy(table, made, BYTES);
+                for (unsigned node = 0; node < 4; node++) table[1 + node] = choice >> 2 * node & 3;
+                idle = maze_open(table, BYTES, 0, 7, (uint16_t)target, type, vector);
+                memcpy(table, made, BYTES);
+                for (unsigned node = 0; node < 4; node++) table[1 + node] = choice >> 2 * node & 3;
+                hold_all(2);
+                held = maze_open(table, BYTES, 0, 7, (uint16_t)target, type, vector);
+                if ((idle.number != 0 && idle.number != 22) || held.number != (idle.number == 0 ? 10 : 22) || held.scouts != 0)
+                    if (wrong++ == 0) first = choice;
+            }
+            expect(wrong == 0, "waiting, first wrong choice", 100 * target + i, first);
+        }
+}
+
+/* 22 is not read off the links that the search met; it is no answer to a missing channel; and it stays until a link is unblocked. */
+static void waiting(void) {
+    maze_opened got;
+    /* dimension 2: circuit 1 holds the link from 0 to 1, and 1 to 3 is blocked. The search by port 0 meets the held link alone. */
+    fresh(2);
+    arm(1, 0);
+    arm(3, 0);
+    expect(maze_open(table, BYTES, 0, 0, 1, 0, 1).number == 0, "open from 0 to 1", 0, 0);
+    expect(maze_block(table, BYTES, 1, 1) == 0, "block 1 to 3", 1, 1);
+    keep();
+    got = maze_open(table, BYTES, 0, 1, 3, 0, 1);
+    expect(got.number == 22 && got.hops == 0 && got.receive == 0 && got.scouts == 0 && unaltered(), "held in front of blocked", got.number, got.scouts);
+    got = maze_open(table, BYTES, 0, 1, 3, 3, 3);
+    expect(got.number == 22 && got.scouts == 0 && unaltered(), "held in front of blocked, type 3", got.number, got.scouts);
+    expect(maze_unblock(table, BYTES, 1, 1) == 0, "unblock 1 to 3", 1, 1);
+    keep();
+    got = maze_open(table, BYTES, 0, 1, 3, 0, 1);
+    expect(got.number == 10 && got.hops == 0 && got.receive == 0 && got.scouts == 0 && unaltered(), "held alone", got.number, got.scouts);
+    expect(maze_block(table, BYTES, 1, 1) == 0 && maze_close(table, BYTES, 0, 0) == 0, "block it again and close", 1, 1);
+    keep();
+    got = maze_open(table, BYTES, 0, 1, 3, 0, 1);
+    expect(got.number == 22 && got.scouts == 1 && unaltered(), "no circuit left", got.number, got.scouts);
+    expect(maze_unblock(table, BYTES, 1, 1) == 0, "unblock 1 to 3", 1, 1);
+    got = maze_open(table, BYTES, 0, 1, 3, 0, 1);
+    expect(got.number == 0 && got.scouts == 2, "repaired", got.number, got.scouts);
+
+    /* type 4, dimension 2, from 0 to 3: 1 to 3 is blocked, and circuit 17 holds 2 to 3. A scout goes to 1, and in the second pass one to 2. */
+    fresh_armed(2);
+    expect(maze_block(table, BYTES, 1, 1) == 0 && maze_open(table, BYTES, 2, 0, 3, 3, 1).number == 0, "open from 2 to 3", 2, 3);
+    keep();
+    got = maze_open(table, BYTES, 0, 0, 3, 4, 1);
+    expect(got.number == 10 && got.scouts == 2 && unaltered(), "the second pass is held, type 4", got.number, got.scouts);
+    got = maze_open(table, BYTES, 0, 0, 3, 4, 2);
+    expect(got.number == 10 && got.scouts == 2 && unaltered(), "the first pass is held, type 4", got.number, got.scouts);
+    got = maze_open(table, BYTES, 0, 0, 3, 1, 3);
+    expect(got.number == 10 && got.scouts == 2 && unaltered(), "the second path is held, type 1", got.number, got.scouts);
+    got = maze_open(table, BYTES, 0, 0, 3, 1, 1);
+    expect(got.number == 22 && got.scouts == 1 && unaltered(), "no second path, type 1", got.number, got.scouts);
+    got = maze_open(table, BYTES, 0, 0, 3, 3, 3);
+    expect(got.number == 22 && got.scouts == 1 && unaltered(), "no second path, type 3", got.number, got.scouts);
+    got = maze_open(table, BYTES, 0, 0, 3, 3, 2);
+    expect(got.number == 10 && got.scouts == 1 && unaltered(), "the only path is held, type 3", got.number, got.scouts);
+    expect(maze_close(table, BYTES, 2, 0) == 0, "close the one from 2 to 3", 2, 3);
+    got = maze_open(table, BYTES, 0, 0, 3, 4, 1);
+    expect(got.number == 0 && got.scouts == 3, "10, closed and accepted", got.number, got.scouts);
+
+    /* a send of type 3 or 1 is 22 where type 0 with its vector is accepted; and a free path without a channel is 11, whatever else is blocked */
+    fresh(3);
+    expect(maze_block(table, BYTES, 3, 2) == 0, "block 3 to 7", 3, 2);
+    keep();
+    got = maze_open(table, BYTES, 0, 0, 7, 0, 1);
+    expect(got.number == 11 && got.scouts == 4 && unaltered(), "no channel, type 0", got.number, got.scouts);
+    got = maze_open(table, BYTES, 0, 0, 7, 4, 1);
+    expect(got.number == 11 && got.scouts == 4 && unaltered(), "no channel, type 4", got.number, got.scouts);
+    got = maze_open(table, BYTES, 0, 0, 7, 1, 3);
+    expect(got.number == 11 && got.scouts == 5 && unaltered(), "no channel, type 1", got.number, got.scouts);
+    for (unsigned type = 1; type <= 3; type += 2) {
+        got = maze_open(table, BYTES, 0, 0, 7, (uint16_t)type, 1);
+        expect(got.number == 22 && got.hops == 0 && got.receive == 0 && got.scouts == 2 && unaltered(), "22, no channel, type", type, got.number);
+    }
+    arm(7, 4);
+    keep();
+    for (unsigned type = 1; type <= 3; type += 2) {
+        got = maze_open(table, BYTES, 0, 0, 7, (uint16_t)type, 1);
+        expect(got.number == 22 && got.hops == 0 && got.receive == 0 && got.scouts == 2 && unaltered(), "22, type", type, got.number);
+    }
+    got = maze_open(table, BYTES, 0, 0, 7, 0, 1);
+    expect(got.number == 0 && got.receive == 4 && got.scouts == 4, "and type 0 is accepted", got.number, got.scouts);
+    /* its circuit holds 0 to 1, 1 to 5 and 5 to 7: for type 0 one path is held and the other blocked */
+    keep();
+    got = maze_open(table, BYTES, 0, 1, 7, 0, 1);
+    expect(got.number == 10 && got.scouts == 0 && unaltered(), "one held and one blocked", got.number, got.scouts);
+    got = maze_open(table, BYTES, 0, 1, 7, 3, 1);
+    expect(got.number == 22 && got.scouts == 0 && unaltered(), "the blocked one alone", got.number, got.scouts);
+    /* tests that come before the search stop it as ever */
+    got = maze_open(table, BYTES, 0, 0, 7, 3, 1);
+    expect(got.number == 9 && got.scouts == 0 && unaltered(), "9 before 22", got.number, got.scouts);
+    got = maze_open(table, BYTES, 0, 1, 7, 3, 8);
+    expect(got.number == 8 && got.scouts == 0 && unaltered(), "8 before 22", got.number, got.scouts);
 }
 
 /* ---- arming ---- */
@@ -1040,6 +1241,9 @@ int main(void) {
     held_hops();
     helix_scouts();
     inclusion();
+    waiting();
+    waiting_edges();
+    waiting_choices();
     lowest_armed();
     arming();
     blocking();

@@ -74,7 +74,7 @@ static void answer(unsigned number, const char *bytes, size_t length) {
             printf("%u %lu ", opened.receive, (unsigned long)opened.scouts);
             print_path(a, b);
             printf("\n");
-        } else if (opened.number == 10 || opened.number == 11) {
+        } else if (opened.number == 10 || opened.number == 11 || opened.number == 22) {
             printf("- %lu -\n", (unsigned long)opened.scouts);
         } else {
             printf("- - -\n");
@@ -116,15 +116,16 @@ static unsigned some(unsigned bound) {
     return below(2) == 0 ? bound + below(3) : below(65536);
 }
 
-/* A channel of the target is armed before most opens; what is disarmed is mostly of the last target. */
+/* A channel of the target is armed before most opens; what is disarmed is mostly of the last target. Many opens are from the last source, and many links
+ * that are blocked lead out of it. */
 static void generate(unsigned lines) {
     static const unsigned types[] = {0, 0, 1, 3, 4, 4};
-    unsigned dimension = 1 + below(8), target = 0;
+    unsigned dimension = 1 + below(8), source = 0, target = 0;
     printf("F %u\n", dimension);
     for (unsigned i = 1; i < lines; i++) {
         unsigned nodes = 1u << dimension;
         switch (below(13)) {
-        case 0: printf("B %u %u\n", some(nodes), some(dimension)); break;
+        case 0: printf("B %u %u\n", below(3) == 0 ? some(nodes) : source, some(dimension)); break;
         case 1: printf("E %u %u\n", some(nodes), some(dimension)); break;
         case 2: case 3: case 4: printf("C %u %u\n", some(nodes), some(8)); break;
         case 5: if (below(30) == 0) printf("F %u\n", dimension = 1 + below(8)); else printf("S 0%u 0 0 0 1\n", below(9)); break;
@@ -136,9 +137,10 @@ static void generate(unsigned lines) {
         }
         case 7: printf("%c %u %u\n", below(3) == 0 ? 'R' : 'D', below(3) == 0 ? some(nodes) : target, some(8)); break;
         default:
+            if (below(2) == 0) source = some(nodes);
             target = some(nodes);
             if (below(4) != 0) printf("R %u %u\n", target, some(8)), i++;
-            printf("S %u %u %u %u %u\n", some(nodes), some(8), target, below(12) == 0 ? 2 + below(7) : types[below(6)], below(10) == 0 ? 0 : some(nodes));
+            printf("S %u %u %u %u %u\n", source, some(8), target, below(12) == 0 ? 2 + below(7) : types[below(6)], below(10) == 0 ? 0 : some(nodes));
         }
     }
 }

@@ -13,7 +13,7 @@
 #include <stdlib.h>
 #include <string.h>
 
-enum { SPARE = 32, BUFFER = 24, MOST_CALLS = 60000, LETTERS = 9, NUMBERS = MAZE_CHANNEL_HELD + 1 };
+enum { SPARE = 32, BUFFER = 24, MOST_CALLS = 60000, LETTERS = 9, NUMBERS = MAZE_NO_ROUTE + 1 };
 
 /* ---- pseudo-random numbers: the same on every machine ---- */
 
@@ -176,25 +176,38 @@ static struct {
         through_source, to_itself, first_hop_away, nearly_full, nearly_full_accepted, full, all_received, one_changed, one_changed_sound,
         several_changed, several_changed_sound, mask_changed, mask_changed_sound, moved, laid, laid_sound, wrong_length, short_buffer;
     unsigned long receive_ended, receive_ended_no_port, route_then_receive, passed_over, armed_again, armed_held, disarmed_again;
+    unsigned long rejected[2][MAZE_TYPE_ALTERNATE_MAZE + 1], no_route_idle, no_route_unscouted, helped_past_blocked; /* 10 and then 22, by type */
     unsigned long helix_first, helix_later, helix_none, helix_received, helix_received_later, fixed_taken, fixed_rejected, fixed_received, partly_free;
 } seen;
 
-static void count_held(unsigned long *held, unsigned long *links) {
+static void count_held(unsigned long *held, unsigned long *links, unsigned long *blocked) {
     const uint8_t *table = now.table[1];
-    *held = 0;
+    unsigned dimension = MAZE_DIMENSION(table) > MAZE_DIMENSION_LARGEST ? 0 : MAZE_DIMENSION(table);
+    *held = *blocked = 0;
     *links = MAZE_DIMENSION(table) > MAZE_DIMENSION_LARGEST ? 1 : (unsigned long)MAZE_DIMENSION(table) << MAZE_DIMENSION(table);
     for (unsigned node = 0; node < MAZE_NODES; node++)
-        for (unsigned port = 0; port < MAZE_PORTS; port++) *held += MAZE_LINK_CIRCUIT(table, node, port) != 0;
+        for (unsigned port = 0; port < MAZE_PORTS; port++) {
+            *held += MAZE_LINK_CIRCUIT(table, node, port) != 0;
+            *blocked += port < dimension && node < 1u << dimension && !MAZE_LINK_ENABLED(table, node, port);
+        }
 }
 
-static void tally(const struct call *call, const struct answers *answers, unsigned long held, unsigned long links) {
+static void tally(const struct call *call, const struct answers *answers, unsigned long held, unsigned long links, unsigned long blocked) {
     unsigned long number = answers->value[1][0], scouts = answers->value[1][3];
     const uint16_t *a = call->argument;
     seen.calls++;
     seen.answers[letter_place(call->letter)][number]++;
     seen.wrong_length += number == MAZE_BAD_LENGTH;
     seen.short_buffer += number == MAZE_BUFFER_SHORT;
-    if (call->letter != 'S' || !(number == MAZE_ACCEPTED || number == MAZE_ROUTE_REJECTED || number == MAZE_RECEIVE_REJECTED)) return;
+    if (call->letter != 'S') return;
+    if (!(number == MAZE_ACCEPTED || number == MAZE_ROUTE_REJECTED || number == MAZE_RECEIVE_REJECTED || number == MAZE_NO_ROUTE)) return;
+    if (number == MAZE_ROUTE_REJECTED || number == MAZE_NO_ROUTE) {
+        int none = number == MAZE_NO_ROUTE;
+        seen.rejected[none][a[3]]++;
+        if (none && held == 0) seen.no_route_idle++;
+        if (none && held > 0 && scouts == 0) seen.no_route_unscouted++;
+        if (!none && blocked > 0) seen.helped_past_blocked++;
+    }
     if (scouts > seen.most_scouts) seen.most_scouts = scouts;
     if (10 * held >= 9 * links) {
         seen.nearly_full++;
@@ -240,10 +253,10 @@ static unsigned long last_number;
 
 static void make_call(struct call call) {
     struct answers answers;
-    unsigned long held = 0, links = 1;
+    unsigned long held = 0, links = 1, blocked = 0;
     int armed = 0;
     if (differs || calls == MOST_CALLS) return;
-    if (call.letter == 'S') count_held(&held, &links);
+    if (call.letter == 'S') count_held(&held, &links, &blocked);
     if ((call.letter == 'R' || call.letter == 'D') && call.argument[0] < MAZE_NODES && call.argument[1] < MAZE_CHANNELS)
         armed = MAZE_RECEIVE_ARMED(now.table[1], call.argument[0], call.argument[1]);
     list[calls++] = call;
@@ -258,7 +271,7 @@ static void make_call(struct call call) {
         seen.armed_held += MAZE_RECEIVE_CIRCUIT(now.table[1], call.argument[0], call.argument[1]) != 0;
     }
     seen.disarmed_again += call.letter == 'D' && last_number == MAZE_ACCEPTED && !armed;
-    if (call.letter != 'P') tally(&call, &answers, held, links);
+    if (call.letter != 'P') tally(&call, &answers, held, links, blocked);
 }
 
 /* ---- choosing calls ---- */
@@ -631,12 +644,40 @@ static void contended(unsigned dimension) {
     }
 }
 
+/* Some links near a source and a target blocked, and all others held by a circuit of their own: which of 10 and 22 a rejected send gets is not to be
+ * read off the links that it meets. Then circuits are closed one by one. */
+static void stopped(unsigned dimension) {
+    unsigned nodes = 1u << dimension, source = any_node(dimension), target = one_in(6) ? source : any_node(dimension), blocks = 1 + below(3 * dimension);
+    for (unsigned i = 0; i < blocks; i++) {
+        unsigned node = one_in(2) ? source : target, port = below(dimension);
+        if (one_in(2)) node ^= 1u << port; /* into the node */
+        if (one_in(3)) node ^= 1u << below(dimension);
+        make_call(plain('B', node, port));
+    }
+    for (unsigned node = 0; node < nodes; node++) make_call(plain('P', MAZE_ARMED_AT + node, 255));
+    for (unsigned node = 0; node < nodes; node++)
+        for (unsigned port = 0; port < dimension; port++)
+            if (MAZE_LINK_ENABLED(now.table[1], node, port)) {
+                write_entry(MAZE_LINKS_AT, node, port, MAZE_CIRCUIT(node, port));
+                write_entry(MAZE_RECEIVES_AT, node ^ 1u << port, port, MAZE_CIRCUIT(node, port));
+            }
+    for (unsigned i = 0; i < 80; i++) {
+        unsigned node = one_in(3) ? source ^ 1u << below(dimension) : source, port = below(dimension);
+        switch (below(6)) {
+        case 0: make_call(plain('C', node, port)); break;
+        case 1: make_call(plain('C', target ^ 1u << port, port)); break;
+        case 2: make_call(on_circuit('C', dimension)); break;
+        default: make_call(sending(node, free_channel(node), one_in(8) ? any_node(dimension) : target, good_type(), any_vector(dimension, node, target)));
+        }
+    }
+}
+
 static const struct {
     const char *name;
     void (*run)(unsigned);
 } kinds[] = {
     {"mixed", mixed},     {"refusals", refusals},   {"filled", filled}, {"thinned", thinned},     {"walled", walled},
-    {"damaged", damaged}, {"rewritten", rewritten}, {"laid", laid},     {"contended", contended},
+    {"damaged", damaged}, {"rewritten", rewritten}, {"laid", laid},     {"contended", contended}, {"stopped", stopped},
 };
 
 static void print_seen(void) {
@@ -658,6 +699,13 @@ static void print_seen(void) {
            seen.helix_first, seen.helix_later, seen.helix_none, seen.helix_received, seen.helix_received_later);
     printf("type 3 accepted: %lu; route rejected: %lu; receive rejected: %lu; of types 1 and 3, scouts on a path that is not free: %lu\n",
            seen.fixed_taken, seen.fixed_rejected, seen.fixed_received, seen.partly_free);
+    printf("route rejected, and closing circuits may help:");
+    for (unsigned type = 0; type <= MAZE_TYPE_ALTERNATE_MAZE; type++)
+        if (type != 2) printf("  type %u: %lu", type, seen.rejected[0][type]);
+    printf(", of these with a blocked link in the table: %lu\nand it does not:", seen.helped_past_blocked);
+    for (unsigned type = 0; type <= MAZE_TYPE_ALTERNATE_MAZE; type++)
+        if (type != 2) printf("  type %u: %lu", type, seen.rejected[1][type]);
+    printf(", of these with no circuit: %lu; with circuits and no scout: %lu\n", seen.no_route_idle, seen.no_route_unscouted);
     printf("opens that passed over a channel not armed: %lu; armed ones armed again: %lu, of these held: %lu; disarmed ones again: %lu\n",
            seen.passed_over, seen.armed_again, seen.armed_held, seen.disarmed_again);
     printf("rejected after 1,000 scouts or more: %lu; after 10,000 or more: %lu; most scouts of a send: %lu\n", seen.rejected_1000,
@@ -708,6 +756,17 @@ int main(int count, char **arguments) {
             {"type 4 ended by a receive rejection with a port left for a second pass", seen.receive_ended},
             {"type 4 ended by a receive rejection with no port left", seen.receive_ended_no_port},
             {"a route rejection and then a receive rejection", seen.route_then_receive},
+            {"10 of type 0", seen.rejected[0][0]},
+            {"10 of type 1", seen.rejected[0][1]},
+            {"10 of type 3", seen.rejected[0][3]},
+            {"10 of type 4", seen.rejected[0][4]},
+            {"22 of type 0", seen.rejected[1][0]},
+            {"22 of type 1", seen.rejected[1][1]},
+            {"22 of type 3", seen.rejected[1][3]},
+            {"22 of type 4", seen.rejected[1][4]},
+            {"10 in a table with a blocked link", seen.helped_past_blocked},
+            {"22 in a table with no circuit", seen.no_route_idle},
+            {"22 in a table with circuits, without a scout", seen.no_route_unscouted},
             {"type 1 accepted on its first path", seen.helix_first},
             {"type 1 accepted on a later path", seen.helix_later},
             {"type 1 with none of several paths free", seen.helix_none},

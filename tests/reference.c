@@ -4,6 +4,7 @@
  * - A pass lists every beginning of every permitted path, from the highest port down and without looking at the table. Then it looks which of
  *   them are free, takes the first of the free paths by comparing paths as document 01 words it, and counts.
  * - A helix path is looked for in such a list, as the one path each of whose later hops is by the first uphill port: no uphill port is tried before it.
+ * - Whether waiting helps is looked up in such lists once more, with every circuit taken out of the record.
  * - Soundness searches all the permitted paths that the links of a circuit allow, for one that uses them all. */
 #include "reference.h"
 
@@ -151,7 +152,7 @@ static int is_free(const struct cube *cube, unsigned node, const struct path *pa
 /* ---- a pass ---- */
 
 struct pass {
-    unsigned number; /* 0, 10 or 11 */
+    unsigned number; /* 0, 10 or 11; 22 in place of 10 once the send is over */
     unsigned scouts;
     unsigned receive;
     struct path path;
@@ -226,6 +227,36 @@ static struct pass run_helix(const struct cube *cube, unsigned source, unsigned 
     }
     if (pass.path.hops != 0) take_channel(cube, target, &pass);
     return pass;
+}
+
+/* ---- will waiting help? ---- */
+
+/* Whether some permitted path with a first port of the vector is free. */
+static int some_path(const struct cube *cube, unsigned source, unsigned vector, unsigned target) {
+    list_all(cube->dimension, source, vector, target);
+    for (size_t i = 0; i < listed; i++)
+        if (beginnings[i].ends && is_free(cube, source, &beginnings[i])) return 1;
+    return 0;
+}
+
+/* Whether, were all circuits closed, some path that the routing type may try would cross no blocked link: that is, would be free. */
+static int waiting_helps(const struct cube *cube, unsigned source, unsigned vector, unsigned target, unsigned type) {
+    static struct cube idle;
+    idle = *cube;
+    memset(idle.link, 0, sizeof idle.link);
+    for (unsigned port = 0; port < cube->dimension; port++) {
+        struct path path;
+        switch (type) {
+        case 0: if (bit(vector, port) && some_path(&idle, source, power(port), target)) return 1; break;
+        case 4: if (some_path(&idle, source, power(port), target)) return 1; break; /* in the vector or left out: one of the two passes has it */
+        default:
+            if (!bit(vector, port)) break;
+            path = helix_path(cube->dimension, source, port, target);
+            if (is_free(&idle, source, &path)) return 1;
+            if (type == 3) return 0; /* the lowest port alone */
+        }
+    }
+    return 0;
 }
 
 /* ---- soundness ---- */
@@ -405,6 +436,7 @@ maze_opened ref_open(uint8_t *table, size_t table_len, uint16_t node, uint16_t c
     if (call.number == MAZE_ACCEPTED) {
         struct pass pass = run_type(&call.cube, node, vector, target, type);
         answer.scouts = pass.scouts;
+        if (pass.number == MAZE_ROUTE_REJECTED && !waiting_helps(&call.cube, node, vector, target, type)) pass.number = MAZE_NO_ROUTE;
         ref_last_send.hops = pass.path.hops;
         memcpy(ref_last_send.ports, pass.path.port, sizeof ref_last_send.ports);
         call.number = pass.number;

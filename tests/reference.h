@@ -1,4 +1,4 @@
-/* The calls on a table once more, written for checking: an independent reading of document 01 with requests (a), (b) and (f) of document 02, which
+/* The calls on a table once more, written for checking: an independent reading of document 01 with requests (a), (b), (c) and (f) of document 02, which
  * shares nothing with the library but the header's names. Signatures and answers are those of maze.h. */
 #ifndef REFERENCE_H
 #define REFERENCE_H

@@ -51,6 +51,9 @@ pub const UNREADABLE_LINE: u16 = 20;
 // Disarm (document 02): a circuit holds the receive channel.
 pub const CHANNEL_HELD: u16 = 21;
 
+// Open, after the search: beside a route rejection, where waiting does not help.
+pub const NO_ROUTE: u16 = 22;
+
 // A packet to a receive channel (document 02).
 pub const CHANNEL_STOPPED: u16 = 30;
 

@@ -140,16 +140,17 @@ module _ {S : Type 0} (makes : S → Call → After S) (state : S) (n : ℕ) whe
     unfolding inOrder rowFor callRow carriesScouts
     acknowledged-shows e = rw e
 
-    -- S answered 10 or 11: "A refused S shows `-` for receive and ports."
-    pub rejected-shows : (answer opens .number ≡ 10) ⊎ (answer opens .number ≡ 11)
+    -- S answered 10, 11 or 22: "A refused S shows `-` for receive and ports."
+    pub rejected-shows : (answer opens .number ≡ 10) ⊎ (answer opens .number ≡ 11) ⊎ (answer opens .number ≡ 22)
         → shown opens
         ≡ shows n ∷ letter 83 ∷ shows (answer opens .number) ∷ shows node ∷ shows channel ∷ nothing ∷ shows (scoutsOf (answer opens)) ∷ nothing ∷ []
     unfolding inOrder rowFor callRow carriesScouts
     rejected-shows (inl e) = rw e
-    rejected-shows (inr e) = rw e
+    rejected-shows (inr (inl e)) = rw e
+    rejected-shows (inr (inr e)) = rw e
 
-    -- S stopped before the search: "scouts (S answered 0, 10 or 11)", and not otherwise
-    pub stopped-shows : answer opens .number ≢ 0 → answer opens .number ≢ 10 → answer opens .number ≢ 11
+    -- S stopped before the search: "scouts (S answered 0, 10 or 11)", or 22, and not otherwise
+    pub stopped-shows : answer opens .number ≢ 0 → answer opens .number ≢ 10 → answer opens .number ≢ 11 → answer opens .number ≢ 22
         → shown opens ≡ shows n ∷ letter 83 ∷ shows (answer opens .number) ∷ shows node ∷ shows channel ∷ nothing ∷ nothing ∷ nothing ∷ []
     unfolding inOrder rowFor callRow carriesScouts
-    stopped-shows e f g = rw (ne-eqb _ 0 e, ne-eqb _ 10 f, ne-eqb _ 11 g)
+    stopped-shows e f g h = rw (ne-eqb _ 0 e, ne-eqb _ 10 f, ne-eqb _ 11 g, ne-eqb _ 22 h)

@@ -38,22 +38,25 @@ module _ {S : Type 0} (makes : S → Call → After S) (state : S) (line s c t y
   unfolding rowFor callRow
   refused-row = let e = ne-eqb (makes state (opening s c t y v) .result .number) 0 refused in (rw e, rw e)
 
--- "scouts (S answered 0, 10 or 11)": exactly then the field shows a number
+-- "scouts (S answered 0, 10 or 11)", and since document 02, (c), 22: exactly then the field shows a number
 shown-if : (b : Bool) (n : ℕ) → Shown (cond b (shows n) nothing) ↔ (b ≡ true)
 unfolding Shown
 shown-if true n = ((λ p. refl), (λ e. tt))
 shown-if false n = ((λ p. absurd p), (λ e. absurd (false≢true e)))
 
 -- the answers that carry scouts, by their numbers
-was-sent : (n : ℕ) → carriesScouts n ≡ true → (n ≡ 0) ⊎ ((n ≡ 10) ⊎ (n ≡ 11))
+was-sent : (n : ℕ) → carriesScouts n ≡ true → (n ≡ 0) ⊎ (n ≡ 10) ⊎ (n ≡ 11) ⊎ (n ≡ 22)
 unfolding carriesScouts
-was-sent n e = ⊎-elim inl (λ f. inr (⊎-elim inl (λ g. inr (eqb-true n 11 (rw (ne-eqb n 0 f, ne-eqb n 10 g) at e))) (same? n 10))) (same? n 0)
+was-sent n e =
+    ⊎-elim inl (λ f. inr (⊎-elim inl (λ g. inr (⊎-elim inl (λ h. inr (eqb-true n 22 (rw (ne-eqb n 0 f, ne-eqb n 10 g, ne-eqb n 11 h) at e))) (same? n 11))) (same? n 10)))
+    (same? n 0)
 
-is-sent : (n : ℕ) → (n ≡ 0) ⊎ ((n ≡ 10) ⊎ (n ≡ 11)) → carriesScouts n ≡ true
+is-sent : (n : ℕ) → (n ≡ 0) ⊎ (n ≡ 10) ⊎ (n ≡ 11) ⊎ (n ≡ 22) → carriesScouts n ≡ true
 unfolding carriesScouts
 is-sent n (inl e) = rw e
 is-sent n (inr (inl e)) = rw e
-is-sent n (inr (inr e)) = rw e
+is-sent n (inr (inr (inl e))) = rw e
+is-sent n (inr (inr (inr e))) = rw e
 
 pub scouts-row : {S : Type 0} (makes : S → Call → After S) (state : S) (line : ℕ) (a : Call)
     → Shown (rowFor makes state line (some a) .scouts) ↔ WasSent a (makes state a .result)
@@ -94,18 +97,19 @@ stopped-by b (arming n k) = search (other, nil, needs) depth 12
 stopped-by b (disarming n k) = search (other, nil, needs) depth 12
 
 -- and what a call answers that none of them stops
-sent-answer : (o : Outcome) (n : ℕ) → isAnswer (answered o n .number) ≡ true
+sent-answer : (helps : Bool) (o : Outcome) (n : ℕ) → isAnswer (answered helps o n .number) ≡ true
 unfolding answered
-sent-answer (acknowledged w k) n = refl
-sent-answer route-rejected n = refl
-sent-answer receive-rejected n = refl
+sent-answer helps (acknowledged w k) n = refl
+sent-answer true route-rejected n = refl
+sent-answer false route-rejected n = refl
+sent-answer helps receive-rejected n = refl
 
 result-answer : (f : CallFacts) (a : Call) → isAnswer (resultOf f a .number) ≡ true
 unfolding resultOf
 result-answer f (making D) = refl
 result-answer f (blocking n p) = refl
 result-answer f (unblocking n p) = refl
-result-answer f (opening s c t y v) = sent-answer (f .sends s t y v .outcome) (f .sends s t y v .scouts)
+result-answer f (opening s c t y v) = sent-answer (f .waiting s t y v) (f .sends s t y v .outcome) (f .sends s t y v .scouts)
 result-answer f (closing s c) = refl
 result-answer f (tracing s c buffer) = refl
 result-answer f (arming n k) = refl

@@ -15,7 +15,7 @@ use Rattle.paths.specs.Send.{acknowledged}
 use Rattle.soundness.specs.SoundTest.{tracedInto}
 use Rattle.ownership.specs.Calls.{opening, tracing, CallResult, hopsOf, bufferOf, answered, resultOf}
 use Rattle.ownership.specs.Allowed.{Allowed}
-use Rattle.ownership.specs.History.{Circuit, History, belongs, openOn, listed, factsOn, stoppedOn, sendOn, withCircuits, withOpened, applied, historyStep}
+use Rattle.ownership.specs.History.{Circuit, History, belongs, openOn, listed, factsOn, stoppedOn, sendOn, withCircuits, withOpened, applied, historyStep, waitingOn}
 use Rattle.ownership.proofs.Allowed.{allowed-on, allowed-passes}
 use Rattle.ownership.proofs.Steps.{history-step}
 use Rattle.text.specs.Row.{path}
@@ -30,7 +30,7 @@ module _ (h : History) (s c t y v : ℕ) (w : Path) (k : ℕ) (passes : stoppedO
 
   accepted-number : historyStep h (opening s c t y v) .result .number ≡ 0
   unfolding resultOf factsOn answered
-  accepted-number = ap (λ (x : CallResult). x .number) (history-step h (opening s c t y v) .result passes) ∙ ap (λ o. answered o (sendOn h s t y v .scouts) .number) sends
+  accepted-number = ap (λ (x : CallResult). x .number) (history-step h (opening s c t y v) .result passes) ∙ ap (λ o. answered (waitingOn h s t y v) o (sendOn h s t y v .scouts) .number) sends
 
   opened : historyStep h (opening s c t y v) .state ≡ after
   unfolding applied withOpened after new

@@ -24,7 +24,8 @@ abbrev pub showsIf : Bool → Field → Field
 showsIf b f = cond b f nothing
 
 -- "Fields: input line from 1; call letter; refusal number; node as given (source for S); channel as given; receive channel taken; scouts (S answered 0, 10
--- or 11); ports in path order, or the port of B and E as given. A refused S shows `-` for receive and ports." The path of a send channel is what `way` says.
+-- or 11); ports in path order, or the port of B and E as given. A refused S shows `-` for receive and ports." Document 02, (c): 22 is printed with "the same
+-- scouts". The path of a send channel is what `way` says.
 unfoldable pub callRow : ℕ → Call → CallResult → (ℕ → ℕ → List ℕ) → Row
 callRow n (making D) x way = row n letterF (x .number) nothing nothing nothing nothing nothing
 callRow n (blocking m p) x way = row n letterB (x .number) (shows m) nothing nothing nothing (shows p)

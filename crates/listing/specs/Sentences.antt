@@ -36,9 +36,9 @@ IsOpen (tracing s c buffer) = ⊥
 IsOpen (arming n k) = ⊥
 IsOpen (disarming n k) = ⊥
 
--- "S answered 0, 10 or 11"
+-- "S answered 0, 10 or 11", and 22 of document 02, (c), "carrying and printing the same scouts"
 abbrev pub WasSent : Call → CallResult → Type 0
-WasSent a x = IsOpen a × ((x .number ≡ 0) ⊎ ((x .number ≡ 10) ⊎ (x .number ≡ 11)))
+WasSent a x = IsOpen a × ((x .number ≡ 0) ⊎ (x .number ≡ 10) ⊎ (x .number ≡ 11) ⊎ (x .number ≡ 22))
 
 -- the input line of a call letter and the numbers behind it
 unfoldable pub lineOf : ℕ → List ℕ → List ℕ

@@ -31,6 +31,9 @@ fn scouts_of(number: u16, scouts: u32) -> Field
     if number == refusal::RECEIVE_REJECTED {
         return Field::Number(scouts);
     }
+    if number == refusal::NO_ROUTE {
+        return Field::Number(scouts);
+    }
     Field::Nothing
 }
 

@@ -19,7 +19,8 @@ use Rattle.command_word.specs.Commands.{commands, valuesIn, values, reserved}
 use Rattle.command_word.specs.Word.{readTests, reading, readWord, writeTests, writing, writeWord}
 use Rattle.soundness.specs.SoundTest.{tracedInto}
 use Rattle.ownership.specs.Calls.{Call, making, blocking, opening, closing, tracing, arming, disarming, CallResult, answered, callTests, resultOf, callOn}
-use Rattle.ownership.specs.History.{History, holdsLink, holdsReceive, belongs, enabledOn, heldOn, freeOn, takenOn, openOn, armedOn, receiveOn, listed}
+use Rattle.ownership.specs.History.{History, holdsLink, holdsReceive, belongs, enabledOn, heldOn, freeOn, takenOn, openOn, armedOn, receiveOn, listed, waitingOn}
+use Rattle.paths.specs.Waiting.{findsPath, someAttempt}
 use Rattle.ownership.specs.History.{factsOn, stoppedOn, sendOn, withOpened, applied, historyStep}
 use Rattle.ownership.specs.FromTable.{linksOut}
 use Rattle.ownership.specs.Agrees.{historyResults, answers}
@@ -99,7 +100,7 @@ results =
     ∷ (done ∷ armed 1 ++ opened 0 2 0 2 ∷ traced 2 (0 ∷ 0 ∷ 9 ∷ 9 ∷ 9 ∷ 9 ∷ 9 ∷ 9 ∷ 9 ∷ []) ∷ [])
     ∷ (done ∷ armed 2 ++ opened 0 3 0 3 ∷ traced 3 (1 ∷ 0 ∷ 1 ∷ 9 ∷ 9 ∷ 9 ∷ 9 ∷ 9 ∷ 9 ∷ []) ∷ [])
     ∷ (done ∷ armed 2 ++ done ∷ opened 0 3 0 3 ∷ traced 3 (1 ∷ 1 ∷ 0 ∷ 9 ∷ 9 ∷ 9 ∷ 9 ∷ 9 ∷ 9 ∷ []) ∷ [])
-    ∷ (done ∷ armed 2 ++ done ∷ opened 10 0 0 0 ∷ [])
+    ∷ (done ∷ armed 2 ++ done ∷ opened 22 0 0 0 ∷ [])
     ∷ (done ∷ armed 2 ++ done ∷ opened 0 3 0 3 ∷ traced 3 (1 ∷ 0 ∷ 1 ∷ 9 ∷ 9 ∷ 9 ∷ 9 ∷ 9 ∷ 9 ∷ []) ∷ [])
     ∷ (done ∷ armed 1 ++ opened 0 1 0 1 ∷ opened 10 0 0 0 ∷ done ∷ opened 0 1 1 1 ∷ [])
     ∷ (alone (0 ∷ 1 ∷ 0 ∷ []) ∷ [])
@@ -111,12 +112,12 @@ results =
     ∷ []
 
 pub examples : map result inputs ≡ results
-unfolding answers historyStep stoppedOn callTests refusal factsOn openOn heldOn takenOn armedOn linksOut any holdsLink holdsReceive belongs enabledOn freeOn linkState isFree receiveOn lowestOf lowest listed sendOn withOpened applied resultOf callOn tracedInto send attempts attempted network ports sendPorts otherPorts present axis keep from has flip uphill helical offered end links hasLink freePath over ways beginnings scan whole pass scouts received outcome goesOn runs answered commands valuesIn values reserved readTests reading readWord writeTests writing writeWord
+unfolding answers historyStep stoppedOn callTests refusal factsOn openOn heldOn takenOn armedOn linksOut any holdsLink holdsReceive belongs enabledOn freeOn linkState isFree receiveOn lowestOf lowest listed sendOn waitingOn someAttempt findsPath withOpened applied resultOf callOn tracedInto send attempts attempted network ports sendPorts otherPorts present axis keep from has flip uphill helical offered end links hasLink freePath over ways beginnings scan whole pass scouts received outcome goesOn runs answered commands valuesIn values reserved readTests reading readWord writeTests writing writeWord
 examples = refl
 
 -- Document 02, (a): a channel must be armed to be taken; while it is held it is not disarmed, and 21 comes "after 5"; closing disarms it.
 armed-once : map shown (historyResults before
     (making 3 ∷ opening 0 0 7 0 7 ∷ arming 7 0 ∷ opening 0 0 7 0 7 ∷ disarming 7 8 ∷ disarming 7 0 ∷ closing 0 0 ∷ opening 0 0 7 0 7 ∷ []))
     ≡ done ∷ opened 11 0 0 3 ∷ done ∷ opened 0 3 0 3 ∷ alone (5 ∷ []) ∷ alone (21 ∷ []) ∷ done ∷ opened 11 0 0 3 ∷ []
-unfolding answers historyStep stoppedOn callTests refusal factsOn openOn heldOn takenOn armedOn any holdsLink holdsReceive belongs enabledOn freeOn linkState isFree receiveOn lowestOf lowest listed sendOn withOpened applied resultOf callOn tracedInto send attempts attempted network ports sendPorts otherPorts present axis keep from has flip uphill helical offered end links hasLink freePath over ways beginnings scan whole pass scouts received outcome goesOn runs answered
+unfolding answers historyStep stoppedOn callTests refusal factsOn openOn heldOn takenOn armedOn any holdsLink holdsReceive belongs enabledOn freeOn linkState isFree receiveOn lowestOf lowest listed sendOn waitingOn someAttempt findsPath withOpened applied resultOf callOn tracedInto send attempts attempted network ports sendPorts otherPorts present axis keep from has flip uphill helical offered end links hasLink freePath over ways beginnings scan whole pass scouts received outcome goesOn runs answered
 armed-once = refl

@@ -2,7 +2,7 @@
 -- Assumes nothing.
 use mathlib.Core.Path.{_≡_, refl, ap, ap₂, sym, _∙_}
 use mathlib.Core.Logic.{⊎-elim, _≢_}
-use mathlib.Core.Bool.{true, false, not, _&&_}
+use mathlib.Core.Bool.{true, false, not, _&&_, Bool}
 use mathlib.Core.List.{List, [], _∷_}
 use Prim.Native.Nat.{ℕ, _≤_, _<_}
 use lib.Dec.{leb}
@@ -33,11 +33,12 @@ use Rattle.ownership.proofs.Stops.{none-stops, making-stopped, tests-pa
 use Rattle.ownership.proofs.StepBytes.{made-shows}
 use Rattle.ownership.proofs.Range.{sound-fits}
 use Rattle.ownership.proofs.Refused.{refused-within}
-use Rattle.ownership.proofs.Sameness.{send-same}
+use Rattle.ownership.proofs.Sameness.{send-same, waiting-same}
 use Rattle.ownership.proofs.CircuitValid.{armed-inside, valid-sound}
 use Rattle.ownership.proofs.Stopped.{path-listed, stopped-same}
 use Rattle.ownership.proofs.Applied.{made-valid, made-view, follows-valid, follows-view}
 use Rattle.ownership.proofs.Steps.{table-step, history-step}
+use Rattle.search.specs.SendAnswer.{waitingHelps}
 
 -- The bytes of a valid history are covered by it.
 bytes-represent : (h : History) → Valid h → Represents (bytesOf h) h
@@ -75,7 +76,9 @@ module _ (b : List ℕ) (h : History) (k : Represents b h) where
   results-alike (making D) e = refl
   results-alike (blocking n p) e = refl
   results-alike (unblocking n p) e = refl
-  results-alike (opening s c t y v) e = ap (λ (x : SendResult). answered (x .outcome) (x .scouts)) (ap (λ u. sendIn u s t y v) (k .shows) ∙ send-same h s t y v)
+  results-alike (opening s c t y v) e =
+      ap₂ (λ (helps : Bool) (x : SendResult). answered helps (x .outcome) (x .scouts)) (ap (λ u. waitingHelps u s t y v) (k .shows) ∙ waiting-same h s t y v)
+      (ap (λ u. sendIn u s t y v) (k .shows) ∙ send-same h s t y v)
   results-alike (closing s c) e = refl
   results-alike (arming n k) e = refl
   results-alike (disarming n k) e = refl

@@ -26,3 +26,4 @@ pub mod FromTable
 pub mod Corollaries
 pub mod Rising
 pub mod ReceiveChannels
+pub mod Waiting

@@ -2,7 +2,7 @@
 -- Assumes nothing.
 use mathlib.Core.Path.{_≡_, refl, ap, sym, _∙_}
 use mathlib.Core.Logic.{⊎-elim, _≢_, _↔_}
-use mathlib.Core.Bool.{true, false, not}
+use mathlib.Core.Bool.{true, false, not, Bool}
 use mathlib.Core.List.{List, []}
 use Prim.Native.Nat.{ℕ, _^_, _<_}
 use native.Mathlib.Omega.{arith}
@@ -54,12 +54,12 @@ may-open b s c t y v e =
     }
 
 -- the numbers of an outcome, as an open gives them and as a send answers them
-answer-same : (o : Outcome) (n : ℕ) (b : List ℕ)
-    → pass-answer (answered o n .number) (hopsOf (answered o n)) (receiveOf (answered o n)) (scoutsOf (answered o n)) b ≡ answerOfOutcome o n b
+answer-same : (helps : Bool) (o : Outcome) (n : ℕ) (b : List ℕ)
+    → pass-answer (answered helps o n .number) (hopsOf (answered helps o n)) (receiveOf (answered helps o n)) (scoutsOf (answered helps o n)) b ≡ answerOfOutcome helps o n b
 unfolding answered answerOfOutcome
-answer-same (acknowledged w k) n b = refl
-answer-same route-rejected n b = refl
-answer-same receive-rejected n b = refl
+answer-same helps (acknowledged w k) n b = refl
+answer-same helps route-rejected n b = refl
+answer-same helps receive-rejected n b = refl
 
 module _ (b : List ℕ) (s c t y v : ℕ) (e : stoppedAt b (opening s c t y v) ≡ 0) where
   -- what the open gives
@@ -69,7 +69,7 @@ module _ (b : List ℕ) (s c t y v : ℕ) (e : stoppedAt b (opening s c t y v) �
   -- What an open that no test stops before the search answers is what a send answers, whatever the bytes are.
   pub open-answers : SendSays b s t (circuitOf s c) y v (gives .number) (hopsOf gives) (receiveOf gives) (scoutsOf gives) (writtenBy b (opening s c t y v))
   unfolding resultOf factsOf writtenBy sendIn sends sendAnswer
-  open-answers = rw (table-step b (opening s c t y v) .result e) (demand-2 b s t (circuitOf s c) y v (may-open b s c t y v e) _ _ _ _ _ (answer-same _ _ _))
+  open-answers = rw (table-step b (opening s c t y v) .result e) (demand-2 b s t (circuitOf s c) y v (may-open b s c t y v e) _ _ _ _ _ (answer-same _ _ _ _))
 
   -- The users' second demand of the open call: it says what a send says, in its answer and in every byte.
   pub open-says : AllBytes b → SendSays b s t (circuitOf s c) y v (gives .number) (hopsOf gives) (receiveOf gives) (scoutsOf gives) (tableStep b (opening s c t y v) .state)

@@ -3,7 +3,7 @@
 -- Assumes nothing.
 use mathlib.Core.Path.{_≡_, refl, ap, sym, _∙_, subst}
 use mathlib.Core.Logic.{⊎-elim, _≢_}
-use mathlib.Core.Bool.{Bool, true, not, _&&_}
+use mathlib.Core.Bool.{Bool, true, not, _&&_, false}
 use mathlib.Core.List.{List, [], _∷_, map, Memᴰ·of-map, List·Memᴰ·head, List·Memᴰ·tail, List·Memᴰ·cases-cons}
 use Prim.Native.Nat.{ℕ, _^_, _≤_, _<_}
 use native.Mathlib.Omega.{arith}
@@ -177,11 +177,12 @@ stopped-otherwise b (disarming n k) = never-answered 11 _ (avoiding 11 _ refl) (
 answerNumber : PassAnswer → ℕ
 answerNumber (pass-answer x h k n b) = x
 
-rejected : (o : Outcome) (n : ℕ) (b : List ℕ) → answerNumber (answerOfOutcome o n b) ≡ 11 → o ≡ receive-rejected
+rejected : (helps : Bool) (o : Outcome) (n : ℕ) (b : List ℕ) → answerNumber (answerOfOutcome helps o n b) ≡ 11 → o ≡ receive-rejected
 unfolding answerOfOutcome answerNumber
-rejected (acknowledged w k) n b e = absurd (omega (arith, e))
-rejected route-rejected n b e = absurd (omega (arith, e))
-rejected receive-rejected n b e = refl
+rejected helps (acknowledged w k) n b e = absurd (omega (arith, e))
+rejected true route-rejected n b e = absurd (omega (arith, e))
+rejected false route-rejected n b e = absurd (omega (arith, e))
+rejected helps receive-rejected n b e = refl
 
 open-otherwise : (b : List ℕ) (s c t y v : ℕ) → AllArmed b t → stoppedAt b (opening s c t y v) ≡ 0
     → tableStep b (opening s c t y v) .result .number ≢ 11
@@ -191,7 +192,7 @@ open-otherwise b s c t y v armed z e =
     let r = allowed (factsOf (view b)) (opening s c t y v) (none-stops b (opening s c t y v) z) in
     let x = open-answers b s c t y v z in
     send-receives (view b) (p .3) (p .2) t armed s (r .0) y v (x .outcome) _ (x .says)
-    (rejected (x .outcome) _ _ (sym (ap answerNumber (x .answer)) ∙ e))
+    (rejected _ (x .outcome) _ _ (sym (ap answerNumber (x .answer)) ∙ e))
 
 -- a call that some test stops answers another number
 never-stopped : (b : List ℕ) (a : Call) → (stoppedAt b a ≡ 0 → tableStep b a .result .number ≢ 11) → tableStep b a .result .number ≢ 11

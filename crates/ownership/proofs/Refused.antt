@@ -13,24 +13,26 @@ use Rattle.ownership.specs.Calls.{CallResult, scoutsOf, answered, CallFa
 use Rattle.ownership.specs.OnTable.{factsOf, stoppedAt, tableStep}
 use Rattle.ownership.specs.Agrees.{tableAfter, leaves}
 use Rattle.ownership.proofs.Steps.{table-step}
+use mathlib.Core.Bool.{Bool, true, false}
 
--- "When refused, all but the number are 0, except that 10 and 11 carry their scouts."
+-- "When refused, all but the number are 0, except that 10 and 11 carry their scouts", and so does 22.
 abbrev pub Zero : Call → CallResult → Type 0
-Zero a g = (g .values ≡ replicate (form a .valueCount) 0) ⊎ (((g .number ≡ 10) ⊎ (g .number ≡ 11)) × (g .values ≡ 0 ∷ 0 ∷ scoutsOf g ∷ []))
+Zero a g = (g .values ≡ replicate (form a .valueCount) 0) ⊎ (((g .number ≡ 10) ⊎ (g .number ≡ 22) ⊎ (g .number ≡ 11)) × (g .values ≡ 0 ∷ 0 ∷ scoutsOf g ∷ []))
 
 -- what a call that no test stops gives where it is refused: its buffers as they were lent, and such values
-send-zero : (a : Call) (o : Outcome) (n : ℕ) → answered o n .number ≢ 0 → (answered o n .buffers ≡ []) × Zero a (answered o n)
+send-zero : (a : Call) (helps : Bool) (o : Outcome) (n : ℕ) → answered helps o n .number ≢ 0 → (answered helps o n .buffers ≡ []) × Zero a (answered helps o n)
 unfolding answered
-send-zero a (acknowledged w k) n f = absurd (f refl)
-send-zero a route-rejected n f = (refl, inr (inl refl, refl))
-send-zero a receive-rejected n f = (refl, inr (inr refl, refl))
+send-zero a helps (acknowledged w k) n f = absurd (f refl)
+send-zero a true route-rejected n f = (refl, inr (inl refl, refl))
+send-zero a false route-rejected n f = (refl, inr (inr (inl refl), refl))
+send-zero a helps receive-rejected n f = (refl, inr (inr (inr refl), refl))
 
 result-refused : (f : CallFacts) (a : Call) → resultOf f a .number ≢ 0 → (resultOf f a .buffers ≡ lent a) × Zero a (resultOf f a)
 unfolding resultOf
 result-refused f (making D) h = absurd (h refl)
 result-refused f (blocking n p) h = absurd (h refl)
 result-refused f (unblocking n p) h = absurd (h refl)
-result-refused f (opening s c t y v) h = send-zero (opening s c t y v) (f .sends s t y v .outcome) _ h
+result-refused f (opening s c t y v) h = send-zero (opening s c t y v) (f .waiting s t y v) (f .sends s t y v .outcome) _ h
 result-refused f (closing s c) h = absurd (h refl)
 result-refused f (tracing s c buffer) h = absurd (h refl)
 result-refused f (arming n k) h = absurd (h refl)

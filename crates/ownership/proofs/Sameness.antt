@@ -1,6 +1,6 @@
 -- What a table that agrees with the history shows of links and of receive channels is what the history says of them; so a send is the same on both.
 -- Assumes nothing.
-use mathlib.Core.Path.{_≡_, _∙_, ap, fun-ext, sym}
+use mathlib.Core.Path.{_≡_, refl, _∙_, ap, fun-ext, sym}
 use mathlib.Core.Bool.{Bool, not, _&&_, Bool·not-not}
 use Prim.Native.Nat.{ℕ}
 use lib.Dec.{eqb}
@@ -8,12 +8,13 @@ use Rattle.paths.specs.Network.{isFree, linkState}
 use Rattle.paths.specs.CubeNetwork.{send}
 use Rattle.table.specs.View.{heldIn, available, receive}
 use Rattle.paths.specs.Send.{lowestOf}
-use Rattle.search.specs.PassAnswer.{freeIn}
+use Rattle.search.specs.PassAnswer.{freeIn, stateIn}
 use Rattle.ownership.specs.Update.{sendIn}
 use Rattle.ownership.specs.OnTable.{takenIn}
-use Rattle.ownership.specs.History.{History, shapeOn, netOn, holdsLink, holdsReceive, enabledOn, heldOn, freeOn, takenOn, armedOn, receiveOn, sendOn}
+use Rattle.ownership.specs.History.{History, shapeOn, netOn, holdsLink, holdsReceive, enabledOn, heldOn, freeOn, takenOn, armedOn, receiveOn, sendOn, waitingOn}
 use Rattle.ownership.specs.HistoryView.{viewOf}
 use Rattle.ownership.proofs.Circuits.{number-any}
+use Rattle.search.specs.SendAnswer.{waitingHelps}
 
 module _ (h : History) where
   -- "the link is held"
@@ -23,7 +24,7 @@ module _ (h : History) where
 
   -- free links
   pub free-same : freeIn (viewOf h) ≡ freeOn h
-  unfolding freeIn freeOn viewOf
+  unfolding freeIn stateIn freeOn viewOf
   free-same = λ i n p. isFree (linkState (enabledOn h n p) (held-same i n p))
 
   -- "disarming a held one": the receive channel is held
@@ -46,3 +47,8 @@ module _ (h : History) where
   pub send-same : (s t y v : ℕ) → sendIn (viewOf h) s t y v ≡ sendOn h s t y v
   unfolding sendIn sendOn viewOf
   send-same s t y v = λ i. send y (shapeOn h) (free-same i) (receive-same t i) s v t
+
+  -- and so is whether waiting can help it.
+  pub waiting-same : (s t y v : ℕ) → waitingHelps (viewOf h) s t y v ≡ waitingOn h s t y v
+  unfolding waitingHelps waitingOn viewOf
+  waiting-same s t y v = refl

@@ -24,6 +24,7 @@ use Rattle.ownership.proofs.Allowed.{allowed}
 use Rattle.ownership.proofs.Range.{sound-fits}
 use Rattle.ownership.proofs.Stops.{none-stops}
 use Rattle.ownership.proofs.Steps.{table-step}
+use Rattle.search.specs.SendAnswer.{waitingHelps}
 
 -- where a search is rejected, the update is what the table showed
 pub rejected-same : (v : View) (a : Call) → resultOf (factsOf v) a .number ≢ 0 → updated v a ≡ v
@@ -31,12 +32,12 @@ unfolding resultOf factsOf updated
 rejected-same v (making D) f = absurd (f refl)
 rejected-same v (blocking n p) f = absurd (f refl)
 rejected-same v (unblocking n p) f = absurd (f refl)
-rejected-same v (opening s c t y x) f = go (sendIn v s t y x .outcome) _ f
+rejected-same v (opening s c t y x) f = go (waitingHelps v s t y x) (sendIn v s t y x .outcome) _ f
   where
-    go : (o : Outcome) (n : ℕ) → answered o n .number ≢ 0 → viewAfterSend v (circuitOf s c) s t o ≡ v
-    go (acknowledged w k) n g = unfold answered in absurd (g refl)
-    go route-rejected n g = unfold viewAfterSend in refl
-    go receive-rejected n g = unfold viewAfterSend in refl
+    go : (helps : Bool) (o : Outcome) (n : ℕ) → answered helps o n .number ≢ 0 → viewAfterSend v (circuitOf s c) s t o ≡ v
+    go helps (acknowledged w k) n g = unfold answered in absurd (g refl)
+    go helps route-rejected n g = unfold viewAfterSend in refl
+    go helps receive-rejected n g = unfold viewAfterSend in refl
 rejected-same v (closing s c) f = absurd (f refl)
 rejected-same v (tracing s c buffer) f = absurd (f refl)
 rejected-same v (arming n k) f = absurd (f refl)

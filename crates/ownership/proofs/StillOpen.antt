@@ -3,7 +3,7 @@
 -- Assumes nothing.
 use mathlib.Core.Path.{_≡_, refl, sym, _∙_, ap, subst}
 use mathlib.Core.Logic.{_⊎_, inl, inr, ⊎-elim, _↔_}
-use mathlib.Core.Bool.{Bool, true, not, _&&_}
+use mathlib.Core.Bool.{Bool, true, not, _&&_, false}
 use mathlib.Core.List.{List, [], _∷_, _++_, List·Memᴰ·head, List·Memᴰ·tail, List·Memᴰ·not-nil, List·Memᴰ·cases-cons}
 use Prim.Native.Nat.{ℕ}
 use native.Mathlib.Omega.{arith}
@@ -14,7 +14,7 @@ use Rattle.common.proofs.Tests.{same?, clash, is-false, both, and, either, or-l
 use Rattle.common.proofs.Lists.{keep-mem, mem-keep, any-some, some-any}
 use Rattle.paths.specs.Send.{Outcome, acknowledged, route-rejected, receive-rejected}
 use Rattle.ownership.specs.Calls.{Call, making, blocking, unblocking, opening, closing, tracing, arming, disarming, CallResult, answered, resultOf}
-use Rattle.ownership.specs.History.{Circuit, History, belongs, openOn, factsOn, stoppedOn, sendOn, withOpened, applied, historyStep}
+use Rattle.ownership.specs.History.{Circuit, History, belongs, openOn, factsOn, stoppedOn, sendOn, withOpened, applied, historyStep, waitingOn}
 use Rattle.ownership.specs.Agrees.{historyAfter, historyResults, leaves, answers}
 use Rattle.ownership.specs.StillOpen.{numbered, Ends, Lasts, StillOpen}
 use Rattle.ownership.proofs.Circuits.{belongs-parts, parts-belong}
@@ -50,9 +50,9 @@ module _ (s c : ℕ) where
       }
 
   -- an acknowledged open
-  step-opening : (h : History) (m d t y v k : ℕ) (o : Outcome) → answered o k .number ≡ 0 → Step h (withOpened h m d t o) (opening m d t y v) 0
+  step-opening : (h : History) (m d t y v k : ℕ) (helps : Bool) (o : Outcome) → answered helps o k .number ≡ 0 → Step h (withOpened h m d t o) (opening m d t y v) 0
   unfolding withOpened openOn any belongs answered
-  step-opening h m d t y v k (acknowledged w j) z =
+  step-opening h m d t y v k helps (acknowledged w j) z =
       record {
         from-next = λ o. ⊎-elim (λ e. inl (new (both (eqb m s) (eqb d c) e))) (λ e. inr (e, λ z ends. unfold Ends in absurd ends)) (either (eqb m s && eqb d c) (any (belongs s c) (h .circuits)) o);
         opens = λ o. let e : m ≡ s = cc (o .3) in let f : d ≡ c = cc (o .3) in or-left _ (and (eq-eqb m s e) (eq-eqb d c f));
@@ -61,8 +61,9 @@ module _ (s c : ℕ) where
     where
       new : (eqb m s ≡ true) × (eqb d c ≡ true) → Opens (opening m d t y v) 0
       new r = (t, y, v, (λ i. opening (eqb-true m s (r .0) i) (eqb-true d c (r .1) i) t y v), refl)
-  step-opening h m d t y v k route-rejected z = absurd (omega (arith, z))
-  step-opening h m d t y v k receive-rejected z = absurd (omega (arith, z))
+  step-opening h m d t y v k true route-rejected z = absurd (omega (arith, z))
+  step-opening h m d t y v k false route-rejected z = absurd (omega (arith, z))
+  step-opening h m d t y v k helps receive-rejected z = absurd (omega (arith, z))
 
   -- an accepted close
   step-closing : (h : History) (m d : ℕ) → Step h (applied h (closing m d)) (closing m d) 0
@@ -99,7 +100,7 @@ module _ (s c : ℕ) where
       step-same h _ (blocking m p) 0 refl (λ o. let u : _≡_ {A = ℕ} 0 1 = cc (o .3) in absurd (omega arith)) (λ z ends. absurd ends)
   step-accepted h (unblocking m p) e =
       step-same h _ (unblocking m p) 0 refl (λ o. let u : _≡_ {A = ℕ} 0 1 = cc (o .3) in absurd (omega arith)) (λ z ends. absurd ends)
-  step-accepted h (opening m d t y v) e = step-opening h m d t y v _ (sendOn h m t y v .outcome) e
+  step-accepted h (opening m d t y v) e = step-opening h m d t y v _ (waitingOn h m t y v) (sendOn h m t y v .outcome) e
   step-accepted h (closing m d) e = step-closing h m d
   step-accepted h (tracing m d buffer) e =
       step-same h h (tracing m d buffer) 0 refl (λ o. let u : _≡_ {A = ℕ} 0 1 = cc (o .3) in absurd (omega arith)) (λ z ends. absurd ends)

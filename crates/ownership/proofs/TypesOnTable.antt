@@ -22,6 +22,8 @@ use Rattle.ownership.proofs.Allowed.{allowed, allowed-passes}
 use Rattle.ownership.proofs.Stops.{none-stops, none-stops-lent, pass-tests, stopped-is}
 use Rattle.ownership.proofs.Steps.{table-step}
 use Rattle.ownership.proofs.OnSound.{open-answers}
+use mathlib.Core.Bool.{Bool}
+use Rattle.search.specs.SendAnswer.{waitingHelps}
 
 module _ (b : List ℕ) (s c t v : ℕ) where
   -- what an open of a routing type answers
@@ -47,18 +49,18 @@ module _ (b : List ℕ) (s c t v : ℕ) where
       open-answers b s c t z v (another-type y z k e) .exactly .1 (more (h .0), h .1)
 
   -- no open of a type reports more scouts than a send of it
-  answered-scouts : (o : Outcome) (n : ℕ) → scoutsOf (answered o n) ≡ n
+  answered-scouts : (helps : Bool) (o : Outcome) (n : ℕ) → scoutsOf (answered helps o n) ≡ n
   unfolding answered
-  answered-scouts (acknowledged w k) n = refl
-  answered-scouts route-rejected n = refl
-  answered-scouts receive-rejected n = refl
+  answered-scouts helps (acknowledged w k) n = refl
+  answered-scouts helps route-rejected n = refl
+  answered-scouts helps receive-rejected n = refl
 
   scouts-most : (y m : ℕ) → ((p : dimensionAt b ≤ 8) → sendIn (view b) s t y v .scouts ≤ m) → scoutsOf (tableStep b (opening s c t y v) .result) ≤ m
   unfolding resultOf factsOf
   scouts-most y m most =
       let step = table-step b (opening s c t y v) in
       ⊎-elim
-      (λ e. rw (step .result e, answered-scouts (sendIn (view b) s t y v .outcome) (sendIn (view b) s t y v .scouts)) (most (pass-tests b (none-stops-lent b (opening s c t y v) refl e) .2)))
+      (λ e. rw (step .result e, answered-scouts (waitingHelps (view b) s t y v) (sendIn (view b) s t y v .outcome) (sendIn (view b) s t y v .scouts)) (most (pass-tests b (none-stops-lent b (opening s c t y v) refl e) .2)))
       (λ f. rw (step .stopped f) (omega arith)) (same? (stoppedAt b (opening s c t y v)) 0)
 
   -- A type 3 open reports at most 9 scouts, a type 1 open at most 72.

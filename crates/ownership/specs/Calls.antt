@@ -1,4 +1,4 @@
--- The calls of document 01 and of document 02, (a): what each is lent, how it is tested, and what it gives.
+-- The calls of document 01 and of document 02: what each is lent, how it is tested, and what it gives.
 -- Assumes nothing.
 use mathlib.Core.Bool.{Bool, true, false, cond, not, _&&_, _||_}
 use mathlib.Core.List.{List, [], _∷_}
@@ -76,15 +76,16 @@ only n = record { number = n; values = []; buffers = [] }
 abbrev pub refusedWith : ℕ → Call → CallResult
 refusedWith n a = record { number = n; values = replicate (form a .valueCount) 0; buffers = lent a }
 
--- What an open answers after the search: ".. except that 10 and 11 carry their scouts."
-unfoldable pub answered : Outcome → ℕ → CallResult
-answered (acknowledged w k) n = record { number = 0; values = length w ∷ k ∷ n ∷ []; buffers = [] }
-answered route-rejected n = record { number = 10; values = 0 ∷ 0 ∷ n ∷ []; buffers = [] }
-answered receive-rejected n = record { number = 11; values = 0 ∷ 0 ∷ n ∷ []; buffers = [] }
+-- What an open answers after the search: ".. except that 10 and 11 carry their scouts." Document 02, (c): a route rejection, where waiting does not help,
+-- "becomes 22, beside 10 after the search, carrying and printing the same scouts".
+unfoldable pub answered : (helps : Bool) → Outcome → ℕ → CallResult
+answered helps (acknowledged w k) n = record { number = 0; values = length w ∷ k ∷ n ∷ []; buffers = [] }
+answered helps route-rejected n = record { number = cond helps 10 22; values = 0 ∷ 0 ∷ n ∷ []; buffers = [] }
+answered helps receive-rejected n = record { number = 11; values = 0 ∷ 0 ∷ n ∷ []; buffers = [] }
 
--- the numbers that come with the scouts of an open: success, and the two of a rejected search
+-- the numbers that come with the scouts of an open: success, and the three of a rejected search
 unfoldable pub carriesScouts : ℕ → Bool
-carriesScouts n = eqb n 0 || eqb n 10 || eqb n 11
+carriesScouts n = eqb n 0 || eqb n 10 || eqb n 11 || eqb n 22
 
 -- What a call asks of whatever it is made on, in document 01's words. Each is read off a table, and off the history.
 pub record CallFacts : Type 0 where
@@ -98,6 +99,8 @@ pub record CallFacts : Type 0 where
   pub isTaken : ℕ → ℕ → Bool
   -- what a send comes to, by source, target, routing type and send vector
   pub sends : ℕ → ℕ → ℕ → ℕ → SendResult
+  -- document 02, (c): whether some path that such a send may try, "were all circuits closed", crosses no blocked link, so that waiting can help
+  pub waiting : ℕ → ℕ → ℕ → ℕ → Bool
   -- the ports of the circuit of a send channel, by source and channel
   pub path : ℕ → ℕ → Path
 
@@ -162,7 +165,7 @@ unfoldable pub resultOf : CallFacts → Call → CallResult
 resultOf a (making D) = only 0
 resultOf a (blocking n p) = only 0
 resultOf a (unblocking n p) = only 0
-resultOf a (opening s c t y v) = let x = a .sends s t y v in answered (x .outcome) (x .scouts)
+resultOf a (opening s c t y v) = let x = a .sends s t y v in answered (a .waiting s t y v) (x .outcome) (x .scouts)
 resultOf a (closing s c) = only 0
 resultOf a (tracing s c buffer) = let w = a .path s c in record { number = 0; values = length w ∷ []; buffers = tracedInto w buffer ∷ [] }
 resultOf a (arming n k) = only 0

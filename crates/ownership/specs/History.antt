@@ -8,7 +8,8 @@ use Rattle.common.specs.Lists.{keep, any}
 use Rattle.common.specs.Tests.{refusal}
 use Rattle.paths.specs.Network.{Network, Path, Link, links, hasLink, linkState, isFree}
 use Rattle.paths.specs.Send.{Receive, channel, Outcome, acknowledged, route-rejected, receive-rejected, SendResult, lowestOf}
-use Rattle.paths.specs.CubeNetwork.{Shape, network, send, unfolded, isLinkOf}
+use Rattle.paths.specs.Waiting.{someAttempt}
+use Rattle.paths.specs.CubeNetwork.{Shape, network, attempts, send, unfolded, isLinkOf}
 use Rattle.ownership.specs.Calls.{Call, making, blocking, unblocking, opening, closing, tracing, arming, disarming, CallFacts, callTests, After, callOn}
 
 -- "each open circuit with the links and receive channel it holds": its source and send channel, its path, and the receive channel at the path's end
@@ -83,9 +84,22 @@ listed (x ∷ xs) s c = cond (belongs s c x) (x .ports) (listed xs s c)
 unfoldable pub sendOn : History → ℕ → ℕ → ℕ → ℕ → SendResult
 sendOn h s t y v = send y (shapeOn h) (freeOn h) (receiveOn h t) s v t
 
+-- whether waiting can help it: document 02, (c), asked of the links that are not blocked
+unfoldable pub waitingOn : History → ℕ → ℕ → ℕ → ℕ → Bool
+waitingOn h s t y v = someAttempt (netOn h) (enabledOn h) s t (attempts (shapeOn h) y v)
+
 -- "The tests are read off it; of 1 to 3, only a making's 2 arises on this table."
 unfoldable pub factsOn : History → CallFacts
-factsOn h = record { dimension = h .dimension; held = heldOn h; isOpen = openOn h; isTaken = takenOn h; sends = sendOn h; path = listed (h .circuits) }
+factsOn h =
+    record {
+      dimension = h .dimension;
+      held = heldOn h;
+      isOpen = openOn h;
+      isTaken = takenOn h;
+      sends = sendOn h;
+      waiting = waitingOn h;
+      path = listed (h .circuits);
+    }
 
 unfoldable pub stoppedOn : History → Call → ℕ
 stoppedOn h a = refusal (callTests (factsOn h) a)

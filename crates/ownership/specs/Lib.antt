@@ -11,3 +11,4 @@ pub mod Agrees
 pub mod FromTable
 pub mod StillOpen
 pub mod AllArmed
+pub mod Closing

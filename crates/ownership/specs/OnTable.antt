@@ -13,6 +13,7 @@ use Rattle.table.specs.Layout.{tableLength}
 use Rattle.table.specs.View.{View, view, shapeOf, heldIn, heldBy}
 use Rattle.table.specs.Encode.{encode}
 use Rattle.soundness.specs.SoundTest.{pathOf, tableTests}
+use Rattle.search.specs.SendAnswer.{waitingHelps}
 use Rattle.ownership.specs.Calls.{Call, form, CallFacts, callTests, After, callOn}
 use Rattle.ownership.specs.Update.{sendIn, updated}
 
@@ -29,7 +30,16 @@ unfoldable pub takenIn : View → ℕ → ℕ → Bool
 takenIn v n k = not (eqb (v .receiver n k) 0)
 
 unfoldable pub factsOf : View → CallFacts
-factsOf v = record { dimension = v .dimension; held = heldIn v; isOpen = openIn v; isTaken = takenIn v; sends = sendIn v; path = λ s c. pathOf v (circuitOf s c) }
+factsOf v =
+    record {
+      dimension = v .dimension;
+      held = heldIn v;
+      isOpen = openIn v;
+      isTaken = takenIn v;
+      sends = sendIn v;
+      waiting = waitingHelps v;
+      path = λ s c. pathOf v (circuitOf s c);
+    }
 
 -- The tests of the lent table: a making is not stopped by what the table stored before.
 unfoldable pub lentTests : List ℕ → Call → List Test

@@ -2,7 +2,7 @@
 -- Assumes nothing.
 use mathlib.Core.Path.{_≡_, refl, ap, ap₂, sym, _∙_}
 use mathlib.Core.Logic.{_≢_}
-use mathlib.Core.Bool.{true, false, not, _&&_, and-false}
+use mathlib.Core.Bool.{true, false, not, _&&_, and-false, Bool}
 use mathlib.Core.List.{List, [], _∷_}
 use Prim.Native.Nat.{ℕ, _≤_, _<_}
 use native.Mathlib.Omega.{arith}
@@ -19,7 +19,7 @@ use Rattle.soundness.specs.SoundTest.{pathOf, tracedInto}
 use Rattle.ownership.specs.Calls.{Call, making, blocking, unblocking, opening, closing, tracing, arming, disarming}
 use Rattle.ownership.specs.Calls.{CallResult, refusedWith, answered, callTests, resultOf, After}
 use Rattle.search.specs.PassAnswer.{PassAnswer, pass-answer}
-use Rattle.search.specs.SendAnswer.{answerOfOutcome, sendAnswer, sends}
+use Rattle.search.specs.SendAnswer.{answerOfOutcome, sendAnswer, sends, waitingHelps}
 use Rattle.ownership.specs.Update.{sendIn}
 use Rattle.ownership.specs.OnTable.{factsOf, lentTests, stoppedAt, tableStep, done}
 use Rattle.ownership.proofs.Stops.{making-stopped}
@@ -89,15 +89,15 @@ module _ (b : List ℕ) where
       → done b₁ x (h ∷ r ∷ n ∷ []) [] ≡ tableStep b (opening s c t y v)
   unfolding writtenBy resultOf factsOf sends sendAnswer sendIn
   call-opens s c t y v e z small q g =
-      ap shown (g ∙ ap (λ i. sends b s t i y v) q) ∙ shown-same (sendIn (view b) s t y v .outcome) _ _ ∙ call-passed b (opening s c t y v) e z small refl refl
+      ap shown (g ∙ ap (λ i. sends b s t i y v) q) ∙ shown-same (waitingHelps (view b) s t y v) (sendIn (view b) s t y v .outcome) _ _ ∙ call-passed b (opening s c t y v) e z small refl refl
     where
       shown : PassAnswer → After (List ℕ)
       shown (pass-answer x h r n b₁) = done b₁ x (h ∷ r ∷ n ∷ []) []
 
-      shown-same : (o : Outcome) (n : ℕ) (b₁ : List ℕ) → shown (answerOfOutcome o n b₁) ≡ record { state = b₁; result = answered o n }
-      shown-same (acknowledged w k) n b₁ = unfold answered answerOfOutcome in refl
-      shown-same route-rejected n b₁ = unfold answered answerOfOutcome in refl
-      shown-same receive-rejected n b₁ = unfold answered answerOfOutcome in refl
+      shown-same : (helps : Bool) (o : Outcome) (n : ℕ) (b₁ : List ℕ) → shown (answerOfOutcome helps o n b₁) ≡ record { state = b₁; result = answered helps o n }
+      shown-same helps (acknowledged w k) n b₁ = unfold answered answerOfOutcome in refl
+      shown-same helps route-rejected n b₁ = unfold answered answerOfOutcome in refl
+      shown-same helps receive-rejected n b₁ = unfold answered answerOfOutcome in refl
 
   -- a trace
   pub call-traces : (s c : ℕ) (buffer : List ℕ) {m : ℕ} → m ≡ stoppedAt b (tracing s c buffer) → m ≡ 0 → AllBytes b → {k : ℕ} → k ≡ circuitOf s c → {h : ℕ} {after : List ℕ}

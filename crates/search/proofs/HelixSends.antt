@@ -28,7 +28,7 @@ use Rattle.paths.proofs.Send.{helix-answers, fixed-answers}
 use Rattle.table.specs.Layout.{dimensionAt, putReceiver}
 use Rattle.table.specs.View.{view, net, shapeOf, receive, lowestChannel}
 use Rattle.search.specs.PassAnswer.{freeIn, holdPath, pass-answer}
-use Rattle.search.specs.SendAnswer.{bytesAfterSend, answerOfOutcome, sendAnswer, sends, MaySend}
+use Rattle.search.specs.SendAnswer.{bytesAfterSend, answerOfOutcome, sendAnswer, searched, MaySend}
 use Rattle.search.specs.HelixContracts.{MayFollow, frontIn, freeAll, helixIn, FrontOf, triedIn, MayTryPaths, FirstFree}
 use Rattle.search.proofs.SearchContracts.{port-tried, low-port}
 use Rattle.search.proofs.Sends.{ports-in-turn, receive-small}
@@ -118,11 +118,11 @@ module _ {b : List ℕ} {s t c vector port hops sent : ℕ} (may : MaySend b s t
   r : Receive
   r = receive (view b) t
 
-  helix-send : (x : PassResult) → triedIn b s t vector ≡ x → sends b s t c 1 vector ≡ sendAnswer b c s t (oneResult r x)
-  unfolding sends triedIn r
-  helix-send x e = ap (sendAnswer b c s t) (helix-answers (shapeOf (view b)) (freeIn (view b)) (receive (view b) t) s vector t ∙ ap (oneResult (receive (view b) t)) e)
+  helix-send : (x : PassResult) → triedIn b s t vector ≡ x → searched b s t c 1 vector ≡ sendAnswer true b c s t (oneResult r x)
+  unfolding searched triedIn r
+  helix-send x e = ap (sendAnswer true b c s t) (helix-answers (shapeOf (view b)) (freeIn (view b)) (receive (view b) t) s vector t ∙ ap (oneResult (receive (view b) t)) e)
 
-  pub helix-none : port ≡ 8 → pass-answer 10 0 0 sent b ≡ sends b s t c 1 vector
+  pub helix-none : port ≡ 8 → pass-answer 10 0 0 sent b ≡ searched b s t c 1 vector
   unfolding sendAnswer bytesAfterSend answerOfOutcome outcome scouts
   helix-none z = sym (helix-send (none sent) (got .nothing z))
 
@@ -130,14 +130,14 @@ module _ {b : List ℕ} {s t c vector port hops sent : ℕ} (may : MaySend b s t
     pub path-follows : MayFollow b s t port
     path-follows = record { bytes = may .bytes; fits = may .fits; node = may .source; target = may .target; port = got .there some }
 
-    path-sent : sends b s t c 1 vector ≡ sendAnswer b c s t (oneResult r (found (helixIn b s t port) sent))
+    path-sent : searched b s t c 1 vector ≡ sendAnswer true b c s t (oneResult r (found (helixIn b s t port) sent))
     path-sent = helix-send _ (got .path some)
 
     none-there : k ≡ 8 → r ≡ none-available
     unfolding r receive lowestOf lowestChannel
     none-there z = rw (← low, eq-eqb k 8 z)
 
-    pub helix-full : k ≡ 8 → pass-answer 11 0 0 sent b ≡ sends b s t c 1 vector
+    pub helix-full : k ≡ 8 → pass-answer 11 0 0 sent b ≡ searched b s t c 1 vector
     unfolding sendAnswer bytesAfterSend answerOfOutcome outcome received scouts
     helix-full z = sym (path-sent ∙ rw (none-there z))
 
@@ -149,7 +149,7 @@ module _ {b : List ℕ} {s t c vector port hops sent : ℕ} (may : MaySend b s t
       pub channel-small : k < 8
       channel-small = receive-small (view b) t k (unfold r in channel-is)
 
-      pub helix-taken : {b₁ b₂ : List ℕ} → b₁ ≡ holdPath b c s (helixIn b s t port) → b₂ ≡ putReceiver b₁ t k c → pass-answer 0 hops k sent b₂ ≡ sends b s t c 1 vector
+      pub helix-taken : {b₁ b₂ : List ℕ} → b₁ ≡ holdPath b c s (helixIn b s t port) → b₂ ≡ putReceiver b₁ t k c → pass-answer 0 hops k sent b₂ ≡ searched b s t c 1 vector
       unfolding sendAnswer bytesAfterSend answerOfOutcome outcome received scouts
       helix-taken held taken = rw (taken, held, got .long some) (sym (path-sent ∙ rw channel-is))
 
@@ -196,10 +196,10 @@ module _ {b : List ℕ} {s t c vector p others : ℕ} (may : MaySend b s t c vec
       sym (ports-in-turn b (vector - others) (may .fits) (may-lowest .ports)) ∙ rw alone (one-port p (lowest-tried .small))
       ∙ ap (take 1) (sym (lowest-tried .rest) ∙ ports-in-turn b vector (may .fits) (may .ports))
 
-  pub lowest-sent : sends b s t c 1 (vector - others) ≡ sends b s t c 3 vector
-  unfolding sends
+  pub lowest-sent : searched b s t c 1 (vector - others) ≡ searched b s t c 3 vector
+  unfolding searched
   lowest-sent =
-      ap (sendAnswer b c s t)
+      ap (sendAnswer true b c s t)
       (helix-answers (shapeOf (view b)) (freeIn (view b)) (receive (view b) t) s (vector - others) t
       ∙ ap (λ ps. oneResult (receive (view b) t) (triedAfter b s t 0 ps)) ports-alone
       ∙ sym (fixed-answers (shapeOf (view b)) (freeIn (view b)) (receive (view b) t) s vector t))

@@ -5,4 +5,5 @@ pub mod SearchContracts
 pub mod Following
 pub mod Sends
 pub mod HelixSends
+pub mod Judged
 pub mod SendSays

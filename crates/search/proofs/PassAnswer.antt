@@ -14,7 +14,7 @@ use Rattle.common.specs.Lists.{_∈_}
 use Rattle.cube.specs.Cube.{next}
 use Rattle.cube.specs.Helical.{helical}
 use Rattle.cube.proofs.Order.{helical-mem}
-use Rattle.paths.specs.Network.{Network, Path, offered, Nearing, isFree, linkState}
+use Rattle.paths.specs.Network.{Network, Path, offered, Nearing, link-free, link-held, link-blocked, isFree, linkState}
 use Rattle.paths.specs.Pass.{PassResult, none, found, scouts}
 use Rattle.paths.specs.Send.{Receive, channel, none-available, lowestOf}
 use Rattle.paths.specs.Search.{hopOr, trying, arriving, holding}
@@ -26,7 +26,9 @@ use Rattle.table.specs.LayoutContracts.{Within}
 use Rattle.table.specs.View.{View, view, heldIn, setAt, setOwner, receive, lowestChannel, available}
 use Rattle.table.proofs.Entries.{within}
 use Rattle.table.proofs.Views.{view-put-owner}
-use Rattle.search.specs.PassAnswer.{freeIn, holdPath, PassAnswer, pass-answer, answerOfPass, arrivalAfter}
+use Rattle.search.specs.declared.LinkState as State
+use Rattle.search.specs.declared.LinkState.the-variants.{Free, Held, Blocked}
+use Rattle.search.specs.PassAnswer.{stateIn, freeIn, stateOf, holdPath, PassAnswer, pass-answer, answerOfPass, arrivalAfter}
 
 -- A hop held and given back leaves each byte as it was.
 given-word : (b : List ℕ) (i c : ℕ) → wordAt b i ≡ 0 → putWord (putWord b i c) i 0 ≡ b
@@ -45,7 +47,7 @@ given-back b n p c w e = given-word b (entryPlace linkPart n p) c (rw (within n 
 
 -- While a link is held, it alone is no longer free.
 pub free-held : (v : View) (n p c : ℕ) → c ≢ 0 → freeIn (setOwner v n p c) ≡ holding (freeIn v) n p
-unfolding freeIn heldIn setOwner setAt holding
+unfolding freeIn stateIn heldIn setOwner setAt holding
 free-held v n p c h = fun-ext (λ m. fun-ext (λ q. go (eqb m n && eqb q p) (v .enabled m q) (v .owner m q)))
   where
     taken : (on : Bool) → isFree (linkState on true) ≡ false
@@ -56,22 +58,45 @@ free-held v n p c h = fun-ext (λ m. fun-ext (λ q. go (eqb m n && eqb q p) (v .
     go true on o = rw (ne-eqb c 0 h) (taken on ∙ sym (and-false (isFree (linkState on (not (eqb o 0))))))
     go false on o = sym (and-true (isFree (linkState on (not (eqb o 0)))))
 
--- the two tests of a link
-pub free-on : (v : View) (n p : ℕ) {o : ℕ} → v .enabled n p ≡ true → o ≡ v .owner n p → eqb o 0 ≡ freeIn v n p
-unfolding freeIn heldIn
-free-on v n p {o} e q = rw (e, ← q) (go (eqb o 0))
-  where
-    go : (z : Bool) → z ≡ isFree (linkState true (not z))
-    go true = unfold isFree linkState in refl
-    go false = unfold isFree linkState in refl
+-- the state of a link by its two tests
+module _ (v : View) (n p : ℕ) where
+  pub state-blocked : v .enabled n p ≡ false → link-blocked ≡ stateIn v n p
+  unfolding stateIn linkState
+  state-blocked e = rw e
+
+  module _ {o : ℕ} (on : v .enabled n p ≡ true) (read : o ≡ v .owner n p) where
+    pub state-free : o ≡ 0 → link-free ≡ stateIn v n p
+    unfolding stateIn heldIn linkState
+    state-free z = rw (on, ← read, eq-eqb o 0 z)
+
+    pub state-held : o ≢ 0 → link-held ≡ stateIn v n p
+    unfolding stateIn heldIn linkState
+    state-held f = rw (on, ← read, ne-eqb o 0 f)
+
+  -- it is free exactly where the code answers that
+  answers : {r : State.LinkState} → stateOf r ≡ stateIn v n p → (x : State.LinkState) → r ≡ x → freeIn v n p ≡ isFree (stateOf x)
+  unfolding freeIn
+  answers e x q = ap isFree (sym e) ∙ ap (λ y. isFree (stateOf y)) q
+
+  pub told-free : {r : State.LinkState} → stateOf r ≡ stateIn v n p → r ≡ Free → freeIn v n p ≡ true
+  unfolding isFree
+  told-free e q = answers e Free q
+
+  pub told-held : {r : State.LinkState} → stateOf r ≡ stateIn v n p → r ≡ Held → freeIn v n p ≡ false
+  unfolding isFree
+  told-held e q = answers e Held q
+
+  pub told-blocked : {r : State.LinkState} → stateOf r ≡ stateIn v n p → r ≡ Blocked → freeIn v n p ≡ false
+  unfolding isFree
+  told-blocked e q = answers e Blocked q
 
 pub free-off : (v : View) (n p : ℕ) → v .enabled n p ≡ false → freeIn v n p ≡ false
-unfolding freeIn isFree linkState
+unfolding freeIn stateIn isFree linkState
 free-off v n p e = rw e
 
 -- a link that is free is held by nobody
 pub free-owner : (v : View) (n p : ℕ) → freeIn v n p ≡ true → v .owner n p ≡ 0
-unfolding freeIn heldIn
+unfolding freeIn stateIn heldIn
 free-owner v n p e = eqb-true _ 0 (not-false _ (free-link _ _ .0 e .1))
 
 -- The arrival behind a hop just held finds what it would find on the table before.

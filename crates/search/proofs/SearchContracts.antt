@@ -33,7 +33,7 @@ use Rattle.table.specs.LayoutContracts.{Within}
 use Rattle.table.specs.View.{view, setOwner, receive, lowestChannel, net, shapeOf}
 use Rattle.table.proofs.Views.{view-put-owner}
 use Rattle.search.specs.PassAnswer.{freeIn, PassAnswer, pass-answer, answerOfPass, arrivalAfter}
-use Rattle.search.specs.SearchContracts.{farthest, hopsLeft, farthestAfter, tryAnswer, arriveAnswer, Narrowed, Enabled, SearchPre, MayTry, MayArrive}
+use Rattle.search.specs.SearchContracts.{farthest, hopsLeft, farthestAfter, tryAnswer, arriveAnswer, Narrowed, SearchPre, MayTry, MayArrive}
 use Rattle.search.proofs.PassAnswer.{at-target, arrives, target-receives, target-full, behind, receive-same, given-back, free-owner, port-busy, port-acknowledged, port-receive-rejected, port-route-rejected, three-answers, answer-scouts, ports-over}
 use Rattle.search.proofs.Narrow.{narrow-fewer, narrow-mem, narrow-tries}
 
@@ -141,9 +141,6 @@ module _ {b now : List ℕ} {t c n a h v left p sent s : ℕ} (may : MayTry b t 
 
   here-member : p ∈ portsOf 8 left
   here-member = mem-ports 8 left p (here-tried .small) (here-tried .offered)
-
-  pub now-enabled : Enabled (view b) n v → view now .enabled n p ≡ true
-  now-enabled on = let m = ports-mem 8 v (inv .sub p here-member) in rw (inv .same) (on p (m .0) (m .1))
 
   here-reach : hopsLeft b t (next n p) ≤ farthestAfter b t n v
   unfolding hopsLeft farthestAfter network

@@ -2,7 +2,7 @@
 -- Assumes nothing.
 use mathlib.Core.Path.{_≡_, refl, ap, ap₂, sym, _∙_}
 use mathlib.Core.Logic.{_≢_}
-use mathlib.Core.Bool.{true, false, not}
+use mathlib.Core.Bool.{Bool, true, false, not}
 use mathlib.Core.List.{List}
 use Prim.Native.Nat.{ℕ, _+_, _-_, _^_, _≤_, _<_}
 use native.Mathlib.Omega.{arith}
@@ -32,7 +32,7 @@ use Rattle.table.proofs.Made.{ones}
 use Rattle.table.proofs.Receives.{chosen}
 use Rattle.search.specs.PassAnswer.{freeIn, holdPath, pass-answer, answerOfPass, arrivalAfter}
 use Rattle.search.specs.SearchContracts.{farthestAfter, tryAnswer, Narrowed, MayTry}
-use Rattle.search.specs.SendAnswer.{bytesAfterSend, answerOfOutcome, sendAnswer, sends, MaySend}
+use Rattle.search.specs.SendAnswer.{bytesAfterSend, answerOfOutcome, sendAnswer, searched, MaySend}
 use Rattle.search.proofs.Narrow.{narrow-tries}
 use Rattle.search.proofs.SearchContracts.{farthest-most}
 
@@ -88,12 +88,12 @@ module _ (b : List ℕ) (c s t : ℕ) (r : Receive) where
       go none-available u = let y : x ≡ 11 = cc in absurd (omega arith)
       go (channel j) u = let i : j ≡ k = cc in ap channel i
 
-  pub pass-taken : (p : PassResult) {x h k n : ℕ} {b₁ b₂ : List ℕ} → pass-answer x h k n b₁ ≡ answerOfPass b c s 0 r p → x ≡ 0 → b₂ ≡ putReceiver b₁ t k c → pass-answer x h k n b₂ ≡ sendAnswer b c s t (oneResult r p)
+  pub pass-taken : (p : PassResult) {x h k n : ℕ} {b₁ b₂ : List ℕ} → pass-answer x h k n b₁ ≡ answerOfPass b c s 0 r p → x ≡ 0 → b₂ ≡ putReceiver b₁ t k c → pass-answer x h k n b₂ ≡ sendAnswer true b c s t (oneResult r p)
   unfolding answerOfPass sendAnswer bytesAfterSend answerOfOutcome outcome received scouts
   pass-taken (none m) {x} q z e = let y : x ≡ 10 = cc in absurd (omega arith)
   pass-taken (found w m) {x} {h} {k} {n} {b₁} {b₂} q z e = go r q
     where
-      go : (r : Receive) → pass-answer x h k n b₁ ≡ answerOfPass b c s 0 r (found w m) → pass-answer x h k n b₂ ≡ sendAnswer b c s t (oneResult r (found w m))
+      go : (r : Receive) → pass-answer x h k n b₁ ≡ answerOfPass b c s 0 r (found w m) → pass-answer x h k n b₂ ≡ sendAnswer true b c s t (oneResult r (found w m))
       go none-available u = let y : x ≡ 11 = cc in absurd (omega arith)
       go (channel j) u =
           let i : k ≡ j = cc in
@@ -103,44 +103,44 @@ module _ (b : List ℕ) (c s t : ℕ) (r : Receive) where
           let d : b₁ ≡ holdPath b c s w = cc in
           rw (z, l, o, e, d, i) refl
 
-  pub pass-rejected : (p : PassResult) {x h k n : ℕ} {b₁ : List ℕ} → pass-answer x h k n b₁ ≡ answerOfPass b c s 0 r p → x ≢ 0 → pass-answer x h k n b₁ ≡ sendAnswer b c s t (oneResult r p)
+  pub pass-rejected : (p : PassResult) {x h k n : ℕ} {b₁ : List ℕ} → pass-answer x h k n b₁ ≡ answerOfPass b c s 0 r p → x ≢ 0 → pass-answer x h k n b₁ ≡ sendAnswer true b c s t (oneResult r p)
   unfolding answerOfPass sendAnswer bytesAfterSend answerOfOutcome outcome received scouts
   pass-rejected (none m) q f = q
   pass-rejected (found w m) {x} {h} {k} {n} {b₁} q f = go r q
     where
-      go : (r : Receive) → pass-answer x h k n b₁ ≡ answerOfPass b c s 0 r (found w m) → pass-answer x h k n b₁ ≡ sendAnswer b c s t (oneResult r (found w m))
+      go : (r : Receive) → pass-answer x h k n b₁ ≡ answerOfPass b c s 0 r (found w m) → pass-answer x h k n b₁ ≡ sendAnswer true b c s t (oneResult r (found w m))
       go none-available u = u
       go (channel j) u = let y : x ≡ 0 = cc in absurd (f y)
 
 -- What the answer of a send tells: whether another pass follows, as one does after a route rejection alone; that a rejection leaves each byte as it was;
 -- and its scouts.
 module _ (b : List ℕ) (c s t : ℕ) where
-  pub sent-stops : (o : Outcome) (m : ℕ) {x h k n : ℕ} {b₁ : List ℕ} → pass-answer x h k n b₁ ≡ sendAnswer b c s t (record { outcome = o; scouts = m }) → x ≢ 10 → goesOn o ≡ false
+  pub sent-stops : (o : Outcome) (m : ℕ) {x h k n : ℕ} {b₁ : List ℕ} → pass-answer x h k n b₁ ≡ sendAnswer true b c s t (record { outcome = o; scouts = m }) → x ≢ 10 → goesOn o ≡ false
   unfolding sendAnswer bytesAfterSend answerOfOutcome goesOn
   sent-stops (acknowledged w j) m q f = refl
   sent-stops route-rejected m {x} q f = let y : x ≡ 10 = cc in absurd (f y)
   sent-stops receive-rejected m q f = refl
 
-  pub sent-goes-on : (o : Outcome) (m : ℕ) {x h k n : ℕ} {b₁ : List ℕ} → pass-answer x h k n b₁ ≡ sendAnswer b c s t (record { outcome = o; scouts = m }) → x ≡ 10 → goesOn o ≡ true
+  pub sent-goes-on : (o : Outcome) (m : ℕ) {x h k n : ℕ} {b₁ : List ℕ} → pass-answer x h k n b₁ ≡ sendAnswer true b c s t (record { outcome = o; scouts = m }) → x ≡ 10 → goesOn o ≡ true
   unfolding sendAnswer bytesAfterSend answerOfOutcome goesOn
   sent-goes-on (acknowledged w j) m {x} q z = let y : x ≡ 0 = cc in absurd (omega arith)
   sent-goes-on route-rejected m q z = refl
   sent-goes-on receive-rejected m {x} q z = let y : x ≡ 11 = cc in absurd (omega arith)
 
-  pub sent-leaves : (o : Outcome) (m : ℕ) {x h k n : ℕ} {b₁ : List ℕ} → pass-answer x h k n b₁ ≡ sendAnswer b c s t (record { outcome = o; scouts = m }) → x ≢ 0 → b₁ ≡ b
+  pub sent-leaves : (helps : Bool) (o : Outcome) (m : ℕ) {x h k n : ℕ} {b₁ : List ℕ} → pass-answer x h k n b₁ ≡ sendAnswer helps b c s t (record { outcome = o; scouts = m }) → x ≢ 0 → b₁ ≡ b
   unfolding sendAnswer bytesAfterSend answerOfOutcome
-  sent-leaves (acknowledged w j) m {x} q f = let y : x ≡ 0 = cc in absurd (f y)
-  sent-leaves route-rejected m q f = cc
-  sent-leaves receive-rejected m q f = cc
+  sent-leaves helps (acknowledged w j) m {x} q f = let y : x ≡ 0 = cc in absurd (f y)
+  sent-leaves helps route-rejected m q f = cc
+  sent-leaves helps receive-rejected m q f = cc
 
-  pub sent-scouts : (o : Outcome) (m : ℕ) {x h k n : ℕ} {b₁ : List ℕ} → pass-answer x h k n b₁ ≡ sendAnswer b c s t (record { outcome = o; scouts = m }) → n ≡ m
+  pub sent-scouts : (helps : Bool) (o : Outcome) (m : ℕ) {x h k n : ℕ} {b₁ : List ℕ} → pass-answer x h k n b₁ ≡ sendAnswer helps b c s t (record { outcome = o; scouts = m }) → n ≡ m
   unfolding sendAnswer bytesAfterSend answerOfOutcome
-  sent-scouts (acknowledged w j) m q = cc
-  sent-scouts route-rejected m q = cc
-  sent-scouts receive-rejected m q = cc
+  sent-scouts helps (acknowledged w j) m q = cc
+  sent-scouts helps route-rejected m q = cc
+  sent-scouts helps receive-rejected m q = cc
 
   -- the same answer with other scouts
-  pub sent-counted : (o : Outcome) (m j : ℕ) {x h k n : ℕ} {b₁ : List ℕ} → pass-answer x h k n b₁ ≡ sendAnswer b c s t (record { outcome = o; scouts = m }) → pass-answer x h k j b₁ ≡ sendAnswer b c s t (record { outcome = o; scouts = j })
+  pub sent-counted : (o : Outcome) (m j : ℕ) {x h k n : ℕ} {b₁ : List ℕ} → pass-answer x h k n b₁ ≡ sendAnswer true b c s t (record { outcome = o; scouts = m }) → pass-answer x h k j b₁ ≡ sendAnswer true b c s t (record { outcome = o; scouts = j })
   unfolding sendAnswer bytesAfterSend answerOfOutcome
   sent-counted (acknowledged w i) m j q = cc
   sent-counted route-rejected m j q = cc
@@ -153,9 +153,9 @@ module _ (D vector : ℕ) (h : D ≤ 8) where
   other-has p i = rw (bit-xor (2 ^ D - 1) vector p, has-bit (2 ^ D - 1) p (ones D p (omega arith) (omega arith) ∙ lt-ltb p D i)) (one-bit (λ x. eqb (bitXor 1 x) 1 ≡ not (eqb x 1)) refl refl (bitAt vector p) (bit-lt vector p))
 
 -- one pass is a send of routing type 0
-one-pass : (b : List ℕ) (s t c vector : ℕ) → sends b s t c 0 vector ≡ sendAnswer b c s t (oneResult (receive (view b) t) (passOf b s t vector))
-unfolding sends
-one-pass b s t c vector = ap (sendAnswer b c s t) (maze-answers (shapeOf (view b)) (freeIn (view b)) (receive (view b) t) s vector t)
+one-pass : (b : List ℕ) (s t c vector : ℕ) → searched b s t c 0 vector ≡ sendAnswer true b c s t (oneResult (receive (view b) t) (passOf b s t vector))
+unfolding searched
+one-pass b s t c vector = ap (sendAnswer true b c s t) (maze-answers (shapeOf (view b)) (freeIn (view b)) (receive (view b) t) s vector t)
 
 -- A send of routing type 0, from the ports that are left of its vector.
 module _ {b : List ℕ} {s t c vector left : ℕ} (may : MaySend b s t c vector) (narrow : Narrowed (view b) s vector left) {x h k n : ℕ} {b₁ : List ℕ}
@@ -166,18 +166,18 @@ module _ {b : List ℕ} {s t c vector left : ℕ} (may : MaySend b s t c vector)
   pub maze-channel : x ≡ 0 → k < 8
   maze-channel z = receive-small (view b) t k (pass-channel b c s t (receive (view b) t) (passOf b s t vector) passed z)
 
-  pub maze-taken : x ≡ 0 → {b₂ : List ℕ} → b₂ ≡ putReceiver b₁ t k c → pass-answer x h k n b₂ ≡ sends b s t c 0 vector
+  pub maze-taken : x ≡ 0 → {b₂ : List ℕ} → b₂ ≡ putReceiver b₁ t k c → pass-answer x h k n b₂ ≡ searched b s t c 0 vector
   maze-taken z e = pass-taken b c s t (receive (view b) t) (passOf b s t vector) passed z e ∙ sym (one-pass b s t c vector)
 
-  pub maze-rejected : x ≢ 0 → pass-answer x h k n b₁ ≡ sends b s t c 0 vector
+  pub maze-rejected : x ≢ 0 → pass-answer x h k n b₁ ≡ searched b s t c 0 vector
   maze-rejected f = pass-rejected b c s t (receive (view b) t) (passOf b s t vector) passed f ∙ sym (one-pass b s t c vector)
 
 -- A rejected pass leaves each byte of the table as it was: so does the first pass of a type 4 send, before the second begins.
-pub first-pass-leaves : (b : List ℕ) (s t c vector : ℕ) {x h k n : ℕ} {b₁ : List ℕ} → pass-answer x h k n b₁ ≡ sends b s t c 0 vector → x ≢ 0 → b₁ ≡ b
-first-pass-leaves b s t c vector q f = sent-leaves b c s t _ _ (q ∙ one-pass b s t c vector) f
+pub first-pass-leaves : (b : List ℕ) (s t c vector : ℕ) {x h k n : ℕ} {b₁ : List ℕ} → pass-answer x h k n b₁ ≡ searched b s t c 0 vector → x ≢ 0 → b₁ ≡ b
+first-pass-leaves b s t c vector q f = sent-leaves b c s t true _ _ (q ∙ one-pass b s t c vector) f
 
 -- A send of routing type 4: after a route rejection, a second pass over the other ports on the same bytes.
-module _ {b : List ℕ} {s t c vector : ℕ} (may : MaySend b s t c vector) {x h k n : ℕ} {b₁ : List ℕ} (got : pass-answer x h k n b₁ ≡ sends b s t c 0 vector) where
+module _ {b : List ℕ} {s t c vector : ℕ} (may : MaySend b s t c vector) {x h k n : ℕ} {b₁ : List ℕ} (got : pass-answer x h k n b₁ ≡ searched b s t c 0 vector) where
   S : Shape
   S = shapeOf (view b)
 
@@ -190,14 +190,14 @@ module _ {b : List ℕ} {s t c vector : ℕ} (may : MaySend b s t c vector) {x h
   second : PassResult
   second = pass (network S) (freeIn (view b)) s (otherPorts S vector) t
 
-  first-is : pass-answer x h k n b₁ ≡ sendAnswer b c s t (oneResult r first)
+  first-is : pass-answer x h k n b₁ ≡ sendAnswer true b c s t (oneResult r first)
   unfolding r first
   first-is = got ∙ one-pass b s t c vector
 
-  pub alternate-ended : x ≢ 10 → pass-answer x h k n b₁ ≡ sends b s t c 4 vector
-  unfolding sends r first
+  pub alternate-ended : x ≢ 10 → pass-answer x h k n b₁ ≡ searched b s t c 4 vector
+  unfolding searched r first
   alternate-ended f =
-      first-is ∙ ap (sendAnswer b c s t) (sym (alternate-stops (shapeOf (view b)) (freeIn (view b)) r s vector t (sent-stops b c s t (outcome r first) (scouts first) first-is f)))
+      first-is ∙ ap (sendAnswer true b c s t) (sym (alternate-stops (shapeOf (view b)) (freeIn (view b)) r s vector t (sent-stops b c s t (outcome r first) (scouts first) first-is f)))
 
   -- the vector of the second pass, from the nodes of the cube
   module _ {d nodes : ℕ} (read : d ≡ dimensionAt b) (counted : NodeCount d nodes) (z : x ≡ 10) where
@@ -227,27 +227,27 @@ module _ {b : List ℕ} {s t c vector : ℕ} (may : MaySend b s t c vector) {x h
     unfolding S view
     ports-other = rw others-are (other-vector S vector _ (other-has (dimensionAt b) vector (may .fits)))
 
-    module _ {x₂ h₂ k₂ n₂ : ℕ} {b₂ : List ℕ} (again : pass-answer x₂ h₂ k₂ n₂ b₂ ≡ sends b₁ s t c 0 others) where
-      second-is : pass-answer x₂ h₂ k₂ n₂ b₂ ≡ sendAnswer b c s t (oneResult r second)
+    module _ {x₂ h₂ k₂ n₂ : ℕ} {b₂ : List ℕ} (again : pass-answer x₂ h₂ k₂ n₂ b₂ ≡ searched b₁ s t c 0 others) where
+      second-is : pass-answer x₂ h₂ k₂ n₂ b₂ ≡ sendAnswer true b c s t (oneResult r second)
       unfolding S r second
       second-is =
-          again ∙ ap (λ u. sends u s t c 0 others) same-bytes ∙ one-pass b s t c others
-          ∙ ap (λ ps. sendAnswer b c s t (oneResult r (pass (network S) (freeIn (view b)) s ps t))) ports-other
+          again ∙ ap (λ u. searched u s t c 0 others) same-bytes ∙ one-pass b s t c others
+          ∙ ap (λ ps. sendAnswer true b c s t (oneResult r (pass (network S) (freeIn (view b)) s ps t))) ports-other
 
       pub few-scouts : n + n₂ ≤ 123300
       unfolding S first second view
       few-scouts =
-          omega (arith, sent-scouts b c s t (outcome r first) (scouts first) first-is, sent-scouts b c s t (outcome r second) (scouts second) second-is, scouts-bound S (may .fits) refl s t vector (freeIn (view b)) (freeIn (view b)))
+          omega (arith, sent-scouts b c s t true (outcome r first) (scouts first) first-is, sent-scouts b c s t true (outcome r second) (scouts second) second-is, scouts-bound S (may .fits) refl s t vector (freeIn (view b)) (freeIn (view b)))
 
-      pub alternate-again : pass-answer x₂ h₂ k₂ (n + n₂) b₂ ≡ sends b s t c 4 vector
-      unfolding sends S r first second
+      pub alternate-again : pass-answer x₂ h₂ k₂ (n + n₂) b₂ ≡ searched b s t c 4 vector
+      unfolding searched S r first second
       alternate-again =
           sent-counted b c s t (outcome r second) (scouts second) (n + n₂) second-is
-          ∙ ap (λ m. sendAnswer b c s t (record { outcome = outcome r second; scouts = m }))
-          (ap₂ _+_ (sent-scouts b c s t (outcome r first) (scouts first) first-is) (sent-scouts b c s t (outcome r second) (scouts second) second-is))
-          ∙ ap (sendAnswer b c s t) (sym (alternate-goes-on S (freeIn (view b)) r s vector t (sent-goes-on b c s t (outcome r first) (scouts first) first-is z)))
+          ∙ ap (λ m. sendAnswer true b c s t (record { outcome = outcome r second; scouts = m }))
+          (ap₂ _+_ (sent-scouts b c s t true (outcome r first) (scouts first) first-is) (sent-scouts b c s t true (outcome r second) (scouts second) second-is))
+          ∙ ap (sendAnswer true b c s t) (sym (alternate-goes-on S (freeIn (view b)) r s vector t (sent-goes-on b c s t (outcome r first) (scouts first) first-is z)))
 
 -- A type that is none of the others makes one pass.
-pub send-maze : (b : List ℕ) (s t c type vector : ℕ) → type ≢ 4 → type ≢ 3 → type ≢ 1 → sends b s t c 0 vector ≡ sends b s t c type vector
-unfolding sends send attempts
+pub send-maze : (b : List ℕ) (s t c type vector : ℕ) → type ≢ 4 → type ≢ 3 → type ≢ 1 → searched b s t c 0 vector ≡ searched b s t c type vector
+unfolding searched send attempts
 send-maze b s t c type vector f g h = rw (ne-eqb type 3 g, ne-eqb type 1 h, ne-eqb type 4 f)

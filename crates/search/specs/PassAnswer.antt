@@ -5,16 +5,28 @@ use mathlib.Core.List.{List, [], _∷_}
 use Prim.Native.Nat.{ℕ, _+_}
 use lib.ListN.{length}
 use Rattle.cube.specs.Cube.{next}
-use Rattle.paths.specs.Network.{Network, Path, isFree, linkState}
+use Rattle.paths.specs.Network.{Network, Path, LinkState, link-free, link-held, link-blocked, isFree, linkState}
+use Rattle.search.specs.declared.LinkState as State
+use Rattle.search.specs.declared.LinkState.the-variants.{Free, Held, Blocked}
 use Rattle.paths.specs.Pass.{PassResult, none, found}
 use Rattle.paths.specs.Search.{arriving}
 use Rattle.paths.specs.Send.{Receive, channel, none-available}
 use Rattle.table.specs.Layout.{putOwner}
 use Rattle.table.specs.View.{View, heldIn}
 
+-- what a table shows of a link: free, held or blocked
+unfoldable pub stateIn : View → ℕ → ℕ → LinkState
+stateIn v n p = linkState (v .enabled n p) (heldIn v n p)
+
 -- "A link is free if enabled and held by nobody."
 unfoldable pub freeIn : View → ℕ → ℕ → Bool
-freeIn v n p = isFree (linkState (v .enabled n p) (heldIn v n p))
+freeIn v n p = isFree (stateIn v n p)
+
+-- the answer of the smallest question in the code
+abbrev pub stateOf : State.LinkState → LinkState
+stateOf Free = link-free
+stateOf Held = link-held
+stateOf Blocked = link-blocked
 
 -- the bytes after the links of a path from node n are given to circuit c, one after another
 unfoldable pub holdPath : List ℕ → ℕ → ℕ → Path → List ℕ

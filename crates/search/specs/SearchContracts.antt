@@ -42,10 +42,6 @@ pub record Narrowed (v : View) (n vector left : ℕ) : Type 0 where
   pub among : (p : ℕ) → has left p ≡ true → has vector p ≡ true
   pub dropped : (p : ℕ) → p < portCount → has vector p ≡ true → has left p ≡ false → freeIn v n p ≡ false
 
--- the ports of a vector are all enabled at node n
-abbrev pub Enabled : View → ℕ → ℕ → Type 0
-Enabled v n vector = (p : ℕ) → p < portCount → has vector p ≡ true → v .enabled n p ≡ true
-
 -- what both ask: a table of a cube up to dimension 8, a node and a target of it, a port, a circuit
 pub record SearchPre (b : List ℕ) (t c n a : ℕ) : Type 0 where
   pub bytes : length b ≡ tableLength

@@ -2,31 +2,18 @@
 // nothing to give back.
 ghost use mathlib.Core.Path.{_≡_};
 ghost use mathlib.Core.Logic.{_≢_};
-ghost use Prim.Native.Nat.{_<_};
-ghost use Rattle.table.specs.LayoutContracts.{Within};
 ghost use Rattle.table.specs.View.{view, net};
 ghost use Rattle.cube.specs.Helical.{FirstPorts};
 ghost use Rattle.paths.specs.Helix.{helixPath};
-ghost use Rattle.search.specs.PassAnswer.{freeIn, holdPath, pass-answer};
-ghost use Rattle.search.specs.SendAnswer.{MaySend, sends};
+ghost use Rattle.search.specs.PassAnswer.{holdPath, pass-answer};
+ghost use Rattle.search.specs.SendAnswer.{MaySend, searched};
 ghost use Rattle.search.specs.HelixContracts.{MayFollow, FrontOf, MayTryPaths, FirstFree};
 use common::refusal;
+use crate::LinkState;
 use crate::Opened;
 use cube::Circuit;
 use cube::Node;
 use cube::Port;
-
-// Whether a link is free, enabled or not.
-fn link_free(t: &[u8], n: Node, p: Port) -> bool
-    requires { ⌜ Within (now t) (n .0) (p .0) ⌝ }
-    ensures { λ r. ⌜ r ≡ freeIn (view (now (t .entry))) (n .0) (p .0) ⌝ }
-{
-    if table::enabled(t, n, p) {
-        crate::is_free(t, n, p)
-    } else {
-        false
-    }
-}
 
 // The free hops at the front of a path, and whether they are the whole of it.
 struct Front {
@@ -43,7 +30,13 @@ fn free_front(t: &[u8], source: Node, target: Node, port: Port, first: &[u8; 204
     let mut at = source;
     let mut p = port;
     let mut hops: u16 = 0;
-    while link_free(t, at, p) {
+    loop {
+        let state = crate::link_state(t, at, p);
+        match state {
+            LinkState::Free => {}
+            LinkState::Held => return Front { hops, whole: false },
+            LinkState::Blocked => return Front { hops, whole: false },
+        }
         at = cube::neighbour(at, p);
         hops += 1;
         if at.0 == target.0 {
@@ -51,7 +44,6 @@ fn free_front(t: &[u8], source: Node, target: Node, port: Port, first: &[u8; 204
         }
         p = cube::first_port(first, cube::uphill_vector(at, target), p);
     }
-    Front { hops, whole: false }
 }
 
 // Gives the links of the helix path of a port to a circuit.
@@ -104,7 +96,7 @@ fn first_free(t: &[u8], source: Node, target: Node, vector: u16, first: &[u8; 20
 pub fn try_each(t: &mut [u8], source: Node, target: Node, c: Circuit, vector: u16, first: &[u8; 2048]) -> Opened
     requires { ⌜ FirstPorts (now first) ⌝ }
     requires { ⌜ MaySend (now t) (source .0) (target .0) (c .0) vector ⌝ }
-    ensures { λ r. ⌜ pass-answer (r .number) (r .hops) (r .receive) (r .scouts) (now (t .exit)) ≡ sends (now (t .entry)) (source .0) (target .0) (c .0) 1 vector ⌝ }
+    ensures { λ r. ⌜ pass-answer (r .number) (r .hops) (r .receive) (r .scouts) (now (t .exit)) ≡ searched (now (t .entry)) (source .0) (target .0) (c .0) 1 vector ⌝ }
 {
     let found = first_free(t, source, target, vector, first);
     let port = found.port;
@@ -142,7 +134,7 @@ pub fn try_lowest(t: &mut [u8], source: Node, target: Node, c: Circuit, vector: 
     requires { ⌜ FirstPorts (now first) ⌝ }
     requires { ⌜ MaySend (now t) (source .0) (target .0) (c .0) vector ⌝ }
     requires { ⌜ vector ≢ 0 ⌝ }
-    ensures { λ r. ⌜ pass-answer (r .number) (r .hops) (r .receive) (r .scouts) (now (t .exit)) ≡ sends (now (t .entry)) (source .0) (target .0) (c .0) 3 vector ⌝ }
+    ensures { λ r. ⌜ pass-answer (r .number) (r .hops) (r .receive) (r .scouts) (now (t .exit)) ≡ searched (now (t .entry)) (source .0) (target .0) (c .0) 3 vector ⌝ }
 {
     let lowest = cube::first_port(first, vector, Port(7));
     let others = cube::without(vector, lowest);

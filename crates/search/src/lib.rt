@@ -1,13 +1,12 @@
 // The search for a free permitted path on a lent table.
 ghost use mathlib.Core.Path.{_≡_};
 ghost use mathlib.Core.Logic.{_≢_};
-ghost use mathlib.Core.Bool.{true};
 ghost use Rattle.table.specs.LayoutContracts.{Within};
 ghost use Rattle.table.specs.View.{view};
 ghost use Rattle.cube.specs.Helical.{FirstPorts};
-ghost use Rattle.search.specs.PassAnswer.{freeIn, pass-answer};
-ghost use Rattle.search.specs.SearchContracts.{Narrowed, Enabled, tryAnswer, arriveAnswer, MayTry, MayArrive};
-ghost use Rattle.search.specs.SendAnswer.{MaySend, sends};
+ghost use Rattle.search.specs.PassAnswer.{stateIn, stateOf, pass-answer};
+ghost use Rattle.search.specs.SearchContracts.{Narrowed, tryAnswer, arriveAnswer, MayTry, MayArrive};
+ghost use Rattle.search.specs.SendAnswer.{MaySend, searched, sends};
 mod helix;
 
 use common::refusal;
@@ -18,18 +17,32 @@ use cube::Port;
 // The ports of a vector that are enabled at a node: no scout leaves by another.
 fn enabled_ports(t: &[u8], n: Node, vector: u16) -> u16
     requires { ⌜ Within (now t) (n .0) 0 ⌝ }
-    ensures { λ r. ⌜ Narrowed (view (now (t .entry))) (n .0) vector r × Enabled (view (now (t .entry))) (n .0) r ⌝ }
+    ensures { λ r. ⌜ Narrowed (view (now (t .entry))) (n .0) vector r ⌝ }
 {
     vector & table::enable_bits(t, n)
 }
 
-// Whether an enabled link is free: held by nobody.
-fn is_free(t: &[u8], n: Node, p: Port) -> bool
+// A link: free, held by a circuit, or blocked.
+pub enum LinkState {
+    Free,
+    Held,
+    Blocked,
+}
+
+// The state of a link. Every hop of every search asks this.
+fn link_state(t: &[u8], n: Node, p: Port) -> LinkState
     requires { ⌜ Within (now t) (n .0) (p .0) ⌝ }
-    requires { ⌜ view (now t) .enabled (n .0) (p .0) ≡ true ⌝ }
-    ensures { λ r. ⌜ r ≡ freeIn (view (now (t .entry))) (n .0) (p .0) ⌝ }
+    ensures { λ r. ⌜ stateOf r ≡ stateIn (view (now (t .entry))) (n .0) (p .0) ⌝ }
 {
-    table::owner(t, n, p).0 == 0
+    if table::enabled(t, n, p) {
+        if table::owner(t, n, p).0 == 0 {
+            LinkState::Free
+        } else {
+            LinkState::Held
+        }
+    } else {
+        LinkState::Blocked
+    }
 }
 
 // What a pass, a send and an open answer: 0 with the hops of the path and the receive channel taken, or the refusal; and the scouts sent.
@@ -41,7 +54,7 @@ pub struct Opened {
     pub scouts: u32,
 }
 
-// A node tries the ports of a vector, all of them enabled. With none it rejects at once, as many do in a search that finds no path.
+// A node tries the ports of a vector. With none it rejects at once, as many do in a search that finds no path.
 fn try_ports(
     t: &mut [u8],
     at: Node,
@@ -55,7 +68,6 @@ fn try_ports(
 ) -> Opened
     requires { ⌜ FirstPorts (now first) ⌝ }
     requires { ⌜ MayTry (now t) (target .0) (c .0) (at .0) vector (arrival .0) hops scouts ⌝ }
-    requires { ⌜ Enabled (view (now t)) (at .0) vector ⌝ }
     ensures { λ r. ⌜ pass-answer (r .number) (r .hops) (r .receive) (r .scouts) (now (t .exit)) ≡ tryAnswer (now (t .entry)) (target .0) (c .0) (at .0) vector (arrival .0) hops scouts ⌝ }
 {
     if vector == 0 {
@@ -84,7 +96,6 @@ fn try_in_turn(
 ) -> Opened
     requires { ⌜ FirstPorts (now first) ⌝ }
     requires { ⌜ MayTry (now t) (target .0) (c .0) (at .0) vector (arrival .0) hops scouts ⌝ }
-    requires { ⌜ Enabled (view (now t)) (at .0) vector ⌝ }
     ensures { λ r. ⌜ pass-answer (r .number) (r .hops) (r .receive) (r .scouts) (now (t .exit)) ≡ tryAnswer (now (t .entry)) (target .0) (c .0) (at .0) vector (arrival .0) hops scouts ⌝ }
 {
     let mut left = vector;
@@ -92,26 +103,31 @@ fn try_in_turn(
     while left != 0 {
         let p = cube::first_port(first, left, arrival);
         left = cube::without(left, p);
-        if is_free(t, at, p) {
-            table::set_owner(t, at, p, c);
-            let got = arrive(
-                t,
-                cube::neighbour(at, p),
-                target,
-                c,
-                p,
-                hops + 1,
-                sent + 1,
-                first,
-            );
-            if got.number == refusal::ACCEPTED {
-                return got;
+        let state = link_state(t, at, p);
+        match state {
+            LinkState::Free => {
+                table::set_owner(t, at, p, c);
+                let got = arrive(
+                    t,
+                    cube::neighbour(at, p),
+                    target,
+                    c,
+                    p,
+                    hops + 1,
+                    sent + 1,
+                    first,
+                );
+                if got.number == refusal::ACCEPTED {
+                    return got;
+                }
+                table::set_owner(t, at, p, Circuit(0));
+                if got.number == refusal::RECEIVE_REJECTED {
+                    return got;
+                }
+                sent = got.scouts;
             }
-            table::set_owner(t, at, p, Circuit(0));
-            if got.number == refusal::RECEIVE_REJECTED {
-                return got;
-            }
-            sent = got.scouts;
+            LinkState::Held => {}
+            LinkState::Blocked => {}
         }
     }
     Opened {
@@ -173,7 +189,7 @@ fn maze(
 ) -> Opened
     requires { ⌜ FirstPorts (now first) ⌝ }
     requires { ⌜ MaySend (now t) (source .0) (target .0) (c .0) vector ⌝ }
-    ensures { λ r. ⌜ pass-answer (r .number) (r .hops) (r .receive) (r .scouts) (now (t .exit)) ≡ sends (now (t .entry)) (source .0) (target .0) (c .0) 0 vector ⌝ }
+    ensures { λ r. ⌜ pass-answer (r .number) (r .hops) (r .receive) (r .scouts) (now (t .exit)) ≡ searched (now (t .entry)) (source .0) (target .0) (c .0) 0 vector ⌝ }
 {
     let ports = enabled_ports(t, source, vector);
     let got = try_in_turn(t, source, target, c, ports, Port(7), 0, 0, first);
@@ -195,7 +211,7 @@ fn alternate_maze(
 ) -> Opened
     requires { ⌜ FirstPorts (now first) ⌝ }
     requires { ⌜ MaySend (now t) (source .0) (target .0) (c .0) vector ⌝ }
-    ensures { λ r. ⌜ pass-answer (r .number) (r .hops) (r .receive) (r .scouts) (now (t .exit)) ≡ sends (now (t .entry)) (source .0) (target .0) (c .0) 4 vector ⌝ }
+    ensures { λ r. ⌜ pass-answer (r .number) (r .hops) (r .receive) (r .scouts) (now (t .exit)) ≡ searched (now (t .entry)) (source .0) (target .0) (c .0) 4 vector ⌝ }
 {
     let others = (cube::node_count(table::dimension(t)) - 1) ^ vector;
     let got = maze(t, source, target, c, vector, first);
@@ -212,7 +228,35 @@ fn alternate_maze(
     }
 }
 
-// A send of a routing type, 0, 1, 3 or 4. The table of first ports is built once for all its hops.
+// The search of a routing type, 0, 1, 3 or 4.
+fn search(
+    t: &mut [u8],
+    source: Node,
+    target: Node,
+    c: Circuit,
+    routing: u16,
+    vector: u16,
+    first: &[u8; 2048],
+) -> Opened
+    requires { ⌜ FirstPorts (now first) ⌝ }
+    requires { ⌜ MaySend (now t) (source .0) (target .0) (c .0) vector ⌝ }
+    requires { ⌜ vector ≢ 0 ⌝ }
+    ensures { λ r. ⌜ pass-answer (r .number) (r .hops) (r .receive) (r .scouts) (now (t .exit)) ≡ searched (now (t .entry)) (source .0) (target .0) (c .0) routing vector ⌝ }
+{
+    if routing == 4 {
+        return alternate_maze(t, source, target, c, vector, first);
+    }
+    if routing == 3 {
+        return helix::try_lowest(t, source, target, c, vector, first);
+    }
+    if routing == 1 {
+        return helix::try_each(t, source, target, c, vector, first);
+    }
+    maze(t, source, target, c, vector, first)
+}
+
+// A send of a routing type. Where its search is route rejected, it asks whether a path that it may try has no blocked link: with none, waiting does not help.
+// The table of first ports is built once for all its hops.
 pub fn send(
     t: &mut [u8],
     source: Node,
@@ -226,14 +270,18 @@ pub fn send(
     ensures { λ r. ⌜ pass-answer (r .number) (r .hops) (r .receive) (r .scouts) (now (t .exit)) ≡ sends (now (t .entry)) (source .0) (target .0) (c .0) routing vector ⌝ }
 {
     let first = cube::first_ports();
-    if routing == 4 {
-        return alternate_maze(t, source, target, c, vector, &first);
+    let answer = search(t, source, target, c, routing, vector, &first);
+    if answer.number != refusal::ROUTE_REJECTED {
+        return answer;
     }
-    if routing == 3 {
-        return helix::try_lowest(t, source, target, c, vector, &first);
+    if reach::some_path_enabled(t, source, target, routing, vector, &first) {
+        return answer;
     }
-    if routing == 1 {
-        return helix::try_each(t, source, target, c, vector, &first);
+    let scouts = answer.scouts;
+    Opened {
+        number: refusal::NO_ROUTE,
+        hops: 0,
+        receive: 0,
+        scouts,
     }
-    maze(t, source, target, c, vector, &first)
 }

@@ -18,7 +18,7 @@ try-in-turn-requires : tie.Need-try-in-turn-requires
 try-in-turn-requires c κs =
     let e = c .before in
     let s = e .before .before .before in
-    (s .pre .0, (narrow-may (may-try (s .pre .1)) (e .enabled-ports .ensures .0), e .enabled-ports .ensures .1))
+    (s .pre .0, narrow-may (may-try (s .pre .1)) (e .enabled-ports .ensures))
 
 set-receiver-requires : tie.Need-set-receiver-requires
 set-receiver-requires c κs =
@@ -29,7 +29,7 @@ set-receiver-requires c κs =
     record {
       bytes = g .try-in-turn .kept .0 ∙ may .bytes;
       node = byte-vector (may .fits) (may .target);
-      port = maze-channel may (e .enabled-ports .ensures .0) (g .try-in-turn .ensures) (c .before .if1 .taken);
+      port = maze-channel may (e .enabled-ports .ensures) (g .try-in-turn .ensures) (c .before .if1 .taken);
     }
 
 same-length : tie.Need-same-length
@@ -41,7 +41,7 @@ returns c =
     let g = r .before .before .before .before .before .before in
     let e = g .before .before in
     let s = e .before .before .before in
-    maze-taken (s .pre .1) (e .enabled-ports .ensures .0) (g .try-in-turn .ensures) (r .before .before .if1 .taken) (r .set-receiver .ensures)
+    maze-taken (s .pre .1) (e .enabled-ports .ensures) (g .try-in-turn .ensures) (r .before .before .if1 .taken) (r .set-receiver .ensures)
 
 same-length-2 : tie.Need-same-length-2
 same-length-2 c = search needs
@@ -51,7 +51,7 @@ returns-2 c =
     let g = c .before .before .before .before in
     let e = g .before .before in
     let s = e .before .before .before in
-    maze-rejected (s .pre .1) (e .enabled-ports .ensures .0) (g .try-in-turn .ensures) (c .if1 .left)
+    maze-rejected (s .pre .1) (e .enabled-ports .ensures) (g .try-in-turn .ensures) (c .if1 .left)
 
 pub maze-spec : {M : Type 1} → statement M
 maze-spec = tie.close (tie.spec enabled-ports-requires try-in-turn-requires set-receiver-requires same-length returns same-length-2 returns-2)

@@ -1,8 +1,6 @@
--- `search::send` meets its contract: the attempts of its routing type.
+-- `search::send` meets its contract: the search of its type and, where that is route rejected, whether waiting helps.
 -- Assumes nothing.
-use mathlib.Core.Path.{_∙_, ap, sym}
-use Rattle.search.specs.SendAnswer.{sends}
-use Rattle.search.proofs.Sends.{send-maze}
+use Rattle.search.proofs.Judged.{may-ask-after, judged-kept, judged-helps, judged-blocked}
 use borrow.Author.Needs.{needs}
 use Rattle.search.proofs.send.Statement.{statement}
 use Rattle.search.proofs.send.Tie as tie
@@ -10,73 +8,55 @@ use Rattle.search.proofs.send.Tie as tie
 first-ports-requires : tie.Need-first-ports-requires
 first-ports-requires c κs = search needs
 
-alternate-maze-requires : tie.Need-alternate-maze-requires
-alternate-maze-requires c κs = search needs
+search-requires : tie.Need-search-requires
+search-requires c κs = search needs
 
 same-length : tie.Need-same-length
 same-length c = search needs
 
 returns : tie.Need-returns
 returns c =
-    let g = c .before .before in
-    let e = g .before .before .before in
-    let s = e .before .before .before in
-    g .alternate-maze .ensures ∙ ap (λ y. sends (s .args .t .now) (s .args .source .0) (s .args .target .0) (s .args .c .0) y (s .args .vector)) (sym (e .if1 .taken))
+    let g = c .before .before .before .before in
+    judged-kept _ _ _ _ _ _ (g .search .ensures) (c .if1 .taken)
 
-try-lowest-requires : tie.Need-try-lowest-requires
-try-lowest-requires c κs = search needs
+some-path-enabled-requires : tie.Need-some-path-enabled-requires
+some-path-enabled-requires c κs =
+    let e = c .before .before in
+    let g = e .before .before .before .before in
+    let f = g .before .before .before in
+    let s = f .before .before in
+    (f .first-ports .ensures, may-ask-after _ _ _ _ _ _ (g .search .ensures) (s .pre .0) (e .if1 .left))
 
 same-length-2 : tie.Need-same-length-2
 same-length-2 c = search needs
 
 returns-2 : tie.Need-returns-2
 returns-2 c =
-    let g = c .before .before in
-    let e = g .before .before .before in
-    let s = e .before .before .before .before in
-    g .try-lowest .ensures ∙ ap (λ y. sends (s .args .t .now) (s .args .source .0) (s .args .target .0) (s .args .c .0) y (s .args .vector)) (sym (e .if2 .taken))
-
-try-each-requires : tie.Need-try-each-requires
-try-each-requires c κs = search needs
+    let a = c .before in
+    let e = a .before .before .before in
+    let g = e .before .before .before .before in
+    judged-helps _ _ _ _ _ _ (g .search .ensures) (e .if1 .left) (a .some-path-enabled .ensures) (c .if2 .taken)
 
 same-length-3 : tie.Need-same-length-3
 same-length-3 c = search needs
 
 returns-3 : tie.Need-returns-3
 returns-3 c =
-    let g = c .before .before in
-    let e = g .before .before .before in
-    let s = e .before .before .before .before .before in
-    g .try-each .ensures ∙ ap (λ y. sends (s .args .t .now) (s .args .source .0) (s .args .target .0) (s .args .c .0) y (s .args .vector)) (sym (e .if3 .taken))
-
-maze-requires : tie.Need-maze-requires
-maze-requires c κs = search needs
-
-same-length-4 : tie.Need-same-length-4
-same-length-4 c = search needs
-
-returns-4 : tie.Need-returns-4
-returns-4 c =
-    let g = c .before .before in
-    let e = g .before .before .before in
-    let s = e .before .before .before .before .before in
-    g .maze .ensures ∙ send-maze (s .args .t .now) (s .args .source .0) (s .args .target .0) (s .args .c .0) (s .args .routing) (s .args .vector)
-    (e .before .before .if1 .left) (e .before .if2 .left) (e .if3 .left)
+    let a = c .before in
+    let e = a .before .before .before in
+    let g = e .before .before .before .before in
+    judged-blocked _ _ _ _ _ _ (g .search .ensures) (e .if1 .left) (a .some-path-enabled .ensures) (c .if2 .left)
 
 pub send-spec : {M : Type 1} → statement M
 send-spec =
     tie.close
     (tie.spec
     first-ports-requires
-    alternate-maze-requires
+    search-requires
     same-length
     returns
-    try-lowest-requires
+    some-path-enabled-requires
     same-length-2
     returns-2
-    try-each-requires
     same-length-3
-    returns-3
-    maze-requires
-    same-length-4
-    returns-4)
+    returns-3)

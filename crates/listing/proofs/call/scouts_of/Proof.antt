@@ -19,7 +19,12 @@ returns-3 c = λ w. rw (c .if3 .taken)
 
 returns-4 : tie.Need-returns-4
 unfolding carriesScouts
-returns-4 c = λ w. rw (ne-eqb _ 0 (c .before .before .if1 .left), ne-eqb _ 10 (c .before .if2 .left), ne-eqb _ 11 (c .if3 .left))
+returns-4 c = λ w. rw (c .if4 .taken)
+
+returns-5 : tie.Need-returns-5
+unfolding carriesScouts
+returns-5 c =
+    λ w. rw (ne-eqb _ 0 (c .before .before .before .if1 .left), ne-eqb _ 10 (c .before .before .if2 .left), ne-eqb _ 11 (c .before .if3 .left), ne-eqb _ 22 (c .if4 .left))
 
 pub scouts-of-spec : {M : Type 1} → statement M
-scouts-of-spec = tie.close (tie.spec returns returns-2 returns-3 returns-4)
+scouts-of-spec = tie.close (tie.spec returns returns-2 returns-3 returns-4 returns-5)

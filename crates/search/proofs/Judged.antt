@@ -1,0 +1,62 @@
+-- What a send makes of the answer of its search: a route rejection is judged by whether waiting helps, and everything else is handed on.
+-- Assumes nothing.
+use mathlib.Core.Path.{_≡_, refl, ap, sym, _∙_}
+use mathlib.Core.Logic.{_≢_}
+use mathlib.Core.Bool.{Bool, true, false}
+use mathlib.Core.List.{List}
+use Prim.Native.Nat.{ℕ}
+use native.Mathlib.Omega.{arith}
+use Rattle.paths.specs.Send.{Outcome, acknowledged, route-rejected, receive-rejected}
+use Rattle.paths.specs.Waiting.{someAttempt}
+use Rattle.paths.specs.CubeNetwork.{attempts}
+use Rattle.table.specs.View.{view, net, shapeOf}
+use Rattle.reach.specs.Marks.{MayAsk}
+use Rattle.search.specs.PassAnswer.{pass-answer}
+use Rattle.search.specs.SendAnswer.{waitingHelps, bytesAfterSend, answerOfOutcome, sendAnswer, sendOf, sends, searched, MaySend}
+use Rattle.search.proofs.Sends.{sent-leaves}
+
+module _ (b : List ℕ) (c s t : ℕ) {x h k n : ℕ} {b₁ : List ℕ} where
+  -- an answer that is no route rejection is the same, whether waiting helps or not
+  other-kept : (helps : Bool) (o : Outcome) (m : ℕ) → pass-answer x h k n b₁ ≡ sendAnswer true b c s t (record { outcome = o; scouts = m }) → x ≢ 10
+      → pass-answer x h k n b₁ ≡ sendAnswer helps b c s t (record { outcome = o; scouts = m })
+  unfolding sendAnswer bytesAfterSend answerOfOutcome
+  other-kept helps (acknowledged w j) m q f = q
+  other-kept helps route-rejected m q f = let y : x ≡ 10 = cc in absurd (f y)
+  other-kept helps receive-rejected m q f = q
+
+  -- a route rejection has no hops, no channel and its scouts, and leaves each byte
+  rejected-as : (o : Outcome) (m : ℕ) → pass-answer x h k n b₁ ≡ sendAnswer true b c s t (record { outcome = o; scouts = m }) → x ≡ 10
+      → pass-answer 22 0 0 n b₁ ≡ sendAnswer false b c s t (record { outcome = o; scouts = m })
+  unfolding sendAnswer bytesAfterSend answerOfOutcome
+  rejected-as (acknowledged w j) m q z = let y : x ≡ 0 = cc in absurd (omega arith)
+  rejected-as route-rejected m q z = let i : n ≡ m = cc in let e : b₁ ≡ b = cc in rw (i, e) refl
+  rejected-as receive-rejected m q z = let y : x ≡ 11 = cc in absurd (omega arith)
+
+-- what is asked after a search that leaves each byte as it was
+may-ask : {b : List ℕ} {s t c vector : ℕ} → MaySend b s t c vector → MayAsk b s t vector
+may-ask may = record { sweep = record { bytes = may .bytes; fits = may .fits; target = may .target }; source = may .source; ports = may .ports }
+
+module _ (b : List ℕ) (s t c type vector : ℕ) {x h k n : ℕ} {b₁ : List ℕ} (got : pass-answer x h k n b₁ ≡ searched b s t c type vector) where
+  pub search-leaves : x ≡ 10 → b₁ ≡ b
+  unfolding searched
+  search-leaves z = sent-leaves b c s t true _ _ got (λ y. omega (arith, y, z))
+
+  pub may-ask-after : MaySend b s t c vector → x ≡ 10 → MayAsk b₁ s t vector
+  may-ask-after may z = rw (search-leaves z) (may-ask may)
+
+  pub judged-kept : x ≢ 10 → pass-answer x h k n b₁ ≡ sends b s t c type vector
+  unfolding searched sends
+  judged-kept f = other-kept b c s t (waitingHelps (view b) s t type vector) _ _ got f
+
+  module _ (z : x ≡ 10) {r : Bool} (asked : r ≡ someAttempt (net (view b₁)) (view b₁ .enabled) s t (attempts (shapeOf (view b₁)) type vector)) where
+    answer : r ≡ waitingHelps (view b) s t type vector
+    unfolding waitingHelps
+    answer = rw (search-leaves z) at asked
+
+    pub judged-helps : r ≡ true → pass-answer x h k n b₁ ≡ sends b s t c type vector
+    unfolding searched sends
+    judged-helps e = rw (sym answer ∙ e) got
+
+    pub judged-blocked : r ≡ false → pass-answer 22 0 0 n b₁ ≡ sends b s t c type vector
+    unfolding searched sends
+    judged-blocked e = rw (sym answer ∙ e) (rejected-as b c s t _ _ got z)
