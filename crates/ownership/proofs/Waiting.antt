@@ -29,7 +29,7 @@ use Rattle.ownership.specs.Calls.{Call, opening, closing, arming, callTe
 use Rattle.ownership.specs.Update.{updated, holdLinks, viewAfterSend, sendIn}
 use Rattle.ownership.specs.OnTable.{openIn, isOpenIn, factsOf, lentTests, stoppedAt, tableStep, takenIn}
 use Rattle.ownership.specs.Agrees.{tableAfter, leaves}
-use Rattle.ownership.specs.Closing.{Each, no-call, call-more, ClosesOrArms, closes, arms, RepairsNothing, Idle}
+use Rattle.ownership.specs.Closing.{Each, no-call, call-more, ClosesOrArms, closes, arms, RepairsNothing, a-block, an-open, a-close, a-trace, an-arming, a-disarming, Idle}
 use Rattle.ownership.specs.Allowed.{Allowed}
 use Rattle.ownership.proofs.Allowed.{allowed, allowed-passes}
 use Rattle.ownership.proofs.Stops.{none-stops, none-stops-lent, pass-tests, stopped-is}
@@ -189,12 +189,12 @@ not-off false x e = e
 
 updated-fewer : (v : View) (a : Call) → RepairsNothing a → Fewer (updated v a) v
 unfolding updated withoutCircuit setArmed setEnabled setAt
-updated-fewer v (blocking n p) k = record { dimension = refl; fewer = λ m q e. not-off (eqb m n && eqb q p) _ e }
-updated-fewer v (opening s c t y x) k = same-fewer (sent-same v (circuitOf s c) s t (sendIn v s t y x .outcome))
-updated-fewer v (closing s c) k = record { dimension = refl; fewer = λ m q e. e }
-updated-fewer v (tracing s c buffer) k = record { dimension = refl; fewer = λ m q e. e }
-updated-fewer v (arming n i) k = record { dimension = refl; fewer = λ m q e. e }
-updated-fewer v (disarming n i) k = record { dimension = refl; fewer = λ m q e. e }
+updated-fewer v _ (a-block {n} {p}) = record { dimension = refl; fewer = λ m q e. not-off (eqb m n && eqb q p) _ e }
+updated-fewer w _ (an-open {s} {c} {t} {y} {v}) = same-fewer (sent-same w (circuitOf s c) s t (sendIn w s t y v .outcome))
+updated-fewer v _ a-close = record { dimension = refl; fewer = λ m q e. e }
+updated-fewer v _ a-trace = record { dimension = refl; fewer = λ m q e. e }
+updated-fewer v _ an-arming = record { dimension = refl; fewer = λ m q e. e }
+updated-fewer v _ a-disarming = record { dimension = refl; fewer = λ m q e. e }
 
 record Left (b after : List ℕ) : Type 0 where
   small : AllBytes after
