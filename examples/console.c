@@ -8,11 +8,17 @@
  *     S node channel target type vector    open a circuit
  *     C node channel                       close a circuit
  *     T node channel                       trace a circuit
+ *     L                                    list the open circuits
  *     M                                    draw the map of links
+ *     U                                    draw it without the nodes where nothing is held, blocked or armed
  *
- * It starts from a made table of dimension 1, and ends with status 1 if there was a line that it could not read. */
+ * A circuit is written as its source and send channel, its target and receive channel, and the ports of its path: 4.2 -> 7.1 ports 0 1. In the map
+ * a link or a receive channel that is held shows the source and send channel of its circuit.
+ * It starts from a made table of dimension 1; with an argument, from the table saved in the file of that name, if there is one, and saves it there at the
+ * end. It ends with status 1 if there was a line that it could not read, or if reading or writing failed. */
 #include <maze.h>
 #include <ctype.h>
+#include <errno.h>
 #include <stdio.h>
 #include <stdlib.h>
 #include <string.h>
@@ -28,83 +34,101 @@ static const struct form {
 } forms[] = {
     {'F', 1, "dimension"},    {'B', 2, "node port"},    {'E', 2, "node port"},
     {'R', 2, "node channel"}, {'D', 2, "node channel"}, {'S', 5, "node channel target type vector"},
-    {'C', 2, "node channel"}, {'T', 2, "node channel"}, {'M', 0, "nothing"},
+    {'C', 2, "node channel"}, {'T', 2, "node channel"}, {'L', 0, "nothing"},
+    {'M', 0, "nothing"},      {'U', 0, "nothing"},
 };
-
-static const char *refusal_name(unsigned number) {
-    switch (number) {
-    case MAZE_BAD_LENGTH: return "the table does not have 8,705 bytes";
-    case MAZE_BAD_DIMENSION: return "the dimension is not 1 to 8";
-    case MAZE_NOT_SOUND: return "the table is not sound";
-    case MAZE_BAD_NODE: return "no such node";
-    case MAZE_BAD_CHANNEL: return "no such channel";
-    case MAZE_BAD_PORT: return "no such port";
-    case MAZE_BAD_ROUTING_TYPE: return "no such routing type";
-    case MAZE_BAD_SEND_VECTOR: return "no such send vector";
-    case MAZE_CHANNEL_IN_USE: return "this send channel has an open circuit";
-    case MAZE_ROUTE_REJECTED: return "route rejected";
-    case MAZE_RECEIVE_REJECTED: return "receive rejected";
-    case MAZE_NO_CIRCUIT: return "this send channel has no open circuit";
-    case MAZE_LINK_HELD: return "a circuit holds the link";
-    case MAZE_BUFFER_SHORT: return "the buffer is too short";
-    case MAZE_CHANNEL_HELD: return "a circuit holds the receive channel";
-    case MAZE_NO_ROUTE: return "no route past the blocked links";
-    default: return "unknown number";
-    }
-}
 
 /* What a call answered that gives its number alone. */
 static void say(unsigned number, const char *done) {
     if (number == MAZE_ACCEPTED) printf("%s\n", done);
-    else printf("refused as %u, %s\n", number, refusal_name(number));
+    else printf("refused as %u, %s\n", number, maze_refusal_text(number));
 }
 
-static void say_ports(uint16_t node, uint16_t channel) {
+/* An open circuit, whose receive channel is numbered as send channels are. */
+static void say_circuit(unsigned circuit, unsigned receive) {
+    uint16_t node = (uint16_t)maze_circuit_node(circuit), channel = (uint16_t)maze_circuit_channel(circuit);
     uint8_t ports[MAZE_TRACE_BYTES];
     maze_traced traced = maze_trace(table, sizeof table, node, channel, ports, sizeof ports);
-    if (traced.number != MAZE_ACCEPTED) {
-        say(traced.number, "");
-        return;
-    }
-    printf("circuit %u, ports", (unsigned)MAZE_CIRCUIT(node, channel));
+    printf("%u.%u -> %u.%u ports", (unsigned)node, (unsigned)channel, maze_circuit_node(receive), maze_circuit_channel(receive));
     for (unsigned hop = 0; hop < traced.hops; hop++) printf(" %u", (unsigned)ports[hop]);
     printf("\n");
 }
 
+static void say_traced(uint16_t node, uint16_t channel) {
+    uint8_t ports[MAZE_TRACE_BYTES];
+    unsigned number = maze_trace(table, sizeof table, node, channel, ports, sizeof ports).number, circuit = maze_circuit(node, channel);
+    if (number == MAZE_ACCEPTED) say_circuit(circuit, maze_circuit_receive(table, circuit));
+    else say(number, "");
+}
+
+/* An open that the search refused, so by number 10 or above, carries the scouts. */
 static void say_opened(maze_opened opened, uint16_t node, uint16_t channel) {
     if (opened.number == MAZE_ACCEPTED) {
-        printf("opened after %lu scouts on receive channel %u: ", (unsigned long)opened.scouts, (unsigned)opened.receive);
-        say_ports(node, channel);
-    } else if (opened.number == MAZE_ROUTE_REJECTED || opened.number == MAZE_RECEIVE_REJECTED || opened.number == MAZE_NO_ROUTE) {
-        printf("refused as %u, %s after %lu scouts\n", (unsigned)opened.number, refusal_name(opened.number), (unsigned long)opened.scouts);
+        printf("opened after %lu scout%s: ", (unsigned long)opened.scouts, opened.scouts == 1 ? "" : "s");
+        say_traced(node, channel);
+    } else if (opened.number >= MAZE_ROUTE_REJECTED) {
+        printf("refused as %u after %lu scout%s, %s\n", (unsigned)opened.number, (unsigned long)opened.scouts, opened.scouts == 1 ? "" : "s", maze_refusal_text(opened.number));
     } else {
         say(opened.number, "");
     }
 }
 
-/* A row for each node: its links by port, where . is free, x is blocked, and a number is the circuit that holds the link; then the receive
- * channels that are armed, each with its circuit, or . where it has none. */
-static void draw_map(void) {
-    unsigned dimension = MAZE_DIMENSION(table);
+/* The open circuits by source and send channel; a walk over the receive channels meets each of them once. */
+static void list_circuits(void) {
+    static unsigned receive_of[MAZE_CIRCUIT(MAZE_NODES - 1, MAZE_CHANNELS - 1) + 1];
+    const unsigned circuits = sizeof receive_of / sizeof *receive_of;
+    unsigned count = 0;
+    memset(receive_of, 0, sizeof receive_of);
+    for (unsigned node = 0; node < maze_node_count(table); node++)
+        for (unsigned channel = 0; channel < MAZE_CHANNELS; channel++) {
+            unsigned circuit = maze_receive_circuit(table, node, channel);
+            if (circuit == 0) continue;
+            receive_of[circuit] = maze_circuit(node, channel);
+            count++;
+        }
+    printf("open circuits: %u\n", count);
+    for (unsigned circuit = 1; circuit < circuits; circuit++)
+        if (receive_of[circuit] != 0) say_circuit(circuit, receive_of[circuit]);
+}
+
+/* Whether nothing of a node is held, blocked or armed. */
+static int is_untouched(unsigned node) {
+    for (unsigned port = 0; port < maze_dimension(table); port++)
+        if (maze_link_circuit(table, node, port) != 0 || !maze_link_enabled(table, node, port)) return 0;
+    for (unsigned channel = 0; channel < MAZE_CHANNELS; channel++)
+        if (maze_receive_armed(table, node, channel)) return 0;
+    return 1;
+}
+
+/* The circuit that holds something, or else a word. */
+static void draw_circuit(unsigned circuit, const char *otherwise, int width) {
+    char text[16] = "";
+    if (circuit != 0) snprintf(text, sizeof text, "%u.%u", maze_circuit_node(circuit), maze_circuit_channel(circuit));
+    printf("%*s", width, circuit != 0 ? text : otherwise);
+}
+
+/* A row for each node: its links by port, where . is free and x is blocked; then the receive channels that are armed, each with . where it is not held. */
+static void draw_map(int whole) {
+    unsigned dimension = maze_dimension(table), left_out = 0;
     printf("map of dimension %u\nnode ", dimension);
     for (unsigned port = 0; port < dimension; port++) printf("%5s%u", "p", port);
     printf("  receive\n");
-    for (unsigned node = 0; node < 1u << dimension; node++) {
-        printf("%4u ", node);
-        for (unsigned port = 0; port < dimension; port++) {
-            unsigned circuit = MAZE_LINK_CIRCUIT(table, node, port);
-            if (circuit != 0) printf("%6u", circuit);
-            else printf("%6s", MAZE_LINK_ENABLED(table, node, port) ? "." : "x");
+    for (unsigned node = 0; node < maze_node_count(table); node++) {
+        if (!whole && is_untouched(node)) {
+            left_out++;
+            continue;
         }
+        printf("%4u ", node);
+        for (unsigned port = 0; port < dimension; port++)
+            draw_circuit(maze_link_circuit(table, node, port), maze_link_enabled(table, node, port) ? "." : "x", 6);
         for (unsigned channel = 0, shown = 0; channel < MAZE_CHANNELS; channel++) {
-            unsigned circuit = MAZE_RECEIVE_CIRCUIT(table, node, channel);
-            if (!MAZE_RECEIVE_ARMED(table, node, channel)) continue;
+            if (!maze_receive_armed(table, node, channel)) continue;
             printf("%s%u:", shown++ ? " " : "  ", channel);
-            if (circuit != 0) printf("%u", circuit);
-            else printf(".");
+            draw_circuit(maze_receive_circuit(table, node, channel), ".", 0);
         }
         printf("\n");
     }
+    if (left_out != 0) printf("and %u nodes where nothing is held, blocked or armed\n", left_out);
 }
 
 /* Reads a line without its newline. Answers its length, which may be above LINE_BYTES though no more are kept, or -1 at the end of input. */
@@ -137,7 +161,7 @@ static const struct form *read_call(char *line, long length, unsigned long line_
     for (size_t i = 0; i < sizeof forms / sizeof *forms; i++)
         if (word[0] == forms[i].letter && word[1] == '\0') form = &forms[i];
     if (!form) {
-        printf("line %lu: '%s' is no call; calls are F, B, E, R, D, S, C, T and M\n", line_number, word);
+        printf("line %lu: '%s' is no call; calls are F, B, E, R, D, S, C, T, L, M and U\n", line_number, word);
         return NULL;
     }
     while ((word = strtok(NULL, " \t\r")) != NULL) {
@@ -168,17 +192,51 @@ static void make_call(char letter, const uint16_t *n) {
     case 'D': say(maze_disarm(table, sizeof table, n[0], n[1]), "disarmed"); break;
     case 'S': say_opened(maze_open(table, sizeof table, n[0], n[1], n[2], n[3], n[4]), n[0], n[1]); break;
     case 'C': say(maze_close(table, sizeof table, n[0], n[1]), "closed"); break;
-    case 'T': say_ports(n[0], n[1]); break;
-    default: draw_map(); break;
+    case 'T': say_traced(n[0], n[1]); break;
+    case 'L': list_circuits(); break;
+    default: draw_map(letter == 'M'); break;
     }
 }
 
-int main(void) {
+/* Takes the table from a file, if there is one. What is in it was written by anybody: it is tested. Answers whether the console can go on. */
+static int load(const char *name) {
+    static uint8_t bytes[MAZE_TABLE_BYTES + 1]; /* one more, to know a longer file */
+    FILE *file = fopen(name, "rb");
+    size_t length;
+    unsigned number;
+    int failed;
+    if (!file && errno == ENOENT) return 1;
+    if (!file) {
+        fprintf(stderr, "console: %s: cannot be opened\n", name);
+        return 0;
+    }
+    length = fread(bytes, 1, sizeof bytes, file);
+    failed = ferror(file);
+    number = maze_check_table(bytes, length);
+    fclose(file);
+    if (failed || number != MAZE_ACCEPTED) {
+        fprintf(stderr, "console: %s: %s\n", name, failed ? "reading failed" : maze_refusal_text(number));
+        return 0;
+    }
+    memcpy(table, bytes, sizeof table);
+    return 1;
+}
+
+static int save(const char *name) {
+    FILE *file = fopen(name, "wb");
+    int good = file && fwrite(table, 1, sizeof table, file) == sizeof table;
+    if (file && fclose(file) != 0) good = 0;
+    if (!good) fprintf(stderr, "console: %s: writing failed\n", name);
+    return good;
+}
+
+int main(int count, char **names) {
     char line[LINE_BYTES + 1] = "", shown[LINE_BYTES + 1];
     unsigned long line_number = 0;
     long length;
-    int unread = 0;
+    int bad = 0;
     maze_make(table, sizeof table, 1);
+    if (count > 1 && !load(names[1])) return 1;
     while ((length = read_line(line)) >= 0) {
         uint16_t numbers[MOST_NUMBERS] = {0};
         const struct form *form;
@@ -187,16 +245,19 @@ int main(void) {
         memcpy(shown, line, sizeof shown);
         form = read_call(line, length, line_number, numbers);
         if (!form) {
-            unread = 1;
+            bad = 1;
+            fflush(stdout);
             continue;
         }
         shown[strcspn(shown, "\r")] = '\0';
-        if (form->letter != 'M') printf("%s: ", shown);
+        if (form->numbers != 0) printf("%s: ", shown);
         make_call(form->letter, numbers);
+        if (fflush(stdout) != 0) break; /* each answer at once, also where nobody waits at a terminal */
     }
-    if (ferror(stdin) || fflush(stdout) != 0) {
+    if (ferror(stdin) || ferror(stdout) || fflush(stdout) != 0) {
         fprintf(stderr, "console: reading or writing failed\n");
-        return 1;
+        bad = 1;
     }
-    return unread;
+    if (count > 1 && !save(names[1])) bad = 1;
+    return bad;
 }

@@ -1,51 +1,45 @@
-/* Says what command words mean: each argument is a word, as a board stored it. */
+/* Says what command words mean: each argument is a word, a number of decimal digits, as a board stored it. Ends with status 1 if an argument is no number
+ * from 0 to 65535, or if writing fails; a word that cannot be read is an answer like any other. */
 #include <maze.h>
+#include <ctype.h>
 #include <stdio.h>
-#include <stdlib.h>
 
-/* Commands 4 and 14 mean two things, by the bit that they carry. */
-static const char *command_name(unsigned command, unsigned carried) {
-    switch (command) {
-    case MAZE_PACKET_ACKNOWLEDGE: return "packet acknowledge";
-    case MAZE_ROUTE_ACKNOWLEDGE: return "route acknowledge";
-    case MAZE_ROUTE_REJECTED_COMMAND: return "route rejected";
-    case MAZE_RECEIVE_REJECTED_COMMAND: return carried == 0 ? "receive rejected" : "parity error flushed back";
-    case MAZE_FORWARDED_ROUTE_REJECTED: return "forwarded route rejected";
-    case MAZE_END_TO_END_ACKNOWLEDGE: return "end-to-end acknowledge";
-    case MAZE_END_TO_END_NOT_ACKNOWLEDGED: return "end-to-end not acknowledged";
-    case MAZE_END_OF_MESSAGE: return "end of message";
-    case MAZE_END_OF_TRANSMISSION: return "end of transmission";
-    case MAZE_RESET_CPU: return "reset CPU";
-    case MAZE_RESET_NODE: return "reset node";
-    default: return carried == 0 ? "flush path" : "parity error flushed forward";
-    }
+/* Reads digits and nothing else. Answers the number, or 65536 for what is none from 0 to 65535. */
+static unsigned long number_of(const char *text) {
+    unsigned long number = 0;
+    if (*text == '\0') return 65536;
+    for (; *text != '\0' && number <= 65535; text++) number = isdigit((unsigned char)*text) ? 10 * number + (unsigned long)(*text - '0') : 65536;
+    return number <= 65535 ? number : 65536;
 }
 
-static const char *refusal_name(unsigned number) {
-    switch (number) {
-    case MAZE_WORD_TOO_LARGE: return "above 4,095";
-    case MAZE_NOT_A_COMMAND: return "packet type 0 or 1";
-    case MAZE_WRONG_TYPE: return "type does not go with the command";
-    default: return "reserved command";
-    }
+static void say(unsigned word, maze_word_read_answer read) {
+    unsigned carried = read.carried;
+    if (read.number != MAZE_ACCEPTED)
+        printf("%u: refused as %u, %s\n", word, (unsigned)read.number, maze_refusal_text(read.number));
+    else if (read.command == MAZE_END_TO_END_NOT_ACKNOWLEDGED)
+        printf("%u: %s, code %u, error %u\n", word, maze_word_text(read.command, carried), carried / MAZE_STATUS_CODE_PLACE, carried % MAZE_STATUS_CODE_PLACE);
+    else
+        printf("%u: %s, carrying %u\n", word, maze_word_text(read.command, carried), carried);
 }
 
 int main(int count, char **words) {
+    int bad = 0;
+    if (count < 2) {
+        fprintf(stderr, "usage: words WORD ..\n");
+        return 1;
+    }
     for (int i = 1; i < count; i++) {
-        char *end;
-        unsigned long word = strtoul(words[i], &end, 10);
-        if (*end || end == words[i] || word > 65535) {
-            printf("%s: not a number from 0 to 65535\n", words[i]);
+        unsigned long word = number_of(words[i]);
+        if (word > 65535) {
+            fprintf(stderr, "words: '%s' is not a number from 0 to 65535\n", words[i]);
+            bad = 1;
             continue;
         }
-        maze_word_read_answer read = maze_word_read((uint16_t)word);
-        unsigned carried = read.carried;
-        if (read.number != MAZE_ACCEPTED)
-            printf("%lu: refused as %u, %s\n", word, (unsigned)read.number, refusal_name(read.number));
-        else if (read.command == MAZE_END_TO_END_NOT_ACKNOWLEDGED)
-            printf("%lu: %s, code %u, error %u\n", word, command_name(read.command, carried), carried / MAZE_STATUS_CODE_PLACE, carried % MAZE_STATUS_CODE_PLACE);
-        else
-            printf("%lu: %s, carrying %u\n", word, command_name(read.command, carried), carried);
+        say((unsigned)word, maze_word_read((uint16_t)word));
     }
-    return 0;
+    if (ferror(stdout) || fflush(stdout) != 0) {
+        fprintf(stderr, "words: writing failed\n");
+        bad = 1;
+    }
+    return bad;
 }

@@ -20,13 +20,13 @@ int main() {
     check(maze_make(table.data(), table.size(), 3) == MAZE_ACCEPTED, "make");
     check(maze_block(table.data(), table.size(), 1, 2) == MAZE_ACCEPTED, "block");
     check(maze_block(table.data(), table.size(), 3, 2) == MAZE_ACCEPTED, "block");
-    check(maze_arm(table.data(), table.size(), 7, 0) == MAZE_ACCEPTED && MAZE_RECEIVE_ARMED(table, 7, 0), "arm");
+    check(maze_arm(table.data(), table.size(), 7, 0) == MAZE_ACCEPTED && MAZE_RECEIVE_ARMED(table.data(), 7, 0), "arm");
     const maze_opened opened = maze_open(table.data(), table.size(), 0, 0, 7, MAZE_TYPE_MAZE, 7);
     check(opened.number == MAZE_ACCEPTED && opened.hops == 3 && opened.receive == 0 && opened.scouts == 5, "open");
     const maze_traced traced = maze_trace(table.data(), table.size(), 0, 0, ports, sizeof ports);
     check(traced.number == MAZE_ACCEPTED && traced.hops == 3 && ports[0] == 1 && ports[1] == 2 && ports[2] == 0, "trace");
     check(maze_disarm(table.data(), table.size(), 7, 0) == MAZE_CHANNEL_HELD, "disarm a held channel");
-    check(maze_close(table.data(), table.size(), 0, 0) == MAZE_ACCEPTED && !MAZE_RECEIVE_ARMED(table, 7, 0), "close");
+    check(maze_close(table.data(), table.size(), 0, 0) == MAZE_ACCEPTED && !MAZE_RECEIVE_ARMED(table.data(), 7, 0), "close");
     check(maze_close(table.data(), table.size(), 0, 0) == MAZE_NO_CIRCUIT, "close again");
     check(maze_unblock(table.data(), table.size(), 1, 2) == MAZE_ACCEPTED, "unblock");
     check(maze_word_read(2437).command == 6, "read a word");
