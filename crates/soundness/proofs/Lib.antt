@@ -1,8 +1,11 @@
 -- The laws of soundness.
 pub mod Soundness
+pub mod LinkCount
 pub mod Marks
 pub mod Follow
 pub mod Examine
 pub mod Passing
-pub mod NodeLinks
+pub mod Ways
+pub mod Following
+pub mod Counting
 pub mod Tracing

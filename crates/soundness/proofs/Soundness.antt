@@ -40,7 +40,7 @@ pub record EntriesPass (v : View) : Type 0 where
   pub receives-pass : (n k : ℕ) → n < 256 → k < 8 → receiveTest v n k ≡ true
 
 -- one number below 8 passes a test, and no other, exactly where one is kept
-one-kept : (f : ℕ → Bool) (k : ℕ) → k < 8 → f k ≡ true → ((j : ℕ) → j < 8 → f j ≡ true → j ≡ k) → length (keep f (from 0 8)) ≡ 1
+pub one-kept : (f : ℕ → Bool) (k : ℕ) → k < 8 → f k ≡ true → ((j : ℕ) → j < 8 → f j ≡ true → j ≡ k) → length (keep f (from 0 8)) ≡ 1
 one-kept f k h e u = only (keep f (from 0 8)) (keep-pairwise f _<_ (from 0 8) (from-pairwise 0 8)) (mem-keep f (from 0 8) (below-from 8 k h) e) (λ j m. let r = keep-mem f (from 0 8) m in u j (let b = from-mem 0 8 (r .0) in omega arith) (r .1))
   where
     only : (xs : List ℕ) → Pairwise _<_ xs → k ∈ xs → ((j : ℕ) → j ∈ xs → j ≡ k) → length xs ≡ 1

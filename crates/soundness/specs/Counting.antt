@@ -18,7 +18,7 @@ use Rattle.table.specs.LayoutContracts.{linkCount}
 use Rattle.table.specs.View.{View, shapeOf, net, heldBy}
 use Rattle.soundness.specs.Sound.{endFor, CircuitSound, Sound}
 use Rattle.soundness.specs.Marks.{marked, Seen}
-use Rattle.soundness.specs.Follow.{followed}
+use Rattle.soundness.specs.Follow.{followed, HasSource}
 
 -- at node n circuit c holds the link out of port p and no other
 unfoldable pub Sole : View → ℕ → ℕ → ℕ → Type 0
@@ -40,6 +40,13 @@ pub record WalkPre (b : List ℕ) (n t : ℕ) : Type 0 where
   pub fits : dimensionAt b ≤ 8
   pub start : n < 2 ^ dimensionAt b
   pub target : t < 2 ^ dimensionAt b
+
+-- what looking for the path of circuit c from its source s to node t asks
+pub record TakePre (b : List ℕ) (nodes c s t : ℕ) : Type 0 where
+  pub known : HasSource b c
+  pub source : s ≡ sourceOf c
+  pub count : nodes ≡ 2 ^ dimensionAt b
+  pub target : t < nodes
 
 -- what following the links of circuit c from a node over the ports of a vector comes to, where it should end at node t, after one hop
 pub record FollowsTo (v : View) (c start vector t hops : ℕ) : Type 0 where
@@ -63,6 +70,7 @@ pub record Followed (v : View) (c t hops : ℕ) : Type 0 where
 
 -- and where it is marked besides: a circuit that is marked already is not followed again
 pub record Taken (v : View) (c t : ℕ) (before after : List ℕ) (hops : ℕ) : Type 0 where
+  pub in-range : hops < 4096 → c ≤ circuitCount (shapeOf v)
   pub found : hops < 4096 → FollowedPath v c t hops
   pub unseen : hops < 4096 → Seen v before c → ⊥
   pub marks : hops < 4096 → (s p : ℕ) → s < 256 → p < portCount → (marked after s p ≡ true → (marked before s p ≡ true) ⊎ (v .owner s p ≡ c))
