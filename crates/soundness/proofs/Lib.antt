@@ -8,4 +8,5 @@ pub mod Passing
 pub mod Ways
 pub mod Following
 pub mod Counting
+pub mod Free
 pub mod Tracing
