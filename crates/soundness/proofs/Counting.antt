@@ -29,6 +29,7 @@ use Rattle.soundness.specs.Marks.{marked, Seen}
 use Rattle.soundness.specs.Counting.{FollowedPath, Taken, Earlier, ReceivedBefore, Standing, Counting, Counts}
 use Rattle.soundness.proofs.LinkCount.{links-most, links-none, links-added}
 use Rattle.soundness.proofs.Soundness.{receive-stands}
+use Rattle.soundness.proofs.Following.{positive}
 
 length-links : (N : Network) (s : ℕ) (w : Path) → length (links N s w) ≡ length w
 unfolding links
@@ -93,12 +94,13 @@ module _ {v : View} where
         most = omega (arith, x .most, y .most);
       }
 
+  pub counts-as : {i j j' a a' : ℕ} {m₀ m m' : List ℕ} → Counts v i j m₀ m a → j ≡ j' → m' ≡ m → a' ≡ a → Counts v i j' m₀ m' a'
+  counts-as {i} {j} {j'} {a} {a'} {m₀} {m} {m'} x e f g =
+      subst (λ (y : ℕ). Counts v i y m₀ m' a') e (subst (λ (y : List ℕ). Counts v i j m₀ y a') (sym f) (subst (λ (y : ℕ). Counts v i j m₀ m y) (sym g) x))
+
   -- a receive channel that a circuit holds
   module _ {c n k hops : ℕ} {m after : List ℕ} (fits : v .dimension ≤ 8) (held : c ≡ v .receiver n k) (some : c ≢ 0) (l : k < 8) (node : n < 2 ^ v .dimension) (armed : v .armed n k ≡ true)
       (taken : Taken v c n m after hops) where
-    positive : 0 < c
-    positive = ⊎-elim (λ z. absurd (some (omega arith))) (λ z. z) (below-or 1 c)
-
     here : ReceivedBefore v (8 * n + k + 1) c
     unfolding ReceivedBefore
     here = (n, k, (l, omega arith), sym held)
@@ -119,7 +121,7 @@ module _ {v : View} where
       on-way a b e = unfold way in eqb-true _ c (path .owned a b (true-link _ a b e))
 
       source-inside : sourceOf c < 2 ^ v .dimension
-      source-inside = omega (arith, taken .in-range got, positive)
+      source-inside = omega (arith, taken .in-range got, positive some)
 
       inside : (a b : ℕ) → (a, b) ∈ way → (a < 256) × (b < 8)
       inside a b i =
@@ -257,7 +259,7 @@ module _ {v : View} where
         seen-received z =
             unfold Seen in
             subst (ReceivedBefore v (8 * n + k)) (eqb-true _ c (z .2))
-            (x .fair (sourceOf c) (z .0) (omega (arith, positive, most-nodes fits, subst (λ (y : ℕ). y ≤ circuitCount (shapeOf v)) (sym held) (s .receive-number n k))) (z .1) (z .3))
+            (x .fair (sourceOf c) (z .0) (omega (arith, positive some, most-nodes fits, subst (λ (y : ℕ). y ≤ circuitCount (shapeOf v)) (sym held) (s .receive-number n k))) (z .1) (z .3))
 
         again : ReceivedBefore v (8 * n + k) c → ⊥
         again r =

@@ -8,15 +8,16 @@ use Prim.Native.Nat.{ℕ, _+_, _-_, _*_, _^_, _≤_, _<_}
 use native.Mathlib.Omega.{arith}
 use lib.Dec.{eqb, ltb}
 use lib.ListN.{length, getD}
-use lib.Bits.{bitAnd}
+use lib.Bits.{bitXor, bitAnd}
 use lib.Pow.{pow-mono}
 use borrow.Author.Tests.{ltb-true}
 use Rattle.common.proofs.Every.{decide}
 use Rattle.common.specs.Lists.{_∈_}
 use Rattle.common.proofs.Tests.{below-or, clash, is-false}
-use Rattle.cube.specs.Bits.{has}
+use Rattle.cube.specs.Bits.{has, flip}
 use Rattle.cube.specs.Cube.{next, sourceOf}
-use Rattle.cube.proofs.Bits.{no-ports, has-room, zero-has, high-has, no-bit-above}
+use Rattle.cube.proofs.Bits.{no-ports, has-room, zero-has, high-has, no-bit-above, flip-xor}
+use Rattle.cube.proofs.Axes.{axis-low, next-inside}
 use Rattle.cube.proofs.Ports.{most-nodes}
 use Rattle.paths.specs.Network.{Path, end, links, Exactly}
 use Rattle.paths.specs.Permitted.{Onward, Permitted}
@@ -69,6 +70,40 @@ module _ (b : List ℕ) (c : ℕ) (d : dimensionAt b ≤ 8) (i : sourceOf c < 2 
       go : (p : ℕ) → dimensionAt b ≤ p → has held p ≡ true → (p < 8) ⊎ (8 ≤ p) → ⊥
       go p l t (inl k) = let r = held-inside (sourceOf c) p (unfold view in sym (f .held p k) ∙ t) in omega arith
       go p l t (inr k) = clash t (high-has 8 held p (f .small) k)
+
+-- what looking for a path asks, in numbers
+pub nodes-most : {D nodes : ℕ} → D ≤ 8 → nodes ≡ 2 ^ D → nodes ≤ 256
+nodes-most d m = omega (arith, most-nodes d)
+
+pub positive : {c : ℕ} → c ≢ 0 → 0 < c
+positive {c} h = ⊎-elim (λ z. absurd (h (omega arith))) (λ z. z) (below-or 1 c)
+
+pub source-small : {b : List ℕ} {nodes c s t : ℕ} → TakePre b nodes c s t → s < 256
+source-small pre = omega (arith, pre .source, pre .known .source, most-nodes (pre .known .fits))
+
+-- a circuit that holds one link at its source: its port, and the node that it leads to
+pub record OneLink (b : List ℕ) (c s held : ℕ) : Type 0 where
+  pub port : ℕ
+  pub sole : Sole (view b) c s port
+  pub low : port < dimensionAt b
+  pub to : bitXor s held ≡ next s port
+  pub inside : bitXor s held < 2 ^ dimensionAt b
+
+pub one-link : {b : List ℕ} {nodes c s t held : ℕ} → TakePre b nodes c s t → HeldBy b c s held → linksHeld (view b) c s ≤ 1 → held < nodes → held ≢ 0 → OneLink b c s held
+one-link {b} {nodes} {c} {s} {t} {held} pre f few l h = ⊎-elim (λ r. found (r .0) (r .1) (r .2)) (λ r. absurd (h (no-ports 8 held (f .small) r))) (decide 8 (has held))
+  where
+    found : (p : ℕ) → p < 8 → has held p ≡ true → OneLink b c s held
+    found p k x =
+        let one = sole-port f few k x in
+        let low : p < dimensionAt b = ⊎-elim (λ y. y) (λ y. absurd (omega (arith, has-room held p x, pow-mono {i = dimensionAt b} {j = p} y, pre .count))) (below-or (dimensionAt b) p) in
+        let to : bitXor s held ≡ next s p = ap (bitXor s) (one .1) ∙ flip-xor s p ∙ ap (flip s) (sym (axis-low p (omega arith))) in
+        record {
+          port = p;
+          sole = one .0;
+          low = low;
+          to = to;
+          inside = rw to (next-inside (dimensionAt b) s p (pre .known .fits) (omega (arith, pre .source, pre .known .source)) low);
+        }
 
 -- the walk of a circuit that holds one link at its source, over port p
 module _ {b : List ℕ} {nodes c s t p start hops : ℕ} (pre : TakePre b nodes c s t) (one : Sole (view b) c s p) (low : p < dimensionAt b) (to : start ≡ next s p) (walks : Walks (view b) c t start 1 hops) where
@@ -208,28 +243,35 @@ module _ {b : List ℕ} {nodes c s t a : ℕ} (pre : TakePre b nodes c s t) (e :
 
 -- a circuit that is followed and marked; one that was marked before; and one that cannot stand on a path to t
 module _ (b : List ℕ) (c t : ℕ) (before after : List ℕ) where
-  pub taken-new : {held hops : ℕ} → HeldBy b c (sourceOf c) held → eqb (bitAnd (getD before (sourceOf c) 0) held) 0 ≡ true → after ≡ withMarks before (sourceOf c) held
-      → sourceOf c < length before → sourceOf c < 2 ^ dimensionAt b → Followed (view b) c t hops → Taken (view b) c t before after hops
-  taken-new f e m small i x =
-      record {
-        in-range = λ k. omega (arith, ap (2 ^_) (shown b));
-        found = x .found;
-        unseen = λ k. not-seen before f e;
-        marks = λ k s p h l. marks-after before f m small s p l;
-        forced = λ l z q u. x .forced z q;
-        most = x .most;
-      }
+  module _ {s held : ℕ} (q : s ≡ sourceOf c) (at : HeldBy b c s held) where
+    f : HeldBy b c (sourceOf c) held
+    f = subst (λ (x : ℕ). HeldBy b c x held) q at
 
-  pub taken-seen : {held : ℕ} → HeldBy b c (sourceOf c) held → eqb (bitAnd (getD before (sourceOf c) 0) held) 0 ≡ false → Taken (view b) c t before after 4096
-  taken-seen f e =
-      record {
-        in-range = λ k. absurd (omega arith);
-        found = λ k. absurd (omega arith);
-        unseen = λ k. absurd (omega arith);
-        marks = λ k. absurd (omega arith);
-        forced = λ l z q u. absurd (u (seen-before before f e));
-        most = omega arith;
-      }
+    marked-at : {x : Bool} → eqb (bitAnd (getD before s 0) held) 0 ≡ x → eqb (bitAnd (getD before (sourceOf c) 0) held) 0 ≡ x
+    marked-at e = ap (λ y. eqb (bitAnd (getD before y 0) held) 0) (sym q) ∙ e
+
+    pub taken-new : {hops : ℕ} → eqb (bitAnd (getD before s 0) held) 0 ≡ true → after ≡ withMarks before s held → s < length before → sourceOf c < 2 ^ dimensionAt b → Followed (view b) c t hops
+        → Taken (view b) c t before after hops
+    taken-new e m small i x =
+        record {
+          in-range = λ k. omega (arith, ap (2 ^_) (shown b));
+          found = x .found;
+          unseen = λ k. not-seen before f (marked-at e);
+          marks = λ k s p h l. marks-after before f (m ∙ ap (λ y. withMarks before y held) q) (omega arith) s p l;
+          forced = λ l z q u. x .forced z q;
+          most = x .most;
+        }
+
+    pub taken-seen : eqb (bitAnd (getD before s 0) held) 0 ≡ false → Taken (view b) c t before after 4096
+    taken-seen e =
+        record {
+          in-range = λ k. absurd (omega arith);
+          found = λ k. absurd (omega arith);
+          unseen = λ k. absurd (omega arith);
+          marks = λ k. absurd (omega arith);
+          forced = λ l z q u. absurd (u (seen-before before f (marked-at e)));
+          most = omega arith;
+        }
 
   pub taken-none : (c ≤ 8 * 2 ^ view b .dimension → CircuitSound (view b) c → ⊥) → Taken (view b) c t before after 4096
   taken-none h =

@@ -9,4 +9,5 @@ pub mod Ways
 pub mod Following
 pub mod Counting
 pub mod Free
+pub mod Deciding
 pub mod Tracing

@@ -73,7 +73,7 @@ beyond : {n a p b : ℕ} → ltb n a && ltb p b ≡ false → (n < a) × (p < b)
 beyond e i = clash (and (lt-ltb _ _ (i .0)) (lt-ltb _ _ (i .1))) e
 
 -- a place is in the table or not
-placed : (n p : ℕ) → ((n < 256) × (p < 8)) ⊎ (inTable n p ≡ false)
+pub placed : (n p : ℕ) → ((n < 256) × (p < 8)) ⊎ (inTable n p ≡ false)
 placed n p = go (inTable n p) refl
   where
     go : (b : Bool) → inTable n p ≡ b → ((n < 256) × (p < 8)) ⊎ (inTable n p ≡ false)
