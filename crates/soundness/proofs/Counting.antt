@@ -98,6 +98,9 @@ module _ {v : View} where
   counts-as {i} {j} {j'} {a} {a'} {m₀} {m} {m'} x e f g =
       subst (λ (y : ℕ). Counts v i y m₀ m' a') e (subst (λ (y : List ℕ). Counts v i j m₀ y a') (sym f) (subst (λ (y : ℕ). Counts v i j m₀ m y) (sym g) x))
 
+  pub counts-at : {i i' j a : ℕ} {m m' : List ℕ} → Counts v i j m m' a → i ≡ i' → Counts v i' j m m' a
+  counts-at {i} {i'} {j} {a} {m} {m'} x e = subst (λ (y : ℕ). Counts v y j m m' a) e x
+
   -- a receive channel that a circuit holds
   module _ {c n k hops : ℕ} {m after : List ℕ} (fits : v .dimension ≤ 8) (held : c ≡ v .receiver n k) (some : c ≢ 0) (l : k < 8) (node : n < 2 ^ v .dimension) (armed : v .armed n k ≡ true)
       (taken : Taken v c n m after hops) where

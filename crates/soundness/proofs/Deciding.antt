@@ -6,6 +6,7 @@ use mathlib.Core.Bool.{Bool, true, false, cond, _&&_, not}
 use mathlib.Core.List.{List, [], _∷_}
 use Prim.Native.Nat.{ℕ, _+_, _*_, _^_, _≤_, _<_}
 use native.Mathlib.Omega.{arith}
+use native.Mathlib.Nat.{zero-add}
 use lib.Dec.{eqb, ltb}
 use lib.ListN.{length, getD, replicate}
 use borrow.Author.Tests.{eqb-true, eqb-false, eq-eqb, ne-eqb, lt-ltb}
@@ -25,7 +26,7 @@ use Rattle.paths.proofs.Apart.{permitted-inside}
 use Rattle.paths.proofs.Sentences.{permitted-end}
 use Rattle.paths.proofs.CubeNetwork.{unfolded-port}
 use Rattle.paths.proofs.Links.{On}
-use Rattle.table.specs.Layout.{dimensionAt, enableBits, enablePlace, armedAt, armBits, armPlace, armPart}
+use Rattle.table.specs.Layout.{dimensionAt, enableBits, enablePlace, receiverAt, armedAt, armBits, armPlace, armPart}
 use Rattle.table.specs.LayoutContracts.{linkCount, enableLimit, EnablesFit, ArmsFit}
 use Rattle.table.specs.View.{View, view, shapeOf, net, heldBy}
 use Rattle.table.proofs.Entries.{enabled-has, mask-has}
@@ -50,6 +51,20 @@ absent-off b fit n p i out = off b (dimensionAt b) n p i (fit n i) (is-false _ (
 absent-unarmed : (b : List ℕ) → ArmsFit b (dimensionAt b) → (n k : ℕ) → (n < 2 ^ view b .dimension → ⊥) → view b .armed n k ≡ false
 unfolding view
 absent-unarmed b arms n k out = ⊎-elim (λ l. absurd (out l)) (λ l. unarmed b (dimensionAt b) n k arms l) (below-or (2 ^ dimensionAt b) n)
+
+-- the answer whether the held channels of a node are armed
+module _ (b : List ℕ) (n : ℕ) {answer : Bool} (d : Decides ((k : ℕ) → k < 8 → receiverAt b n k ≢ 0 → armedAt b n k ≡ true) answer) where
+  pub unarmed-fails : answer ≡ false → Sound (view b) → ⊥
+  unfolding view
+  unarmed-fails e s = d .fails e (λ k l z. s .held-armed n k z)
+
+  pub armed-held : answer ≡ true → (k : ℕ) → k < 8 → view b .receiver n k ≢ 0 → view b .armed n k ≡ true
+  unfolding view
+  armed-held e = d .holds e
+
+  pub absent-free : answer ≡ true → ArmsFit b (dimensionAt b) → 2 ^ dimensionAt b ≤ n → (k : ℕ) → k < 8 → view b .receiver n k ≡ 0
+  unfolding view
+  absent-free e arms l k i = ⊎-elim (λ z. z) (λ z. absurd (clash (d .holds e k i z) (unarmed b (dimensionAt b) n k arms l))) (same? (receiverAt b n k) 0)
 
 -- all receive channels were looked at, and all held links are enabled and counted
 module _ (b : List ℕ) (d : dimensionAt b ≤ 8) (fit : EnablesFit b (dimensionAt b)) (arms : ArmsFit b (dimensionAt b)) {hops free : ℕ} {m : List ℕ} (x : Counting (view b) 2048 hops m)
@@ -218,11 +233,11 @@ module _ (b : List ℕ) (d : dimensionAt b ≤ 8) where
 
   pub sum-answers : EnablesFit b (dimensionAt b) → ArmsFit b (dimensionAt b) → {hops free : ℕ} {m : List ℕ} → Frees (view b) 0 256 free → Counts (view b) 0 2048 (replicate 256 0) m hops
       → eqb (hops + free) 2048 ≡ soundTest (view b)
-  sum-answers fit arms {hops} {free} f x = same-answer _ _ answer (decided b d)
+  sum-answers fit arms {hops} {free} {m} f x = same-answer _ _ answer (decided b d)
     where
       core : hops < 4096 → free < 4096 → Decides (Sound (view b)) (eqb (hops + free) 2048)
       core k l =
-          sum-decides b d fit arms (x .counts k 0 (counting-none (view b))) (λ n p i j h. f .enabled l n p (omega arith) i j h)
+          sum-decides b d fit arms (subst (λ (y : ℕ). Counting (view b) 2048 y m) (zero-add hops) (x .counts k 0 (counting-none (view b)))) (λ n p i j h. f .enabled l n p (omega arith) i j h)
           (let e = f .counted l in let z = linkCount-zero (heldBy (view b) 0) in omega arith)
         where
           linkCount-zero : (g : ℕ → ℕ → Bool) → linkCount g 0 ≡ 0
@@ -231,6 +246,6 @@ module _ (b : List ℕ) (d : dimensionAt b ≤ 8) where
       answer : Decides (Sound (view b)) (eqb (hops + free) 2048)
       answer =
           record {
-            holds = λ e. let q = eqb-true _ 2048 e in core (omega arith) (omega arith) .holds e;
+            holds = λ e. let q : hops + free ≡ 2048 = eqb-true _ 2048 e in core (omega arith) (omega arith) .holds e;
             fails = λ e s. core (x .sound s 0 (counting-none (view b))) (f .sound s) .fails e s;
           }

@@ -6,6 +6,7 @@ use Prim.Native.Nat.{ℕ, _^_, _≤_, _<_}
 use lib.ListN.{length}
 use Rattle.common.specs.Tests.{refusal}
 use Rattle.table.specs.Layout.{tableLength, dimensionAt}
+use Rattle.table.specs.LayoutContracts.{ArmsFit}
 use Rattle.table.specs.View.{view}
 use Rattle.soundness.specs.Sound.{Sound}
 use Rattle.soundness.specs.Marks.{markCount}
@@ -23,9 +24,10 @@ pub record Usable (b : List ℕ) (dimension : ℕ) : Type 0 where
   pub stored : dimension ≡ dimensionAt b
   pub most : dimension < 9
 
--- what the parts that look at a node's receive channels, or at a circuit on one of them, ask: a node of the cube, and marks
+-- what the parts that look at receive channels ask: the bytes of a table, how many nodes its cube has, no channel armed at any other, and marks
 pub record ReceivePre (b : List ℕ) (nodes : ℕ) (m : List ℕ) : Type 0 where
   pub bytes : length b ≡ tableLength
   pub fits : dimensionAt b ≤ 8
   pub count : nodes ≡ 2 ^ dimensionAt b
+  pub arms : ArmsFit b (dimensionAt b)
   pub size : length m ≡ markCount

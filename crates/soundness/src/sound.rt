@@ -151,14 +151,14 @@ fn hops_of(t: &[u8], nodes: u16, n: Node, seen: &mut [u8]) -> u32
     if table::receives_clear(t, n, 1) {
         return 0;
     }
-    if n.0 >= nodes {
+    if !table::held_armed(t, n) {
         return NONE;
     }
-    if table::held_armed(t, n) {
-        hops_at(t, nodes, n, seen)
-    } else {
-        NONE
+    // No channel is armed at a node that the cube lacks, so none is held there.
+    if n.0 >= nodes {
+        return 0;
     }
+    hops_at(t, nodes, n, seen)
 }
 
 fn hops_from(t: &[u8], nodes: u16, from: Node, seen: &mut [u8]) -> u32

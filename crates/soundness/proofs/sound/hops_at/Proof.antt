@@ -32,7 +32,7 @@ hops-to-requires c κs =
     let l = i .before .before .before .before in
     let s = l .before .before .before in
     let pre = s .pre .0 .0 in
-    (record { bytes = pre .bytes; fits = pre .fits; count = pre .count; size = l .loop .inv .1 }, positive (i .if1 .taken), s .pre .0 .1)
+    (record { bytes = pre .bytes; fits = pre .fits; count = pre .count; arms = pre .arms; size = l .loop .inv .1 }, positive (i .if1 .taken), s .pre .0 .1)
 
 add-hops : tie.Need-add-hops Inv-loop μ-loop
 add-hops c =
