@@ -108,18 +108,18 @@ pub fn follow(t: &[u8], c: Circuit, start: Node, vector: u16, end: Node) -> u32
 {
     let mut at = start;
     let mut left = vector;
-    let mut hops: u32 = 1;
+    let mut count: u32 = 1;
     loop {
-        let p = held_port(t, c, at, left);
-        if p.0 >= 8 {
+        let q = held_port(t, c, at, left);
+        if q.0 >= 8 {
             if at.0 == end.0 {
-                return hops;
+                return count;
             }
             return NONE;
         }
-        hops += 1;
-        at = cube::neighbour(at, p);
-        left = cube::without(left, p);
+        count += 1;
+        at = cube::neighbour(at, q);
+        left = cube::without(left, q);
     }
 }
 

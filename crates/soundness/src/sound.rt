@@ -114,7 +114,7 @@ fn hops_to(t: &[u8], nodes: u16, c: Circuit, end: Node, seen: &mut [u8]) -> u32
     let source = cube::source_of(c);
     let held = table::held_by(t, c, source);
     if table::links_held(t, c, source) > 1 {
-        if held >= nodes {
+        if nodes <= held {
             return NONE;
         }
         return several_links(t, nodes, c, source, held, end, seen);

@@ -16,12 +16,12 @@ use Rattle.soundness.proofs.circuit_path.follow.Statement.{statement}
 use Rattle.soundness.proofs.circuit_path.follow.Tie as tie
 
 abbrev Inv-loop : tie.InvT-loop
-Inv-loop t c vector to at₀ left₀ hops₀ at left hops =
+Inv-loop t c vector to at₀ left₀ count₀ at left count =
     (at .0 < 256) × (left < 256) × (end (net (view t)) (at .0) (followed (view t) (c .0) (at .0) left) ≡ end (net (view t)) (at₀ .0) (followed (view t) (c .0) (at₀ .0) left₀))
-    × (hops + length (followed (view t) (c .0) (at .0) left) ≡ 1 + length (followed (view t) (c .0) (at₀ .0) left₀))
+    × (count + length (followed (view t) (c .0) (at .0) left) ≡ 1 + length (followed (view t) (c .0) (at₀ .0) left₀))
 
 abbrev μ-loop : tie.MeasureT-loop
-μ-loop t c vector to at₀ left₀ hops₀ at left hops = left
+μ-loop t c vector to at₀ left₀ count₀ at left count = left
 
 loop-holds : tie.Need-loop-holds Inv-loop μ-loop
 loop-holds c = let s = c .before in (s .pre .1 .node, s .pre .0, refl, refl)
@@ -56,8 +56,8 @@ returns-2 c =
       most = omega arith;
     }
 
-add-hops : tie.Need-add-hops Inv-loop μ-loop
-add-hops c =
+add-count : tie.Need-add-count Inv-loop μ-loop
+add-count c =
     let l = c .before .before .before in
     let s = l .before .before in
     omega (arith, l .loop .inv .3, followed-short (view (s .args .t .now)) (s .args .c .0) (s .args .start .0) (s .args .vector))
@@ -104,7 +104,7 @@ follow-spec =
     held-port-requires
     returns
     returns-2
-    add-hops
+    add-count
     neighbour-requires
     without-requires
     loop-less
