@@ -78,7 +78,15 @@ fn mark_new(source: Node, held: u16, seen: &mut [u8]) -> bool
 }
 
 // The hops of a circuit to a node, where it holds at most one link at its source, and where it holds several.
-fn one_link(t: &[u8], nodes: u16, c: Circuit, source: Node, held: u16, end: Node, seen: &mut [u8]) -> u32
+fn one_link(
+    t: &[u8],
+    nodes: u16,
+    c: Circuit,
+    source: Node,
+    held: u16,
+    end: Node,
+    seen: &mut [u8],
+) -> u32
     requires { ⌜ TakePre (now t) nodes (c .0) (source .0) (end .0) × HeldBy (now t) (c .0) (source .0) held × (held < nodes) × (length (now seen) ≡ 256) ⌝ }
     requires { ⌜ linksHeld (view (now t)) (c .0) (source .0) ≤ 1 ⌝ }
     ensures { λ r. ⌜ Taken (view (now (t .entry))) (c .0) (end .0) (now (seen .entry)) (now (seen .exit)) r ⌝ }
@@ -93,7 +101,15 @@ fn one_link(t: &[u8], nodes: u16, c: Circuit, source: Node, held: u16, end: Node
     }
 }
 
-fn several_links(t: &[u8], nodes: u16, c: Circuit, source: Node, held: u16, end: Node, seen: &mut [u8]) -> u32
+fn several_links(
+    t: &[u8],
+    nodes: u16,
+    c: Circuit,
+    source: Node,
+    held: u16,
+    end: Node,
+    seen: &mut [u8],
+) -> u32
     requires { ⌜ TakePre (now t) nodes (c .0) (source .0) (end .0) × HeldBy (now t) (c .0) (source .0) held × (length (now seen) ≡ 256) ⌝ }
     ensures { λ r. ⌜ Taken (view (now (t .entry))) (c .0) (end .0) (now (seen .entry)) (now (seen .exit)) r ⌝ }
 {

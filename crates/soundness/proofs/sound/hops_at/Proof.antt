@@ -61,11 +61,11 @@ loop-again c =
       omega arith,
       ⊎-elim (λ w. ap length (w .5) ∙ w .2 .kept .1 .1 .1 .1 .0 ∙ l .loop .inv .1) (λ w. ap length (w .1) ∙ l .loop .inv .1) (c .if1 .came),
       ⊎-elim
-      (λ w. counts-as (counts-join (l .loop .inv .2) (counts-entry (omega (arith, shown b, pre .fits)) held (w .0 .taken) place (omega (arith, s .pre .0 .1, pre .count, ap (2 ^_) (shown b)))
-      (s .pre .1 k place (λ z. w .0 .taken (held ∙ z))) (w .2 .ensures))) on (w .5) (w .6))
-      (λ w. counts-as (counts-join (l .loop .inv .2) (counts-skip (omega arith) (λ a j z g h. let p : n ≡ a = omega arith in let q : k ≡ j = omega arith in ap₂ (view b .receiver) (sym p) (sym q) ∙ sym held ∙ w .0 .left)))
-      on (w .1) (w .2 ∙ sym (add-zero _)))
-      (c .if1 .came),
+          (λ w. counts-as (counts-join (l .loop .inv .2) (counts-entry (omega (arith, shown b, pre .fits)) held (w .0 .taken) place (omega (arith, s .pre .0 .1, pre .count, ap (2 ^_) (shown b)))
+          (s .pre .1 k place (λ z. w .0 .taken (held ∙ z))) (w .2 .ensures))) on (w .5) (w .6))
+          (λ w. counts-as (counts-join (l .loop .inv .2) (counts-skip (omega arith) (λ a j z g h. let p : n ≡ a = omega arith in let q : k ≡ j = omega arith in ap₂ (view b .receiver) (sym p) (sym q) ∙ sym held ∙ w .0 .left)))
+          on (w .1) (w .2 ∙ sym (add-zero _)))
+          (c .if1 .came),
     )
 
 same-length : tie.Need-same-length Inv-loop μ-loop

@@ -44,8 +44,12 @@ returns-2 c =
     let s = i .before .before .before .before in
     let b = s .args .t .now in
     let n = s .args .c .0 in
-    taken-none b n (s .args .end .0) _ _ (λ l z. omega (arith, c .if3 .taken, s .pre .0 .count,
-    vector-inside b n (s .pre .0 .fits) (omega (arith, i .if1 .left, s .pre .0 .count, s .pre .1)) z (subst (λ (x : ℕ). HeldBy b n x (h .held-by .result)) (g .source-of .ensures) (h .held-by .ensures))))
+    taken-none b n (s .args .end .0) _ _ (λ l z. omega (
+      arith,
+      c .if3 .taken,
+      s .pre .0 .count,
+      vector-inside b n (s .pre .0 .fits) (omega (arith, i .if1 .left, s .pre .0 .count, s .pre .1)) z (subst (λ (x : ℕ). HeldBy b n x (h .held-by .result)) (g .source-of .ensures) (h .held-by .ensures)),
+    ))
 
 several-links-requires : tie.Need-several-links-requires
 several-links-requires c κs = search needs
@@ -64,8 +68,12 @@ returns-4 c =
     let s = i .before .before .before .before in
     let b = s .args .t .now in
     let n = s .args .c .0 in
-    taken-none b n (s .args .end .0) _ _ (λ l z. omega (arith, c .if4 .taken, s .pre .0 .count,
-    vector-inside b n (s .pre .0 .fits) (omega (arith, i .if1 .left, s .pre .0 .count, s .pre .1)) z (subst (λ (x : ℕ). HeldBy b n x (h .held-by .result)) (g .source-of .ensures) (h .held-by .ensures))))
+    taken-none b n (s .args .end .0) _ _ (λ l z. omega (
+      arith,
+      c .if4 .taken,
+      s .pre .0 .count,
+      vector-inside b n (s .pre .0 .fits) (omega (arith, i .if1 .left, s .pre .0 .count, s .pre .1)) z (subst (λ (x : ℕ). HeldBy b n x (h .held-by .result)) (g .source-of .ensures) (h .held-by .ensures)),
+    ))
 
 one-link-requires : tie.Need-one-link-requires
 one-link-requires c κs =

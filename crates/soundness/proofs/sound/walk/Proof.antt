@@ -79,8 +79,11 @@ loop-less c =
     let i = h .before in
     let l = i .before .before .before in
     let s = l .before .before in
-    omega (arith, turn (s .args .t .now) (s .args .c .0) (l .loop .at .0) (s .args .end .0) (l .loop .hops) (s .pre .fits) (h .held-by .ensures)
-    (omega (arith, k .links-held .ensures, u .before .if2 .left)) (u .uphill-vector .ensures) (e .if3 .left) (l .loop .inv .0) (s .pre .target) .nearer)
+    omega (
+      arith,
+      turn (s .args .t .now) (s .args .c .0) (l .loop .at .0) (s .args .end .0) (l .loop .hops) (s .pre .fits) (h .held-by .ensures)
+          (omega (arith, k .links-held .ensures, u .before .if2 .left)) (u .uphill-vector .ensures) (e .if3 .left) (l .loop .inv .0) (s .pre .target) .nearer,
+    )
 
 loop-again : tie.Need-loop-again Inv-loop μ-loop
 loop-again c =
@@ -92,7 +95,7 @@ loop-again c =
     let l = i .before .before .before in
     let s = l .before .before in
     let x = turn (s .args .t .now) (s .args .c .0) (l .loop .at .0) (s .args .end .0) (l .loop .hops) (s .pre .fits) (h .held-by .ensures)
-        (omega (arith, k .links-held .ensures, u .before .if2 .left)) (u .uphill-vector .ensures) (e .if3 .left) (l .loop .inv .0) (s .pre .target) in (
+    (omega (arith, k .links-held .ensures, u .before .if2 .left)) (u .uphill-vector .ensures) (e .if3 .left) (l .loop .inv .0) (s .pre .target) in (
       x .inside,
       omega (arith, x .nearer, l .loop .inv .1),
       λ r w. l .loop .inv .2 r (walks-on (s .args .t .now) (s .args .c .0) (l .loop .at .0) (s .args .end .0) (l .loop .hops) (s .pre .fits) (i .if1 .taken) x w),
