@@ -1,9 +1,11 @@
 /* The library's speed beside C versions of the same calls, one portable and one with vector instructions, in one run on the same tables:
  *
  *     bench [rounds]
+ *     bench once VERSION LINE
  *
  * Each line gives the time of one turn, in nanoseconds, for the two C versions and for the library, and the library's divided by each of the others.
- * A turn leaves the table as it found it. Rounds of the three are taken by turns, and the best round of each counts (15 without an argument). */
+ * A turn leaves the table as it found it. Rounds of the three are taken by turns, and the best round of each counts (15 without an argument).
+ * The second form makes one turn of one line with one version, base, sse or maze, for a count of instructions (bench/instructions). */
 #define _POSIX_C_SOURCE 199309L
 #include "baseline.h"
 
@@ -286,9 +288,23 @@ static double now(void) {
     return 1e9 * (double)time.tv_sec + (double)time.tv_nsec;
 }
 
+enum { VERSIONS = 3 };
+
+static const struct calls *const versions[VERSIONS] = {&plain, &sse, &library};
+static const char *const version_names[VERSIONS] = {"base", "sse", "maze"};
+
+static int once(const char *version, const char *what) {
+    for (size_t i = 0; i < sizeof lines / sizeof *lines; i++)
+        for (int v = 0; v < VERSIONS; v++)
+            if (strcmp(lines[i].what, what) == 0 && strcmp(version_names[v], version) == 0) {
+                lines[i].prepare();
+                return lines[i].turn(versions[v], lines[i].with) % 100 != lines[i].number;
+            }
+    return 2;
+}
+
 int main(int count, char **arguments) {
-    enum { VERSIONS = 3 };
-    static const struct calls *const versions[VERSIONS] = {&plain, &sse, &library};
+    if (count == 4 && strcmp(arguments[1], "once") == 0) return once(arguments[2], arguments[3]);
     unsigned long rounds = count > 1 ? strtoul(arguments[1], NULL, 10) : 15;
     int differs = 0;
     printf("%-52s %10s %10s %10s %9s %9s\n", "nanoseconds", "portable C", "SSE C", "library", "/portable", "/SSE");
