@@ -86,10 +86,10 @@ random: library
 	@$(CC) $(CFLAGS) -Iinclude tests/random.c tests/reference.c $(ARCHIVE) -o target/tests/random
 	target/tests/random $(STREAMS)
 
-# The library beside plain C, in one run; and the listing program on some 60,000 bytes.
+# The library beside C, portable and with vector instructions, in one run; and the listing program on some 60,000 bytes.
 bench: library program
 	@mkdir -p target/bench
-	@$(CC) $(CFLAGS) -Iinclude bench/bench.c bench/baseline.c $(ARCHIVE) -o target/bench/bench
+	@$(CC) $(CFLAGS) -Iinclude bench/bench.c bench/baseline.c bench/baseline_sse.c $(ARCHIVE) -o target/bench/bench
 	@target/bench/bench
 	@bench/listing
 

@@ -37,6 +37,31 @@ static inline uint64_t word(const uint8_t *bytes) {
     return word;
 }
 
+/* Two versions of what looks at rows: with vector instructions (SSE2, which every x86-64 has) where baseline_sse.c asks for them, and portable. */
+#ifdef BASELINE_SSE
+#include <emmintrin.h>
+
+static inline __m128i row_vector(const uint8_t *row) {
+    return _mm_loadu_si128((const __m128i *)row);
+}
+
+/* Whether four rows are zero. */
+static inline int zero_group(const uint8_t *rows) {
+    __m128i any = _mm_or_si128(_mm_or_si128(row_vector(rows), row_vector(rows + 16)), _mm_or_si128(row_vector(rows + 32), row_vector(rows + 48)));
+    return _mm_movemask_epi8(_mm_cmpeq_epi8(any, _mm_setzero_si128())) == 0xffff;
+}
+
+/* The slots of a row that have this entry, as a mask. */
+static inline unsigned held_by(const uint8_t *row, unsigned circuit) {
+    __m128i same = _mm_cmpeq_epi16(row_vector(row), _mm_set1_epi16((short)circuit));
+    return (unsigned)_mm_movemask_epi8(_mm_packs_epi16(same, _mm_setzero_si128()));
+}
+
+/* The lowest uphill port of a node whose link the circuit holds: MAZE_PORTS if there is none. */
+static inline unsigned uphill_port(const uint8_t *row, unsigned uphill, unsigned circuit) {
+    return lowest((held_by(row, circuit) & uphill) | 1u << MAZE_PORTS);
+}
+#else
 /* Whether four rows are zero; no early exit, so that it is one chain of `or`s. */
 static inline int zero_group(const uint8_t *rows) {
     uint64_t any = word(rows) | word(rows + 8) | word(rows + 16) | word(rows + 24);
@@ -57,11 +82,17 @@ static inline unsigned zeros(uint64_t four) {
     return (unsigned)((highest >> 15) * 0x0001000200040008u >> 48) & 15;
 }
 
-/* The slots of a row that have this entry, as a mask. */
 static inline unsigned held_by(const uint8_t *row, unsigned circuit) {
     uint64_t same = circuit * (uint64_t)0x0001000100010001u;
     return zeros(four_entries(row) ^ same) | zeros(four_entries(row + 8) ^ same) << 4;
 }
+
+static inline unsigned uphill_port(const uint8_t *row, unsigned uphill, unsigned circuit) {
+    for (; uphill; uphill &= uphill - 1)
+        if (entry(row, lowest(uphill)) == circuit) return lowest(uphill);
+    return MAZE_PORTS;
+}
+#endif
 
 /* The slots of a row that have an entry, as a mask. */
 static inline unsigned held(const uint8_t *row) {
@@ -83,10 +114,8 @@ static unsigned walk(const uint8_t *table, unsigned circuit, unsigned target) {
     if (!ports) return 0;
     port = first_hop(table, node, circuit, ports);
     for (node ^= 1u << port; node != target; node ^= 1u << port, hops++) {
-        const uint8_t *row = links(table, node);
-        unsigned uphill = node ^ target;
-        while (port = lowest(uphill), entry(row, port) != circuit)
-            if (!(uphill &= uphill - 1)) return 0;
+        port = uphill_port(links(table, node), node ^ target, circuit);
+        if (port == MAZE_PORTS) return 0;
     }
     return hops;
 }

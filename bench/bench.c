@@ -1,9 +1,11 @@
-/* The library's speed beside the plain C version of the same calls, in one run on the same tables:
+/* The library's speed beside C versions of the same calls, one portable and one with vector instructions, in one run on the same tables:
  *
  *     bench [rounds]
+ *     bench once VERSION LINE
  *
- * Each line gives the time of one turn, in nanoseconds, for the plain C version and for the library, and the second divided by the first. A turn
- * leaves the table as it found it. Rounds of both are taken by turns, and the best round of each counts (15 without an argument). */
+ * Each line gives the time of one turn, in nanoseconds, for the two C versions and for the library, and the library's divided by each of the others.
+ * A turn leaves the table as it found it. Rounds of the three are taken by turns, and the best round of each counts (15 without an argument).
+ * The second form makes one turn of one line with one version, base, sse or maze, for a count of instructions (bench/instructions). */
 #define _POSIX_C_SOURCE 199309L
 #include "baseline.h"
 
@@ -33,6 +35,9 @@ struct calls {
 static const struct calls plain = {base_make, base_block, base_unblock, base_arm, base_disarm, base_open, base_close, base_trace,
                                    base_word_read, base_word_write, base_arbitrate, base_receive_start, base_receive_data, base_receive_word,
                                    base_receive_overshoot};
+static const struct calls sse = {sse_make, sse_block, sse_unblock, sse_arm, sse_disarm, sse_open, sse_close, sse_trace,
+                                 sse_word_read, sse_word_write, sse_arbitrate, sse_receive_start, sse_receive_data, sse_receive_word,
+                                 sse_receive_overshoot};
 static const struct calls library = {maze_make, maze_block, maze_unblock, maze_arm, maze_disarm, maze_open, maze_close, maze_trace,
                                      maze_word_read, maze_word_write, maze_arbitrate, maze_receive_start, maze_receive_data, maze_receive_word,
                                      maze_receive_overshoot};
@@ -159,7 +164,7 @@ static void mixed_channels(void) {
     }
 }
 
-/* ---- one turn of each line: answers a sum that both versions must agree on; its last two digits are the numbers that the calls answered ---- */
+/* ---- one turn of each line: answers a sum that all versions must agree on; its last two digits are the numbers that the calls answered ---- */
 
 /* What a turn is made with. Opens are on send channel 0; `other` is their target, the port of a link, or the channel that is traced or armed; vector
  * and routing type are those of an open. */
@@ -314,13 +319,29 @@ static double now(void) {
     return 1e9 * (double)time.tv_sec + (double)time.tv_nsec;
 }
 
+enum { VERSIONS = 3 };
+
+static const struct calls *const versions[VERSIONS] = {&plain, &sse, &library};
+static const char *const version_names[VERSIONS] = {"base", "sse", "maze"};
+
+static int once(const char *version, const char *what) {
+    for (size_t i = 0; i < sizeof lines / sizeof *lines; i++)
+        for (int v = 0; v < VERSIONS; v++)
+            if (strcmp(lines[i].what, what) == 0 && strcmp(version_names[v], version) == 0) {
+                lines[i].prepare();
+                return lines[i].turn(versions[v], lines[i].with) % 100 != lines[i].number;
+            }
+    return 2;
+}
+
 int main(int count, char **arguments) {
+    if (count == 4 && strcmp(arguments[1], "once") == 0) return once(arguments[2], arguments[3]);
     unsigned long rounds = count > 1 ? strtoul(arguments[1], NULL, 10) : 15;
     int differs = 0;
-    printf("%-54s %12s %12s %7s\n", "nanoseconds", "plain C", "library", "ratio");
+    printf("%-52s %10s %10s %10s %9s %9s\n", "nanoseconds", "portable C", "SSE C", "library", "/portable", "/SSE");
     for (size_t i = 0; i < sizeof lines / sizeof *lines; i++) {
-        double best[2] = {0, 0};
-        unsigned long sum[2] = {0, 0};
+        double best[VERSIONS] = {0};
+        unsigned long sum[VERSIONS] = {0};
         static uint8_t before[BYTES];
         lines[i].prepare();
         memcpy(before, table, BYTES);
@@ -329,19 +350,18 @@ int main(int count, char **arguments) {
             return 1;
         }
         for (unsigned long round = 0; round < rounds; round++)
-            for (int version = 0; version < 2; version++) {
-                const struct calls *calls = version == 0 ? &plain : &library;
+            for (int version = 0; version < VERSIONS; version++) {
                 double start = now(), time;
                 sum[version] = 0;
-                for (unsigned turn = 0; turn < lines[i].turns; turn++) sum[version] += lines[i].turn(calls, lines[i].with);
+                for (unsigned turn = 0; turn < lines[i].turns; turn++) sum[version] += lines[i].turn(versions[version], lines[i].with);
                 time = (now() - start) / lines[i].turns / lines[i].divisor;
                 if (round == 0 || time < best[version]) best[version] = time;
                 if (memcmp(before, table, BYTES) != 0) differs = 1;
             }
-        if (sum[0] != sum[1]) differs = 1;
-        printf("%-54s %12.1f %12.1f %7.2f\n", lines[i].what, best[0], best[1], best[1] / best[0]);
+        if (sum[0] != sum[2] || sum[1] != sum[2]) differs = 1;
+        printf("%-52s %10.1f %10.1f %10.1f %9.2f %9.2f\n", lines[i].what, best[0], best[1], best[2], best[2] / best[0], best[2] / best[1]);
         if (differs) {
-            printf("bench: the two versions differ\n");
+            printf("bench: the versions differ\n");
             return 1;
         }
     }

@@ -353,6 +353,55 @@ static void print_single(unsigned char *b, unsigned which)
     printf("single %u: %d\n", which, refuse(b, TABLE_BYTES));
 }
 
+/*
+ * Circuits 1 and 2 in a cube of dimension 3: ways over links that they hold, and
+ * receive channels. The hops to each receive channel from its circuit's source,
+ * added up, are as many as the links held, so that a check which only adds them
+ * up is fooled. Table 0 is sound, no other.
+ */
+struct sums {
+    struct { unsigned circuit, from; const char *ports; } ways[4];
+    struct { unsigned circuit, node, channel; } receives[3];
+};
+
+static const struct sums sums[] = {
+    /* two circuits on their paths */
+    { { { 1, 0, "01" }, { 2, 0, "2" } }, { { 1, 3, 0 }, { 2, 4, 0 } } },
+    /* received half-way too, and a stray link of the other circuit */
+    { { { 1, 0, "01" }, { 2, 6, "0" } }, { { 1, 1, 0 }, { 1, 3, 0 } } },
+    /* received at two nodes, to each through the source again, and two strays */
+    { { { 1, 0, "00" }, { 1, 0, "11" }, { 2, 6, "00" } }, { { 1, 1, 0 }, { 1, 2, 0 } } },
+    /* out over an absent port and back */
+    { { { 1, 0, "55" } }, { { 1, 0, 0 } } },
+    /* two links at a later node, and the other circuit received twice */
+    { { { 1, 0, "01" }, { 1, 1, "2" }, { 2, 0, "2" } }, { { 1, 3, 0 }, { 2, 4, 0 }, { 2, 4, 1 } } },
+    /* received twice at its end, and a stray link of its own */
+    { { { 1, 0, "0" }, { 1, 6, "0" } }, { { 1, 1, 0 }, { 1, 1, 7 } } },
+    /* two circuits, each received at the other's end */
+    { { { 1, 0, "0" }, { 2, 0, "1" } }, { { 1, 2, 0 }, { 2, 1, 0 } } },
+    /* a loop at the end of a path in place of its last two links */
+    { { { 1, 0, "0" }, { 1, 6, "00" } }, { { 1, 7, 0 } } },
+};
+
+static void print_sums(unsigned char *b, unsigned which)
+{
+    const struct sums *x = &sums[which];
+
+    make(b, 3);
+    for (unsigned i = 0; i < 4 && x->ways[i].circuit; i++) {
+        unsigned node = x->ways[i].from;
+
+        for (const char *p = x->ways[i].ports; *p; p++) {
+            put(b + LINK_AT, node, (unsigned)(*p - '0'), x->ways[i].circuit);
+            node ^= 1u << (*p - '0');
+        }
+    }
+    for (unsigned i = 0; i < 3 && x->receives[i].circuit; i++)
+        receive(b, x->receives[i].node, x->receives[i].channel,
+                x->receives[i].circuit);
+    printf("sums %u: %d\n", which, refuse(b, TABLE_BYTES));
+}
+
 int main(void)
 {
     static unsigned char table[TABLE_BYTES];
@@ -367,6 +416,8 @@ int main(void)
     }
     for (unsigned which = 0; which < sizeof singles / sizeof *singles; which++)
         print_single(table, which);
+    for (unsigned which = 0; which < sizeof sums / sizeof *sums; which++)
+        print_sums(table, which);
 
     for (size_t length = 0; length < TABLE_BYTES; length++)
         refused += refuse(table, length) == BAD_LENGTH;

@@ -1,7 +1,7 @@
 -- Following the links of a circuit, as the code's branches meet it.
 -- Assumes nothing.
 use mathlib.Core.Path.{_≡_, refl, ap, ap₂, sym, _∙_}
-use mathlib.Core.Bool.{Bool, true, false, cond, _&&_, _||_, or-assoc, or-false}
+use mathlib.Core.Bool.{Bool, true, false, cond, _&&_}
 use mathlib.Core.Logic.{_⊎_, ⊎-elim}
 use mathlib.Core.List.{List, [], _∷_, _++_, Memᴰ·append-right, List·Memᴰ·head, List·Memᴰ·not-nil, List·Memᴰ·append-cases}
 use Prim.Native.Nat.{ℕ, zero, suc, _+_, _/_, _%_, _^_, _≤_, _<_}
@@ -17,14 +17,12 @@ use Rattle.cube.specs.Bits.{bitAt, has}
 use Rattle.cube.specs.Cube.{next, Without}
 use Rattle.cube.specs.Helical.{portsOf, firstOr}
 use Rattle.cube.proofs.Order.{ports-mem, length-ports}
-use Rattle.paths.specs.Network.{end, links, hasLink}
+use Rattle.paths.specs.Network.{end}
 use Rattle.paths.specs.CubeNetwork.{network}
 use Rattle.paths.specs.Recover.{dropAxis, walkFrom, wayBack, firstHopChoices}
 use Rattle.paths.proofs.Recover.{first-choice}
 use Rattle.paths.proofs.Walks.{walk-none, walk-some, drop-port, way-back-one}
 use Rattle.table.specs.View.{View, net, heldBy}
-use Rattle.soundness.specs.Marks.{marked, withMark}
-use Rattle.soundness.proofs.Marks.{mark-one}
 use Rattle.soundness.specs.Follow.{takes, comesBack, followed, firstHop}
 
 module _ (v : View) (c n vector p : ℕ) where
@@ -109,25 +107,6 @@ module _ (v : View) (c n vector : ℕ) where
   unfolding firstHop firstHopChoices taken
   hop-is = ap (λ xs. firstOr 8 (xs ++ taken)) back-is
 
-  -- where at most one link of the source is held, it is the lowest
-  pub first-single : ((p q : ℕ) → p < 8 → q < 8 → heldBy v c n p ≡ true → heldBy v c n q ≡ true → p ≡ q) → lowest (takes v c n vector) 8 0 ≡ firstHop v c n vector
-  unfolding back firstOr
-  first-single one = lowest-taken ∙ sym (hop-is ∙ go back refl)
-    where
-      held : (p : ℕ) → p ∈ taken → heldBy v c n p ≡ true
-      held p m = unfold taken in keep-mem (heldBy v c n) (portsOf 8 vector) m .1
-
-      go : (xs : List ℕ) → back ≡ xs → firstOr 8 (xs ++ taken) ≡ firstOr 8 taken
-      go [] e = refl
-      go (x ∷ xs) e =
-          let first : x ∈ keep (λ a. heldBy v c (next n a) a) taken = rw e (List·Memᴰ·head refl) in
-          let there : x ∈ taken = keep-mem (λ a. heldBy v c (next n a) a) taken first .0 in
-          same taken refl there
-        where
-          same : (ys : List ℕ) → taken ≡ ys → x ∈ taken → firstOr 8 (x ∷ (xs ++ taken)) ≡ firstOr 8 ys
-          same [] f m = absurd (List·Memᴰ·not-nil (rw f at m))
-          same (y ∷ ys) f m = let k : y ∈ taken = rw f (List·Memᴰ·head refl) in one x y (taken-port x m .0) (taken-port y k .0) (held x m) (held y k)
-
   -- there is a first hop where a link is taken, and none where none is
   pub first-there : (p : ℕ) → p < 8 → takes v c n vector p ≡ true → firstHop v c n vector < 8
   first-there p h e = rw hop-is (go (back ++ taken) refl)
@@ -174,29 +153,15 @@ module _ (v : View) (c n vector : ℕ) where
       let z : q ≡ firstOr 8 taken = e ∙ lowest-taken in
       walk-none (net v) (heldBy v c) 8 (portsOf 8 vector) n (first-none taken (λ p m. taken-port p m .0) (omega arith))
 
--- one hop of the walk: what is left ends where all of it ends, and the link passed is counted
+-- one hop of the walk: what is left ends where all of it ends
 module _ (v : View) (c n vector q rest m : ℕ) (e : q ≡ lowest (takes v c n vector) 8 0) (h : q < 8) (w : Without vector q rest) (to : m ≡ next n q) where
   pub hop-ends : end (net v) m (followed v c m rest) ≡ end (net v) n (followed v c n vector)
   unfolding end network
   hop-ends = rw (follow-on v c n vector q rest e h w, to)
 
-  pub hop-links : (a b : ℕ) (onPathOf x : Bool) → x ≡ (eqb a n && eqb b q)
-      → ((onPathOf || x) || hasLink (links (net v) m (followed v c m rest)) a b) ≡ (onPathOf || hasLink (links (net v) n (followed v c n vector)) a b)
-  unfolding links hasLink network
-  hop-links a b onPathOf x f = rw (follow-on v c n vector q rest e h w, to, f) (or-assoc onPathOf (eqb a n && eqb b q) _)
-
-  pub hop-marks : (marks after : List ℕ) → length marks ≡ 256 → n < 256 → after ≡ withMark marks n q → (a b : ℕ)
-      → (marked after a b || hasLink (links (net v) m (followed v c m rest)) a b) ≡ (marked marks a b || hasLink (links (net v) n (followed v c n vector)) a b)
-  hop-marks marks after size small on a b =
-      ap (_|| hasLink (links (net v) m (followed v c m rest)) a b) (ap (λ x. marked x a b) on ∙ mark-one marks n q a b size small) ∙ hop-links a b (marked marks a b) (eqb a n && eqb b q) refl
-
 pub walk-ends : (v : View) (c n vector q : ℕ) → q ≡ lowest (takes v c n vector) 8 0 → 8 ≤ q → n ≡ end (net v) n (followed v c n vector)
 unfolding end
 walk-ends v c n vector q e h = rw (follow-end v c n vector q e h)
-
-pub walk-links : (v : View) (c n vector q a b : ℕ) (onPathOf : Bool) → q ≡ lowest (takes v c n vector) 8 0 → 8 ≤ q → onPathOf ≡ (onPathOf || hasLink (links (net v) n (followed v c n vector)) a b)
-unfolding links hasLink
-walk-links v c n vector q a b onPathOf e h = rw (follow-end v c n vector q e h) (sym (or-false onPathOf))
 
 pub hop-port : (v : View) (c n vector p : ℕ) → p ∈ firstHopChoices (net v) (portsOf 8 vector) (heldBy v c) n → p < 8
 hop-port v c n vector p m = ports-mem 8 vector (first-choice (net v) (portsOf 8 vector) (heldBy v c) n p m .0) .0

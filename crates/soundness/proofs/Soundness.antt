@@ -40,7 +40,7 @@ pub record EntriesPass (v : View) : Type 0 where
   pub receives-pass : (n k : ℕ) → n < 256 → k < 8 → receiveTest v n k ≡ true
 
 -- one number below 8 passes a test, and no other, exactly where one is kept
-one-kept : (f : ℕ → Bool) (k : ℕ) → k < 8 → f k ≡ true → ((j : ℕ) → j < 8 → f j ≡ true → j ≡ k) → length (keep f (from 0 8)) ≡ 1
+pub one-kept : (f : ℕ → Bool) (k : ℕ) → k < 8 → f k ≡ true → ((j : ℕ) → j < 8 → f j ≡ true → j ≡ k) → length (keep f (from 0 8)) ≡ 1
 one-kept f k h e u = only (keep f (from 0 8)) (keep-pairwise f _<_ (from 0 8) (from-pairwise 0 8)) (mem-keep f (from 0 8) (below-from 8 k h) e) (λ j m. let r = keep-mem f (from 0 8) m in u j (let b = from-mem 0 8 (r .0) in omega arith) (r .1))
   where
     only : (xs : List ℕ) → Pairwise _<_ xs → k ∈ xs → ((j : ℕ) → j ∈ xs → j ≡ k) → length xs ≡ 1
@@ -73,7 +73,7 @@ beyond : {n a p b : ℕ} → ltb n a && ltb p b ≡ false → (n < a) × (p < b)
 beyond e i = clash (and (lt-ltb _ _ (i .0)) (lt-ltb _ _ (i .1))) e
 
 -- a place is in the table or not
-placed : (n p : ℕ) → ((n < 256) × (p < 8)) ⊎ (inTable n p ≡ false)
+pub placed : (n p : ℕ) → ((n < 256) × (p < 8)) ⊎ (inTable n p ≡ false)
 placed n p = go (inTable n p) refl
   where
     go : (b : Bool) → inTable n p ≡ b → ((n < 256) × (p < 8)) ⊎ (inTable n p ≡ false)

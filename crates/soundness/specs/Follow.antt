@@ -8,11 +8,10 @@ use lib.ListN.{length}
 use Rattle.cube.specs.Bits.{has}
 use Rattle.cube.specs.Cube.{next, sourceOf}
 use Rattle.cube.specs.Helical.{portsOf, firstOr, noPort}
-use Rattle.paths.specs.Network.{Path, end, links, hasLink}
+use Rattle.paths.specs.Network.{Path}
 use Rattle.paths.specs.Recover.{walkFrom, firstHopChoices}
 use Rattle.table.specs.Layout.{tableLength, dimensionAt, portCount}
 use Rattle.table.specs.View.{View, net, heldBy}
-use Rattle.soundness.specs.Marks.{Adds}
 
 -- port p is in the vector, and circuit c holds the link out of it
 unfoldable pub takes : View → ℕ → ℕ → ℕ → ℕ → Bool
@@ -29,12 +28,6 @@ followed v c n vector = walkFrom portCount (net v) (portsOf portCount vector) (h
 -- the first hop from the source, if there is one
 unfoldable pub firstHop : View → ℕ → ℕ → ℕ → ℕ
 firstHop v c s vector = firstOr noPort (firstHopChoices (net v) (portsOf portCount vector) (heldBy v c) s)
-
--- what following gives: where it ends, and the marks of the links that it passes
-pub record Follows (v : View) (c start vector : ℕ) (before after : List ℕ) (at : ℕ) : Type 0 where
-  pub ends : at ≡ end (net v) start (followed v c start vector)
-  pub marks : Adds (hasLink (links (net v) start (followed v c start vector))) before after
-  pub small : at < 256
 
 -- what looking for the path of a circuit asks: a table of a cube up to dimension 8, and a circuit whose source is in it
 pub record HasSource (b : List ℕ) (c : ℕ) : Type 0 where

@@ -2,5 +2,6 @@
 pub mod Sound
 pub mod Marks
 pub mod SoundTest
-pub mod TestContracts
 pub mod Follow
+pub mod Counting
+pub mod TestContracts

@@ -6,13 +6,16 @@ ghost use Prim.Native.Nat.{_≤_, _<_};
 ghost use lib.ListN.{length};
 ghost use Rattle.table.specs.LayoutContracts.{Within};
 ghost use Rattle.common.specs.Lists.{lowest};
-ghost use Rattle.table.specs.View.{view, linksHeld, heldBy};
-ghost use Rattle.soundness.specs.Marks.{withMark};
+ghost use Rattle.table.specs.View.{view, heldBy};
 ghost use Rattle.soundness.specs.SoundTest.{pathOf, isEmpty, tracedInto};
-ghost use Rattle.soundness.specs.Follow.{takes, comesBack, firstHop, Follows, HasSource};
+ghost use Rattle.soundness.specs.Follow.{takes, comesBack, firstHop, HasSource};
+ghost use Rattle.soundness.specs.Counting.{FollowsTo};
 use cube::Circuit;
 use cube::Node;
 use cube::Port;
+
+// More hops than there are links: the answer where a circuit does not lead where it should.
+pub const NONE: u32 = 4096;
 
 // Whether a circuit holds the link out of a port.
 fn holds(t: &[u8], c: Circuit, n: Node, p: Port) -> bool
@@ -62,33 +65,6 @@ fn held_port(t: &[u8], c: Circuit, n: Node, vector: u16) -> Port
     Port(p)
 }
 
-// The same where it should come to its end at a known node. It holds no link there, which the row tells in one look.
-fn port_on(t: &[u8], c: Circuit, n: Node, vector: u16, end: Node) -> Port
-    requires { ⌜ Within (now t) (n .0) 0 × (vector < 256) ⌝ }
-    ensures { λ r. ⌜ r .0 ≡ lowest (takes (view (now (t .entry))) (c .0) (n .0) vector) 8 0 ⌝ }
-{
-    if n.0 == end.0 {
-        if table::links_held(t, c, n) == 0 {
-            return Port(8);
-        }
-    }
-    held_port(t, c, n, vector)
-}
-
-// The port of the one link that a circuit holds at a node. Most often it is the lowest towards the circuit's end, so that is looked at first.
-pub fn only_port(t: &[u8], c: Circuit, n: Node, vector: u16, end: Node) -> Port
-    requires { ⌜ Within (now t) (n .0) 0 × (vector < 256) × (linksHeld (view (now t)) (c .0) (n .0) ≡ 1) ⌝ }
-    ensures { λ r. ⌜ r .0 ≡ lowest (takes (view (now (t .entry))) (c .0) (n .0) vector) 8 0 ⌝ }
-{
-    let p = cube::lowest_bit(cube::uphill_vector(n, end) & vector);
-    if p < 8 {
-        if takes(t, c, n, vector, Port(p)) {
-            return Port(p);
-        }
-    }
-    held_port(t, c, n, vector)
-}
-
 // The first of two ports that were found, 8 standing for none.
 fn first_of(found: Port, p: Port) -> Port
     ensures { λ r. ⌜ r .0 ≡ cond (ltb (found .0) 8) (found .0) (p .0) ⌝ }
@@ -124,32 +100,27 @@ pub fn is_open(t: &[u8], c: Circuit) -> bool
     table::held_by(t, c, cube::source_of(c)) & (nodes - 1) != 0
 }
 
-// Marks a link.
-pub fn mark(n: Node, p: Port, marks: &mut [u8])
-    requires { ⌜ (n .0 < 256) × (p .0 < 8) × (length (now marks) ≡ 256) ⌝ }
-    ensures { λ _. ⌜ now (marks .exit) ≡ withMark (now (marks .entry)) (n .0) (p .0) ⌝ }
-{
-    let at = n.0 as usize;
-    let q = p.0;
-    marks[at] = ((table::wide(marks[at]) | (1 << q)) % 256) as u8;
-}
-
-// Follows the links of a circuit from a node over the ports of a vector, each once, and marks them. Answers where that ends; where it should end is
-// given, and makes no difference but in time.
-pub fn follow(t: &[u8], c: Circuit, start: Node, vector: u16, end: Node, marks: &mut [u8]) -> Node
-    requires { ⌜ (vector < 256) × Within (now t) (start .0) 0 × (length (now marks) ≡ 256) ⌝ }
-    ensures { λ r. ⌜ Follows (view (now (t .entry))) (c .0) (start .0) vector (now (marks .entry)) (now (marks .exit)) (r .0) ⌝ }
+// Follows the links of a circuit from a node over the ports of a vector, each once. Answers how many hops that is, and one before them, where it ends at
+// a known node; NONE where it does not.
+pub fn follow(t: &[u8], c: Circuit, start: Node, vector: u16, end: Node) -> u32
+    requires { ⌜ (vector < 256) × Within (now t) (start .0) 0 ⌝ }
+    ensures { λ r. ⌜ FollowsTo (view (now (t .entry))) (c .0) (start .0) vector (end .0) r ⌝ }
 {
     let mut at = start;
     let mut left = vector;
-    let mut q = port_on(t, c, at, left, end);
-    while q.0 < 8 {
-        mark(at, q, marks);
-        left = cube::without(left, q);
+    let mut count: u32 = 1;
+    loop {
+        let q = held_port(t, c, at, left);
+        if q.0 >= 8 {
+            if at.0 == end.0 {
+                return count;
+            }
+            return NONE;
+        }
+        count += 1;
         at = cube::neighbour(at, q);
-        q = port_on(t, c, at, left, end);
+        left = cube::without(left, q);
     }
-    at
 }
 
 // Writes the ports of an open circuit from the start of a buffer, one byte a hop in path order, and answers how many hops it has.

@@ -1,221 +1,264 @@
 // Whether a table may be used at all: its length, its dimension, and whether it is sound.
 ghost use mathlib.Core.Path.{_≡_};
-ghost use Prim.Native.Nat.{_+_, _<_, _≤_};
-ghost use lib.ListN.{length};
-ghost use Rattle.common.specs.Decides.{Decides};
-ghost use Rattle.table.specs.LayoutContracts.{Within, enableLimit};
-ghost use Rattle.table.specs.View.{view};
-ghost use Rattle.soundness.specs.Follow.{firstHop};
+ghost use mathlib.Core.Logic.{_≢_};
+ghost use mathlib.Core.Bool.{true};
+ghost use Prim.Native.Nat.{ℕ, _+_, _*_, _<_, _≤_};
+ghost use lib.Dec.{eqb};
+ghost use lib.Bits.{bitAnd};
+ghost use lib.ListN.{length, getD};
+ghost use Rattle.table.specs.Layout.{tableLength, dimensionAt};
+ghost use Rattle.table.specs.LayoutContracts.{HeldBy};
+ghost use Rattle.table.specs.View.{view, linksHeld};
+ghost use Rattle.soundness.specs.Marks.{withMarks};
+ghost use Rattle.soundness.specs.Follow.{HasSource};
+ghost use Rattle.soundness.specs.Counting.{Walks, WalkPre, Followed, Taken, TakePre, Counts, Frees};
 ghost use Rattle.soundness.specs.SoundTest.{soundTest};
-ghost use Rattle.soundness.specs.TestContracts.{Usable, ReceiveTestPre, Reached, ReceivesDecided, LinkTestPre, LinksPass};
-ghost use Rattle.soundness.specs.TestContracts.{AllPathsMarked, TableAnswer};
+ghost use Rattle.soundness.specs.TestContracts.{Usable, ReceivePre, TableAnswer};
 use crate::circuit_path;
+use crate::circuit_path::NONE;
 use common::refusal;
 use cube::Circuit;
 use cube::Node;
-use cube::Port;
 
 // Nodes are looked at in groups.
 const GROUP: u16 = 16;
 
 const GROUPS: u16 = 16;
 
-// The first hop of a circuit's path. A circuit that holds one link at its source goes by it: most do, and that spares a look at the ways back.
-fn leaves_by(t: &[u8], c: Circuit, s: Node, vector: u16, end: Node) -> Port
-    requires { ⌜ Within (now t) (s .0) 0 × (vector < 256) ⌝ }
-    ensures { λ r. ⌜ r .0 ≡ firstHop (view (now (t .entry))) (c .0) (s .0) vector ⌝ }
+// All links of a table.
+const LINKS: u32 = 2048;
+
+// The hops of a circuit that has made one, to a node: at each node the one link that it holds there, and uphill. NONE or more where it does not lead there.
+fn walk(t: &[u8], c: Circuit, from: Node, end: Node) -> u32
+    requires { ⌜ WalkPre (now t) (from .0) (end .0) ⌝ }
+    ensures { λ r. ⌜ Walks (view (now (t .entry))) (c .0) (end .0) (from .0) 1 r ⌝ }
 {
-    if table::links_held(t, c, s) == 1 {
-        return circuit_path::only_port(t, c, s, vector, end);
+    let mut at = from;
+    let mut hops: u32 = 1;
+    while at.0 != end.0 {
+        // The count beside the vector, and the vector behind both ends of the test: so the compiler reads the row in one go.
+        let held = table::held_by(t, c, at);
+        if table::links_held(t, c, at) > 1 {
+            return NONE + held as u32;
+        }
+        if held & cube::uphill_vector(at, end) == 0 {
+            return NONE;
+        }
+        at = Node(at.0 ^ held);
+        hops += 1;
     }
-    circuit_path::first_hop(t, c, s, vector)
+    hops
 }
 
-// Whether the path of a circuit ends at a node, on one receive channel; its links are marked then.
-fn ends_at(t: &[u8], dimension: u16, c: Circuit, n: Node, marks: &mut [u8]) -> bool
-    requires { ⌜ (0 < c .0) × Usable (now t) dimension × (length (now marks) ≡ 256) ⌝ }
-    ensures { λ r. ⌜ Reached (view (now (t .entry))) (c .0) (n .0) (now (marks .entry)) (now (marks .exit)) r ⌝ }
+// The hops of a circuit that holds several links at its source: its path comes through there again.
+fn hops_back(t: &[u8], nodes: u16, c: Circuit, source: Node, end: Node) -> u32
+    requires { ⌜ TakePre (now t) nodes (c .0) (source .0) (end .0) ⌝ }
+    ensures { λ r. ⌜ Followed (view (now (t .entry))) (c .0) (end .0) r ⌝ }
 {
-    let nodes = cube::node_count(dimension);
-    if c.0 > 8 * nodes {
+    let first = circuit_path::first_hop(t, c, source, nodes - 1);
+    if first.0 >= 8 {
+        return NONE;
+    }
+    circuit_path::follow(t, c, cube::neighbour(source, first), nodes - 1, end)
+}
+
+// Marks the links that a circuit holds at its source. No other circuit holds one of them: so where one was marked before, the circuit was.
+fn mark_new(source: Node, held: u16, seen: &mut [u8]) -> bool
+    requires { ⌜ (source .0 < 256) × (held < 256) × (length (now seen) ≡ 256) ⌝ }
+    ensures { λ r. ⌜ r ≡ eqb (bitAnd (getD (now (seen .entry)) (source .0) 0) held) 0 ⌝ }
+    ensures { λ r. ⌜ (r ≡ true → now (seen .exit) ≡ withMarks (now (seen .entry)) (source .0) held) ⌝ }
+{
+    let at = source.0 as usize;
+    let old = table::wide(seen[at]);
+    if old & held != 0 {
         return false;
+    }
+    seen[at] = ((old | held) % 256) as u8;
+    true
+}
+
+// The hops of a circuit to a node, where it holds at most one link at its source, and where it holds several.
+fn one_link(
+    t: &[u8],
+    nodes: u16,
+    c: Circuit,
+    source: Node,
+    held: u16,
+    end: Node,
+    seen: &mut [u8],
+) -> u32
+    requires { ⌜ TakePre (now t) nodes (c .0) (source .0) (end .0) × HeldBy (now t) (c .0) (source .0) held × (held < nodes) × (length (now seen) ≡ 256) ⌝ }
+    requires { ⌜ linksHeld (view (now t)) (c .0) (source .0) ≤ 1 ⌝ }
+    ensures { λ r. ⌜ Taken (view (now (t .entry))) (c .0) (end .0) (now (seen .entry)) (now (seen .exit)) r ⌝ }
+{
+    if held == 0 {
+        return NONE;
+    }
+    if mark_new(source, held, seen) {
+        walk(t, c, Node(source.0 ^ held), end)
+    } else {
+        NONE
+    }
+}
+
+fn several_links(
+    t: &[u8],
+    nodes: u16,
+    c: Circuit,
+    source: Node,
+    held: u16,
+    end: Node,
+    seen: &mut [u8],
+) -> u32
+    requires { ⌜ TakePre (now t) nodes (c .0) (source .0) (end .0) × HeldBy (now t) (c .0) (source .0) held × (length (now seen) ≡ 256) ⌝ }
+    ensures { λ r. ⌜ Taken (view (now (t .entry))) (c .0) (end .0) (now (seen .entry)) (now (seen .exit)) r ⌝ }
+{
+    if mark_new(source, held, seen) {
+        hops_back(t, nodes, c, source, end)
+    } else {
+        NONE
+    }
+}
+
+fn hops_to(t: &[u8], nodes: u16, c: Circuit, end: Node, seen: &mut [u8]) -> u32
+    requires { ⌜ ReceivePre (now t) nodes (now seen) × (0 < c .0) × (end .0 < nodes) ⌝ }
+    ensures { λ r. ⌜ Taken (view (now (t .entry))) (c .0) (end .0) (now (seen .entry)) (now (seen .exit)) r ⌝ }
+{
+    if c.0 > 8 * nodes {
+        return NONE;
     }
     let source = cube::source_of(c);
-    let first = leaves_by(t, c, source, nodes - 1, n);
-    if first.0 >= 8 {
-        return false;
+    let held = table::held_by(t, c, source);
+    if table::links_held(t, c, source) > 1 {
+        if nodes <= held {
+            return NONE;
+        }
+        return several_links(t, nodes, c, source, held, end, seen);
     }
-    circuit_path::mark(source, first, marks);
-    let end = circuit_path::follow(t, c, cube::neighbour(source, first), nodes - 1, n, marks);
-    if n.0 == end.0 {
-        table::channels_held(t, c, end) == 1
-    } else {
-        false
+    if held >= nodes {
+        return NONE;
     }
+    one_link(t, nodes, c, source, held, end, seen)
 }
 
-// The test of one receive channel: where a circuit holds it, it is armed and the end of the circuit's path.
-fn receive_sound(t: &[u8], dimension: u16, n: Node, channel: u16, marks: &mut [u8]) -> bool
-    requires { ⌜ Within (now t) (n .0) channel × ReceiveTestPre (now t) dimension (now marks) ⌝ }
-    ensures { λ r. ⌜ ReceivesDecided (view (now (t .entry))) (n .0) (n .0 + 1) channel (channel + 1) (now (marks .entry)) (now (marks .exit)) r ⌝ }
+// The hops of the circuits that hold a node's receive channels.
+fn hops_at(t: &[u8], nodes: u16, n: Node, seen: &mut [u8]) -> u32
+    requires { ⌜ ReceivePre (now t) nodes (now seen) × (n .0 < nodes) ⌝ }
+    requires { ⌜ ((k : ℕ) → k < 8 → view (now t) .receiver (n .0) k ≢ 0 → view (now t) .armed (n .0) k ≡ true) ⌝ }
+    ensures { λ r. ⌜ Counts (view (now (t .entry))) (8 * n .0) (8 * n .0 + 8) (now (seen .entry)) (now (seen .exit)) r ⌝ }
 {
-    let c = table::receiver(t, n, channel);
-    if c.0 == 0 {
-        return true;
-    }
-    let nodes = cube::node_count(dimension);
-    if n.0 >= nodes {
-        return false;
-    }
-    if table::is_armed(t, n, channel) {
-        ends_at(t, dimension, c, n, marks)
-    } else {
-        false
-    }
-}
-
-// The tests of a node's receive channels.
-fn receives_sound(t: &[u8], dimension: u16, n: Node, marks: &mut [u8]) -> bool
-    requires { ⌜ Within (now t) (n .0) 0 × ReceiveTestPre (now t) dimension (now marks) ⌝ }
-    ensures { λ r. ⌜ ReceivesDecided (view (now (t .entry))) (n .0) (n .0 + 1) 0 8 (now (marks .entry)) (now (marks .exit)) r ⌝ }
-{
+    let mut hops: u32 = 0;
     let mut k: u16 = 0;
     while k < 8 {
-        if receive_sound(t, dimension, n, k, marks) {
-            k += 1;
-        } else {
-            return false;
+        let c = table::receiver(t, n, k);
+        if c.0 != 0 {
+            hops += hops_to(t, nodes, c, n, seen);
         }
+        k += 1;
     }
-    true
+    hops
 }
 
 // Most nodes of most tables hold nothing: they are passed over, in groups or else one by one.
-fn receives_of(t: &[u8], dimension: u16, n: Node, marks: &mut [u8]) -> bool
-    requires { ⌜ Within (now t) (n .0) 0 × ReceiveTestPre (now t) dimension (now marks) ⌝ }
-    ensures { λ r. ⌜ ReceivesDecided (view (now (t .entry))) (n .0) (n .0 + 1) 0 8 (now (marks .entry)) (now (marks .exit)) r ⌝ }
+fn hops_of(t: &[u8], nodes: u16, n: Node, seen: &mut [u8]) -> u32
+    requires { ⌜ ReceivePre (now t) nodes (now seen) × (n .0 < 256) ⌝ }
+    ensures { λ r. ⌜ Counts (view (now (t .entry))) (8 * n .0) (8 * n .0 + 8) (now (seen .entry)) (now (seen .exit)) r ⌝ }
 {
     if table::receives_clear(t, n, 1) {
-        return true;
+        return 0;
     }
-    receives_sound(t, dimension, n, marks)
+    if !table::held_armed(t, n) {
+        return NONE;
+    }
+    // No channel is armed at a node that the cube lacks, so none is held there.
+    if n.0 >= nodes {
+        return 0;
+    }
+    hops_at(t, nodes, n, seen)
 }
 
-fn receives_from(t: &[u8], dimension: u16, from: Node, marks: &mut [u8]) -> bool
-    requires { ⌜ (from .0 + 16 ≤ 256) × ReceiveTestPre (now t) dimension (now marks) ⌝ }
-    ensures { λ r. ⌜ ReceivesDecided (view (now (t .entry))) (from .0) (from .0 + 16) 0 8 (now (marks .entry)) (now (marks .exit)) r ⌝ }
+fn hops_from(t: &[u8], nodes: u16, from: Node, seen: &mut [u8]) -> u32
+    requires { ⌜ ReceivePre (now t) nodes (now seen) × (from .0 + 16 ≤ 256) ⌝ }
+    ensures { λ r. ⌜ Counts (view (now (t .entry))) (8 * from .0) (8 * from .0 + 128) (now (seen .entry)) (now (seen .exit)) r ⌝ }
 {
     let first = from.0;
+    let mut hops: u32 = 0;
     let mut i: u16 = 0;
     while i < GROUP {
         let n = first + i;
-        if receives_of(t, dimension, Node(n), marks) {
-            i += 1;
-        } else {
-            return false;
-        }
+        hops += hops_of(t, nodes, Node(n), seen);
+        i += 1;
     }
-    true
+    hops
 }
 
-fn receive_group(t: &[u8], dimension: u16, from: Node, marks: &mut [u8]) -> bool
-    requires { ⌜ (from .0 + 16 ≤ 256) × ReceiveTestPre (now t) dimension (now marks) ⌝ }
-    ensures { λ r. ⌜ ReceivesDecided (view (now (t .entry))) (from .0) (from .0 + 16) 0 8 (now (marks .entry)) (now (marks .exit)) r ⌝ }
+fn hops_group(t: &[u8], nodes: u16, from: Node, seen: &mut [u8]) -> u32
+    requires { ⌜ ReceivePre (now t) nodes (now seen) × (from .0 + 16 ≤ 256) ⌝ }
+    ensures { λ r. ⌜ Counts (view (now (t .entry))) (8 * from .0) (8 * from .0 + 128) (now (seen .entry)) (now (seen .exit)) r ⌝ }
 {
     if table::receives_clear(t, from, GROUP) {
-        return true;
+        return 0;
     }
-    receives_from(t, dimension, from, marks)
+    hops_from(t, nodes, from, seen)
 }
 
-// The tests of all receive channels.
-fn all_receives(t: &[u8], dimension: u16, marks: &mut [u8]) -> bool
-    requires { ⌜ ReceiveTestPre (now t) dimension (now marks) ⌝ }
-    ensures { λ r. ⌜ ReceivesDecided (view (now (t .entry))) 0 256 0 8 (now (marks .entry)) (now (marks .exit)) r ⌝ }
+// The hops of all circuits that hold a receive channel.
+fn all_hops(t: &[u8], nodes: u16, seen: &mut [u8]) -> u32
+    requires { ⌜ ReceivePre (now t) nodes (now seen) ⌝ }
+    ensures { λ r. ⌜ Counts (view (now (t .entry))) 0 2048 (now (seen .entry)) (now (seen .exit)) r ⌝ }
 {
+    let mut hops: u32 = 0;
     let mut i: u16 = 0;
     while i < GROUPS {
         let n = GROUP * i;
-        if receive_group(t, dimension, Node(n), marks) {
-            i += 1;
-        } else {
-            return false;
-        }
+        hops += hops_group(t, nodes, Node(n), seen);
+        i += 1;
     }
-    true
+    hops
 }
 
-// A bound on a node's byte of enable bits: the cube's, or 1 (no bit) where the cube does not have the node.
-fn enable_limit(dimension: u16, n: Node) -> u16
-    requires { ⌜ dimension < 9 ⌝ }
-    ensures { λ r. ⌜ r ≡ enableLimit dimension (n .0) ⌝ }
-{
-    let nodes = cube::node_count(dimension);
-    if nodes > n.0 { nodes } else { 1 }
-}
-
-// The tests of a node's links, all in one go: each is free, or enabled and on a path that was followed.
-fn links_sound(t: &[u8], dimension: u16, n: Node, marks: &[u8]) -> bool
-    requires { ⌜ Within (now t) (n .0) 0 × Usable (now t) dimension × AllPathsMarked (view (now t)) (now marks) ⌝ }
-    ensures { λ r. ⌜ Decides (LinksPass (view (now (t .entry))) (n .0) (n .0 + 1) 0 8) r ⌝ }
-{
-    let enabled = table::enable_bits(t, n);
-    if enabled >= enable_limit(dimension, n) {
-        return false;
-    }
-    let at = n.0 as usize;
-    let passed = enabled & table::wide(marks[at]);
-    table::held_by(t, Circuit(0), n) | passed == 255
-}
-
-fn links_from(t: &[u8], dimension: u16, from: Node, marks: &[u8]) -> bool
-    requires { ⌜ (from .0 + 16 ≤ 256) × Usable (now t) dimension × AllPathsMarked (view (now t)) (now marks) ⌝ }
-    ensures { λ r. ⌜ Decides (LinksPass (view (now (t .entry))) (from .0) (from .0 + 16) 0 8) r ⌝ }
+// How many links of a group of nodes nobody holds; NONE where one is held that is not enabled.
+fn free_from(t: &[u8], from: Node) -> u32
+    requires { ⌜ (length (now t) ≡ tableLength) × (from .0 + 16 ≤ 256) ⌝ }
+    ensures { λ r. ⌜ Frees (view (now (t .entry))) (from .0) (from .0 + 16) r ⌝ }
 {
     let first = from.0;
     let mut i: u16 = 0;
     while i < GROUP {
         let n = first + i;
-        if links_sound(t, dimension, Node(n), marks) {
-            i += 1;
-        } else {
-            return false;
+        if !table::held_enabled(t, Node(n)) {
+            return NONE;
         }
+        i += 1;
     }
-    true
+    table::free_links(t, from, GROUP)
 }
 
-// A group of which no link is held, and none is enabled that the cube lacks, is passed over.
-fn link_group(t: &[u8], dimension: u16, fits: bool, from: Node, marks: &[u8]) -> bool
-    requires { ⌜ (from .0 + 16 ≤ 256) × LinkTestPre (now t) dimension fits (now marks) ⌝ }
-    ensures { λ r. ⌜ Decides (LinksPass (view (now (t .entry))) (from .0) (from .0 + 16) 0 8) r ⌝ }
+fn free_group(t: &[u8], from: Node) -> u32
+    requires { ⌜ (length (now t) ≡ tableLength) × (from .0 + 16 ≤ 256) ⌝ }
+    ensures { λ r. ⌜ Frees (view (now (t .entry))) (from .0) (from .0 + 16) r ⌝ }
 {
-    if fits {
-        if table::links_clear(t, from, GROUP) {
-            return true;
-        }
+    if table::links_clear(t, from, GROUP) {
+        return 128;
     }
-    links_from(t, dimension, from, marks)
+    free_from(t, from)
 }
 
-// The tests of all links.
-fn all_links(t: &[u8], dimension: u16, fits: bool, marks: &[u8]) -> bool
-    requires { ⌜ LinkTestPre (now t) dimension fits (now marks) ⌝ }
-    ensures { λ r. ⌜ Decides (LinksPass (view (now (t .entry))) 0 256 0 8) r ⌝ }
+fn all_free(t: &[u8]) -> u32
+    requires { ⌜ length (now t) ≡ tableLength ⌝ }
+    ensures { λ r. ⌜ Frees (view (now (t .entry))) 0 256 r ⌝ }
 {
+    let mut free: u32 = 0;
     let mut i: u16 = 0;
     while i < GROUPS {
         let n = GROUP * i;
-        if link_group(t, dimension, fits, Node(n), marks) {
-            i += 1;
-        } else {
-            return false;
-        }
+        free += free_group(t, Node(n));
+        i += 1;
     }
-    true
+    free
 }
 
-// The test of a whole table: the path of each circuit that holds a receive channel is followed once, and every held link must be on one.
+// The test of a whole table: each circuit that holds a receive channel is followed once, and the links that it leads over, added up, are all that are held.
 fn entries_sound(t: &[u8], dimension: u16) -> bool
     requires { ⌜ Usable (now t) dimension ⌝ }
     ensures { λ r. ⌜ r ≡ soundTest (view (now (t .entry))) ⌝ }
@@ -223,13 +266,12 @@ fn entries_sound(t: &[u8], dimension: u16) -> bool
     if !table::arms_fit(t, dimension) {
         return false;
     }
-    let fits = table::enables_fit(t, dimension);
-    let mut marks = [0u8; 256];
-    if all_receives(t, dimension, &mut marks) {
-        all_links(t, dimension, fits, &marks)
-    } else {
-        false
+    if !table::enables_fit(t, dimension) {
+        return false;
     }
+    let free = all_free(t);
+    let mut seen = [0u8; 256];
+    all_hops(t, cube::node_count(dimension), &mut seen) + free == LINKS
 }
 
 // Whether a table may be used: 0, or the refusal of the first test that it fails.

@@ -1,5 +1,6 @@
 // Where each value lies in the 8,705 bytes of a table, and the only code that reads and writes there.
 ghost use mathlib.Core.Path.{_≡_};
+ghost use mathlib.Core.Logic.{_≢_};
 ghost use mathlib.Core.Bool.{true, false};
 ghost use Prim.Native.Nat.{ℕ, _+_, _*_, _<_, _≤_};
 ghost use lib.Dec.{eqb};
@@ -9,8 +10,8 @@ ghost use Rattle.common.specs.Lists.{lowest};
 ghost use Rattle.cube.specs.Bits.{has, withBit};
 ghost use Rattle.table.specs.Layout.{tableLength, wordAt, putWord, enablePlace, armPlace, linkPlace, receivePlace, enableBits};
 ghost use Rattle.table.specs.Layout.{dimensionAt, enabledAt, ownerAt, receiverAt, armedAt, putEnabled, putOwner, putReceiver, putArmed, filled, made};
-ghost use Rattle.table.specs.LayoutContracts.{Within, RowVector, rowCount, HeldBy, RunOr, EnablesFit, ArmsFit};
-ghost use Rattle.table.specs.View.{view, linksHeld, channelsHeld, lowestChannel};
+ghost use Rattle.table.specs.LayoutContracts.{Within, RowVector, rowCount, HeldBy, RunOr, EnablesFit, ArmsFit, freeCount};
+ghost use Rattle.table.specs.View.{view, linksHeld, lowestChannel};
 use cube::Circuit;
 use cube::Node;
 use cube::Port;
@@ -141,7 +142,7 @@ fn or_bytes(t: &[u8], from: usize, count: usize) -> u8
 // Whether every node has the enable bits of links of its cube alone, and the nodes that the cube lacks have none.
 pub fn enables_fit(t: &[u8], dimension: u16) -> bool
     requires { ⌜ (length (now t) ≡ tableLength) × (dimension < 9) ⌝ }
-    ensures { λ r. ⌜ (r ≡ true → EnablesFit (now (t .entry)) dimension) ⌝ }
+    ensures { λ r. ⌜ Decides (EnablesFit (now (t .entry)) dimension) r ⌝ }
 {
     let nodes = cube::node_count(dimension);
     let count = nodes as usize;
@@ -281,7 +282,7 @@ pub fn held_by(t: &[u8], c: Circuit, n: Node) -> u16
     row_vector(t, link_place(n, Port(0)), c)
 }
 
-// How many links, and how many receive channels, of a node a circuit holds.
+// How many links of a node a circuit holds.
 pub fn links_held(t: &[u8], c: Circuit, n: Node) -> u16
     requires { ⌜ Within (now t) (n .0) 0 ⌝ }
     ensures { λ r. ⌜ r ≡ linksHeld (view (now (t .entry))) (c .0) (n .0) ⌝ }
@@ -289,11 +290,44 @@ pub fn links_held(t: &[u8], c: Circuit, n: Node) -> u16
     row_count(t, link_place(n, Port(0)), c)
 }
 
-pub fn channels_held(t: &[u8], c: Circuit, n: Node) -> u16
-    requires { ⌜ Within (now t) (n .0) 0 ⌝ }
-    ensures { λ r. ⌜ r ≡ channelsHeld (view (now (t .entry))) (c .0) (n .0) ⌝ }
+// Whether a mask has every entry of a row that is not zero: so a node's links that are held are enabled, and its receive channels that are held armed.
+fn mask_covers(t: &[u8], row: usize, mask: usize) -> bool
+    requires { ⌜ (row + 16 ≤ length (now t)) × (mask < length (now t)) ⌝ }
+    ensures { λ r. ⌜ Decides ((k : ℕ) → k < 8 → wordAt (now (t .entry)) (row + 2 * k) ≢ 0 → has (getD (now (t .entry)) mask 0) k ≡ true) r ⌝ }
 {
-    row_count(t, receive_place(n, 0), c)
+    row_vector(t, row, Circuit(0)) | wide(t[mask]) == 255
+}
+
+pub fn held_enabled(t: &[u8], n: Node) -> bool
+    requires { ⌜ Within (now t) (n .0) 0 ⌝ }
+    ensures { λ r. ⌜ Decides ((p : ℕ) → p < 8 → ownerAt (now (t .entry)) (n .0) p ≢ 0 → enabledAt (now (t .entry)) (n .0) p ≡ true) r ⌝ }
+{
+    mask_covers(t, link_place(n, Port(0)), enable_place(n))
+}
+
+pub fn held_armed(t: &[u8], n: Node) -> bool
+    requires { ⌜ Within (now t) (n .0) 0 ⌝ }
+    ensures { λ r. ⌜ Decides ((k : ℕ) → k < 8 → receiverAt (now (t .entry)) (n .0) k ≢ 0 → armedAt (now (t .entry)) (n .0) k ≡ true) r ⌝ }
+{
+    mask_covers(t, receive_place(n, 0), arm_place(n))
+}
+
+// How many links of so many nodes from one on nobody holds.
+pub fn free_links(t: &[u8], n: Node, nodes: u16) -> u32
+    requires { ⌜ (length (now t) ≡ tableLength) × (n .0 + nodes ≤ 256) × (0 < nodes) ⌝ }
+    ensures { λ r. ⌜ (r ≤ 8 * nodes) × (freeCount (now (t .entry)) (8 * n .0) + r ≡ freeCount (now (t .entry)) (8 * (n .0 + nodes))) ⌝ }
+{
+    let from = link_place(n, Port(0));
+    let count = 8 * (nodes as usize);
+    let mut free: u16 = 0;
+    let mut i: usize = 0;
+    while i < count {
+        if word(t, from + ENTRY * i) == 0 {
+            free += 1;
+        }
+        i += 1;
+    }
+    free as u32
 }
 
 // The lowest receive channel of a node that a circuit holds, and the lowest that is armed and that nobody holds: 8 where there is none.

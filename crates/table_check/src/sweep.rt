@@ -78,12 +78,21 @@ pub fn changes(t: &mut [u8], dimension: u8, table: u8) {
     counts(cleared[0], cleared[2], cleared[3]);
 }
 
-pub fn answer(t: &[u8], which: u16) {
-    print::text(b"single ");
+fn which_and_answer(t: &[u8], which: u16) {
     print::number(which as u64);
     print::text(b": ");
     print::number(soundness::check(t) as u64);
     print::text(b"\n");
+}
+
+pub fn answer(t: &[u8], which: u16) {
+    print::text(b"single ");
+    which_and_answer(t, which);
+}
+
+pub fn sum_answer(t: &[u8], which: u16) {
+    print::text(b"sums ");
+    which_and_answer(t, which);
 }
 
 fn by_length(refused: u64) {

@@ -157,3 +157,66 @@ pub fn single(t: &mut [u8], which: u16) {
     one(t, Node(0), b"\x00", Node(1), 0);
     arm_the_other(t);
 }
+
+// A circuit and the other one, each on a way from a node.
+fn both(t: &mut [u8], from: Node, ports: &[u8], other: Node, others: &[u8]) {
+    empty(t, 3);
+    lay(t, Circuit(1), from, ports);
+    lay(t, Circuit(2), other, others);
+}
+
+// Eight tables that hold circuits 1 and 2. The hops to each receive channel, added up, are as many as the links held. 0 alone is sound.
+pub fn sums(t: &mut [u8], which: u16) {
+    if which == 0 {
+        // two circuits on their paths
+        both(t, Node(0), b"\x00\x01", Node(0), b"\x02");
+        receive(t, Circuit(1), Node(3), 0);
+        receive(t, Circuit(2), Node(4), 0);
+        return;
+    }
+    if which == 1 {
+        // received half-way too, and a stray link of the other circuit
+        both(t, Node(0), b"\x00\x01", Node(6), b"\x00");
+        receive(t, Circuit(1), Node(1), 0);
+        receive(t, Circuit(1), Node(3), 0);
+        return;
+    }
+    if which == 2 {
+        // received at two nodes, to each through the source again, and two strays
+        both(t, Node(0), b"\x00\x00\x01\x01", Node(6), b"\x00\x00");
+        receive(t, Circuit(1), Node(1), 0);
+        receive(t, Circuit(1), Node(2), 0);
+        return;
+    }
+    if which == 3 {
+        // out over an absent port and back
+        one(t, Node(0), b"\x05\x05", Node(0), 0);
+        return;
+    }
+    if which == 4 {
+        // two links at a later node, and the other circuit received twice
+        both(t, Node(0), b"\x00\x01", Node(0), b"\x02");
+        lay(t, Circuit(1), Node(1), b"\x02");
+        receive(t, Circuit(1), Node(3), 0);
+        receive(t, Circuit(2), Node(4), 0);
+        receive(t, Circuit(2), Node(4), 1);
+        return;
+    }
+    if which == 5 {
+        // received twice at its end, and a stray link of its own
+        one(t, Node(0), b"\x00", Node(1), 0);
+        lay(t, Circuit(1), Node(6), b"\x00");
+        receive(t, Circuit(1), Node(1), 7);
+        return;
+    }
+    if which == 6 {
+        // two circuits, each received at the other's end
+        both(t, Node(0), b"\x00", Node(0), b"\x01");
+        receive(t, Circuit(1), Node(2), 0);
+        receive(t, Circuit(2), Node(1), 0);
+        return;
+    }
+    // a loop at the end of a path in place of its last two links
+    one(t, Node(0), b"\x00", Node(7), 0);
+    lay(t, Circuit(1), Node(6), b"\x00\x00");
+}

@@ -1,11 +1,12 @@
--- `soundness::sound::entries_sound` meets its contract: once every receive channel has passed, its marks decide for the links.
+-- `soundness::sound::entries_sound` meets its contract: the masks fit, and the hops of the circuits and the free links are all links.
 -- Assumes nothing.
+use mathlib.Core.Path.{sym, subst}
 use native.Mathlib.Omega.{arith}
-use borrow.Author.Tests.{not-true, not-false}
-use Rattle.table.specs.View.{view}
-use Rattle.soundness.proofs.Marks.{paths-marked}
-use Rattle.soundness.proofs.Passing.{links-decide, some-fails, arms-fail}
 use borrow.Author.Needs.{needs}
+use borrow.Author.Tests.{not-true, not-false}
+use Rattle.cube.proofs.Ports.{count-of}
+use Rattle.table.specs.LayoutContracts.{ArmsFit, EnablesFit}
+use Rattle.soundness.proofs.Deciding.{sound-arms, sound-enables, refuse, sum-answers}
 use Rattle.soundness.proofs.sound.entries_sound.Statement.{statement}
 use Rattle.soundness.proofs.sound.entries_sound.Tie as tie
 
@@ -17,44 +18,61 @@ returns c =
     let a = c .before in
     let k = a .before in
     let s = k .before in
-    arms-fail (s .args .t .now) (s .pre .stored) (λ i. omega (arith, k .shared-slice-known .given i))
-    (a .arms-fit .ensures .fails (not-true _ (c .if1 .taken)))
+    let b = s .args .t .now in
+    refuse b (omega (arith, s .pre .stored, s .pre .most))
+    (λ z. a .arms-fit .ensures .fails (not-true _ (c .if1 .taken)) (subst (ArmsFit b) (sym (s .pre .stored)) (sound-arms b (λ i. omega (arith, k .shared-slice-known .given i)) z)))
 
 enables-fit-requires : tie.Need-enables-fit-requires
 enables-fit-requires c κs = search needs
 
-slice-aggregate-all-receives : tie.Need-slice-aggregate-all-receives
-slice-aggregate-all-receives c = search needs
-
-all-receives-requires : tie.Need-all-receives-requires
-all-receives-requires c κs =
-    let f = c .before .before in
-    let a = f .before in
-    record { usable = a .before .before .pre; arms = a .arms-fit .ensures .holds (not-false _ (f .if1 .left)); size = search needs }
-
-slice-aggregate-all-links : tie.Need-slice-aggregate-all-links
-slice-aggregate-all-links c = search needs
-
-all-links-requires : tie.Need-all-links-requires
-all-links-requires c κs =
-    let i = c .before in
-    let r = i .before .before in
-    let e = r .before .before in
-    let s = e .before .before .before .before in
-    record { usable = s .pre; fit = e .enables-fit .ensures; paths = paths-marked (view (s .args .t .now)) _ (r .all-receives .kept .1 .1 .0) (r .all-receives .ensures .holds (i .if2 .taken)) }
-
 returns-2 : tie.Need-returns-2
 returns-2 c =
-    let i = c .before .before in
-    let r = i .before .before in
-    let s = r .before .before .before .before .before .before in
-    links-decide (view (s .args .t .now)) _ (c .all-links .ensures) (r .all-receives .ensures .holds (i .if2 .taken) .pass)
+    let e = c .before in
+    let k = e .before .before .before in
+    let s = k .before in
+    let b = s .args .t .now in
+    refuse b (omega (arith, s .pre .stored, s .pre .most))
+    (λ z. e .enables-fit .ensures .fails (not-true _ (c .if2 .taken)) (subst (EnablesFit b) (sym (s .pre .stored)) (sound-enables b (λ i. omega (arith, k .shared-slice-known .given i)) z)))
+
+all-free-requires : tie.Need-all-free-requires
+all-free-requires c κs = search needs
+
+node-count-requires : tie.Need-node-count-requires
+node-count-requires c κs = search needs
+
+slice-aggregate-all-hops : tie.Need-slice-aggregate-all-hops
+slice-aggregate-all-hops c = search needs
+
+all-hops-requires : tie.Need-all-hops-requires
+all-hops-requires c κs =
+    let n = c .before in
+    let i = n .before .before .before .before in
+    let a = i .before in
+    let s = a .before .before in
+    let b = s .args .t .now in
+    record {
+      bytes = s .pre .bytes;
+      fits = omega (arith, s .pre .stored, s .pre .most);
+      count = count-of (s .pre .stored) (n .node-count .ensures .value);
+      arms = subst (ArmsFit b) (s .pre .stored) (a .arms-fit .ensures .holds (not-false _ (i .if1 .left)));
+      size = search needs;
+    }
+
+add-result : tie.Need-add-result
+add-result c = search needs
 
 returns-3 : tie.Need-returns-3
 returns-3 c =
-    let r = c .before .before in
-    let s = r .before .before .before .before .before .before in
-    some-fails (view (s .args .t .now)) (λ h. r .all-receives .ensures .fails (c .if2 .left) (h .1))
+    let h = c .before in
+    let f = h .before .before .before in
+    let i = f .before in
+    let e = i .before in
+    let j = e .before in
+    let a = j .before in
+    let s = a .before .before in
+    let b = s .args .t .now in
+    sum-answers b (omega (arith, s .pre .stored, s .pre .most)) (subst (EnablesFit b) (s .pre .stored) (e .enables-fit .ensures .holds (not-false _ (i .if2 .left))))
+    (subst (ArmsFit b) (s .pre .stored) (a .arms-fit .ensures .holds (not-false _ (j .if1 .left)))) (f .all-free .ensures) (h .all-hops .ensures)
 
 pub entries-sound-spec : {M : Type 1} → statement M
 entries-sound-spec =
@@ -63,9 +81,10 @@ entries-sound-spec =
     arms-fit-requires
     returns
     enables-fit-requires
-    slice-aggregate-all-receives
-    all-receives-requires
-    slice-aggregate-all-links
-    all-links-requires
     returns-2
+    all-free-requires
+    node-count-requires
+    slice-aggregate-all-hops
+    all-hops-requires
+    add-result
     returns-3)

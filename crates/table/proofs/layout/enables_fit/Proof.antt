@@ -1,10 +1,8 @@
 -- `table::layout::enables_fit` meets its contract: no byte of either run is above what was or-bytes of it.
 -- Assumes nothing.
-use mathlib.Core.Bool.{false≢true}
 use native.Mathlib.Omega.{arith}
 use borrow.Author.Needs.{needs}
-use borrow.Author.Tests.{eqb-true}
-use Rattle.table.proofs.Runs.{enables-fit}
+use Rattle.table.proofs.Runs.{enables-fit, enables-large}
 use Rattle.table.proofs.layout.enables_fit.Statement.{statement}
 use Rattle.table.proofs.layout.enables_fit.Tie as tie
 
@@ -30,16 +28,23 @@ or-bytes-requires-2 : tie.Need-or-bytes-requires-2
 or-bytes-requires-2 c κs = search needs
 
 returns : tie.Need-returns
-returns c e =
+returns c =
     let t = c .before in
     let w = t .before in
     let g = w .before in
     let n = g .before in
     let s = n .before .before in
-    enables-fit (s .args .t .now) (s .args .dimension) (n .node-count .result) (g .or-bytes .result) (c .or-bytes2 .result) (n .node-count .ensures .value) (g .or-bytes .ensures) (omega (arith, w .wide .ensures .0, t .if1 .taken)) (c .or-bytes2 .ensures) (eqb-true _ 0 e)
+    enables-fit (s .args .t .now) (s .args .dimension) (n .node-count .result) (g .or-bytes .result) (n .node-count .ensures .value) (n .node-count .ensures .most)
+    (g .or-bytes .ensures) (c .or-bytes2 .result) (omega (arith, w .wide .ensures .0, t .if1 .taken)) (c .or-bytes2 .ensures)
 
 returns-2 : tie.Need-returns-2
-returns-2 c e = absurd (false≢true e)
+returns-2 c =
+    let w = c .before in
+    let g = w .before in
+    let n = g .before in
+    let s = n .before .before in
+    enables-large (s .args .t .now) (s .args .dimension) (n .node-count .result) (g .or-bytes .result) (n .node-count .ensures .value) (n .node-count .ensures .most)
+    (g .or-bytes .ensures) (omega (arith, w .wide .ensures .0, c .if1 .left))
 
 pub enables-fit-spec : {M : Type 1} → statement M
 enables-fit-spec =

@@ -1,0 +1,54 @@
+-- `table_check::every_sum` meets its contract: it stays within its bound.
+-- Assumes nothing.
+use mathlib.Core.Path.{_≡_, refl}
+use Prim.Native.Nat.{_-_, _≤_}
+use native.Mathlib.Omega.{arith}
+use borrow.Author.Needs.{needs}
+use lib.ListN.{length}
+use Rattle.table_check.proofs.every_sum.Statement.{statement}
+use Rattle.table_check.proofs.every_sum.Tie as tie
+
+abbrev Inv-loop : tie.InvT-loop
+Inv-loop t₀ which₀ t which = (which ≤ 8) × (length t ≡ length t₀)
+
+abbrev μ-loop : tie.MeasureT-loop
+μ-loop t₀ which₀ t which = 8 - which
+
+loop-holds : tie.Need-loop-holds Inv-loop μ-loop
+loop-holds c = (omega arith, refl)
+
+sums-requires : tie.Need-sums-requires Inv-loop μ-loop
+sums-requires c κs = search needs
+
+sum-answer-requires : tie.Need-sum-answer-requires Inv-loop μ-loop
+sum-answer-requires c κs = search needs
+
+add-which : tie.Need-add-which Inv-loop μ-loop
+add-which c = omega arith
+
+loop-less : tie.Need-loop-less Inv-loop μ-loop
+loop-less c = omega arith
+
+loop-again : tie.Need-loop-again Inv-loop μ-loop
+loop-again c = (omega arith, search needs)
+
+same-length : tie.Need-same-length Inv-loop μ-loop
+same-length c = c .before .loop .inv .1
+
+returns : tie.Need-returns Inv-loop μ-loop
+returns c = search needs
+
+pub every-sum-spec : {M : Type 1} → statement M
+every-sum-spec =
+    tie.close
+    (tie.spec
+    Inv-loop
+    μ-loop
+    loop-holds
+    sums-requires
+    sum-answer-requires
+    add-which
+    loop-less
+    loop-again
+    same-length
+    returns)
