@@ -52,32 +52,35 @@ unfolding updated withoutCircuit setArmed
 updated-same v _ closes = record { dimension = refl; enabled = refl }
 updated-same v _ arms = record { dimension = refl; enabled = refl }
 
--- the table passes its tests again,
-record Kept (b after : List ℕ) : Type 0 where
+same-self : (v : View) → SameEnabled v v
+same-self v = record { dimension = refl; enabled = refl }
+
+same-chain : (u v w : View) → SameEnabled u v → SameEnabled v w → SameEnabled u w
+same-chain u v w x y = record { dimension = x .dimension ∙ y .dimension; enabled = x .enabled ∙ y .enabled }
+
+-- What calls leave of a table: it passes its tests again, and what it shows is related to what it showed, where the update of each call is.
+record Kept (R : View → View → Type 0) (b after : List ℕ) : Type 0 where
   small : AllBytes after
   passes : refusal (tableTests after) ≡ 0
-  same : SameEnabled (view after) (view b)
+  related : R (view after) (view b)
 
-step-kept : (b : List ℕ) → AllBytes b → refusal (tableTests b) ≡ 0 → (a : Call) → ClosesOrArms a → Kept b (tableStep b a .state)
-step-kept b small e a k =
-    record {
-      small = represents-step b _ (sound-represents b small e) a .covered .bytes .small;
-      passes = keeps-sound b small e a;
-      same = ⊎-elim (λ z. rw (shows-update b small e a z) (updated-same (view b) a k)) (λ f. rw (table-step b a .stopped f) (record { dimension = refl; enabled = refl })) (same? (stoppedAt b a) 0);
-    }
+module _ (R : View → View → Type 0) (self : (v : View) → R v v) (chain : (u v w : View) → R u v → R v w → R u w) {P : Call → Type 0}
+    (updates : (v : View) (a : Call) → P a → R (updated v a) v) where
+  step-kept : (b : List ℕ) → AllBytes b → refusal (tableTests b) ≡ 0 → (a : Call) → P a → Kept R b (tableStep b a .state)
+  step-kept b small e a k =
+      record {
+        small = represents-step b _ (sound-represents b small e) a .covered .bytes .small;
+        passes = keeps-sound b small e a;
+        related = ⊎-elim (λ z. rw (shows-update b small e a z) (updates (view b) a k)) (λ f. rw (table-step b a .stopped f) (self (view b))) (same? (stoppedAt b a) 0);
+      }
 
--- and so after a list of such calls.
-calls-kept : (b : List ℕ) → AllBytes b → refusal (tableTests b) ≡ 0 → {calls : List Call} → Each ClosesOrArms calls → Kept b (tableAfter b calls)
-unfolding leaves
-calls-kept b small e no-call = record { small = small; passes = e; same = record { dimension = refl; enabled = refl } }
-calls-kept b small e (call-more {a} k more) =
-    let x = step-kept b small e a k in
-    let y = calls-kept (tableStep b a .state) (x .small) (x .passes) more in
-    record {
-      small = y .small;
-      passes = y .passes;
-      same = record { dimension = y .same .dimension ∙ x .same .dimension; enabled = y .same .enabled ∙ x .same .enabled };
-    }
+  calls-kept : (b : List ℕ) → AllBytes b → refusal (tableTests b) ≡ 0 → {calls : List Call} → Each P calls → Kept R b (tableAfter b calls)
+  unfolding leaves
+  calls-kept b small e no-call = record { small = small; passes = e; related = self (view b) }
+  calls-kept b small e (call-more {a} k more) =
+      let x = step-kept b small e a k in
+      let y = calls-kept (tableStep b a .state) (x .small) (x .passes) more in
+      record { small = y .small; passes = y .passes; related = chain _ _ _ (y .related) (x .related) }
 
 -- no test has the number 10 or 22, so an open that answers one of them was sent
 other-numbers : (m : ℕ) → (m ≡ 10) ⊎ (m ≡ 22) → (b : List ℕ) (s c t y v : ℕ) → stoppedAt b (opening s c t y v) ≢ m
@@ -121,15 +124,15 @@ module _ (b : List ℕ) (s c t y v : ℕ) where
   unfolding Allowed factsOf
   closed-acknowledges small {calls} all e idle there =
       let z = was-sent 10 (inl refl) e in
-      let kept = calls-kept b small (none-stops-lent b (opening s c t y v) refl z) all in
+      let kept = calls-kept SameEnabled same-self same-chain updated-same b small (none-stops-lent b (opening s c t y v) refl z) all in
       let p = pass-tests (tableAfter b calls) (kept .passes) in
       let r = allowed (factsOf (view b)) (opening s c t y v) (none-stops b (opening s c t y v) z) in
-      let D = kept .same .dimension in
+      let D = kept .related .dimension in
       let q : stoppedAt (tableAfter b calls) (opening s c t y v) ≡ 0 =
       stopped-is (tableAfter b calls) (p .0) (p .1) (p .2) (p .3) (opening s c t y v)
       ∙ allowed-passes (factsOf (view (tableAfter b calls))) (opening s c t y v) (rw D (r .0), rw D (r .1), r .2, r .3, (λ n l. r .4 n (rw D at l)), idle-closed (view (tableAfter b calls)) idle, r .6) in
       let x = open-answers b s c t y v z .rejected-route .0 e in
-      open-answers (tableAfter b calls) s c t y v q .exactly .1 (idle-route idle (kept .same) (x .1), there)
+      open-answers (tableAfter b calls) s c t y v q .exactly .1 (idle-route idle (kept .related) (x .1), there)
 
 -- A table that passes its tests and in which no circuit is open holds no link and no receive channel,
 module _ (b : List ℕ) (small : AllBytes b) (e : refusal (tableTests b) ≡ 0) (none : openNumbers (view b) ≡ []) where
@@ -160,7 +163,7 @@ pub all-closed-acknowledges : (b : List ℕ) (s c t y v : ℕ) → AllBytes b �
     → numberOn b s c t y v (tableAfter b calls) ≡ 0
 all-closed-acknowledges b s c t y v small {calls} all e none k l armed =
     let z = was-sent b s c t y v 10 (inl refl) e in
-    let kept = calls-kept b small (none-stops-lent b (opening s c t y v) refl z) all in
+    let kept = calls-kept SameEnabled same-self same-chain updated-same b small (none-stops-lent b (opening s c t y v) refl z) all in
     closed-acknowledges b s c t y v small all e (closed-idle (tableAfter b calls) (kept .small) (kept .passes) none)
     (closed-available (tableAfter b calls) (kept .small) (kept .passes) none t k l armed)
 
@@ -196,30 +199,11 @@ updated-fewer v _ a-trace = record { dimension = refl; fewer = λ m q e. e }
 updated-fewer v _ an-arming = record { dimension = refl; fewer = λ m q e. e }
 updated-fewer v _ a-disarming = record { dimension = refl; fewer = λ m q e. e }
 
-record Left (b after : List ℕ) : Type 0 where
-  small : AllBytes after
-  passes : refusal (tableTests after) ≡ 0
-  less : Fewer (view after) (view b)
+fewer-self : (v : View) → Fewer v v
+fewer-self v = record { dimension = refl; fewer = λ n p e. e }
 
-step-left : (b : List ℕ) → AllBytes b → refusal (tableTests b) ≡ 0 → (a : Call) → RepairsNothing a → Left b (tableStep b a .state)
-step-left b small e a k =
-    record {
-      small = represents-step b _ (sound-represents b small e) a .covered .bytes .small;
-      passes = keeps-sound b small e a;
-      less = ⊎-elim (λ z. rw (shows-update b small e a z) (updated-fewer (view b) a k)) (λ f. rw (table-step b a .stopped f) (record { dimension = refl; fewer = λ m q i. i })) (same? (stoppedAt b a) 0);
-    }
-
-calls-left : (b : List ℕ) → AllBytes b → refusal (tableTests b) ≡ 0 → {calls : List Call} → Each RepairsNothing calls → Left b (tableAfter b calls)
-unfolding leaves
-calls-left b small e no-call = record { small = small; passes = e; less = record { dimension = refl; fewer = λ m q i. i } }
-calls-left b small e (call-more {a} k more) =
-    let x = step-left b small e a k in
-    let y = calls-left (tableStep b a .state) (x .small) (x .passes) more in
-    record {
-      small = y .small;
-      passes = y .passes;
-      less = record { dimension = y .less .dimension ∙ x .less .dimension; fewer = λ m q i. x .less .fewer m q (y .less .fewer m q i) };
-    }
+fewer-chain : (u v w : View) → Fewer u v → Fewer v w → Fewer u w
+fewer-chain u v w x y = record { dimension = x .dimension ∙ y .dimension; fewer = λ n p e. y .fewer n p (x .fewer n p e) }
 
 -- "The shift retries sends that can't succeed until a link is repaired": answered 22, a send stays so, or is stopped by an earlier test, after any list of calls
 -- without an unblocking and a making.
@@ -228,8 +212,8 @@ pub blocked-until-repair : (b : List ℕ) (s c t y v : ℕ) → AllBytes b → {
 unfolding EveryPathBlocked CrossesBlocked
 blocked-until-repair b s c t y v small {calls} all e =
     let z = was-sent b s c t y v 22 (inr refl) e in
-    let left = calls-left b small (none-stops-lent b (opening s c t y v) refl z) all in
+    let left = calls-kept Fewer fewer-self fewer-chain updated-fewer b small (none-stops-lent b (opening s c t y v) refl z) all in
     let x = open-answers b s c t y v z .rejected-blocked .0 e in
     let still : BlockedRoutes (view (tableAfter b calls)) s t (attempts (shapeOf (view (tableAfter b calls))) y v) =
-      rw (left .less .dimension) (λ a m w i. let r = x a m w i in (r .0, r .1, is-false _ (λ j. clash (left .less .fewer (r .0 .0) (r .0 .1) j) (r .2)))) in
+      rw (left .related .dimension) (λ a m w i. let r = x a m w i in (r .0, r .1, is-false _ (λ j. clash (left .related .fewer (r .0 .0) (r .0 .1) j) (r .2)))) in
     ⊎-elim (λ q. inr (open-answers (tableAfter b calls) s c t y v q .rejected-blocked .1 still)) inl (same? (stoppedAt (tableAfter b calls) (opening s c t y v)) 0)
