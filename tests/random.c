@@ -6,6 +6,7 @@
  * shortens the list of calls as long as they still differ, prints it and stops. Otherwise it prints how often each case has occurred. Calls are
  * written as in the printed list, and beside them `T node channel` traces, `P place value` writes one byte of the table, and `/ table of N` or
  * `/ buffer of N` behind a call says that it was lent N bytes. */
+#include "draw.h"
 #include "reference.h"
 #include "subject.h"
 
@@ -14,21 +15,6 @@
 #include <string.h>
 
 enum { SPARE = 32, BUFFER = 24, MOST_CALLS = 60000, LETTERS = 9, NUMBERS = MAZE_NO_ROUTE + 1 };
-
-/* ---- pseudo-random numbers: the same on every machine ---- */
-
-static uint64_t random_state;
-
-static uint32_t random_word(void) {
-    uint64_t z = random_state += 0x9e3779b97f4a7c15u;
-    z = (z ^ z >> 30) * 0xbf58476d1ce4e5b9u;
-    z = (z ^ z >> 27) * 0x94d049bb133111ebu;
-    return (uint32_t)((z ^ z >> 31) >> 16);
-}
-
-static unsigned below(unsigned limit) {
-    return (unsigned)((uint64_t)random_word() * limit >> 32);
-}
 
 static int one_in(unsigned count) {
     return below(count) == 0;

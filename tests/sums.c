@@ -5,25 +5,13 @@
  * Each table holds circuits that were opened, and then one deed is done to it that keeps the number of held links equal to the hops to all receive
  * channels, or that a test by counting may not see for another reason. Calls at random never make such tables. 300 tables of each deed without an
  * argument. */
+#include "draw.h"
 #include "expect.h"
 #include "reference.h"
 #include "subject.h"
 
 #include <stdlib.h>
 #include <string.h>
-
-static uint64_t random_state;
-
-static uint32_t random_word(void) {
-    uint64_t z = random_state += 0x9e3779b97f4a7c15u;
-    z = (z ^ z >> 30) * 0xbf58476d1ce4e5b9u;
-    z = (z ^ z >> 27) * 0x94d049bb133111ebu;
-    return (uint32_t)((z ^ z >> 31) >> 16);
-}
-
-static unsigned below(unsigned limit) {
-    return (unsigned)((uint64_t)random_word() * limit >> 32);
-}
 
 static uint8_t table[MAZE_TABLE_BYTES];
 static unsigned dimension, nodes;

@@ -215,5 +215,5 @@ blocked-until-repair b s c t y v small {calls} all e =
     let left = calls-kept Fewer fewer-self fewer-chain updated-fewer b small (none-stops-lent b (opening s c t y v) refl z) all in
     let x = open-answers b s c t y v z .rejected-blocked .0 e in
     let still : BlockedRoutes (view (tableAfter b calls)) s t (attempts (shapeOf (view (tableAfter b calls))) y v) =
-      rw (left .related .dimension) (λ a m w i. let r = x a m w i in (r .0, r .1, is-false _ (λ j. clash (left .related .fewer (r .0 .0) (r .0 .1) j) (r .2)))) in
+    rw (left .related .dimension) (λ a m w i. let r = x a m w i in (r .0, r .1, is-false _ (λ j. clash (left .related .fewer (r .0 .0) (r .0 .1) j) (r .2)))) in
     ⊎-elim (λ q. inr (open-answers (tableAfter b calls) s c t y v q .rejected-blocked .1 still)) inl (same? (stoppedAt (tableAfter b calls) (opening s c t y v)) 0)

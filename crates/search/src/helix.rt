@@ -8,9 +8,9 @@ ghost use Rattle.paths.specs.Helix.{helixPath};
 ghost use Rattle.search.specs.PassAnswer.{holdPath, pass-answer};
 ghost use Rattle.search.specs.SendAnswer.{MaySend, searched};
 ghost use Rattle.search.specs.HelixContracts.{MayFollow, FrontOf, MayTryPaths, FirstFree};
-use common::refusal;
 use crate::LinkState;
 use crate::Opened;
+use common::refusal;
 use cube::Circuit;
 use cube::Node;
 use cube::Port;
@@ -85,15 +85,30 @@ fn first_free(t: &[u8], source: Node, target: Node, vector: u16, first: &[u8; 20
         scouts += front.hops as u32;
         if front.whole {
             let hops = front.hops;
-            return FreePath { port: p, hops, scouts };
+            return FreePath {
+                port: p,
+                hops,
+                scouts,
+            };
         }
         left = cube::without(left, p);
     }
-    FreePath { port: Port(8), hops: 0, scouts }
+    FreePath {
+        port: Port(8),
+        hops: 0,
+        scouts,
+    }
 }
 
 // Routing type 1: the helix path of each port of the vector, in rising order, until one is free.
-pub fn try_each(t: &mut [u8], source: Node, target: Node, c: Circuit, vector: u16, first: &[u8; 2048]) -> Opened
+pub fn try_each(
+    t: &mut [u8],
+    source: Node,
+    target: Node,
+    c: Circuit,
+    vector: u16,
+    first: &[u8; 2048],
+) -> Opened
     requires { ⌜ FirstPorts (now first) ⌝ }
     requires { ⌜ MaySend (now t) (source .0) (target .0) (c .0) vector ⌝ }
     ensures { λ r. ⌜ pass-answer (r .number) (r .hops) (r .receive) (r .scouts) (now (t .exit)) ≡ searched (now (t .entry)) (source .0) (target .0) (c .0) 1 vector ⌝ }
@@ -130,7 +145,14 @@ pub fn try_each(t: &mut [u8], source: Node, target: Node, c: Circuit, vector: u1
 }
 
 // Routing type 3: the helix path of the lowest port of the vector, and no other.
-pub fn try_lowest(t: &mut [u8], source: Node, target: Node, c: Circuit, vector: u16, first: &[u8; 2048]) -> Opened
+pub fn try_lowest(
+    t: &mut [u8],
+    source: Node,
+    target: Node,
+    c: Circuit,
+    vector: u16,
+    first: &[u8; 2048],
+) -> Opened
     requires { ⌜ FirstPorts (now first) ⌝ }
     requires { ⌜ MaySend (now t) (source .0) (target .0) (c .0) vector ⌝ }
     requires { ⌜ vector ≢ 0 ⌝ }

@@ -7,6 +7,7 @@ ghost use Rattle.cube.specs.Helical.{FirstPorts};
 ghost use Rattle.search.specs.PassAnswer.{stateIn, stateOf, pass-answer};
 ghost use Rattle.search.specs.SearchContracts.{Narrowed, tryAnswer, arriveAnswer, MayTry, MayArrive};
 ghost use Rattle.search.specs.SendAnswer.{MaySend, searched, sends};
+
 mod helix;
 
 use common::refusal;

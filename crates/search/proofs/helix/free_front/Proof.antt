@@ -74,8 +74,11 @@ loop-less c =
     let a = u .before .before .before .before in
     let f = a .before .before .before in
     let l = f .before in
-    omega (arith, looking-nearer (l .loop .inv) (told-free (view (l .before .before .args .t .now)) (l .loop .at .0) (l .loop .p .0) (f .link-state .ensures) (a .before .enum-told .given .1))
-    (a .neighbour .ensures) (u .before .if1 .left) (u .uphill-vector .ensures .value) (c .first-port .ensures))
+    omega (
+      arith,
+      looking-nearer (l .loop .inv) (told-free (view (l .before .before .args .t .now)) (l .loop .at .0) (l .loop .p .0) (f .link-state .ensures) (a .before .enum-told .given .1))
+          (a .neighbour .ensures) (u .before .if1 .left) (u .uphill-vector .ensures .value) (c .first-port .ensures),
+    )
 
 loop-again : tie.Need-loop-again Inv-loop μ-loop
 loop-again c =
