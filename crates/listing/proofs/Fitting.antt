@@ -16,7 +16,7 @@ use Rattle.cube.specs.Cube.{circuitOf}
 use Rattle.paths.specs.Network.{Path}
 use Rattle.paths.proofs.Apart.{permitted-below}
 use Rattle.paths.proofs.CubeNetwork.{path-hops}
-use Rattle.table.specs.Layout.{made}
+use Rattle.table.specs.Encode.{made}
 use Rattle.table.specs.View.{view, shapeOf}
 use Rattle.soundness.specs.SoundTest.{pathOf, tracedInto}
 use Rattle.soundness.proofs.Soundness.{path-is}

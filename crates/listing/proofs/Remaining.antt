@@ -13,7 +13,7 @@ use lib.ListN.{length, take, drop, length-drop, length-append, drop-of-length-le
 use lib.Seq.{sets, sets-eq}
 use borrow.Author.Tests.{lt-ltb, le-ltb}
 use Rattle.common.proofs.Tests.{same?}
-use Rattle.table.specs.Layout.{made}
+use Rattle.table.specs.Encode.{made}
 use Rattle.text.specs.Text.{newline}
 use Rattle.text.specs.Lines.{cut, lines}
 use Rattle.listing.specs.Line.{asks}

@@ -5,7 +5,7 @@ use mathlib.Core.List.{List, [], _∷_, map}
 use Prim.Native.Nat.{ℕ, _≤_}
 use lib.Dec.{lit≤}
 use lib.ListN.{length}
-use Rattle.table.specs.Layout.{tableLength}
+use Rattle.layout.specs.Layout.{tableLength}
 use Rattle.ownership.specs.Calls.{making, blocking, unblocking, opening, closing, tracing, arming, disarming}
 use Rattle.ownership.specs.Agrees.{tableResults}
 use Rattle.ownership.proofs.Agreement.{making-accepted, demand-3}

@@ -13,7 +13,7 @@ use Rattle.common.proofs.Tests.{same?, passed, accepted}
 use Rattle.cube.specs.Cube.{circuitOf}
 use Rattle.paths.specs.Network.{Path}
 use Rattle.paths.specs.Send.{SendResult}
-use Rattle.table.specs.Layout.{tableLength, dimensionAt}
+use Rattle.layout.specs.Layout.{tableLength, dimensionAt}
 use Rattle.table.specs.View.{View, view}
 use Rattle.soundness.specs.Sound.{Sound}
 use Rattle.soundness.specs.SoundTest.{pathOf, tableTests, tracedInto}

@@ -16,11 +16,11 @@ use Rattle.cube.proofs.Bits.{with-bit-inside}
 use Rattle.cube.proofs.Ports.{most-nodes, below-256}
 use Rattle.paths.specs.Network.{Path}
 use Rattle.paths.specs.Send.{Outcome, acknowledged, route-rejected, receive-rejected}
-use Rattle.table.specs.Layout.{dimensionAt, maskPlace, putMask, putEnabled, putArmed, made}
-use Rattle.table.specs.Layout.{entryPlace, linkPart, receivePart, putWord, putEntry, putOwner, putReceiver}
-use Rattle.table.specs.LayoutContracts.{Within}
+use Rattle.layout.specs.Layout.{dimensionAt, maskPlace, entryPlace, linkPart, receivePart}
+use Rattle.entries.specs.EntryContracts.{putMask, putEnabled, putArmed, putEntry, putOwner, putReceiver, Within}
+use Rattle.table.specs.Encode.{made, encode, AllBytes, Bytes}
+use Rattle.layout.specs.LayoutContracts.{putWord}
 use Rattle.table.specs.View.{view, setEnabled, setArmed, withoutCircuit, fresh}
-use Rattle.table.specs.Encode.{encode, AllBytes, Bytes}
 use Rattle.table.proofs.Encode.{encode-view}
 use Rattle.table.proofs.Encoded.{encode-shown}
 use Rattle.table.proofs.Views.{view-put-enabled, view-put-armed}

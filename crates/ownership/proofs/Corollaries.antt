@@ -12,7 +12,7 @@ use Rattle.cube.specs.Cube.{circuitOf}
 use Rattle.paths.specs.Network.{Network, Path, Link, links}
 use Rattle.paths.specs.Permitted.{Permitted}
 use Rattle.paths.proofs.Links.{link-true, true-link}
-use Rattle.table.specs.Layout.{ownerAt, receiverAt, armedAt}
+use Rattle.layout.specs.Layout.{ownerAt, receiverAt, armedAt}
 use Rattle.table.specs.View.{View, view}
 use Rattle.soundness.specs.Sound.{Sound}
 use Rattle.soundness.specs.SoundTest.{tableTests}

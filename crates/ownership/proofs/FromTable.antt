@@ -19,7 +19,7 @@ use Rattle.cube.proofs.Circuits.{circuit-of-parts, channel-below}
 use Rattle.paths.specs.Network.{Link, hasLink}
 use Rattle.paths.specs.Permitted.{Permitted}
 use Rattle.paths.proofs.Links.{link-true, true-link}
-use Rattle.table.specs.Layout.{inTable, maskAt, armedAt}
+use Rattle.layout.specs.Layout.{inTable, maskAt, armedAt}
 use Rattle.table.specs.View.{View, view}
 use Rattle.table.specs.Encode.{AllBytes}
 use Rattle.soundness.specs.Sound.{endFor, CircuitSound, Sound}

@@ -28,7 +28,7 @@ use Rattle.paths.proofs.Sentences.{permitted-end}
 use Rattle.paths.proofs.CubeNetwork.{unfolded-port}
 use Rattle.paths.proofs.Send.{said-by, receive-rejected-says, tries-permitted}
 use Rattle.paths.proofs.Words.{free-links}
-use Rattle.table.specs.Layout.{dimensionAt, armedAt}
+use Rattle.layout.specs.Layout.{dimensionAt, armedAt}
 use Rattle.table.specs.View.{View, view, available, receive, shapeOf, net, heldBy}
 use Rattle.table.proofs.Receives.{none-chosen}
 use Rattle.soundness.specs.Sound.{CircuitSound, Sound}

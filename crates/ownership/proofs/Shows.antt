@@ -13,7 +13,8 @@ use Rattle.cube.proofs.Ports.{below-256}
 use Rattle.paths.specs.Network.{Path}
 use Rattle.paths.specs.Send.{Outcome, acknowledged, route-rejected, receive-rejected}
 use Rattle.paths.proofs.Apart.{permitted-below}
-use Rattle.table.specs.Layout.{tableLength, putOwner}
+use Rattle.layout.specs.Layout.{tableLength}
+use Rattle.entries.specs.EntryContracts.{putOwner}
 use Rattle.table.specs.View.{View, view, setReceiver, receive, shapeOf}
 use Rattle.table.proofs.Views.{view-put-owner, view-put-receiver}
 use Rattle.search.specs.PassAnswer.{freeIn, holdPath}

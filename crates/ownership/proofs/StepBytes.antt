@@ -10,7 +10,7 @@ use borrow.Author.Tests.{eqb-true}
 use Rattle.common.proofs.Tests.{same?, both}
 use Rattle.cube.specs.Cube.{circuitOf}
 use Rattle.paths.specs.Send.{Outcome, acknowledged, route-rejected, receive-rejected}
-use Rattle.table.specs.Layout.{enabledAt, armedAt}
+use Rattle.layout.specs.Layout.{enabledAt, armedAt}
 use Rattle.table.specs.View.{View, view, setAt, setEnabled, setArmed, fresh}
 use Rattle.table.specs.Encode.{encode, Bytes}
 use Rattle.table.proofs.Encode.{encode-view}

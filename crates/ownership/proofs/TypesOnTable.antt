@@ -10,7 +10,7 @@ use Rattle.paths.specs.Send.{Outcome, acknowledged, route-rejected, receive-rej
 use Rattle.paths.specs.CubeNetwork.{attempts}
 use Rattle.paths.proofs.Inclusion.{fixed-route, helix-route}
 use Rattle.paths.proofs.Send.{fixed-bounded, helix-bounded}
-use Rattle.table.specs.Layout.{dimensionAt}
+use Rattle.layout.specs.Layout.{dimensionAt}
 use Rattle.table.specs.View.{view, receive, shapeOf}
 use Rattle.search.specs.PassAnswer.{freeIn}
 use Rattle.search.specs.SendSays.{SomeRoute}

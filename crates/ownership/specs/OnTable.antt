@@ -9,7 +9,7 @@ use Rattle.common.specs.Lists.{any}
 use Rattle.common.specs.Tests.{Test, test, refusal}
 use Rattle.cube.specs.Cube.{circuitOf, sourceOf}
 use Rattle.paths.specs.CubeNetwork.{ports}
-use Rattle.table.specs.Layout.{tableLength}
+use Rattle.layout.specs.Layout.{tableLength}
 use Rattle.table.specs.View.{View, view, shapeOf, heldIn, heldBy}
 use Rattle.table.specs.Encode.{encode}
 use Rattle.soundness.specs.SoundTest.{pathOf, tableTests}

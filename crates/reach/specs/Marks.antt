@@ -13,7 +13,7 @@ use Rattle.cube.specs.Helical.{portsOf}
 use Rattle.paths.specs.Network.{freePath}
 use Rattle.paths.specs.Helix.{helixPath}
 use Rattle.paths.specs.Reach.{reaches}
-use Rattle.table.specs.Layout.{tableLength, dimensionAt, portCount}
+use Rattle.layout.specs.Layout.{tableLength, dimensionAt, portCount}
 use Rattle.table.specs.View.{view, net}
 
 -- a node is marked

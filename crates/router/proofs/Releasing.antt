@@ -23,8 +23,8 @@ use Rattle.paths.specs.Send.{acknowledged}
 use Rattle.paths.specs.CubeNetwork.{Shape, network}
 use Rattle.paths.proofs.Links.{link-true, true-link}
 use Rattle.paths.proofs.Apart.{permitted-below, permitted-inside}
-use Rattle.table.specs.Layout.{dimensionAt, entryPlace, receivePart, receiverAt, putEntry, putOwner, putReceiver, putArmed}
-use Rattle.table.specs.LayoutContracts.{Within}
+use Rattle.layout.specs.Layout.{dimensionAt, entryPlace, receivePart, receiverAt}
+use Rattle.entries.specs.EntryContracts.{putEntry, putOwner, putReceiver, putArmed, Within}
 use Rattle.table.specs.View.{View, view, setReceiver, setArmed, setAt, withoutCircuit, shapeOf, net, heldBy}
 use Rattle.table.specs.Encode.{encode, Bytes}
 use Rattle.soundness.specs.Sound.{endFor, CircuitSound, Sound}

@@ -10,8 +10,8 @@ use lib.ListN.{length}
 use lib.Pow.{pow-mono}
 use Rattle.common.specs.Tests.{Test, test, refusal}
 use Rattle.common.proofs.Tests.{neither, refused, passed, accepted, refusal-after, refusal-before}
-use Rattle.table.specs.Layout.{tableLength, dimensionAt}
-use Rattle.table.specs.LayoutContracts.{Within}
+use Rattle.layout.specs.Layout.{tableLength, dimensionAt}
+use Rattle.entries.specs.EntryContracts.{Within}
 use Rattle.table.specs.View.{view}
 use Rattle.cube.specs.Cube.{circuitOf}
 use Rattle.cube.proofs.Bits.{no-bit-above}

@@ -12,9 +12,10 @@ use borrow.Author.Tests.{ne-eqb, le-leb, lt-leb}
 use Rattle.common.proofs.Tests.{refused, passed, accepted}
 use Rattle.cube.specs.Cube.{circuitOf}
 use Rattle.paths.specs.Send.{Outcome, acknowledged, route-rejected, receive-rejected}
-use Rattle.table.specs.Layout.{tableLength, made, putEnabled, putArmed}
+use Rattle.layout.specs.Layout.{tableLength}
+use Rattle.table.specs.Encode.{made, encode, AllBytes}
+use Rattle.entries.specs.EntryContracts.{putEnabled, putArmed}
 use Rattle.table.specs.View.{view, withoutCircuit}
-use Rattle.table.specs.Encode.{encode, AllBytes}
 use Rattle.soundness.specs.SoundTest.{pathOf, tracedInto}
 use Rattle.ownership.specs.Calls.{Call, making, blocking, unblocking, opening, closing, tracing, arming, disarming}
 use Rattle.ownership.specs.Calls.{CallResult, refusedWith, answered, callTests, resultOf, After}

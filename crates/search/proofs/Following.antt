@@ -20,8 +20,8 @@ use Rattle.paths.specs.Network.{Network, Path, offered, takeFirst, freePath}
 use Rattle.paths.specs.Helix.{helixFrom, helixPath, freeFront}
 use Rattle.paths.specs.CubeNetwork.{Shape, Node, network}
 use Rattle.paths.proofs.CubeNetwork.{cube-nearing, cube-leading, unfolded-vector, distance-within}
-use Rattle.table.specs.Layout.{dimensionAt, putOwner}
-use Rattle.table.specs.LayoutContracts.{Within}
+use Rattle.layout.specs.Layout.{dimensionAt}
+use Rattle.entries.specs.EntryContracts.{putOwner, Within}
 use Rattle.table.specs.View.{view, net, shapeOf}
 use Rattle.search.specs.PassAnswer.{freeIn, holdPath}
 use Rattle.search.specs.SearchContracts.{hopsLeft}

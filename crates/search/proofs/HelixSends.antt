@@ -25,8 +25,10 @@ use Rattle.paths.proofs.CubeNetwork.{distance-within}
 use Rattle.paths.proofs.Helix.{helix-short}
 use Rattle.paths.proofs.Tried.{try-free, try-on, front-free, front-most}
 use Rattle.paths.proofs.Send.{helix-answers, fixed-answers}
-use Rattle.table.specs.Layout.{dimensionAt, putReceiver}
-use Rattle.table.specs.View.{view, net, shapeOf, receive, lowestChannel}
+use Rattle.layout.specs.Layout.{dimensionAt}
+use Rattle.entries.specs.EntryContracts.{putReceiver}
+use Rattle.table.specs.TableContracts.{lowestChannel}
+use Rattle.table.specs.View.{view, net, shapeOf, receive}
 use Rattle.search.specs.PassAnswer.{freeIn, holdPath, pass-answer}
 use Rattle.search.specs.SendAnswer.{bytesAfterSend, answerOfOutcome, sendAnswer, searched, MaySend}
 use Rattle.search.specs.HelixContracts.{MayFollow, frontIn, freeAll, helixIn, FrontOf, triedIn, MayTryPaths, FirstFree}

@@ -16,10 +16,9 @@ use Rattle.cube.proofs.Order.{helical-keep, helical-mem, ports-mem, mem-ports}
 use Rattle.paths.specs.Pass.{PassResult}
 use Rattle.paths.specs.Search.{trying}
 use Rattle.paths.proofs.Depth.{trying-cons}
-use Rattle.table.specs.Layout.{enableBits}
-use Rattle.table.specs.LayoutContracts.{Within}
+use Rattle.entries.specs.EntryContracts.{enableBits, Within}
 use Rattle.table.specs.View.{View, view, receive, net}
-use Rattle.table.proofs.Entries.{enabled-has}
+use Rattle.layout.proofs.Entries.{enabled-has}
 use Rattle.search.specs.PassAnswer.{freeIn, answerOfPass, arrivalAfter}
 use Rattle.search.specs.SearchContracts.{Narrowed, tryAnswer}
 use Rattle.search.proofs.PassAnswer.{free-off}

@@ -21,10 +21,12 @@ use Rattle.paths.specs.Search.{hopOr, trying, arriving, holding}
 use Rattle.paths.proofs.Words.{free-link}
 use Rattle.paths.proofs.Depth.{trying-cons}
 use Rattle.paths.proofs.Cone.{trying-same, holding-after}
-use Rattle.table.specs.Layout.{entryPlace, linkPart, wordAt, putWord, putEntry, putOwner, ownerAt, entryAt}
-use Rattle.table.specs.LayoutContracts.{Within}
-use Rattle.table.specs.View.{View, view, heldIn, setAt, setOwner, receive, lowestChannel, available}
-use Rattle.table.proofs.Entries.{within}
+use Rattle.layout.specs.Layout.{entryPlace, linkPart, wordAt, ownerAt, entryAt}
+use Rattle.layout.specs.LayoutContracts.{putWord}
+use Rattle.entries.specs.EntryContracts.{putEntry, putOwner, Within}
+use Rattle.table.specs.TableContracts.{lowestChannel}
+use Rattle.table.specs.View.{View, view, heldIn, setAt, setOwner, receive, available}
+use Rattle.layout.proofs.Entries.{within}
 use Rattle.table.proofs.Views.{view-put-owner}
 use Rattle.search.specs.declared.LinkState as State
 use Rattle.search.specs.declared.LinkState.the-variants.{Free, Held, Blocked}

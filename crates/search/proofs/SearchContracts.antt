@@ -28,9 +28,10 @@ use Rattle.paths.specs.Pass.{PassResult, found, scouts}
 use Rattle.paths.proofs.CubeNetwork.{cube-nearing, one-link, cube-cubical, cube-leading, unfolded-vector}
 use Rattle.paths.specs.Bound.{waysFrom}
 use Rattle.paths.proofs.Bound.{arriving-sends, ways-more}
-use Rattle.table.specs.Layout.{dimensionAt, putOwner, putEntry, entryPlace, linkPart}
-use Rattle.table.specs.LayoutContracts.{Within}
-use Rattle.table.specs.View.{view, setOwner, receive, lowestChannel, net, shapeOf}
+use Rattle.layout.specs.Layout.{dimensionAt, entryPlace, linkPart}
+use Rattle.entries.specs.EntryContracts.{putOwner, putEntry, Within}
+use Rattle.table.specs.TableContracts.{lowestChannel}
+use Rattle.table.specs.View.{view, setOwner, receive, net, shapeOf}
 use Rattle.table.proofs.Views.{view-put-owner}
 use Rattle.search.specs.PassAnswer.{freeIn, PassAnswer, pass-answer, answerOfPass, arrivalAfter}
 use Rattle.search.specs.SearchContracts.{farthest, hopsLeft, farthestAfter, tryAnswer, arriveAnswer, Narrowed, SearchPre, MayTry, MayArrive}

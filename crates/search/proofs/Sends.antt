@@ -26,7 +26,8 @@ use Rattle.paths.proofs.CubeNetwork.{distance-within, unfolded-send-ports, scou
 use Rattle.paths.proofs.Send.{maze-answers, alternate-stops, alternate-goes-on}
 use Rattle.paths.specs.Bound.{waysFrom}
 use Rattle.paths.proofs.Bound.{ways-more}
-use Rattle.table.specs.Layout.{dimensionAt, putReceiver}
+use Rattle.layout.specs.Layout.{dimensionAt}
+use Rattle.entries.specs.EntryContracts.{putReceiver}
 use Rattle.table.specs.View.{View, view, receive, available, net, shapeOf}
 use Rattle.table.proofs.Made.{ones}
 use Rattle.table.proofs.Receives.{chosen}

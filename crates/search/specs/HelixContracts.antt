@@ -11,7 +11,7 @@ use Rattle.cube.specs.Helical.{noPort}
 use Rattle.paths.specs.Pass.{PassResult, none, found}
 use Rattle.paths.specs.Helix.{helixPath, freeFront, tryPaths}
 use Rattle.paths.specs.CubeNetwork.{sendPorts}
-use Rattle.table.specs.Layout.{tableLength, dimensionAt}
+use Rattle.layout.specs.Layout.{tableLength, dimensionAt}
 use Rattle.table.specs.View.{view, net, shapeOf}
 use Rattle.search.specs.PassAnswer.{freeIn}
 

@@ -11,7 +11,7 @@ use Rattle.search.specs.declared.LinkState.the-variants.{Free, Held, Blo
 use Rattle.paths.specs.Pass.{PassResult, none, found}
 use Rattle.paths.specs.Search.{arriving}
 use Rattle.paths.specs.Send.{Receive, channel, none-available}
-use Rattle.table.specs.Layout.{putOwner}
+use Rattle.entries.specs.EntryContracts.{putOwner}
 use Rattle.table.specs.View.{View, heldIn}
 
 -- what a table shows of a link: free, held or blocked

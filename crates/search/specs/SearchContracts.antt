@@ -12,7 +12,7 @@ use Rattle.cube.specs.Helical.{helical, portsOf}
 use Rattle.paths.specs.Network.{Network}
 use Rattle.paths.specs.Bound.{waysFrom}
 use Rattle.paths.specs.Search.{trying, arriving}
-use Rattle.table.specs.Layout.{tableLength, dimensionAt, portCount}
+use Rattle.layout.specs.Layout.{tableLength, dimensionAt, portCount}
 use Rattle.table.specs.View.{View, view, receive, net}
 use Rattle.search.specs.PassAnswer.{freeIn, PassAnswer, answerOfPass, arrivalAfter}
 

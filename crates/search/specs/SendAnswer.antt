@@ -9,7 +9,8 @@ use lib.ListN.{length}
 use Rattle.paths.specs.Send.{Outcome, acknowledged, route-rejected, receive-rejected, SendResult}
 use Rattle.paths.specs.Waiting.{someAttempt}
 use Rattle.paths.specs.CubeNetwork.{attempts, send}
-use Rattle.table.specs.Layout.{tableLength, dimensionAt, putReceiver}
+use Rattle.layout.specs.Layout.{tableLength, dimensionAt}
+use Rattle.entries.specs.EntryContracts.{putReceiver}
 use Rattle.table.specs.View.{View, view, receive, net, shapeOf}
 use Rattle.search.specs.PassAnswer.{freeIn, holdPath, PassAnswer, pass-answer}
 

@@ -1,7 +1,7 @@
 // The search for a free permitted path on a lent table.
 ghost use mathlib.Core.Path.{_≡_};
 ghost use mathlib.Core.Logic.{_≢_};
-ghost use Rattle.table.specs.LayoutContracts.{Within};
+ghost use Rattle.entries.specs.EntryContracts.{Within};
 ghost use Rattle.table.specs.View.{view};
 ghost use Rattle.cube.specs.Helical.{FirstPorts};
 ghost use Rattle.search.specs.PassAnswer.{stateIn, stateOf, pass-answer};

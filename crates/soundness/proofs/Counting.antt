@@ -22,7 +22,7 @@ use Rattle.paths.specs.CubeNetwork.{network, ports, circuitCount}
 use Rattle.paths.proofs.Apart.{permitted-inside}
 use Rattle.paths.proofs.CubeNetwork.{unfolded-port, cube-nearing}
 use Rattle.paths.proofs.Links.{On, on-first, link-true, true-link, permitted-distinct}
-use Rattle.table.specs.LayoutContracts.{linkCount}
+use Rattle.table.specs.TableContracts.{linkCount}
 use Rattle.table.specs.View.{View, shapeOf, net, heldBy}
 use Rattle.soundness.specs.Sound.{endFor, CircuitSound, Sound}
 use Rattle.soundness.specs.Marks.{marked, Seen}

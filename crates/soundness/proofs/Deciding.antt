@@ -26,10 +26,11 @@ use Rattle.paths.proofs.Apart.{permitted-inside}
 use Rattle.paths.proofs.Sentences.{permitted-end}
 use Rattle.paths.proofs.CubeNetwork.{unfolded-port}
 use Rattle.paths.proofs.Links.{On}
-use Rattle.table.specs.Layout.{dimensionAt, enableBits, enablePlace, receiverAt, armedAt, armBits, armPlace, armPart}
-use Rattle.table.specs.LayoutContracts.{linkCount, enableLimit, EnablesFit, ArmsFit}
+use Rattle.layout.specs.Layout.{dimensionAt, enablePlace, receiverAt, armedAt, armPlace, armPart}
+use Rattle.entries.specs.EntryContracts.{enableBits, armBits}
+use Rattle.table.specs.TableContracts.{linkCount, enableLimit, EnablesFit, ArmsFit}
 use Rattle.table.specs.View.{View, view, shapeOf, net, heldBy}
-use Rattle.table.proofs.Entries.{enabled-has, mask-has}
+use Rattle.layout.proofs.Entries.{enabled-has, mask-has}
 use Rattle.soundness.specs.Sound.{endFor, CircuitSound, Nowhere, Sound}
 use Rattle.soundness.specs.SoundTest.{soundTest}
 use Rattle.soundness.specs.Counting.{Earlier, ReceivedBefore, Standing, Counting, Counts, Frees}

@@ -24,8 +24,9 @@ use Rattle.paths.specs.CubeNetwork.{network}
 use Rattle.paths.specs.Recover.{walkFrom, firstHopChoices, pathOfLinks}
 use Rattle.paths.proofs.CubeNetwork.{unfolded-ports}
 use Rattle.paths.proofs.Walks.{walk-fuel}
-use Rattle.table.specs.Layout.{dimensionAt}
-use Rattle.table.specs.LayoutContracts.{Within, HeldBy}
+use Rattle.layout.specs.Layout.{dimensionAt}
+use Rattle.entries.specs.EntryContracts.{Within}
+use Rattle.table.specs.TableContracts.{HeldBy}
 use Rattle.table.specs.View.{View, view, shapeOf, net, heldBy}
 use Rattle.soundness.specs.SoundTest.{pathOf, isEmpty}
 use Rattle.soundness.specs.Follow.{takes, followed, firstHop, HasSource}

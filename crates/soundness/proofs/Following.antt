@@ -26,9 +26,9 @@ use Rattle.paths.proofs.Apart.{LaterApart, apart-permitted, permitted-inside}
 use Rattle.paths.proofs.CubeNetwork.{unfolded-port}
 use Rattle.paths.proofs.Links.{On, on-cases, on-first, on-later}
 use Rattle.paths.proofs.Walks.{path-owned, path-apart}
-use Rattle.table.specs.Layout.{dimensionAt}
-use Rattle.table.specs.LayoutContracts.{HeldBy}
-use Rattle.table.specs.View.{View, view, shapeOf, net, heldBy, linksHeld}
+use Rattle.layout.specs.Layout.{dimensionAt}
+use Rattle.table.specs.TableContracts.{HeldBy, linksHeld}
+use Rattle.table.specs.View.{View, view, shapeOf, net, heldBy}
 use Rattle.soundness.specs.Sound.{endFor, CircuitSound}
 use Rattle.soundness.specs.SoundTest.{pathOf, isEmpty}
 use Rattle.soundness.specs.Marks.{withMarks, Seen}

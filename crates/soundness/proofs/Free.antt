@@ -14,8 +14,8 @@ use Rattle.common.specs.Lists.{keep, from}
 use Rattle.common.proofs.From.{count-yes, length-from}
 use Rattle.common.proofs.Lists.{length-keep}
 use Rattle.common.proofs.Tests.{below-or}
-use Rattle.table.specs.Layout.{ownerAt}
-use Rattle.table.specs.LayoutContracts.{linkCount, freeCount}
+use Rattle.layout.specs.Layout.{ownerAt}
+use Rattle.table.specs.TableContracts.{linkCount, freeCount}
 use Rattle.table.specs.View.{View, view, heldBy}
 use Rattle.soundness.specs.Sound.{Sound}
 use Rattle.soundness.specs.Counting.{Frees}

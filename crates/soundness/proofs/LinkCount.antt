@@ -15,7 +15,7 @@ use Rattle.common.proofs.Lists.{keep-yes, keep-no, keep-append, keep-same, keep
 use Rattle.common.proofs.From.{from-mem, mem-from, from-below, from-split, length-from}
 use Rattle.common.proofs.Tests.{same?, clash, is-false, both, and, or-right}
 use Rattle.paths.specs.Network.{Link, hasLink}
-use Rattle.table.specs.LayoutContracts.{linkCount}
+use Rattle.table.specs.TableContracts.{linkCount}
 
 module _ {A : Type 0} (f g : A → Bool) where
   -- a test that passes where another does passes as often or more

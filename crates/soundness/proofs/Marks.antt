@@ -16,7 +16,7 @@ use Rattle.common.proofs.Tests.{same?, clash, both, and, either, or-left, or-ri
 use Rattle.cube.specs.Bits.{has}
 use Rattle.cube.specs.Cube.{sourceOf}
 use Rattle.cube.proofs.Bits.{has-and, has-or, no-ports, zero-has}
-use Rattle.table.specs.LayoutContracts.{HeldBy}
+use Rattle.table.specs.TableContracts.{HeldBy}
 use Rattle.table.specs.View.{View, view, heldBy}
 use Rattle.soundness.specs.Marks.{marked, withMarks, Seen}
 

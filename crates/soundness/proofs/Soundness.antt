@@ -22,8 +22,9 @@ use Rattle.paths.proofs.Links.{On, link-true, true-link}
 use Rattle.paths.proofs.Apart.{apart-permitted}
 use Rattle.paths.proofs.Recover.{path-found}
 use Rattle.paths.proofs.Walks.{path-owned, path-apart}
-use Rattle.table.specs.Layout.{inTable}
-use Rattle.table.specs.View.{View, fresh, channelsHeld, shapeOf, net, heldBy}
+use Rattle.layout.specs.Layout.{inTable}
+use Rattle.table.specs.View.{View, fresh, shapeOf, net, heldBy}
+use Rattle.table.specs.TableContracts.{channelsHeld}
 use Rattle.paths.specs.CubeNetwork.{ports}
 use Rattle.soundness.specs.Sound.{endFor, CircuitSound, Nowhere, Sound}
 use Rattle.soundness.specs.SoundTest.{pathOf, isEmpty, reaches, linkTest, receiveTest, onPathOf}

@@ -17,7 +17,7 @@ use Rattle.cube.proofs.Axes.{next-inside}
 use Rattle.cube.proofs.Ports.{without-power}
 use Rattle.paths.specs.Network.{Network, Path, takeFirst}
 use Rattle.paths.specs.Recover.{dropAxis, walkFrom}
-use Rattle.table.specs.Layout.{dimensionAt}
+use Rattle.layout.specs.Layout.{dimensionAt}
 use Rattle.table.specs.View.{View, view}
 use Rattle.soundness.specs.SoundTest.{pathOf, isEmpty, tracedInto}
 use Rattle.soundness.specs.Follow.{takes, followed, firstHop, HasSource}

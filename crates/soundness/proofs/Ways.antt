@@ -26,9 +26,9 @@ use Rattle.paths.specs.Permitted.{Onward}
 use Rattle.paths.specs.CubeNetwork.{network, ports}
 use Rattle.paths.proofs.CubeNetwork.{offered-port, port-offered, unfolded-port, cube-nearing}
 use Rattle.paths.proofs.Links.{On, on-cases, on-first, on-later, on-none, onward-past}
-use Rattle.table.specs.Layout.{dimensionAt}
-use Rattle.table.specs.LayoutContracts.{HeldBy}
-use Rattle.table.specs.View.{View, view, shapeOf, net, heldBy, linksHeld}
+use Rattle.layout.specs.Layout.{dimensionAt}
+use Rattle.table.specs.TableContracts.{HeldBy, linksHeld}
+use Rattle.table.specs.View.{View, view, shapeOf, net, heldBy}
 use Rattle.soundness.specs.Counting.{Sole, SoleWay, Walks}
 use Rattle.soundness.proofs.Soundness.{kept-one, one-kept}
 

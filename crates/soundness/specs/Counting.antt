@@ -13,8 +13,8 @@ use Rattle.cube.specs.Cube.{channels, next, sourceOf}
 use Rattle.paths.specs.Network.{Path, Exactly, end, links, offered}
 use Rattle.paths.specs.Permitted.{Permitted}
 use Rattle.paths.specs.CubeNetwork.{ports, circuitCount}
-use Rattle.table.specs.Layout.{tableLength, portCount, dimensionAt}
-use Rattle.table.specs.LayoutContracts.{linkCount}
+use Rattle.layout.specs.Layout.{tableLength, portCount, dimensionAt}
+use Rattle.table.specs.TableContracts.{linkCount}
 use Rattle.table.specs.View.{View, shapeOf, net, heldBy}
 use Rattle.soundness.specs.Sound.{endFor, CircuitSound, Sound}
 use Rattle.soundness.specs.Marks.{marked, Seen}

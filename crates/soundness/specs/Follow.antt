@@ -10,7 +10,7 @@ use Rattle.cube.specs.Cube.{next, sourceOf}
 use Rattle.cube.specs.Helical.{portsOf, firstOr, noPort}
 use Rattle.paths.specs.Network.{Path}
 use Rattle.paths.specs.Recover.{walkFrom, firstHopChoices}
-use Rattle.table.specs.Layout.{tableLength, dimensionAt, portCount}
+use Rattle.layout.specs.Layout.{tableLength, dimensionAt, portCount}
 use Rattle.table.specs.View.{View, net, heldBy}
 
 -- port p is in the vector, and circuit c holds the link out of it

@@ -9,7 +9,7 @@ use lib.ListN.{getD, set}
 use lib.Bits.{bitOr}
 use Rattle.cube.specs.Bits.{has}
 use Rattle.cube.specs.Cube.{sourceOf}
-use Rattle.table.specs.Layout.{portCount}
+use Rattle.layout.specs.Layout.{portCount}
 use Rattle.table.specs.View.{View, heldBy}
 
 -- a byte for each of 256 nodes

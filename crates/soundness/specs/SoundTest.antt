@@ -12,8 +12,9 @@ use Rattle.common.specs.Tests.{Test, test}
 use Rattle.cube.specs.Cube.{largestDimension, channels, sourceOf}
 use Rattle.paths.specs.Network.{Path, links, hasLink}
 use Rattle.paths.specs.Recover.{pathOfLinks}
-use Rattle.table.specs.Layout.{tableLength, portCount, dimensionAt}
-use Rattle.table.specs.View.{View, view, channelsHeld, shapeOf, net, heldBy}
+use Rattle.layout.specs.Layout.{tableLength, portCount, dimensionAt}
+use Rattle.table.specs.View.{View, view, shapeOf, net, heldBy}
+use Rattle.table.specs.TableContracts.{channelsHeld}
 use Rattle.soundness.specs.Sound.{endFor}
 use Rattle.paths.specs.CubeNetwork.{isNode, isLinkOf, circuitCount}
 

@@ -5,8 +5,8 @@ use mathlib.Core.List.{List}
 use Prim.Native.Nat.{ℕ, _^_, _≤_, _<_}
 use lib.ListN.{length}
 use Rattle.common.specs.Tests.{refusal}
-use Rattle.table.specs.Layout.{tableLength, dimensionAt}
-use Rattle.table.specs.LayoutContracts.{ArmsFit}
+use Rattle.layout.specs.Layout.{tableLength, dimensionAt}
+use Rattle.table.specs.TableContracts.{ArmsFit}
 use Rattle.table.specs.View.{view}
 use Rattle.soundness.specs.Sound.{Sound}
 use Rattle.soundness.specs.Marks.{markCount}

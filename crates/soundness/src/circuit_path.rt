@@ -4,7 +4,7 @@ ghost use mathlib.Core.Bool.{true, cond, not};
 ghost use lib.Dec.{ltb};
 ghost use Prim.Native.Nat.{_≤_, _<_};
 ghost use lib.ListN.{length};
-ghost use Rattle.table.specs.LayoutContracts.{Within};
+ghost use Rattle.entries.specs.EntryContracts.{Within};
 ghost use Rattle.common.specs.Lists.{lowest};
 ghost use Rattle.table.specs.View.{view, heldBy};
 ghost use Rattle.soundness.specs.SoundTest.{pathOf, isEmpty, tracedInto};

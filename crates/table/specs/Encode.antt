@@ -1,12 +1,12 @@
--- The bytes of a table that shows a given view: the parts of its layout, one after another.
+-- The bytes of a table that shows a given view, the parts of its layout one after another; and those of a made table.
 -- Assumes nothing.
 use mathlib.Core.Bool.{Bool, false, cond}
 use mathlib.Core.List.{List, [], _∷_, _++_, map}
 use mathlib.Core.Path.{_≡_}
-use Prim.Native.Nat.{ℕ, zero, suc, _+_, _/_, _%_, _^_, _<_}
-use lib.ListN.{length, getD}
+use Prim.Native.Nat.{ℕ, zero, suc, _+_, _-_, _/_, _%_, _^_, _<_}
+use lib.ListN.{length, getD, replicate}
 use Rattle.common.specs.Lists.{from}
-use Rattle.table.specs.Layout.{tableLength, portCount, inTable}
+use Rattle.layout.specs.Layout.{tableLength, portCount, inTable}
 use Rattle.table.specs.View.{View}
 
 -- a byte with bit p set where a test passes, for the w bits from p on
@@ -29,6 +29,11 @@ entryBytes f i (suc k) = f (i / 8) (i % 8) % 256 ∷ f (i / 8) (i % 8) / 256 ∷
 -- 1 byte, 256 bytes, 4,096 bytes, 4,096 bytes and 256 bytes
 unfoldable pub encode : View → List ℕ
 encode v = v .dimension ∷ maskBytes (v .enabled) ++ entryBytes (v .owner) 0 2048 ++ entryBytes (v .receiver) 0 2048 ++ maskBytes (v .armed)
+
+-- "Making a table gives dimension D, all its links enabled, nothing held", and "A made table has none armed": D, the D bits of each of its 2^D nodes,
+-- and nothing else
+unfoldable pub made : ℕ → List ℕ
+made D = D ∷ replicate (2 ^ D) (2 ^ D - 1) ++ replicate (tableLength - 1 - 2 ^ D) 0
 
 -- every number of a list is a byte
 abbrev pub AllBytes : List ℕ → Type 0

@@ -4,7 +4,7 @@ use mathlib.Core.Path.{_≡_, sym, subst, ap, _∙_}
 use Prim.Native.Nat.{ℕ, _^_, _<_}
 use native.Mathlib.Omega.{arith}
 use lib.Dec.{lit<}
-use Rattle.table.specs.LayoutContracts.{HeldBy}
+use Rattle.table.specs.TableContracts.{HeldBy}
 use Rattle.soundness.proofs.Ways.{shown}
 use Rattle.soundness.proofs.Following.{nodes-most, vector-inside, taken-none}
 use borrow.Author.Needs.{needs}

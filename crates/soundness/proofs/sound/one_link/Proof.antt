@@ -3,7 +3,7 @@
 use mathlib.Core.Path.{_≡_, sym, subst, _∙_}
 use Prim.Native.Nat.{ℕ, _<_}
 use native.Mathlib.Omega.{arith}
-use Rattle.table.specs.LayoutContracts.{HeldBy}
+use Rattle.table.specs.TableContracts.{HeldBy}
 use Rattle.soundness.proofs.Following.{source-small, source-held, one-link, one-followed, taken-new, taken-seen, taken-none}
 use borrow.Author.Needs.{needs}
 use Rattle.soundness.proofs.sound.one_link.Statement.{statement}

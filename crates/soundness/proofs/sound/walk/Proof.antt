@@ -5,7 +5,7 @@ use Prim.Native.Nat.{ℕ, _+_, _^_, _≤_, _<_}
 use native.Mathlib.Omega.{arith}
 use lib.Dec.{lit<}
 use Rattle.cube.proofs.Ports.{below-256}
-use Rattle.table.specs.Layout.{dimensionAt}
+use Rattle.layout.specs.Layout.{dimensionAt}
 use Rattle.table.specs.View.{view, net}
 use Rattle.soundness.specs.Counting.{Walks}
 use Rattle.soundness.proofs.Ways.{walks-here, walks-several, walks-flat, walks-on, Turn, turn, distance-most, shown}
