@@ -30,8 +30,9 @@ use Rattle.table.specs.View.{view, net, shapeOf, receive, lowestChannel}
 use Rattle.search.specs.PassAnswer.{freeIn, holdPath, pass-answer}
 use Rattle.search.specs.SendAnswer.{bytesAfterSend, answerOfOutcome, sendAnswer, searched, MaySend}
 use Rattle.search.specs.HelixContracts.{MayFollow, frontIn, freeAll, helixIn, FrontOf, triedIn, MayTryPaths, FirstFree}
+use Rattle.search.proofs.PassAnswer.{receive-small}
 use Rattle.search.proofs.SearchContracts.{port-tried, low-port}
-use Rattle.search.proofs.Sends.{ports-in-turn, receive-small}
+use Rattle.search.proofs.Sends.{ports-in-turn}
 
 -- what trying the helix paths of some ports comes to, after some scouts
 abbrev triedAfter : List ℕ → ℕ → ℕ → ℕ → List ℕ → PassResult

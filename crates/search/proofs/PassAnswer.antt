@@ -24,6 +24,7 @@ use Rattle.paths.proofs.Cone.{trying-same, holding-after}
 use Rattle.table.specs.Layout.{entryPlace, linkPart, wordAt, putWord, putEntry, putOwner, ownerAt, entryAt}
 use Rattle.table.specs.LayoutContracts.{Within}
 use Rattle.table.specs.View.{View, view, heldIn, setAt, setOwner, receive, lowestChannel, available}
+use Rattle.table.proofs.Receives.{chosen}
 use Rattle.table.proofs.Entries.{within}
 use Rattle.table.proofs.Views.{view-put-owner}
 use Rattle.search.specs.declared.LinkState as State
@@ -182,14 +183,7 @@ module _ (free : ℕ → Bool) (on : ℕ → ℕ → PassResult) (b : List ℕ) 
       go (channel k) (found w d) z = absurd (ten≢zero (unfold answerOfPass refusedOf in ap refusedOf z))
       go none-available (found w d) z = absurd (ten≢eleven (unfold answerOfPass refusedOf in ap refusedOf z))
 
--- an answer is an acknowledgement or one of the two rejections
-pub three-answers : (b : List ℕ) (c n h : ℕ) (r : Receive) (a : PassResult) (x k hops s : ℕ) (b′ : List ℕ) → pass-answer x hops k s b′ ≡ answerOfPass b c n h r a → x ≢ 0 → x ≢ 11 → x ≡ 10
-unfolding answerOfPass refusedOf
-three-answers b c n h r (none d) x k hops s b′ e f g = ap refusedOf e
-three-answers b c n h (channel j) (found w d) x k hops s b′ e f g = absurd (f (ap refusedOf e))
-three-answers b c n h none-available (found w d) x k hops s b′ e f g = absurd (g (ap refusedOf e))
-
--- its scouts are those of the pass
+-- the scouts of an answer are those of the pass
 pub answer-scouts : (b : List ℕ) (c n h : ℕ) (r : Receive) (a : PassResult) (x k hops s : ℕ) (b′ : List ℕ) → pass-answer x hops k s b′ ≡ answerOfPass b c n h r a → s ≡ scouts a
 unfolding answerOfPass scoutsOf scouts
 answer-scouts b c n h r (none d) x k hops s b′ e = ap scoutsOf e
@@ -224,6 +218,14 @@ module _ (N : Network) (free : ℕ → ℕ → Bool) (t n a s : ℕ) where
           unfold arriving in rw (ne-eqb n t h)
           (trying-same (helical a (offered N t n)) (λ p m. refl)
           (λ p m d. let q : N .distance t (N .next n p) ≡ k = omega (arith, near .nearer n p (helical-mem a _ m)) in ap (λ j. arriving j N free t (N .next n p) p d) q) s)
+
+-- the receive channel that a target takes is one of its eight
+pub receive-small : (v : View) (t k : ℕ) → receive v t ≡ channel k → k < 8
+unfolding receive
+receive-small v t k e = chosen (available v t) k e .0
+
+pub lowest-small : (v : View) (n : ℕ) {k : ℕ} → k ≡ lowestChannel v n → k ≢ 8 → k < 8
+lowest-small v n {k} low g = receive-small v n k (unfold receive lowestOf lowestChannel in rw (← low, ne-eqb k 8 g))
 
 module _ (v : View) (b : List ℕ) (c n h s : ℕ) {k : ℕ} (low : k ≡ lowestChannel v n) where
   pub target-receives : k ≢ 8 → pass-answer 0 h k s b ≡ answerOfPass b c n h (receive v n) (found [] s)

@@ -29,10 +29,10 @@ use Rattle.paths.proofs.Bound.{ways-more}
 use Rattle.table.specs.Layout.{dimensionAt, putReceiver}
 use Rattle.table.specs.View.{View, view, receive, available, net, shapeOf}
 use Rattle.table.proofs.Made.{ones}
-use Rattle.table.proofs.Receives.{chosen}
 use Rattle.search.specs.PassAnswer.{freeIn, holdPath, pass-answer, answerOfPass, arrivalAfter}
 use Rattle.search.specs.SearchContracts.{farthestAfter, tryAnswer, Narrowed, MayTry}
 use Rattle.search.specs.SendAnswer.{bytesAfterSend, answerOfOutcome, sendAnswer, searched, MaySend}
+use Rattle.search.proofs.PassAnswer.{receive-small}
 use Rattle.search.proofs.Narrow.{narrow-tries}
 use Rattle.search.proofs.SearchContracts.{farthest-most}
 
@@ -71,11 +71,6 @@ module _ {b : List ℕ} {s t c vector : ℕ} (may : MaySend b s t c vector) wher
         hops = omega (arith, near);
         room = omega (arith, all, more, most);
       }
-
--- the receive channel that a target takes is one of its eight
-pub receive-small : (v : View) (t k : ℕ) → receive v t ≡ channel k → k < 8
-unfolding receive
-receive-small v t k e = chosen (available v t) k e .0
 
 -- The answer of a pass that was acknowledged, with the receive channel taken; and of one that was not.
 module _ (b : List ℕ) (c s t : ℕ) (r : Receive) where

@@ -31,7 +31,8 @@ fn free_front(t: &[u8], source: Node, target: Node, port: Port, first: &[u8; 204
     let mut p = port;
     let mut hops: u16 = 0;
     loop {
-        let state = crate::link_state(t, at, p);
+        let enabled = table::enabled(t, at, p);
+        let state = crate::link_state(t, at, p, enabled);
         match state {
             LinkState::Free => {}
             LinkState::Held => return Front { hops, whole: false },

@@ -1,11 +1,12 @@
 // The search for a free permitted path on a lent table.
 ghost use mathlib.Core.Path.{_≡_};
 ghost use mathlib.Core.Logic.{_≢_};
+ghost use Prim.Native.Nat.{_+_, _*_};
 ghost use Rattle.table.specs.LayoutContracts.{Within};
 ghost use Rattle.table.specs.View.{view};
 ghost use Rattle.cube.specs.Helical.{FirstPorts};
 ghost use Rattle.search.specs.PassAnswer.{stateIn, stateOf, pass-answer};
-ghost use Rattle.search.specs.SearchContracts.{Narrowed, tryAnswer, arriveAnswer, MayTry, MayArrive};
+ghost use Rattle.search.specs.SearchContracts.{Narrowed, Enabled, Packed, Unpacked, tryAnswer, arriveAnswer, MayTry, MayArrive};
 ghost use Rattle.search.specs.SendAnswer.{MaySend, searched, sends};
 
 mod helix;
@@ -18,7 +19,7 @@ use cube::Port;
 // The ports of a vector that are enabled at a node: no scout leaves by another.
 fn enabled_ports(t: &[u8], n: Node, vector: u16) -> u16
     requires { ⌜ Within (now t) (n .0) 0 ⌝ }
-    ensures { λ r. ⌜ Narrowed (view (now (t .entry))) (n .0) vector r ⌝ }
+    ensures { λ r. ⌜ Narrowed (view (now (t .entry))) (n .0) vector r × Enabled (view (now (t .entry))) (n .0) r ⌝ }
 {
     vector & table::enable_bits(t, n)
 }
@@ -30,12 +31,13 @@ pub enum LinkState {
     Blocked,
 }
 
-// The state of a link. Every hop of every search asks this.
-fn link_state(t: &[u8], n: Node, p: Port) -> LinkState
+// The state of a link, where it is known whether it is enabled. Every hop of every search asks this.
+fn link_state(t: &[u8], n: Node, p: Port, enabled: bool) -> LinkState
     requires { ⌜ Within (now t) (n .0) (p .0) ⌝ }
+    requires { ⌜ enabled ≡ view (now t) .enabled (n .0) (p .0) ⌝ }
     ensures { λ r. ⌜ stateOf r ≡ stateIn (view (now (t .entry))) (n .0) (p .0) ⌝ }
 {
-    if table::enabled(t, n, p) {
+    if enabled {
         if table::owner(t, n, p).0 == 0 {
             LinkState::Free
         } else {
@@ -55,7 +57,52 @@ pub struct Opened {
     pub scouts: u32,
 }
 
-// A node tries the ports of a vector. With none it rejects at once, as many do in a search that finds no path.
+// A pass's answer in one number, so that it goes back from hop to hop in a register: the scouts sent, where no path is free; NO_CHANNEL more, where one is but no
+// receive channel; and where it is acknowledged, ACKNOWLEDGED more, and NO_CHANNEL times 8 * hops + receive channel.
+const NO_CHANNEL: u64 = 4294967296;
+const ACKNOWLEDGED: u64 = 8589934592;
+
+// The number of an acknowledgement.
+fn acknowledged(hops: u16, receive: u16, scouts: u32) -> u64
+    ensures { λ r. ⌜ r ≡ 8589934592 + scouts + 4294967296 * (8 * hops + receive) ⌝ }
+{
+    let place = 8 * (hops as u64) + receive as u64;
+    ACKNOWLEDGED + scouts as u64 + NO_CHANNEL * place
+}
+
+// The parts of that number.
+fn unpacked(answer: u64) -> Opened
+    ensures { λ r. ⌜ Unpacked answer (r .number) (r .hops) (r .receive) (r .scouts) ⌝ }
+{
+    let scouts = (answer % NO_CHANNEL) as u32;
+    if answer < NO_CHANNEL {
+        return Opened {
+            number: refusal::ROUTE_REJECTED,
+            hops: 0,
+            receive: 0,
+            scouts,
+        };
+    }
+    if answer < ACKNOWLEDGED {
+        return Opened {
+            number: refusal::RECEIVE_REJECTED,
+            hops: 0,
+            receive: 0,
+            scouts,
+        };
+    }
+    let place = answer / NO_CHANNEL - 2;
+    let hops = (place / 8 % 65536) as u16;
+    let receive = (place % 8) as u16;
+    Opened {
+        number: refusal::ACCEPTED,
+        hops,
+        receive,
+        scouts,
+    }
+}
+
+// A node tries the ports of a vector, all of them enabled. With none it rejects at once, as many do in a search that finds no path.
 fn try_ports(
     t: &mut [u8],
     at: Node,
@@ -66,18 +113,14 @@ fn try_ports(
     hops: u16,
     scouts: u32,
     first: &[u8; 2048],
-) -> Opened
+) -> u64
     requires { ⌜ FirstPorts (now first) ⌝ }
     requires { ⌜ MayTry (now t) (target .0) (c .0) (at .0) vector (arrival .0) hops scouts ⌝ }
-    ensures { λ r. ⌜ pass-answer (r .number) (r .hops) (r .receive) (r .scouts) (now (t .exit)) ≡ tryAnswer (now (t .entry)) (target .0) (c .0) (at .0) vector (arrival .0) hops scouts ⌝ }
+    requires { ⌜ Enabled (view (now t)) (at .0) vector ⌝ }
+    ensures { λ r. ⌜ Packed r (now (t .exit)) (tryAnswer (now (t .entry)) (target .0) (c .0) (at .0) vector (arrival .0) hops scouts) ⌝ }
 {
     if vector == 0 {
-        return Opened {
-            number: refusal::ROUTE_REJECTED,
-            hops: 0,
-            receive: 0,
-            scouts,
-        };
+        return scouts as u64;
     }
     try_in_turn(t, at, target, c, vector, arrival, hops, scouts, first)
 }
@@ -94,17 +137,18 @@ fn try_in_turn(
     hops: u16,
     scouts: u32,
     first: &[u8; 2048],
-) -> Opened
+) -> u64
     requires { ⌜ FirstPorts (now first) ⌝ }
     requires { ⌜ MayTry (now t) (target .0) (c .0) (at .0) vector (arrival .0) hops scouts ⌝ }
-    ensures { λ r. ⌜ pass-answer (r .number) (r .hops) (r .receive) (r .scouts) (now (t .exit)) ≡ tryAnswer (now (t .entry)) (target .0) (c .0) (at .0) vector (arrival .0) hops scouts ⌝ }
+    requires { ⌜ Enabled (view (now t)) (at .0) vector ⌝ }
+    ensures { λ r. ⌜ Packed r (now (t .exit)) (tryAnswer (now (t .entry)) (target .0) (c .0) (at .0) vector (arrival .0) hops scouts) ⌝ }
 {
     let mut left = vector;
     let mut sent = scouts;
     while left != 0 {
         let p = cube::first_port(first, left, arrival);
         left = cube::without(left, p);
-        let state = link_state(t, at, p);
+        let state = link_state(t, at, p, true);
         match state {
             LinkState::Free => {
                 table::set_owner(t, at, p, c);
@@ -118,25 +162,20 @@ fn try_in_turn(
                     sent + 1,
                     first,
                 );
-                if got.number == refusal::ACCEPTED {
+                if got >= ACKNOWLEDGED {
                     return got;
                 }
                 table::set_owner(t, at, p, Circuit(0));
-                if got.number == refusal::RECEIVE_REJECTED {
+                if got >= NO_CHANNEL {
                     return got;
                 }
-                sent = got.scouts;
+                sent = got as u32;
             }
             LinkState::Held => {}
             LinkState::Blocked => {}
         }
     }
-    Opened {
-        number: refusal::ROUTE_REJECTED,
-        hops: 0,
-        receive: 0,
-        scouts: sent,
-    }
+    sent as u64
 }
 
 // A scout arrives: at the target, whose lowest receive channel that is armed and not held is answered, or at a node, which hands on to the trying of its
@@ -150,27 +189,17 @@ fn arrive(
     hops: u16,
     scouts: u32,
     first: &[u8; 2048],
-) -> Opened
+) -> u64
     requires { ⌜ FirstPorts (now first) ⌝ }
     requires { ⌜ MayArrive (now t) (target .0) (c .0) (at .0) (arrival .0) hops scouts ⌝ }
-    ensures { λ r. ⌜ pass-answer (r .number) (r .hops) (r .receive) (r .scouts) (now (t .exit)) ≡ arriveAnswer (now (t .entry)) (target .0) (c .0) (at .0) (arrival .0) hops scouts ⌝ }
+    ensures { λ r. ⌜ Packed r (now (t .exit)) (arriveAnswer (now (t .entry)) (target .0) (c .0) (at .0) (arrival .0) hops scouts) ⌝ }
 {
     if at.0 == target.0 {
         let receive = table::free_channel(t, at);
         if receive == 8 {
-            Opened {
-                number: refusal::RECEIVE_REJECTED,
-                hops: 0,
-                receive: 0,
-                scouts,
-            }
+            NO_CHANNEL + scouts as u64
         } else {
-            Opened {
-                number: refusal::ACCEPTED,
-                hops,
-                receive,
-                scouts,
-            }
+            acknowledged(hops, receive, scouts)
         }
     } else {
         let vector = enabled_ports(t, at, cube::uphill_vector(at, target));
@@ -193,7 +222,8 @@ fn maze(
     ensures { λ r. ⌜ pass-answer (r .number) (r .hops) (r .receive) (r .scouts) (now (t .exit)) ≡ searched (now (t .entry)) (source .0) (target .0) (c .0) 0 vector ⌝ }
 {
     let ports = enabled_ports(t, source, vector);
-    let got = try_in_turn(t, source, target, c, ports, Port(7), 0, 0, first);
+    let answer = try_in_turn(t, source, target, c, ports, Port(7), 0, 0, first);
+    let got = unpacked(answer);
     if got.number == refusal::ACCEPTED {
         table::set_receiver(t, target, got.receive, c);
     }

@@ -7,9 +7,6 @@ use Rattle.search.proofs.PassAnswer.{state-blocked, state-free, state-h
 use Rattle.search.proofs.link_state.Statement.{statement}
 use Rattle.search.proofs.link_state.Tie as tie
 
-enabled-requires : tie.Need-enabled-requires
-enabled-requires c κs = search needs
-
 owner-requires : tie.Need-owner-requires
 owner-requires c κs = search needs
 
@@ -17,23 +14,21 @@ returns : tie.Need-returns
 unfolding view
 returns c =
     let o = c .before .before in
-    let e = o .before in
-    let s = e .before .before .before in
-    state-free (view (s .args .t .now)) (s .args .n .0) (s .args .p .0) (sym (e .before .enabled .ensures) ∙ e .if1 .taken) (o .owner .ensures) (c .if2 .taken)
+    let s = o .before .before .before in
+    state-free (view (s .args .t .now)) (s .args .n .0) (s .args .p .0) (sym (s .pre .1) ∙ o .before .if1 .taken) (o .owner .ensures) (c .if2 .taken)
 
 returns-2 : tie.Need-returns-2
 unfolding view
 returns-2 c =
     let o = c .before .before in
-    let e = o .before in
-    let s = e .before .before .before in
-    state-held (view (s .args .t .now)) (s .args .n .0) (s .args .p .0) (sym (e .before .enabled .ensures) ∙ e .if1 .taken) (o .owner .ensures) (c .if2 .left)
+    let s = o .before .before .before in
+    state-held (view (s .args .t .now)) (s .args .n .0) (s .args .p .0) (sym (s .pre .1) ∙ o .before .if1 .taken) (o .owner .ensures) (c .if2 .left)
 
 returns-3 : tie.Need-returns-3
 unfolding view
 returns-3 c =
-    let s = c .before .before .before in
-    state-blocked (view (s .args .t .now)) (s .args .n .0) (s .args .p .0) (sym (c .before .enabled .ensures) ∙ c .if1 .left)
+    let s = c .before .before in
+    state-blocked (view (s .args .t .now)) (s .args .n .0) (s .args .p .0) (sym (s .pre .1) ∙ c .if1 .left)
 
 pub link-state-spec : {M : Type 1} → statement M
-link-state-spec = tie.close (tie.spec enabled-requires owner-requires returns returns-2 returns-3)
+link-state-spec = tie.close (tie.spec owner-requires returns returns-2 returns-3)
