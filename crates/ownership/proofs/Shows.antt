@@ -18,7 +18,7 @@ use Rattle.table.specs.View.{View, view, setReceiver, receive, shapeOf}
 use Rattle.table.proofs.Views.{view-put-owner, view-put-receiver}
 use Rattle.search.specs.PassAnswer.{freeIn, holdPath}
 use Rattle.search.specs.SendAnswer.{bytesAfterSend}
-use Rattle.search.proofs.Sends.{receive-small}
+use Rattle.search.proofs.PassAnswer.{receive-small}
 use Rattle.search.proofs.SearchContracts.{owner-length}
 use Rattle.ownership.specs.Update.{sendIn, holdLinks, viewAfterSend}
 use Rattle.ownership.proofs.Acknowledged.{send-taken}

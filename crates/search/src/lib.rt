@@ -300,7 +300,7 @@ pub fn send(
     requires { ⌜ vector ≢ 0 ⌝ }
     ensures { λ r. ⌜ pass-answer (r .number) (r .hops) (r .receive) (r .scouts) (now (t .exit)) ≡ sends (now (t .entry)) (source .0) (target .0) (c .0) routing vector ⌝ }
 {
-    let first = cube::first_ports();
+    let first = cube::FIRST_PORTS;
     let answer = search(t, source, target, c, routing, vector, &first);
     if answer.number != refusal::ROUTE_REJECTED {
         return answer;

@@ -1,15 +1,16 @@
 -- `search::send` meets its contract: the search of its type and, where that is route rejected, whether waiting helps.
 -- Assumes nothing.
+use mathlib.Core.Path.{refl}
+use Rattle.cube.specs.Helical.{firstPort}
+use Rattle.cube.proofs.Order.{table-of}
 use Rattle.search.proofs.Judged.{may-ask-after, judged-kept, judged-helps, judged-blocked}
 use borrow.Author.Needs.{needs}
 use Rattle.search.proofs.send.Statement.{statement}
 use Rattle.search.proofs.send.Tie as tie
 
-first-ports-requires : tie.Need-first-ports-requires
-first-ports-requires c κs = search needs
-
 search-requires : tie.Need-search-requires
-search-requires c κs = search needs
+unfolding firstPort
+search-requires c κs = let s = c .before .before .before in (table-of _ refl refl, s .pre)
 
 same-length : tie.Need-same-length
 same-length c = search needs
@@ -20,12 +21,12 @@ returns c =
     judged-kept _ _ _ _ _ _ (g .search .ensures) (c .if1 .taken)
 
 some-path-enabled-requires : tie.Need-some-path-enabled-requires
+unfolding firstPort
 some-path-enabled-requires c κs =
     let e = c .before .before in
     let g = e .before .before .before .before in
-    let f = g .before .before .before in
-    let s = f .before .before in
-    (f .first-ports .ensures, may-ask-after _ _ _ _ _ _ (g .search .ensures) (s .pre .0) (e .if1 .left))
+    let s = g .before .before .before .before in
+    (table-of _ refl refl, may-ask-after _ _ _ _ _ _ (g .search .ensures) (s .pre .0) (e .if1 .left))
 
 same-length-2 : tie.Need-same-length-2
 same-length-2 c = search needs
@@ -51,7 +52,6 @@ pub send-spec : {M : Type 1} → statement M
 send-spec =
     tie.close
     (tie.spec
-    first-ports-requires
     search-requires
     same-length
     returns
