@@ -20,9 +20,9 @@ use Rattle.table.specs.Layout.{enableBits}
 use Rattle.table.specs.LayoutContracts.{Within}
 use Rattle.table.specs.View.{View, view, receive, net}
 use Rattle.table.proofs.Entries.{enabled-has}
-use Rattle.search.specs.PassAnswer.{freeIn, answerOfPass, arrivalAfter}
+use Rattle.answers.specs.PassAnswer.{freeIn, answerOfPass, arrivalAfter}
 use Rattle.search.specs.SearchContracts.{Narrowed, Enabled, tryAnswer}
-use Rattle.search.proofs.PassAnswer.{free-off}
+use Rattle.answers.proofs.PassAnswer.{free-off}
 
 -- trying the ports of a list that pass a test, where those that do not pass are not free
 trying-kept : (f free : ℕ → Bool) (on : ℕ → ℕ → PassResult) (ps : List ℕ) → ((p : ℕ) → p ∈ ps → f p ≡ false → free p ≡ false) → (s : ℕ)

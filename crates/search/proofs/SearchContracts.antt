@@ -19,7 +19,7 @@ use Rattle.cube.specs.Bits.{has}
 use Rattle.cube.specs.Cube.{next, UphillVector, Without}
 use Rattle.cube.proofs.Bits.{high-has}
 use Rattle.cube.specs.Helical.{helical, portsOf, firstPort, FirstTried}
-use Rattle.cube.proofs.Order.{first-tried, mem-ports, ports-mem, length-helical, helical-mem, mem-helical, helical-zero}
+use Rattle.cube.proofs.Order.{byte-vector, port-tried, low-port, mem-ports, ports-mem, length-helical, helical-mem, mem-helical, helical-zero}
 use Rattle.cube.proofs.Axes.{next-inside}
 use Rattle.paths.specs.Network.{Network, offered}
 use Rattle.paths.specs.CubeNetwork.{network}
@@ -32,9 +32,9 @@ use Rattle.table.specs.Layout.{dimensionAt, putOwner, putEntry, entryPlace, lin
 use Rattle.table.specs.LayoutContracts.{Within}
 use Rattle.table.specs.View.{view, setOwner, receive, lowestChannel, net, shapeOf}
 use Rattle.table.proofs.Views.{view-put-owner}
-use Rattle.search.specs.PassAnswer.{freeIn, PassAnswer, pass-answer, answerOfPass, arrivalAfter}
-use Rattle.search.specs.SearchContracts.{farthest, hopsLeft, farthestAfter, answerIn, Packed, tryAnswer, arriveAnswer, Narrowed, Enabled, SearchPre, MayTry, MayArrive}
-use Rattle.search.proofs.PassAnswer.{at-target, arrives, target-receives, target-full, lowest-small, behind, receive-same, given-back, free-owner, port-busy, port-acknowledged, port-receive-rejected, port-route-rejected, answer-scouts, ports-over}
+use Rattle.answers.specs.PassAnswer.{freeIn, PassAnswer, pass-answer, answerOfPass, arrivalAfter, hopsLeft}
+use Rattle.search.specs.SearchContracts.{farthest, farthestAfter, answerIn, Packed, tryAnswer, arriveAnswer, Narrowed, Enabled, SearchPre, MayTry, MayArrive}
+use Rattle.answers.proofs.PassAnswer.{owner-length, at-target, arrives, target-receives, target-full, lowest-small, behind, receive-same, given-back, free-owner, port-busy, port-acknowledged, port-receive-rejected, port-route-rejected, answer-scouts, ports-over}
 use Rattle.search.proofs.PackedAnswer.{in-route, in-receive, in-acknowledged, of-receive, of-acknowledged}
 use Rattle.search.proofs.Narrow.{narrow-fewer, narrow-mem, narrow-tries}
 
@@ -69,11 +69,7 @@ unfolding waysFrom
 one-further m j zero h l = absurd (omega arith)
 one-further m j (suc k) h l = mul-le-mul l (let r = ways-more 1 j k (omega arith) in omega arith)
 
--- a hop held: as many bytes, the same cube
-pub owner-length : (b : List ℕ) (n p c : ℕ) → length (putOwner b n p c) ≡ length b
-unfolding putOwner putEntry
-owner-length b n p c = length-set (set b (entryPlace linkPart n p) (c % 256)) (entryPlace linkPart n p + 1) (c / 256) ∙ length-set b (entryPlace linkPart n p) (c % 256)
-
+-- a hop held: the same cube
 module _ (b : List ℕ) (n p c : ℕ) (w : Within b n p) (small : c < 65536) where
   pub held-dimension : dimensionAt (putOwner b n p c) ≡ dimensionAt b
   held-dimension = unfold view setOwner in ap (λ v. v .dimension) (view-put-owner b n p c w small)
@@ -93,22 +89,6 @@ handed-on b t c n p h s w small z e q =
     (ap₂ (λ N r. answerOfPass B c m (h + 1) r (arriving (N .distance t m) N (freeIn (view B)) t m p (s + 1))) (held-net b n p c w small) (receive-same (net (view b)) t near b n p c w small z t)
     ∙ ap (answerOfPass B c m (h + 1) (receive (view b) t))
     (ap (arriving (net (view b) .distance t m) (net (view b)) (freeIn (view B)) t m p) (add-one s) ∙ behind (net (view b)) t near b n p c w small z (net (view b) .distance t m) (suc s)))
-
--- a number of a cube of dimension 8 or less is a byte
-pub byte-vector : {D x : ℕ} → D ≤ 8 → x < 2 ^ D → x < 256
-byte-vector h l = lt-of-lt-of-le l (pow-mono h)
-
--- the port tried first
-pub port-tried : (D v a p : ℕ) → D ≤ 8 → v < 2 ^ D → v ≢ 0 → p ≡ firstPort v a → FirstTried 8 v a p
-unfolding firstPort
-port-tried D v a p h l z e = rw e (first-tried 8 8 v a (byte-vector h l) z)
-
-pub low-port : (D v p : ℕ) → v < 2 ^ D → has v p ≡ true → p < D
-low-port D v p l e = go (ltb p D) refl
-  where
-    go : (x : Bool) → ltb p D ≡ x → p < D
-    go true f = ltb-true p D f
-    go false f = absurd (clash e (high-has D v p l (ltb-false p D f)))
 
 -- what holds at each turn of the trying of ports: the bytes are those at the start, the ports left are ports of the vector, there is room for
 -- the scouts still to be sent, and what is left to do gives the whole

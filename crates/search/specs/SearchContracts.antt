@@ -14,17 +14,14 @@ use Rattle.paths.specs.Bound.{waysFrom}
 use Rattle.paths.specs.Search.{trying, arriving}
 use Rattle.table.specs.Layout.{tableLength, dimensionAt, portCount}
 use Rattle.table.specs.View.{View, view, receive, net}
-use Rattle.search.specs.PassAnswer.{freeIn, PassAnswer, pass-answer, answerOfPass, arrivalAfter}
+use Rattle.answers.specs.PassAnswer.{freeIn, PassAnswer, pass-answer, answerOfPass, arrivalAfter, hopsLeft}
 
 -- the largest distance to a target among the nodes behind the ports of a list
 unfoldable pub farthest : Network → ℕ → ℕ → List ℕ → ℕ
 farthest N t n [] = 0
 farthest N t n (p ∷ ps) = cond (leb (farthest N t n ps) (N .distance t (N .next n p))) (N .distance t (N .next n p)) (farthest N t n ps)
 
--- how far node n of a table's cube is from t
-unfoldable pub hopsLeft : List ℕ → ℕ → ℕ → ℕ
-hopsLeft b t n = net (view b) .distance t n
-
+-- the largest such distance behind the ports of a vector
 unfoldable pub farthestAfter : List ℕ → ℕ → ℕ → ℕ → ℕ
 farthestAfter b t n vector = farthest (net (view b)) t n (portsOf portCount vector)
 

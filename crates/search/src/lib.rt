@@ -1,16 +1,15 @@
-// The search for a free permitted path on a lent table.
+// The search for a free permitted path on a lent table, for routing types 0 and 4.
 ghost use mathlib.Core.Path.{_≡_};
-ghost use mathlib.Core.Logic.{_≢_};
 ghost use Prim.Native.Nat.{_+_, _*_};
 ghost use Rattle.table.specs.LayoutContracts.{Within};
 ghost use Rattle.table.specs.View.{view};
 ghost use Rattle.cube.specs.Helical.{FirstPorts};
-ghost use Rattle.search.specs.PassAnswer.{stateIn, stateOf, pass-answer};
+ghost use Rattle.answers.specs.PassAnswer.{pass-answer};
 ghost use Rattle.search.specs.SearchContracts.{Narrowed, Enabled, Packed, Unpacked, tryAnswer, arriveAnswer, MayTry, MayArrive};
-ghost use Rattle.search.specs.SendAnswer.{MaySend, searched, sends};
+ghost use Rattle.answers.specs.SendAnswer.{MaySend, searched};
 
-mod helix;
-
+use answers::LinkState;
+use answers::Opened;
 use common::refusal;
 use cube::Circuit;
 use cube::Node;
@@ -22,39 +21,6 @@ fn enabled_ports(t: &[u8], n: Node, vector: u16) -> u16
     ensures { λ r. ⌜ Narrowed (view (now (t .entry))) (n .0) vector r × Enabled (view (now (t .entry))) (n .0) r ⌝ }
 {
     vector & table::enable_bits(t, n)
-}
-
-// A link: free, held by a circuit, or blocked.
-pub enum LinkState {
-    Free,
-    Held,
-    Blocked,
-}
-
-// The state of a link, where it is known whether it is enabled. Every hop of every search asks this.
-fn link_state(t: &[u8], n: Node, p: Port, enabled: bool) -> LinkState
-    requires { ⌜ Within (now t) (n .0) (p .0) ⌝ }
-    requires { ⌜ enabled ≡ view (now t) .enabled (n .0) (p .0) ⌝ }
-    ensures { λ r. ⌜ stateOf r ≡ stateIn (view (now (t .entry))) (n .0) (p .0) ⌝ }
-{
-    if enabled {
-        if table::owner(t, n, p).0 == 0 {
-            LinkState::Free
-        } else {
-            LinkState::Held
-        }
-    } else {
-        LinkState::Blocked
-    }
-}
-
-// What a pass, a send and an open answer: 0 with the hops of the path and the receive channel taken, or the refusal; and the scouts sent.
-#[repr(C)]
-pub struct Opened {
-    pub number: u16,
-    pub hops: u16,
-    pub receive: u16,
-    pub scouts: u32,
 }
 
 // A pass's answer in one number, so that it goes back from hop to hop in a register: the scouts sent, where no path is free; NO_CHANNEL more, where one is but no
@@ -148,7 +114,7 @@ fn try_in_turn(
     while left != 0 {
         let p = cube::first_port(first, left, arrival);
         left = cube::without(left, p);
-        let state = link_state(t, at, p, true);
+        let state = answers::link_state(t, at, p, true);
         match state {
             LinkState::Free => {
                 table::set_owner(t, at, p, c);
@@ -209,7 +175,7 @@ fn arrive(
 
 // A pass from a source, over the ports of a send vector: a send tries them from 0 upward, as a scout does that came in on port 7. Where it is
 // acknowledged, the links of the path and the receive channel are held by the circuit. Routing type 0 is one pass.
-fn maze(
+pub fn maze(
     t: &mut [u8],
     source: Node,
     target: Node,
@@ -232,7 +198,7 @@ fn maze(
 
 // Routing type 4: where the pass finds no path, a second one over the ports of the cube that are not in the vector. The answer is that of the last pass,
 // with the scouts of both. A receive rejection ends the send: the second pass would come to the same target.
-fn alternate_maze(
+pub fn alternate_maze(
     t: &mut [u8],
     source: Node,
     target: Node,
@@ -255,64 +221,6 @@ fn alternate_maze(
         number: again.number,
         hops: again.hops,
         receive: again.receive,
-        scouts,
-    }
-}
-
-// The search of a routing type, 0, 1, 3 or 4.
-fn search(
-    t: &mut [u8],
-    source: Node,
-    target: Node,
-    c: Circuit,
-    routing: u16,
-    vector: u16,
-    first: &[u8; 2048],
-) -> Opened
-    requires { ⌜ FirstPorts (now first) ⌝ }
-    requires { ⌜ MaySend (now t) (source .0) (target .0) (c .0) vector ⌝ }
-    requires { ⌜ vector ≢ 0 ⌝ }
-    ensures { λ r. ⌜ pass-answer (r .number) (r .hops) (r .receive) (r .scouts) (now (t .exit)) ≡ searched (now (t .entry)) (source .0) (target .0) (c .0) routing vector ⌝ }
-{
-    if routing == 4 {
-        return alternate_maze(t, source, target, c, vector, first);
-    }
-    if routing == 3 {
-        return helix::try_lowest(t, source, target, c, vector, first);
-    }
-    if routing == 1 {
-        return helix::try_each(t, source, target, c, vector, first);
-    }
-    maze(t, source, target, c, vector, first)
-}
-
-// A send of a routing type. Where its search is route rejected, it asks whether a path that it may try has no blocked link: with none, waiting does not help.
-// The table of first ports is built once for all its hops.
-pub fn send(
-    t: &mut [u8],
-    source: Node,
-    target: Node,
-    c: Circuit,
-    routing: u16,
-    vector: u16,
-) -> Opened
-    requires { ⌜ MaySend (now t) (source .0) (target .0) (c .0) vector ⌝ }
-    requires { ⌜ vector ≢ 0 ⌝ }
-    ensures { λ r. ⌜ pass-answer (r .number) (r .hops) (r .receive) (r .scouts) (now (t .exit)) ≡ sends (now (t .entry)) (source .0) (target .0) (c .0) routing vector ⌝ }
-{
-    let first = cube::FIRST_PORTS;
-    let answer = search(t, source, target, c, routing, vector, &first);
-    if answer.number != refusal::ROUTE_REJECTED {
-        return answer;
-    }
-    if reach::some_path_enabled(t, source, target, routing, vector, &first) {
-        return answer;
-    }
-    let scouts = answer.scouts;
-    Opened {
-        number: refusal::NO_ROUTE,
-        hops: 0,
-        receive: 0,
         scouts,
     }
 }

@@ -7,10 +7,12 @@ use Prim.Native.Nat.{ℕ, _+_, _*_, _<_}
 use lib.Dec.{lit<}
 use lib.ListN.{length}
 use lib.Pow.{pow-pos}
-use Rattle.search.specs.SearchContracts.{hopsLeft, farthestAfter}
+use Rattle.answers.specs.PassAnswer.{hopsLeft}
+use Rattle.search.specs.SearchContracts.{farthestAfter}
 use Rattle.table.specs.View.{view}
-use Rattle.search.proofs.PassAnswer.{told-free, told-held, told-blocked}
-use Rattle.search.proofs.SearchContracts.{Turn, first-turn, byte-vector, here-tried, now-within, now-enabled, here-room, here-arrives, here-falls, turn-busy, turn-acknowledged, turn-full, turn-next, turn-over, arrive-receives, arrive-full, arrive-tries, arrive-may, arrive-falls}
+use Rattle.answers.proofs.PassAnswer.{told-free, told-held, told-blocked}
+use Rattle.cube.proofs.Order.{byte-vector}
+use Rattle.search.proofs.SearchContracts.{Turn, first-turn, here-tried, now-within, now-enabled, here-room, here-arrives, here-falls, turn-busy, turn-acknowledged, turn-full, turn-next, turn-over, arrive-receives, arrive-full, arrive-tries, arrive-may, arrive-falls}
 use borrow.Fn.Kinds.{In, Out}
 use borrow.Fn.PlainCycle.{Measures, is, falls, and}
 use Rattle.search.proofs.arrive.Reads as arrive
@@ -28,7 +30,7 @@ use Rattle.cube.proofs.uphill_vector.Reads as uphill-vector-reads
 use Rattle.cube.proofs.without.Reads as without-reads
 use Rattle.search.proofs.acknowledged.Reads as acknowledged-reads
 use Rattle.search.proofs.enabled_ports.Reads as enabled-ports-reads
-use Rattle.search.proofs.link_state.Reads as link-state-reads
+use Rattle.answers.proofs.link_state.Reads as link-state-reads
 use Rattle.table.proofs.free_channel.Reads as free-channel-reads
 use Rattle.table.proofs.set_owner.Reads as set-owner-reads
 use Rattle.search.proofs.+arrive+try_in_turn+try_ports.{statement}

@@ -2,7 +2,8 @@
 -- Assumes nothing.
 use mathlib.Core.Path.{_∙_}
 use lib.Dec.{lit<}
-use Rattle.search.proofs.SearchContracts.{byte-vector, narrow-may}
+use Rattle.cube.proofs.Order.{byte-vector}
+use Rattle.search.proofs.SearchContracts.{narrow-may}
 use Rattle.search.proofs.PackedAnswer.{read-off}
 use Rattle.search.proofs.Sends.{may-try, maze-channel, maze-taken, maze-rejected}
 use borrow.Author.Needs.{needs}
