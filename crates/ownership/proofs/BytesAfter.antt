@@ -25,8 +25,8 @@ use Rattle.table.proofs.Encode.{encode-view}
 use Rattle.table.proofs.Encoded.{encode-shown}
 use Rattle.table.proofs.Views.{view-put-enabled, view-put-armed}
 use Rattle.table.proofs.Made.{made-bytes, view-made}
-use Rattle.search.specs.PassAnswer.{holdPath}
-use Rattle.search.specs.SendAnswer.{bytesAfterSend}
+use Rattle.answers.specs.PassAnswer.{holdPath}
+use Rattle.answers.specs.SendAnswer.{bytesAfterSend}
 use Rattle.ownership.specs.Calls.{Call, making, blocking, unblocking, opening, closing, tracing, arming, disarming, form}
 use Rattle.ownership.specs.Allowed.{Allowed}
 use Rattle.ownership.specs.Update.{sendIn, viewAfterSend, updated}

@@ -20,10 +20,10 @@ use Rattle.table.specs.Encode.{AllBytes, Bytes}
 use Rattle.soundness.specs.Sound.{CircuitSound, Sound}
 use Rattle.soundness.specs.SoundTest.{tableTests}
 use Rattle.soundness.proofs.Passing.{answers}
-use Rattle.search.specs.PassAnswer.{pass-answer}
-use Rattle.search.specs.SendAnswer.{answerOfOutcome, sendAnswer, sends, MaySend}
-use Rattle.search.specs.SendSays.{SendSays}
-use Rattle.search.proofs.SendSays.{demand-2}
+use Rattle.answers.specs.PassAnswer.{pass-answer}
+use Rattle.answers.specs.SendAnswer.{answerOfOutcome, sendAnswer, sends, MaySend}
+use Rattle.answers.specs.SendSays.{SendSays}
+use Rattle.answers.proofs.SendSays.{demand-2}
 use Rattle.ownership.specs.Calls.{Call, making, blocking, unblocking, opening, closing, tracing, arming, disarming, callTests}
 use Rattle.ownership.specs.Calls.{CallResult, hopsOf, receiveOf, scoutsOf, only, answered, resultOf}
 use Rattle.ownership.specs.Update.{sendIn}

@@ -34,9 +34,9 @@ use Rattle.table.proofs.Receives.{none-chosen}
 use Rattle.soundness.specs.Sound.{CircuitSound, Sound}
 use Rattle.soundness.specs.SoundTest.{pathOf, tableTests}
 use Rattle.soundness.proofs.Soundness.{path-is, receive-stands}
-use Rattle.search.specs.PassAnswer.{freeIn, PassAnswer, pass-answer}
-use Rattle.search.specs.SendAnswer.{answerOfOutcome, sendAnswer}
-use Rattle.search.proofs.PassAnswer.{free-owner}
+use Rattle.answers.specs.PassAnswer.{freeIn, PassAnswer, pass-answer}
+use Rattle.answers.specs.SendAnswer.{answerOfOutcome, sendAnswer}
+use Rattle.answers.proofs.PassAnswer.{free-owner}
 use Rattle.ownership.specs.Calls.{Call, making, blocking, unblocking, opening, closing, tracing, arming, disarming, callTests, resultOf}
 use Rattle.ownership.specs.OnTable.{factsOf, lentTests, stoppedAt, tableStep}
 use Rattle.ownership.specs.AllArmed.{AllArmed, CubeArmed}

@@ -24,7 +24,7 @@ use Rattle.ownership.proofs.Allowed.{allowed}
 use Rattle.ownership.proofs.Range.{sound-fits}
 use Rattle.ownership.proofs.Stops.{none-stops}
 use Rattle.ownership.proofs.Steps.{table-step}
-use Rattle.search.specs.SendAnswer.{waitingHelps}
+use Rattle.answers.specs.SendAnswer.{waitingHelps}
 
 -- where a search is rejected, the update is what the table showed
 pub rejected-same : (v : View) (a : Call) → resultOf (factsOf v) a .number ≢ 0 → updated v a ≡ v

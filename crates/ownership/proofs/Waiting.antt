@@ -23,8 +23,8 @@ use Rattle.paths.proofs.Words.{free-link, free-links}
 use Rattle.table.specs.View.{View, view, net, shapeOf, heldIn, heldBy, setArmed, withoutCircuit, available, setAt, setEnabled, setOwner, setReceiver}
 use Rattle.table.specs.Encode.{AllBytes}
 use Rattle.soundness.specs.SoundTest.{tableTests}
-use Rattle.search.specs.PassAnswer.{stateIn, freeIn}
-use Rattle.search.specs.SendSays.{SomeRoute, CouldRoute, BlockedRoutes, Available}
+use Rattle.answers.specs.PassAnswer.{stateIn, freeIn}
+use Rattle.answers.specs.SendSays.{SomeRoute, CouldRoute, BlockedRoutes, Available}
 use Rattle.ownership.specs.Calls.{Call, opening, closing, arming, callTests, blocking, tracing, disarming}
 use Rattle.ownership.specs.Update.{updated, holdLinks, viewAfterSend, sendIn}
 use Rattle.ownership.specs.OnTable.{openIn, isOpenIn, factsOf, lentTests, stoppedAt, tableStep, takenIn}

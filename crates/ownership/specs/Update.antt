@@ -8,7 +8,7 @@ use Rattle.paths.specs.Network.{Path}
 use Rattle.paths.specs.Send.{Outcome, acknowledged, route-rejected, receive-rejected, SendResult}
 use Rattle.paths.specs.CubeNetwork.{send}
 use Rattle.table.specs.View.{View, setOwner, setReceiver, setEnabled, setArmed, withoutCircuit, receive, fresh, shapeOf}
-use Rattle.search.specs.PassAnswer.{freeIn}
+use Rattle.answers.specs.PassAnswer.{freeIn}
 use Rattle.ownership.specs.Calls.{Call, making, blocking, unblocking, opening, closing, tracing, arming, disarming}
 
 -- the send of an open, read on what the table shows

@@ -31,9 +31,9 @@ use Rattle.soundness.specs.Sound.{endFor, CircuitSound, Sound}
 use Rattle.soundness.specs.SoundTest.{pathOf, isEmpty, tracedInto}
 use Rattle.soundness.specs.Follow.{HasSource}
 use Rattle.soundness.proofs.Soundness.{path-is}
-use Rattle.search.specs.PassAnswer.{holdPath}
-use Rattle.search.specs.SendAnswer.{bytesAfterSend}
-use Rattle.search.proofs.SearchContracts.{owner-length}
+use Rattle.answers.specs.PassAnswer.{holdPath}
+use Rattle.answers.specs.SendAnswer.{bytesAfterSend}
+use Rattle.answers.proofs.PassAnswer.{owner-length}
 use Rattle.ownership.specs.Update.{holdLinks, viewAfterSend}
 use Rattle.ownership.proofs.Shows.{PortsBelow, Fits, hold-length, view-hold, view-after-send}
 use Rattle.ownership.proofs.BytesAfter.{send-bytes, armed-encoded}

@@ -19,8 +19,8 @@ use Rattle.table.specs.View.{view, withoutCircuit}
 use Rattle.soundness.specs.SoundTest.{pathOf, tracedInto}
 use Rattle.ownership.specs.Calls.{Call, making, blocking, unblocking, opening, closing, tracing, arming, disarming}
 use Rattle.ownership.specs.Calls.{CallResult, refusedWith, answered, callTests, resultOf, After}
-use Rattle.search.specs.PassAnswer.{PassAnswer, pass-answer}
-use Rattle.search.specs.SendAnswer.{answerOfOutcome, sendAnswer, sends, waitingHelps}
+use Rattle.answers.specs.PassAnswer.{PassAnswer, pass-answer}
+use Rattle.answers.specs.SendAnswer.{answerOfOutcome, sendAnswer, sends, waitingHelps}
 use Rattle.ownership.specs.Update.{sendIn}
 use Rattle.ownership.specs.OnTable.{factsOf, lentTests, stoppedAt, tableStep, done}
 use Rattle.ownership.proofs.Stops.{making-stopped}

@@ -8,7 +8,7 @@ use crate::tests;
 use common::refusal;
 use cube::Node;
 use cube::Port;
-use search::Opened;
+use answers::Opened;
 
 // Makes a table of a dimension: all its links enabled, nothing held, no receive channel armed. What the bytes were before does not matter.
 pub fn make(t: &mut [u8], dimension: u16) -> u16
@@ -72,7 +72,7 @@ pub fn open(
         };
     }
     let c = cube::circuit_of(source, channel);
-    search::send(t, source, target, c, routing, vector)
+    send::send(t, source, target, c, routing, vector)
 }
 
 // Closes the circuit of a send channel: it frees its links, frees and disarms its receive channel, and changes nothing else.

@@ -12,4 +12,4 @@ pub use calls::make;
 pub use calls::open;
 pub use calls::trace;
 pub use calls::unblock;
-pub use search::Opened;
+pub use answers::Opened;

@@ -8,7 +8,7 @@ ghost use Rattle.table.specs.Encode.{encode};
 ghost use Rattle.soundness.specs.Sound.{Sound};
 ghost use Rattle.soundness.specs.SoundTest.{pathOf, isEmpty};
 ghost use Rattle.soundness.specs.Follow.{HasSource};
-ghost use Rattle.search.specs.PassAnswer.{holdPath};
+ghost use Rattle.answers.specs.PassAnswer.{holdPath};
 ghost use Rattle.router.specs.Release.{MayFree};
 use cube::Circuit;
 use cube::Node;

@@ -19,9 +19,9 @@ use Rattle.paths.proofs.Depth.{trying-cons}
 use Rattle.entries.specs.EntryContracts.{enableBits, Within}
 use Rattle.table.specs.View.{View, view, receive, net}
 use Rattle.layout.proofs.Entries.{enabled-has}
-use Rattle.search.specs.PassAnswer.{freeIn, answerOfPass, arrivalAfter}
-use Rattle.search.specs.SearchContracts.{Narrowed, tryAnswer}
-use Rattle.search.proofs.PassAnswer.{free-off}
+use Rattle.answers.specs.PassAnswer.{freeIn, answerOfPass, arrivalAfter}
+use Rattle.search.specs.SearchContracts.{Narrowed, Enabled, tryAnswer}
+use Rattle.answers.proofs.PassAnswer.{free-off}
 
 -- trying the ports of a list that pass a test, where those that do not pass are not free
 trying-kept : (f free : ℕ → Bool) (on : ℕ → ℕ → PassResult) (ps : List ℕ) → ((p : ℕ) → p ∈ ps → f p ≡ false → free p ≡ false) → (s : ℕ)
@@ -76,3 +76,6 @@ module _ (b : List ℕ) (n vector x : ℕ) (within : Within b n 0) (byte : x ≡
         among = λ p e. in-both p e .0;
         dropped = λ p l e f. free-off (view b) n p (read p l ∙ is-false (has x p) (λ y. clash (has-and vector x p ∙ (rw (e, y))) f));
       }
+
+  pub enabled-all : Enabled (view b) n (bitAnd vector x)
+  enabled-all p l e = read p l ∙ in-both p e .1

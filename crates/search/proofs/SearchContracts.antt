@@ -19,7 +19,7 @@ use Rattle.cube.specs.Bits.{has}
 use Rattle.cube.specs.Cube.{next, UphillVector, Without}
 use Rattle.cube.proofs.Bits.{high-has}
 use Rattle.cube.specs.Helical.{helical, portsOf, firstPort, FirstTried}
-use Rattle.cube.proofs.Order.{first-tried, mem-ports, ports-mem, length-helical, helical-mem, mem-helical, helical-zero}
+use Rattle.cube.proofs.Order.{byte-vector, port-tried, low-port, mem-ports, ports-mem, length-helical, helical-mem, mem-helical, helical-zero}
 use Rattle.cube.proofs.Axes.{next-inside}
 use Rattle.paths.specs.Network.{Network, offered}
 use Rattle.paths.specs.CubeNetwork.{network}
@@ -33,9 +33,10 @@ use Rattle.entries.specs.EntryContracts.{putOwner, putEntry, Within}
 use Rattle.table.specs.TableContracts.{lowestChannel}
 use Rattle.table.specs.View.{view, setOwner, receive, net, shapeOf}
 use Rattle.table.proofs.Views.{view-put-owner}
-use Rattle.search.specs.PassAnswer.{freeIn, PassAnswer, pass-answer, answerOfPass, arrivalAfter}
-use Rattle.search.specs.SearchContracts.{farthest, hopsLeft, farthestAfter, tryAnswer, arriveAnswer, Narrowed, SearchPre, MayTry, MayArrive}
-use Rattle.search.proofs.PassAnswer.{at-target, arrives, target-receives, target-full, behind, receive-same, given-back, free-owner, port-busy, port-acknowledged, port-receive-rejected, port-route-rejected, three-answers, answer-scouts, ports-over}
+use Rattle.answers.specs.PassAnswer.{freeIn, PassAnswer, pass-answer, answerOfPass, arrivalAfter, hopsLeft}
+use Rattle.search.specs.SearchContracts.{farthest, farthestAfter, answerIn, Packed, tryAnswer, arriveAnswer, Narrowed, Enabled, SearchPre, MayTry, MayArrive}
+use Rattle.answers.proofs.PassAnswer.{owner-length, at-target, arrives, target-receives, target-full, lowest-small, behind, receive-same, given-back, free-owner, port-busy, port-acknowledged, port-receive-rejected, port-route-rejected, answer-scouts, ports-over}
+use Rattle.search.proofs.PackedAnswer.{in-route, in-receive, in-acknowledged, of-receive, of-acknowledged}
 use Rattle.search.proofs.Narrow.{narrow-fewer, narrow-mem, narrow-tries}
 
 -- neither of two numbers is above the larger
@@ -69,11 +70,7 @@ unfolding waysFrom
 one-further m j zero h l = absurd (omega arith)
 one-further m j (suc k) h l = mul-le-mul l (let r = ways-more 1 j k (omega arith) in omega arith)
 
--- a hop held: as many bytes, the same cube
-pub owner-length : (b : List ℕ) (n p c : ℕ) → length (putOwner b n p c) ≡ length b
-unfolding putOwner putEntry
-owner-length b n p c = length-set (set b (entryPlace linkPart n p) (c % 256)) (entryPlace linkPart n p + 1) (c / 256) ∙ length-set b (entryPlace linkPart n p) (c % 256)
-
+-- a hop held: the same cube
 module _ (b : List ℕ) (n p c : ℕ) (w : Within b n p) (small : c < 65536) where
   pub held-dimension : dimensionAt (putOwner b n p c) ≡ dimensionAt b
   held-dimension = unfold view setOwner in ap (λ v. v .dimension) (view-put-owner b n p c w small)
@@ -93,22 +90,6 @@ handed-on b t c n p h s w small z e q =
     (ap₂ (λ N r. answerOfPass B c m (h + 1) r (arriving (N .distance t m) N (freeIn (view B)) t m p (s + 1))) (held-net b n p c w small) (receive-same (net (view b)) t near b n p c w small z t)
     ∙ ap (answerOfPass B c m (h + 1) (receive (view b) t))
     (ap (arriving (net (view b) .distance t m) (net (view b)) (freeIn (view B)) t m p) (add-one s) ∙ behind (net (view b)) t near b n p c w small z (net (view b) .distance t m) (suc s)))
-
--- a number of a cube of dimension 8 or less is a byte
-pub byte-vector : {D x : ℕ} → D ≤ 8 → x < 2 ^ D → x < 256
-byte-vector h l = lt-of-lt-of-le l (pow-mono h)
-
--- the port tried first
-pub port-tried : (D v a p : ℕ) → D ≤ 8 → v < 2 ^ D → v ≢ 0 → p ≡ firstPort v a → FirstTried 8 v a p
-unfolding firstPort
-port-tried D v a p h l z e = rw e (first-tried 8 8 v a (byte-vector h l) z)
-
-pub low-port : (D v p : ℕ) → v < 2 ^ D → has v p ≡ true → p < D
-low-port D v p l e = go (ltb p D) refl
-  where
-    go : (x : Bool) → ltb p D ≡ x → p < D
-    go true f = ltb-true p D f
-    go false f = absurd (clash e (high-has D v p l (ltb-false p D f)))
 
 -- what holds at each turn of the trying of ports: the bytes are those at the start, the ports left are ports of the vector, there is room for
 -- the scouts still to be sent, and what is left to do gives the whole
@@ -142,6 +123,9 @@ module _ {b now : List ℕ} {t c n a h v left p sent s : ℕ} (may : MayTry b t 
 
   here-member : p ∈ portsOf 8 left
   here-member = mem-ports 8 left p (here-tried .small) (here-tried .offered)
+
+  pub now-enabled : Enabled (view b) n v → view now .enabled n p ≡ true
+  now-enabled on = let m = ports-mem 8 v (inv .sub p here-member) in rw (inv .same) (on p (m .0) (m .1))
 
   here-reach : hopsLeft b t (next n p) ≤ farthestAfter b t n v
   unfolding hopsLeft farthestAfter network
@@ -217,57 +201,56 @@ module _ {b now : List ℕ} {t c n a h v left p sent s : ℕ} (may : MayTry b t 
       }
 
   -- the link is free: the arrival behind it answers
-  module _ (free-now : freeIn (view now) n p ≡ true) {b₁ b₂ : List ℕ} {n₁ x k g d : ℕ} (held : b₁ ≡ putOwner now n p c) (to : n₁ ≡ next n p)
-      (arrival : pass-answer x g k d b₂ ≡ arriveAnswer b₁ t c n₁ p (h + 1) (sent + 1)) where
+  module _ (free-now : freeIn (view now) n p ≡ true) {b₁ b₂ : List ℕ} {n₁ x : ℕ} (held : b₁ ≡ putOwner now n p c) (to : n₁ ≡ next n p)
+      (arrival : Packed x b₂ (arriveAnswer b₁ t c n₁ p (h + 1) (sent + 1))) where
     free : freeIn (view b) n p ≡ true
     free = rw (← inv .same) free-now
 
     -- its answer, on the table before the hop
-    answer : pass-answer x g k d b₂ ≡ answerOfPass (putOwner b n p c) c (next n p) (h + 1) (receive (view b) t) (on p (suc sent))
-    answer = arrival ∙ handed-on b t c n p h sent here-within (may .here .small) (may .here .circuit) (now-held held) to
+    answer : {y : PassAnswer} → answerIn x b₂ ≡ y → y ≡ answerOfPass (putOwner b n p c) c (next n p) (h + 1) (receive (view b) t) (on p (suc sent))
+    answer e = sym e ∙ arrival .same ∙ handed-on b t c n p h sent here-within (may .here .small) (may .here .circuit) (now-held held) to
 
-    pub turn-acknowledged : x ≡ 0 → pass-answer x g k d b₂ ≡ tryAnswer b t c n v a h s
-    turn-acknowledged z =
-        ap (λ y. pass-answer y g k d b₂) z
-        ∙ port-acknowledged (freeIn (view b) n) on b c n h (receive (view b) t) p others sent free k g d b₂ (ap (λ y. pass-answer y g k d b₂) (sym z) ∙ answer)
-        ∙ all-tries
+    pub turn-acknowledged : 8589934592 ≤ x → Packed x b₂ (tryAnswer b t c n v a h s)
+    turn-acknowledged m =
+        let e = in-acknowledged x b₂ m in
+        record { same = e ∙ port-acknowledged (freeIn (view b) n) on b c n h (receive (view b) t) p others sent free _ _ _ b₂ (answer e) ∙ all-tries }
 
     restored : b₂ ≡ putOwner b n p c → {b₃ : List ℕ} → b₃ ≡ putOwner b₂ n p 0 → b₃ ≡ b
     restored e q = q ∙ ap (λ y. putOwner y n p 0) e ∙ given-back b n p c here-within (unfold view in free-owner (view b) n p free)
 
-    pub turn-full : x ≡ 11 → {b₃ : List ℕ} → b₃ ≡ putOwner b₂ n p 0 → pass-answer x g k d b₃ ≡ tryAnswer b t c n v a h s
-    turn-full z q =
-        let r = port-receive-rejected (freeIn (view b) n) on b c n h (receive (view b) t) p others sent free k g d b₂ (ap (λ y. pass-answer y g k d b₂) (sym z) ∙ answer) in
-        ap₂ (λ y u. pass-answer y g k d u) z (restored (r .0) q) ∙ r .1 ∙ all-tries
+    pub turn-full : 4294967296 ≤ x → x < 8589934592 → {b₃ : List ℕ} → b₃ ≡ putOwner b₂ n p 0 → Packed x b₃ (tryAnswer b t c n v a h s)
+    turn-full m l q =
+        let r = port-receive-rejected (freeIn (view b) n) on b c n h (receive (view b) t) p others sent free _ _ _ b₂ (answer (in-receive x b₂ m l)) in
+        record { same = ap (answerIn x) (restored (r .0) q) ∙ in-receive x b m l ∙ r .1 ∙ all-tries }
 
-    few-scouts : d ≤ suc sent + waysFrom 1 (farthestAfter b t n v)
+    few-scouts : x < 4294967296 → x ≤ suc sent + waysFrom 1 (farthestAfter b t n v)
     unfolding arrivalAfter hopsLeft network
-    few-scouts =
+    few-scouts l =
         let m = ways-more 1 (hopsLeft b t (next n p)) (farthestAfter b t n v) here-reach in
         let all = arriving-sends (cube-nearing (shapeOf (view b)) t) (cube-cubical (shapeOf (view b)) (one-link (shapeOf (view b)) (unfold view in may .here .fits) refl) t) (freeIn (view b)) (next n p) p (suc sent) in
-        let same : d ≡ scouts (on p (suc sent)) = answer-scouts (putOwner b n p c) c (next n p) (h + 1) (receive (view b) t) (on p (suc sent)) x k g d b₂ answer in
+        let same : x ≡ scouts (on p (suc sent)) = answer-scouts (putOwner b n p c) c (next n p) (h + 1) (receive (view b) t) (on p (suc sent)) 10 0 0 x b₂ (answer (in-route x b₂ l)) in
         omega (arith, all, m, same)
 
-    pub turn-next : x ≢ 0 → x ≢ 11 → {r : ℕ} → Without left p r → {b₃ : List ℕ} → b₃ ≡ putOwner b₂ n p 0 → Turn b t c n v a h s b₃ r d
+    pub turn-next : x < 4294967296 → {r : ℕ} → Without left p r → {b₃ : List ℕ} → b₃ ≡ putOwner b₂ n p 0 → {d : ℕ} → d ≡ x → Turn b t c n v a h s b₃ r d
     unfolding tryAnswer
-    turn-next f e less u =
-        let z : x ≡ 10 = three-answers (putOwner b n p c) c (next n p) (h + 1) (receive (view b) t) (on p (suc sent)) x k g d b₂ answer f e in
-        let w = port-route-rejected (freeIn (view b) n) on b c n h (receive (view b) t) p others sent free k g d b₂ (ap (λ y. pass-answer y g k d b₂) (sym z) ∙ answer) in
-        rw (left-over less)
+    turn-next l less u e =
+        let w = port-route-rejected (freeIn (view b) n) on b c n h (receive (view b) t) p others sent free 0 0 x b₂ (answer (in-route x b₂ l)) in
+        rw (left-over less, e)
         record {
           same = restored (w .0) u;
           ports = (let l = inv .ports in omega arith);
           sub = tail-ports;
-          room = (let m = few-scouts in omega (arith, here-room));
+          room = (let m = few-scouts l in omega (arith, here-room));
           rest = w .1 ∙ all-tries;
         }
 
 -- no port left
-pub turn-over : {b : List ℕ} {t c n v a h s : ℕ} {now : List ℕ} {left sent : ℕ} → Turn b t c n v a h s now left sent → left ≡ 0 → pass-answer 10 0 0 sent now ≡ tryAnswer b t c n v a h s
+pub turn-over : {b : List ℕ} {t c n v a h s : ℕ} {now : List ℕ} {left sent : ℕ} → Turn b t c n v a h s now left sent → left ≡ 0 → Packed sent now (tryAnswer b t c n v a h s)
 unfolding tryAnswer
 turn-over {b} {t} {c} {n} {v} {a} {h} {s} {now} {left} {sent} inv z =
     let none : helical a (portsOf 8 left) ≡ [] = ap (λ x. helical a (portsOf 8 x)) z ∙ helical-zero 8 a in
-    rw (inv .same) (ports-over (freeIn (view b) n) (arrivalAfter (net (view b)) (freeIn (view b)) t n) b c n h (receive (view b) t) sent) ∙ ap (λ ps. tried b t c n h ps sent) (sym none) ∙ inv .rest
+    let over = ports-over (freeIn (view b) n) (arrivalAfter (net (view b)) (freeIn (view b)) t n) b c n h (receive (view b) t) sent in
+    record { same = in-route sent now (omega (arith, inv .room)) ∙ ap (pass-answer 10 0 0 sent) (inv .same) ∙ over ∙ ap (λ ps. tried b t c n h ps sent) (sym none) ∙ inv .rest }
 
 -- ports that are not free are dropped from a vector: there is room for the rest
 narrow-reach : (b : List ℕ) (t : ℕ) {n v left : ℕ} → Narrowed (view b) n v left → farthestAfter b t n left ≤ farthestAfter b t n v
@@ -293,11 +276,13 @@ module _ {b : List ℕ} {t c n a h s : ℕ} (may : MayArrive b t c n a h s) wher
   unfolding arriveAnswer
   at-goal e = ap₂ (λ m w. answerOfPass b c n h (receive (view b) m) w) e (sym (at-target (net (view b)) (freeIn (view b)) t n a s (hopsLeft b t n) e))
 
-  pub arrive-receives : {k : ℕ} → n ≡ t → k ≡ lowestChannel (view b) n → k ≢ 8 → pass-answer 0 h k s b ≡ arriveAnswer b t c n a h s
-  arrive-receives e q g = target-receives (view b) b c n h s q g ∙ at-goal e
+  pub arrive-receives : {k : ℕ} → n ≡ t → k ≡ lowestChannel (view b) n → k ≢ 8 → Packed (8589934592 + s + 4294967296 * (8 * h + k)) b (arriveAnswer b t c n a h s)
+  arrive-receives {k} e q g =
+      record { same = of-acknowledged h k s b (omega (arith, may .hops)) (lowest-small (view b) n q g) (omega (arith, may .room)) ∙ target-receives (view b) b c n h s q g ∙ at-goal e }
 
-  pub arrive-full : {k : ℕ} → n ≡ t → k ≡ lowestChannel (view b) n → k ≡ 8 → pass-answer 11 0 0 s b ≡ arriveAnswer b t c n a h s
-  arrive-full e q g = target-full (view b) b c n h s q g ∙ at-goal e
+  pub arrive-full : {k : ℕ} → n ≡ t → k ≡ lowestChannel (view b) n → k ≡ 8 → Packed (4294967296 + s) b (arriveAnswer b t c n a h s)
+  arrive-full e q g =
+      record { same = of-receive s b (omega (arith, may .room)) ∙ target-full (view b) b c n h s q g ∙ at-goal e }
 
   module _ (away : n ≢ t) {v : ℕ} (uphill : UphillVector n t v) where
     offers : offered (net (view b)) t n ≡ portsOf 8 v

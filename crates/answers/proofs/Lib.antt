@@ -1,0 +1,4 @@
+-- The laws of answers, and the users' second demand.
+pub mod PassAnswer
+pub mod Sent
+pub mod SendSays

@@ -1,0 +1,4 @@
+-- What a pass and a whole send on a lent table answer, and its bytes afterwards; and the users' second demand.
+pub mod PassAnswer
+pub mod SendAnswer
+pub mod SendSays
