@@ -78,7 +78,7 @@ module _ (b : List ℕ) (bytes : Bytes b) where
   send-encoded c s t o most small i j h =
       encode-shown (bytesAfterSend b c s t o) _ (send-bytes b c s t o bytes small) (view-after-send c small (dimensionAt b) most b (bytes .long) s t i j o h)
 
--- What the functions below leave of the bytes: `table::make`, `disable` and `enable`, `search::send`, `router::release`, `table::arm` and `disarm`.
+-- What the functions below leave of the bytes: `table::make`, `disable` and `enable`, `search::send`, `release::release`, `table::arm` and `disarm`.
 unfoldable pub writtenBy : List ℕ → Call → List ℕ
 writtenBy b (making D) = made D
 writtenBy b (blocking n p) = putEnabled b n p false

@@ -1,7 +1,5 @@
 // The calls on a lent table.
 mod calls;
-mod release;
-mod tests;
 
 pub use calls::Traced;
 pub use calls::arm;
