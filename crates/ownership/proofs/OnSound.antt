@@ -17,8 +17,9 @@ use Rattle.paths.specs.Send.{Outcome, acknowledged, route-rejected, receive-rej
 use Rattle.table.specs.Layout.{tableLength, dimensionAt, enabledAt, ownerAt, receiverAt, armedAt}
 use Rattle.table.specs.View.{View, view, heldIn}
 use Rattle.table.specs.Encode.{AllBytes, Bytes}
-use Rattle.soundness.specs.Sound.{CircuitSound, Sound}
-use Rattle.soundness.specs.SoundTest.{tableTests}
+use Rattle.circuit_path.specs.CircuitSound.{CircuitSound}
+use Rattle.soundness.specs.Sound.{Sound}
+use Rattle.soundness.specs.TableTests.{tableTests}
 use Rattle.soundness.proofs.Passing.{answers}
 use Rattle.search.specs.PassAnswer.{pass-answer}
 use Rattle.search.specs.SendAnswer.{answerOfOutcome, sendAnswer, sends, MaySend}

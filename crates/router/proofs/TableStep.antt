@@ -15,7 +15,8 @@ use Rattle.paths.specs.Send.{Outcome, acknowledged, route-rejected, receive-rej
 use Rattle.table.specs.Layout.{tableLength, made, putEnabled, putArmed}
 use Rattle.table.specs.View.{view, withoutCircuit}
 use Rattle.table.specs.Encode.{encode, AllBytes}
-use Rattle.soundness.specs.SoundTest.{pathOf, tracedInto}
+use Rattle.circuit_path.specs.PathOf.{pathOf}
+use Rattle.circuit_path.specs.Traced.{tracedInto}
 use Rattle.ownership.specs.Calls.{Call, making, blocking, unblocking, opening, closing, tracing, arming, disarming}
 use Rattle.ownership.specs.Calls.{CallResult, refusedWith, answered, callTests, resultOf, After}
 use Rattle.search.specs.PassAnswer.{PassAnswer, pass-answer}

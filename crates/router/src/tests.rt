@@ -4,7 +4,7 @@ ghost use mathlib.Core.Path.{_≡_};
 ghost use mathlib.Core.Bool.{false};
 ghost use Rattle.common.specs.Tests.{refusal};
 ghost use Rattle.table.specs.View.{view, heldIn};
-ghost use Rattle.soundness.specs.SoundTest.{tableTests};
+ghost use Rattle.soundness.specs.TableTests.{tableTests};
 ghost use Rattle.ownership.specs.Calls.{blocking, unblocking, opening, closing, tracing, arming, disarming};
 ghost use Rattle.ownership.specs.Calls.{absent, nodes, channel, port, routingType, sendVector, shortBuffer};
 ghost use Rattle.ownership.specs.OnTable.{openIn, takenIn, factsOf, stoppedAt};
@@ -75,7 +75,7 @@ fn has_circuit(t: &[u8], s: Node, c: u16) -> bool
     requires { ⌜ channel c .when ≡ false ⌝ }
     ensures { λ r. ⌜ r ≡ openIn (view (now (t .entry))) (s .0) c ⌝ }
 {
-    soundness::is_open(t, cube::circuit_of(s, c))
+    circuit_path::is_open(t, cube::circuit_of(s, c))
 }
 
 fn is_held(t: &[u8], n: Node, p: Port) -> bool
