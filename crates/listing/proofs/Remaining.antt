@@ -21,7 +21,7 @@ use Rattle.text.specs.Row.{rowText, rowsText}
 use Rattle.printed_line.specs.PrintedLine.{rowFor, stateAfter}
 use Rattle.listing.specs.Listing.{rows, header, inputLimit, tooLong, listing, printed}
 use Rattle.text.specs.Written.{before, Wrote}
-use Rattle.printed_line.specs.LineContracts.{WroteLine}
+use Rattle.line_answer.specs.LineWritten.{WroteLine}
 use Rattle.listing.specs.Printed.{outputBytes, Filled, lists}
 use Rattle.text.proofs.Cuts.{part-is, part-more, lines-last}
 use Rattle.text.proofs.Writing.{carries, carries-place}

@@ -26,7 +26,7 @@ fn rows(input: &[u8], t: &mut [u8], out: &mut [u8], at: usize) -> usize
     let mut line: u16 = 1;
     while from < input.len() {
         let end = text::find(input, from, b'\n');
-        place = printed_line::answer(t, out, place, line, &input[from..end]);
+        place = line_answer::answer(t, out, place, line, &input[from..end]);
         line += 1;
         from = end + 1;
     }

@@ -1,22 +1,20 @@
 -- From what a call answers to the fields of its printed line.
 -- Assumes nothing.
-use mathlib.Core.Path.{_≡_, refl, ap, sym, _∙_}
+use mathlib.Core.Path.{_≡_, refl, ap, _∙_}
 use mathlib.Core.Logic.{_≢_}
 use mathlib.Core.List.{List, [], _∷_}
-use mathlib.Core.Option.{Option, none, some}
+use mathlib.Core.Option.{none, some}
 use Prim.Native.Nat.{ℕ}
-use lib.ListN.{length, take}
+use lib.ListN.{take}
 use borrow.Author.Tests.{ne-eqb}
 use Rattle.ownership.specs.Calls.{Call, opening, tracing, CallResult, hopsOf, receiveOf, scoutsOf, bufferOf, carriesScouts, After}
 use Rattle.ownership.specs.OnTable.{done, tableStep}
-use Rattle.text.specs.Row.{Field, nothing, shows, path, Row as PrintedRow, row, rowText}
-use Rattle.text.specs.Written.{Wrote, rowOf, rowWidth}
+use Rattle.text.specs.Row.{Field, nothing, shows, path, row}
+use Rattle.text.specs.Written.{rowOf}
 use Rattle.text.specs.declared.row.Row.{Row}
-use Rattle.text.proofs.Writing.{retext}
-use Rattle.text.proofs.Rows.{row-length}
 use Rattle.input_line.specs.Line.{letterS}
 use Rattle.printed_line.specs.PrintedLine.{showsIf, callRow, unreadable, empty, traced, rowFor, stateAfter}
-use Rattle.printed_line.specs.LineContracts.{Answered, WroteLine}
+use Rattle.printed_line.specs.LineContracts.{Answered}
 
 -- a call on a table gave an answer, and the fields are those of that answer
 pub answered : {b b′ w : List ℕ} {a : Call} {x : CallResult} {n : ℕ} {r : Row} → record { state = b′; result = x } ≡ tableStep b a
@@ -49,14 +47,3 @@ pub ports-are : (s c : ℕ) {r h : ℕ} {b lent buffer : List ℕ} → lent ≡ 
     → done b r (h ∷ []) (buffer ∷ []) ≡ tableStep b (tracing s c lent) → take h buffer ≡ traced tableStep b s c
 unfolding traced
 ports-are s c {b = b} l t = ap (λ (d : After (List ℕ)). take (hopsOf (d .result)) (bufferOf (d .result))) (t ∙ ap (λ (m : List ℕ). tableStep b (tracing s c m)) l)
-
--- The line of what was carried out, of which it is known what it asks: how many bytes it takes, and that it was written.
-module _ {b b′ w : List ℕ} {n : ℕ} {a a′ : Option Call} {r : Row} (e : a ≡ a′) (x : Answered b n a w r b′) where
-  row-is : rowOf w r ≡ rowFor tableStep b n a′
-  row-is = x .row ∙ ap (rowFor tableStep b n) e
-
-  pub line-width : rowWidth (rowOf w r) ≡ length (rowText (rowFor tableStep b n a′))
-  line-width = sym (row-length (rowOf w r)) ∙ ap (λ (q : PrintedRow). length (rowText q)) row-is
-
-  pub line-written : {out out′ : List ℕ} {i j : ℕ} → Wrote out i (rowText (rowOf w r)) out′ j → WroteLine b n a′ out i b′ out′ j
-  line-written t = record { text = retext (ap rowText row-is) t; table = x .table ∙ ap (stateAfter tableStep b) e }

@@ -1,4 +1,4 @@
--- What the functions that carry out an input line and print it answer.
+-- What the functions that carry out an input line answer.
 -- Assumes nothing.
 use mathlib.Core.Path.{_≡_}
 use mathlib.Core.List.{List}
@@ -6,17 +6,11 @@ use mathlib.Core.Option.{Option}
 use Prim.Native.Nat.{ℕ}
 use Rattle.ownership.specs.Calls.{Call}
 use Rattle.ownership.specs.OnTable.{tableStep}
-use Rattle.text.specs.Row.{rowText}
-use Rattle.text.specs.Written.{Wrote, rowOf}
+use Rattle.text.specs.Written.{rowOf}
 use Rattle.text.specs.declared.row.Row.{Row}
 use Rattle.printed_line.specs.PrintedLine.{rowFor, stateAfter}
 
 -- What an input line asks was carried out on a table b: the fields of its printed line n, given beside a buffer of ports, and the table afterwards.
 pub record Answered (b : List ℕ) (n : ℕ) (a : Option Call) (ports : List ℕ) (r : Row) (after : List ℕ) : Type 0 where
   pub row : rowOf ports r ≡ rowFor tableStep b n a
-  pub table : after ≡ stateAfter tableStep b a
-
--- and the line was written from place i of an output on
-pub record WroteLine (b : List ℕ) (n : ℕ) (a : Option Call) (out : List ℕ) (i : ℕ) (after : List ℕ) (out′ : List ℕ) (j : ℕ) : Type 0 where
-  pub text : Wrote out i (rowText (rowFor tableStep b n a)) out′ j
   pub table : after ≡ stateAfter tableStep b a

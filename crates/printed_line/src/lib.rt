@@ -1,20 +1,15 @@
-// What an input line asks, carried out on the table, and its printed line.
+// The printed line of an open.
 ghost use mathlib.Core.List.{List};
 ghost use mathlib.Core.Option.{some};
 ghost use mathlib.Core.Path.{_≡_};
-ghost use Prim.Native.Nat.{ℕ, _+_, _≤_};
-ghost use lib.ListN.{length};
+ghost use Prim.Native.Nat.{ℕ};
 ghost use Rattle.ownership.specs.Calls.{opening, carriesScouts};
-ghost use Rattle.ownership.specs.OnTable.{tableStep};
-ghost use Rattle.text.specs.Row.{shows, rowText};
+ghost use Rattle.text.specs.Row.{shows};
 ghost use Rattle.text.specs.Written.{fieldOf};
-ghost use Rattle.input_line.specs.Line.{asks};
-ghost use Rattle.printed_line.specs.PrintedLine.{showsIf, empty, rowFor};
-ghost use Rattle.input_line.specs.ReadLine.{callOf};
-ghost use Rattle.printed_line.specs.LineContracts.{Answered, WroteLine};
+ghost use Rattle.printed_line.specs.PrintedLine.{showsIf, empty};
+ghost use Rattle.printed_line.specs.LineContracts.{Answered};
 use common::refusal;
 use cube::Node;
-use input_line::Asked;
 use text::row;
 use text::row::Field;
 
@@ -38,7 +33,7 @@ fn scouts_of(number: u16, scouts: u32) -> Field
 }
 
 // An open. A trace tells the ports of one that was acknowledged.
-fn open(
+pub fn open(
     t: &mut [u8],
     line: u16,
     source: Node,
@@ -63,69 +58,4 @@ fn open(
     let receive = Field::Number(got.receive as u32);
     let path = Field::Path(router::trace(t, source, channel, ports).hops);
     row::of_call(line, b'S', number, node, send, receive, scouts, path)
-}
-
-// Carries out what a line asks, and gives the fields of its printed line; the ports of a path are left in the buffer.
-fn carry_out(t: &mut [u8], line: u16, asked: Asked, ports: &mut [u8]) -> row::Row
-    requires { ⌜ now ports ≡ empty ⌝ }
-    ensures { λ r. ⌜ Answered (now (t .entry)) line (callOf asked) (now (ports .exit)) r (now (t .exit)) ⌝ }
-{
-    let none = Field::Nothing;
-    match asked {
-        Asked::Make(dimension) => {
-            let answer = router::make(t, dimension);
-            row::of_call(line, b'F', answer, none, none, none, none, none)
-        }
-        Asked::Block(node, port) => {
-            let answer = router::block(t, node, port);
-            let at = Field::Number(node.0 as u32);
-            let link = Field::Number(port.0 as u32);
-            row::of_call(line, b'B', answer, at, none, none, none, link)
-        }
-        Asked::Unblock(node, port) => {
-            let answer = router::unblock(t, node, port);
-            let at = Field::Number(node.0 as u32);
-            let link = Field::Number(port.0 as u32);
-            row::of_call(line, b'E', answer, at, none, none, none, link)
-        }
-        Asked::Open(source, channel, target, routing, vector) => open(
-            t,
-            line,
-            source,
-            channel,
-            target,
-            routing,
-            vector,
-            ports,
-        ),
-        Asked::Close(source, channel) => {
-            let answer = router::close(t, source, channel);
-            let node = Field::Number(source.0 as u32);
-            let send = Field::Number(channel as u32);
-            row::of_call(line, b'C', answer, node, send, none, none, none)
-        }
-        Asked::Arm(node, channel) => {
-            let answer = router::arm(t, node, channel);
-            let at = Field::Number(node.0 as u32);
-            let receive = Field::Number(channel as u32);
-            row::of_call(line, b'R', answer, at, receive, none, none, none)
-        }
-        Asked::Disarm(node, channel) => {
-            let answer = router::disarm(t, node, channel);
-            let at = Field::Number(node.0 as u32);
-            let receive = Field::Number(channel as u32);
-            row::of_call(line, b'D', answer, at, receive, none, none, none)
-        }
-        Asked::Unreadable => row::lone(line, refusal::UNREADABLE_LINE),
-    }
-}
-
-// Reads an input line, carries it out, and writes its printed line from a place on; the answer is the place behind it.
-pub fn answer(t: &mut [u8], out: &mut [u8], at: usize, line: u16, text: &[u8]) -> usize
-    requires { ⌜ at + length (rowText (rowFor tableStep (now t) line (asks (now text)))) ≤ length (now out) ⌝ }
-    ensures { λ r. ⌜ WroteLine (now (t .entry)) line (asks (now (text .entry))) (now (out .entry)) at (now (t .exit)) (now (out .exit)) r ⌝ }
-{
-    let mut ports = [0u8; 9];
-    let row = carry_out(t, line, input_line::read(text), &mut ports);
-    row::write(out, at, row, &ports)
 }

@@ -1,10 +1,10 @@
--- `printed_line::answer` meets its contract.
+-- `line_answer::answer` meets its contract.
 -- Assumes nothing.
 use native.Mathlib.Omega.{arith}
-use Rattle.printed_line.proofs.Answers.{line-width, line-written}
+use Rattle.line_answer.proofs.WrittenLine.{line-width, line-written}
 use borrow.Author.Needs.{needs}
-use Rattle.printed_line.proofs.answer.Statement.{statement}
-use Rattle.printed_line.proofs.answer.Tie as tie
+use Rattle.line_answer.proofs.answer.Statement.{statement}
+use Rattle.line_answer.proofs.answer.Tie as tie
 
 read-requires : tie.Need-read-requires
 read-requires c κs = search needs

@@ -1,10 +1,10 @@
--- `printed_line::carry_out` meets its contract.
+-- `line_answer::carry_out` meets its contract.
 -- Assumes nothing.
 use Rattle.printed_line.specs.PrintedLine.{callRow, unreadable}
 use Rattle.printed_line.proofs.Answers.{answered, unread-line}
 use borrow.Author.Needs.{needs}
-use Rattle.printed_line.proofs.carry_out.Statement.{statement}
-use Rattle.printed_line.proofs.carry_out.Tie as tie
+use Rattle.line_answer.proofs.carry_out.Statement.{statement}
+use Rattle.line_answer.proofs.carry_out.Tie as tie
 
 enum-known-asked : tie.Need-enum-known-asked
 enum-known-asked c = search needs
