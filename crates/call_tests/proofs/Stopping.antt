@@ -20,8 +20,9 @@ use Rattle.cube.proofs.Bits.{no-bit-above}
 use Rattle.cube.proofs.Circuits.{source-of-circuit}
 use Rattle.cube.proofs.Ports.{most-nodes, below-256}
 use Rattle.soundness.specs.Sound.{Sound}
-use Rattle.soundness.specs.SoundTest.{pathOf, isEmpty, tableTests}
-use Rattle.soundness.specs.Follow.{HasSource}
+use Rattle.circuit_path.specs.PathOf.{pathOf, isEmpty}
+use Rattle.soundness.specs.TableTests.{tableTests}
+use Rattle.circuit_path.specs.Follow.{HasSource}
 use Rattle.ownership.specs.Calls.{Call, form, absent, blocking, unblocking, opening, closing, tracing, arming, disarming}
 use Rattle.ownership.specs.Allowed.{Allowed}
 use Rattle.ownership.specs.OnTable.{isOpenIn, openIn, factsOf, stoppedAt}

@@ -5,9 +5,8 @@ ghost use mathlib.Core.Bool.{false};
 ghost use Prim.Native.Nat.{_≤_};
 ghost use Rattle.common.specs.Tests.{refusal};
 ghost use Rattle.table.specs.View.{view};
-ghost use Rattle.soundness.specs.SoundTest.{tableTests};
-ghost use Rattle.ownership.specs.Calls.{blocking, unblocking, opening, closing, tracing, arming, disarming};
-ghost use Rattle.ownership.specs.Calls.{absent, port, routingType, sendVector};
+ghost use Rattle.soundness.specs.TableTests.{tableTests};
+ghost use Rattle.ownership.specs.Calls.{blocking, unblocking, opening, closing, tracing, arming, disarming, absent, port, routingType, sendVector};
 ghost use Rattle.ownership.specs.OnTable.{openIn, factsOf, stoppedAt};
 use common::refusal;
 use cube::Node;
@@ -63,7 +62,7 @@ fn has_circuit(t: &[u8], s: Node, c: u16) -> bool
     requires { ⌜ c ≤ 7 ⌝ }
     ensures { λ r. ⌜ r ≡ openIn (view (now (t .entry))) (s .0) c ⌝ }
 {
-    soundness::is_open(t, cube::circuit_of(s, c))
+    circuit_path::is_open(t, cube::circuit_of(s, c))
 }
 
 // The calls.

@@ -17,11 +17,10 @@ use Rattle.paths.specs.Send.{received, outcome, attempted, goesOn, runs, lowest
 use Rattle.paths.specs.CubeNetwork.{network, ports, sendPorts, otherPorts, attempts, send}
 use Rattle.command_word.specs.Commands.{commands, valuesIn, values, reserved}
 use Rattle.command_word.specs.Word.{readTests, reading, readWord, writeTests, writing, writeWord}
-use Rattle.soundness.specs.SoundTest.{tracedInto}
+use Rattle.circuit_path.specs.Traced.{tracedInto}
 use Rattle.ownership.specs.Calls.{Call, making, blocking, opening, closing, tracing, arming, disarming, CallResult, answered, callTests, resultOf, callOn}
-use Rattle.ownership.specs.History.{History, holdsLink, holdsReceive, belongs, enabledOn, heldOn, freeOn, takenOn, openOn, armedOn, receiveOn, listed, waitingOn}
+use Rattle.ownership.specs.History.{History, holdsLink, holdsReceive, belongs, enabledOn, heldOn, freeOn, takenOn, openOn, armedOn, receiveOn, listed, waitingOn, factsOn, stoppedOn, sendOn, withOpened, applied, historyStep}
 use Rattle.paths.specs.Waiting.{findsPath, someAttempt}
-use Rattle.ownership.specs.History.{factsOn, stoppedOn, sendOn, withOpened, applied, historyStep}
 use Rattle.ownership.specs.FromTable.{linksOut}
 use Rattle.ownership.specs.Agrees.{historyResults, answers}
 

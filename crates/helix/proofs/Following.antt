@@ -12,7 +12,7 @@ use borrow.Author.Tests.{eq-eqb, ne-eqb}
 use Rattle.common.specs.Lists.{_∈_}
 use Rattle.cube.specs.Cube.{next}
 use Rattle.cube.specs.Helical.{helical, portsOf, firstPort, FirstTried}
-use Rattle.cube.proofs.Order.{helical-mem, ports-mem}
+use Rattle.cube.proofs.Order.{helical-mem, ports-mem, byte-vector, port-tried, low-port}
 use Rattle.cube.proofs.Axes.{next-inside}
 use Rattle.cube.proofs.Bits.{zero-has}
 use Rattle.common.proofs.Tests.{clash}
@@ -23,10 +23,8 @@ use Rattle.paths.proofs.CubeNetwork.{cube-nearing, cube-leading, unfolded-vecto
 use Rattle.layout.specs.Layout.{dimensionAt}
 use Rattle.entries.specs.EntryContracts.{putOwner, Within}
 use Rattle.table.specs.View.{view, net, shapeOf}
-use Rattle.answers.specs.PassAnswer.{freeIn, holdPath}
-use Rattle.answers.specs.PassAnswer.{hopsLeft}
+use Rattle.answers.specs.PassAnswer.{freeIn, holdPath, hopsLeft}
 use Rattle.helix.specs.HelixContracts.{MayFollow, frontIn, freeAll, helixIn, FrontOf}
-use Rattle.cube.proofs.Order.{byte-vector, port-tried, low-port}
 use Rattle.answers.proofs.PassAnswer.{owner-length}
 
 -- at the target nothing follows

@@ -16,7 +16,7 @@ use Rattle.cube.specs.Bits.{has}
 use Rattle.cube.specs.Cube.{next, Without}
 use Rattle.cube.specs.Helical.{helical, portsOf, firstPort, noPort, FirstTried}
 use Rattle.cube.proofs.Bits.{bit-power-other}
-use Rattle.cube.proofs.Order.{length-helical, length-ports, helical-zero}
+use Rattle.cube.proofs.Order.{length-helical, length-ports, helical-zero, port-tried, low-port}
 use Rattle.paths.specs.Pass.{PassResult, none, found, scouts}
 use Rattle.paths.specs.Helix.{tryPaths}
 use Rattle.paths.specs.Send.{Receive, channel, none-available, oneResult, outcome, received, lowestOf}
@@ -33,7 +33,6 @@ use Rattle.answers.specs.PassAnswer.{freeIn, holdPath, pass-answer}
 use Rattle.answers.specs.SendAnswer.{bytesAfterSend, answerOfOutcome, sendAnswer, searched, MaySend}
 use Rattle.helix.specs.HelixContracts.{MayFollow, frontIn, freeAll, helixIn, FrontOf, triedIn, MayTryPaths, FirstFree}
 use Rattle.answers.proofs.PassAnswer.{receive-small}
-use Rattle.cube.proofs.Order.{port-tried, low-port}
 use Rattle.answers.proofs.Sent.{ports-in-turn}
 
 -- what trying the helix paths of some ports comes to, after some scouts

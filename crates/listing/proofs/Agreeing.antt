@@ -17,9 +17,10 @@ use Rattle.ownership.proofs.Applied.{made-valid, made-view}
 use Rattle.table.proofs.Made.{made-bytes, view-made}
 use Rattle.listing.specs.Examples.{input, output, printed-example}
 use Rattle.text.specs.Lines.{lines}
-use Rattle.listing.specs.Line.{asks}
+use Rattle.input_line.specs.Line.{asks}
 use Rattle.text.specs.Row.{Row, rowsText}
-use Rattle.listing.specs.Listing.{callRow, traced, rowFor, stateAfter, rows, header, inputLimit, tooLong, empty, listing, printed, recorded}
+use Rattle.printed_line.specs.PrintedLine.{callRow, traced, rowFor, stateAfter, empty}
+use Rattle.listing.specs.Listing.{rows, header, inputLimit, tooLong, listing, printed, recorded}
 
 -- The list says what the ownership history says: on a table that a history covers, the printed lines are those of the history.
 traced-alike : (b : List ℕ) (h : History) → Represents b h → (n c : ℕ) → traced tableStep b n c ≡ traced historyStep h n c

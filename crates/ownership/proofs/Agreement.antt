@@ -16,7 +16,9 @@ use Rattle.paths.specs.Send.{SendResult}
 use Rattle.layout.specs.Layout.{tableLength, dimensionAt}
 use Rattle.table.specs.View.{View, view}
 use Rattle.soundness.specs.Sound.{Sound}
-use Rattle.soundness.specs.SoundTest.{pathOf, tableTests, tracedInto}
+use Rattle.circuit_path.specs.PathOf.{pathOf}
+use Rattle.circuit_path.specs.Traced.{tracedInto}
+use Rattle.soundness.specs.TableTests.{tableTests}
 use Rattle.table.specs.Encode.{encode}
 use Rattle.table.proofs.Encode.{encode-view}
 use Rattle.table.proofs.Encoded.{encode-bytes, view-encode}

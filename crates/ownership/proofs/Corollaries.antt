@@ -15,7 +15,7 @@ use Rattle.paths.proofs.Links.{link-true, true-link}
 use Rattle.layout.specs.Layout.{ownerAt, receiverAt, armedAt}
 use Rattle.table.specs.View.{View, view}
 use Rattle.soundness.specs.Sound.{Sound}
-use Rattle.soundness.specs.SoundTest.{tableTests}
+use Rattle.soundness.specs.TableTests.{tableTests}
 use Rattle.paths.specs.CubeNetwork.{ports}
 use Rattle.ownership.specs.Calls.{Call, making}
 use Rattle.ownership.specs.OnTable.{tableStep}

@@ -22,9 +22,12 @@ use Rattle.paths.proofs.Links.{link-true, true-link}
 use Rattle.layout.specs.Layout.{inTable, maskAt, armedAt}
 use Rattle.table.specs.View.{View, view}
 use Rattle.table.specs.Encode.{AllBytes}
-use Rattle.soundness.specs.Sound.{endFor, CircuitSound, Sound}
-use Rattle.soundness.specs.SoundTest.{pathOf, tableTests}
-use Rattle.soundness.proofs.Soundness.{path-is, link-stands, receive-stands}
+use Rattle.circuit_path.specs.CircuitSound.{endFor, CircuitSound}
+use Rattle.soundness.specs.Sound.{Sound}
+use Rattle.circuit_path.specs.PathOf.{pathOf}
+use Rattle.soundness.specs.TableTests.{tableTests}
+use Rattle.circuit_path.proofs.Stands.{path-is}
+use Rattle.soundness.proofs.Soundness.{link-stands, receive-stands}
 use Rattle.paths.specs.CubeNetwork.{ports}
 use Rattle.ownership.specs.Calls.{Call}
 use Rattle.ownership.specs.Update.{updated}

@@ -31,9 +31,12 @@ use Rattle.paths.proofs.Words.{free-links}
 use Rattle.layout.specs.Layout.{dimensionAt, armedAt}
 use Rattle.table.specs.View.{View, view, available, receive, shapeOf, net, heldBy}
 use Rattle.table.proofs.Receives.{none-chosen}
-use Rattle.soundness.specs.Sound.{CircuitSound, Sound}
-use Rattle.soundness.specs.SoundTest.{pathOf, tableTests}
-use Rattle.soundness.proofs.Soundness.{path-is, receive-stands}
+use Rattle.circuit_path.specs.CircuitSound.{CircuitSound}
+use Rattle.soundness.specs.Sound.{Sound}
+use Rattle.circuit_path.specs.PathOf.{pathOf}
+use Rattle.soundness.specs.TableTests.{tableTests}
+use Rattle.circuit_path.proofs.Stands.{path-is}
+use Rattle.soundness.proofs.Soundness.{receive-stands}
 use Rattle.answers.specs.PassAnswer.{freeIn, PassAnswer, pass-answer}
 use Rattle.answers.specs.SendAnswer.{answerOfOutcome, sendAnswer}
 use Rattle.answers.proofs.PassAnswer.{free-owner}

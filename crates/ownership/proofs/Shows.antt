@@ -19,8 +19,7 @@ use Rattle.table.specs.View.{View, view, setReceiver, receive, shapeOf}
 use Rattle.table.proofs.Views.{view-put-owner, view-put-receiver}
 use Rattle.answers.specs.PassAnswer.{freeIn, holdPath}
 use Rattle.answers.specs.SendAnswer.{bytesAfterSend}
-use Rattle.answers.proofs.PassAnswer.{receive-small}
-use Rattle.answers.proofs.PassAnswer.{owner-length}
+use Rattle.answers.proofs.PassAnswer.{receive-small, owner-length}
 use Rattle.ownership.specs.Update.{sendIn, holdLinks, viewAfterSend}
 use Rattle.ownership.proofs.Acknowledged.{send-taken}
 

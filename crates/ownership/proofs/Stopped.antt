@@ -15,8 +15,8 @@ use Rattle.common.proofs.Tests.{clash, is-false, refused, passed}
 use Rattle.cube.specs.Cube.{circuitOf, sourceOf}
 use Rattle.paths.specs.CubeNetwork.{ports}
 use Rattle.table.specs.View.{shapeOf, heldBy}
-use Rattle.soundness.specs.SoundTest.{pathOf}
-use Rattle.soundness.proofs.Soundness.{path-is}
+use Rattle.circuit_path.specs.PathOf.{pathOf}
+use Rattle.circuit_path.proofs.Stands.{path-is}
 use Rattle.ownership.specs.Calls.{Call, making, blocking, unblocking, opening, closing, tracing, arming, disarming, channel, callTests}
 use Rattle.ownership.specs.OnTable.{isOpenIn, openIn, factsOf}
 use Rattle.ownership.specs.History.{Circuit, History, belongs, openOn, listed, factsOn, stoppedOn}

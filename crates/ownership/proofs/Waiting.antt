@@ -22,7 +22,7 @@ use Rattle.paths.specs.CubeNetwork.{attempts, ports}
 use Rattle.paths.proofs.Words.{free-link, free-links}
 use Rattle.table.specs.View.{View, view, net, shapeOf, heldIn, heldBy, setArmed, withoutCircuit, available, setAt, setEnabled, setOwner, setReceiver}
 use Rattle.table.specs.Encode.{AllBytes}
-use Rattle.soundness.specs.SoundTest.{tableTests}
+use Rattle.soundness.specs.TableTests.{tableTests}
 use Rattle.answers.specs.PassAnswer.{stateIn, freeIn}
 use Rattle.answers.specs.SendSays.{SomeRoute, CouldRoute, BlockedRoutes, Available}
 use Rattle.ownership.specs.Calls.{Call, opening, closing, arming, callTests, blocking, tracing, disarming}

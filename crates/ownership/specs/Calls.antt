@@ -8,7 +8,7 @@ use lib.ListN.{length, getD, replicate}
 use Rattle.common.specs.Tests.{Test, test}
 use Rattle.paths.specs.Network.{Path}
 use Rattle.paths.specs.Send.{Outcome, acknowledged, route-rejected, receive-rejected, SendResult}
-use Rattle.soundness.specs.SoundTest.{tracedInto}
+use Rattle.circuit_path.specs.Traced.{tracedInto}
 use Rattle.cube.specs.Cube.{largestDimension}
 
 -- A call with its arguments. A trace is lent a buffer, which comes with its bytes; the table is not an argument.

@@ -12,7 +12,8 @@ use Rattle.paths.specs.CubeNetwork.{ports}
 use Rattle.layout.specs.Layout.{tableLength}
 use Rattle.table.specs.View.{View, view, shapeOf, heldIn, heldBy}
 use Rattle.table.specs.Encode.{encode}
-use Rattle.soundness.specs.SoundTest.{pathOf, tableTests}
+use Rattle.circuit_path.specs.PathOf.{pathOf}
+use Rattle.soundness.specs.TableTests.{tableTests}
 use Rattle.answers.specs.SendAnswer.{waitingHelps}
 use Rattle.ownership.specs.Calls.{Call, form, CallFacts, callTests, After, callOn}
 use Rattle.ownership.specs.Update.{sendIn, updated}

@@ -27,10 +27,12 @@ use Rattle.layout.specs.Layout.{dimensionAt, entryPlace, receivePart, receiverA
 use Rattle.entries.specs.EntryContracts.{putEntry, putOwner, putReceiver, putArmed, Within}
 use Rattle.table.specs.View.{View, view, setReceiver, setArmed, setAt, withoutCircuit, shapeOf, net, heldBy}
 use Rattle.table.specs.Encode.{encode, Bytes}
-use Rattle.soundness.specs.Sound.{endFor, CircuitSound, Sound}
-use Rattle.soundness.specs.SoundTest.{pathOf, isEmpty, tracedInto}
-use Rattle.soundness.specs.Follow.{HasSource}
-use Rattle.soundness.proofs.Soundness.{path-is}
+use Rattle.circuit_path.specs.CircuitSound.{endFor, CircuitSound}
+use Rattle.soundness.specs.Sound.{Sound}
+use Rattle.circuit_path.specs.PathOf.{pathOf, isEmpty}
+use Rattle.circuit_path.specs.Traced.{tracedInto}
+use Rattle.circuit_path.specs.Follow.{HasSource}
+use Rattle.circuit_path.proofs.Stands.{path-is}
 use Rattle.answers.specs.PassAnswer.{holdPath}
 use Rattle.answers.specs.SendAnswer.{bytesAfterSend}
 use Rattle.answers.proofs.PassAnswer.{owner-length}

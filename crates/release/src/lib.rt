@@ -6,8 +6,8 @@ ghost use Rattle.paths.specs.Network.{end};
 ghost use Rattle.table.specs.View.{view, withoutCircuit, net};
 ghost use Rattle.table.specs.Encode.{encode};
 ghost use Rattle.soundness.specs.Sound.{Sound};
-ghost use Rattle.soundness.specs.SoundTest.{pathOf, isEmpty};
-ghost use Rattle.soundness.specs.Follow.{HasSource};
+ghost use Rattle.circuit_path.specs.PathOf.{pathOf, isEmpty};
+ghost use Rattle.circuit_path.specs.Follow.{HasSource};
 ghost use Rattle.answers.specs.PassAnswer.{holdPath};
 ghost use Rattle.release.specs.Release.{MayFree};
 use cube::Circuit;
@@ -40,7 +40,7 @@ pub fn release(t: &mut [u8], c: Circuit)
     ensures { λ _. ⌜ now (t .exit) ≡ encode (withoutCircuit (view (now (t .entry))) (c .0)) ⌝ }
 {
     let mut ports = [0u8; 9];
-    let hops = soundness::write_path(t, c, &mut ports);
+    let hops = circuit_path::write_path(t, c, &mut ports);
     let target = free_links(t, cube::source_of(c), &ports, hops);
     let channel = table::held_channel(t, c, target);
     table::set_receiver(t, target, channel, Circuit(0));

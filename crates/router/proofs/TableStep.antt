@@ -16,9 +16,9 @@ use Rattle.layout.specs.Layout.{tableLength}
 use Rattle.table.specs.Encode.{made, encode, AllBytes}
 use Rattle.entries.specs.EntryContracts.{putEnabled, putArmed}
 use Rattle.table.specs.View.{view, withoutCircuit}
-use Rattle.soundness.specs.SoundTest.{pathOf, tracedInto}
-use Rattle.ownership.specs.Calls.{Call, making, blocking, unblocking, opening, closing, tracing, arming, disarming}
-use Rattle.ownership.specs.Calls.{CallResult, refusedWith, answered, callTests, resultOf, After}
+use Rattle.circuit_path.specs.PathOf.{pathOf}
+use Rattle.circuit_path.specs.Traced.{tracedInto}
+use Rattle.ownership.specs.Calls.{Call, making, blocking, unblocking, opening, closing, tracing, arming, disarming, CallResult, refusedWith, answered, callTests, resultOf, After}
 use Rattle.answers.specs.PassAnswer.{PassAnswer, pass-answer}
 use Rattle.answers.specs.SendAnswer.{answerOfOutcome, sendAnswer, sends, waitingHelps}
 use Rattle.ownership.specs.Update.{sendIn}

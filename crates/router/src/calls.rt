@@ -127,7 +127,7 @@ pub fn trace(t: &[u8], source: Node, channel: u16, buffer: &mut [u8]) -> Traced
             hops: 0,
         };
     }
-    let hops = soundness::write_path(t, cube::circuit_of(source, channel), buffer);
+    let hops = circuit_path::write_path(t, cube::circuit_of(source, channel), buffer);
     Traced {
         number: refusal::ACCEPTED,
         hops,

@@ -7,10 +7,9 @@ use mathlib.Core.List.{List, [], _∷_}
 use Prim.Native.Nat.{ℕ, suc, _+_, _*_, _^_, _≤_, _<_}
 use native.Mathlib.Omega.{arith}
 use native.Mathlib.Nat.{add-zero, add-assoc}
-use lib.Dec.{eqb}
 use lib.ListN.{length, replicate, getD-replicate}
-use borrow.Author.Tests.{eqb-true, eq-eqb}
-use Rattle.common.specs.Lists.{_∈_, Pairwise}
+use borrow.Author.Tests.{eqb-true}
+use Rattle.common.specs.Lists.{_∈_}
 use Rattle.common.proofs.Tests.{below-or, clash, is-false, both, and, either, or-left, or-right}
 use Rattle.cube.specs.Bits.{has}
 use Rattle.cube.specs.Cube.{sourceOf}
@@ -18,18 +17,20 @@ use Rattle.cube.proofs.Bits.{zero-has}
 use Rattle.cube.proofs.Ports.{most-nodes}
 use Rattle.paths.specs.Network.{Network, Path, Link, links, hasLink, Exactly}
 use Rattle.paths.specs.Permitted.{Permitted}
-use Rattle.paths.specs.CubeNetwork.{network, ports, circuitCount}
+use Rattle.paths.specs.CubeNetwork.{ports, circuitCount}
 use Rattle.paths.proofs.Apart.{permitted-inside}
 use Rattle.paths.proofs.CubeNetwork.{unfolded-port, cube-nearing}
 use Rattle.paths.proofs.Links.{On, on-first, link-true, true-link, permitted-distinct}
 use Rattle.table.specs.TableContracts.{linkCount}
 use Rattle.table.specs.View.{View, shapeOf, net, heldBy}
-use Rattle.soundness.specs.Sound.{endFor, CircuitSound, Sound}
-use Rattle.soundness.specs.Marks.{marked, Seen}
-use Rattle.soundness.specs.Counting.{FollowedPath, Taken, Earlier, ReceivedBefore, Standing, Counting, Counts}
+use Rattle.circuit_path.specs.CircuitSound.{endFor, CircuitSound}
+use Rattle.soundness.specs.Sound.{Sound}
+use Rattle.circuit_hops.specs.Marks.{marked, Seen}
+use Rattle.circuit_hops.specs.CountHops.{FollowedPath, Taken}
+use Rattle.soundness.specs.Counting.{Earlier, ReceivedBefore, Standing, Counting, Counts}
 use Rattle.soundness.proofs.LinkCount.{links-most, links-none, links-added}
 use Rattle.soundness.proofs.Soundness.{receive-stands}
-use Rattle.soundness.proofs.Following.{positive}
+use Rattle.circuit_hops.proofs.Following.{positive}
 
 length-links : (N : Network) (s : ℕ) (w : Path) → length (links N s w) ≡ length w
 unfolding links

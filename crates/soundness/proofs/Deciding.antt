@@ -2,9 +2,9 @@
 -- Assumes nothing.
 use mathlib.Core.Path.{_≡_, refl, ap, sym, _∙_, subst}
 use mathlib.Core.Logic.{_⊎_, inl, inr, ⊎-elim, _≢_}
-use mathlib.Core.Bool.{Bool, true, false, cond, _&&_, not}
-use mathlib.Core.List.{List, [], _∷_}
-use Prim.Native.Nat.{ℕ, _+_, _*_, _^_, _≤_, _<_}
+use mathlib.Core.Bool.{Bool, true, false, cond, not}
+use mathlib.Core.List.{List}
+use Prim.Native.Nat.{ℕ, _+_, _^_, _≤_, _<_}
 use native.Mathlib.Omega.{arith}
 use native.Mathlib.Nat.{zero-add}
 use lib.Dec.{eqb, ltb}
@@ -18,7 +18,6 @@ use Rattle.common.proofs.Tests.{same?, below-or, clash, is-false, both, both-be
 use Rattle.cube.specs.Bits.{has}
 use Rattle.cube.specs.Cube.{sourceOf}
 use Rattle.cube.proofs.Bits.{high-has, no-bit-above, no-ports}
-use Rattle.cube.proofs.Ports.{most-nodes}
 use Rattle.paths.specs.Network.{Network, Path, links}
 use Rattle.paths.specs.Permitted.{Permitted}
 use Rattle.paths.specs.CubeNetwork.{ports, circuitCount}
@@ -31,14 +30,15 @@ use Rattle.entries.specs.EntryContracts.{enableBits, armBits}
 use Rattle.table.specs.TableContracts.{linkCount, enableLimit, EnablesFit, ArmsFit}
 use Rattle.table.specs.View.{View, view, shapeOf, net, heldBy}
 use Rattle.layout.proofs.Entries.{enabled-has, mask-has}
-use Rattle.soundness.specs.Sound.{endFor, CircuitSound, Nowhere, Sound}
+use Rattle.circuit_path.specs.CircuitSound.{endFor, CircuitSound}
+use Rattle.soundness.specs.Sound.{Nowhere, Sound}
 use Rattle.soundness.specs.SoundTest.{soundTest}
 use Rattle.soundness.specs.Counting.{Earlier, ReceivedBefore, Standing, Counting, Counts, Frees}
-use Rattle.soundness.proofs.Soundness.{Framed, placed, link-stands}
+use Rattle.soundness.proofs.Soundness.{placed, link-stands}
 use Rattle.soundness.proofs.LinkCount.{links-same, links-more, links-parts}
 use Rattle.soundness.proofs.Passing.{off, unarmed, view-framed, decided, same-answer}
 use Rattle.soundness.proofs.Counting.{counting-none}
-use Rattle.soundness.proofs.Ways.{shown}
+use Rattle.circuit_hops.proofs.Ways.{shown}
 
 to-on : (N : Network) (s : ℕ) (w : Path) (m q : ℕ) → (m, q) ∈ links N s w → On N s w m q
 unfolding On

@@ -1,6 +1,6 @@
 -- Counting the links that nobody holds, where those that are held must be enabled.
 -- Assumes nothing.
-use mathlib.Core.Path.{_≡_, refl, ap, sym, _∙_}
+use mathlib.Core.Path.{_≡_, ap, sym, _∙_}
 use mathlib.Core.Logic.{⊎-elim, _≢_}
 use mathlib.Core.Bool.{Bool, true}
 use mathlib.Core.List.{List}
@@ -17,7 +17,6 @@ use Rattle.common.proofs.Tests.{below-or}
 use Rattle.layout.specs.Layout.{ownerAt}
 use Rattle.table.specs.TableContracts.{linkCount, freeCount}
 use Rattle.table.specs.View.{View, view, heldBy}
-use Rattle.soundness.specs.Sound.{Sound}
 use Rattle.soundness.specs.Counting.{Frees}
 
 -- so many that pass, one after the other

@@ -12,8 +12,7 @@ use borrow.Author.Tests.{eqb-true}
 use Rattle.common.specs.Lists.{from}
 use Rattle.common.proofs.Every.{at}
 use Rattle.cube.specs.Bits.{has}
-use Rattle.layout.specs.Layout.{tableLength, dimensionAt, maskPlace, maskAt, enablePart, armPart, enabledAt, armedAt}
-use Rattle.layout.specs.Layout.{entryPlace, entryAt, linkPart, receivePart, ownerAt, receiverAt}
+use Rattle.layout.specs.Layout.{tableLength, dimensionAt, maskPlace, maskAt, enablePart, armPart, enabledAt, armedAt, entryPlace, entryAt, linkPart, receivePart, ownerAt, receiverAt}
 use Rattle.layout.proofs.Entries.{within, mask-has}
 use Rattle.table.specs.View.{view}
 use Rattle.table.specs.Encode.{bitsFrom, maskByte, maskBytes, entryBytes, encode}

@@ -13,8 +13,7 @@ use Rattle.common.proofs.Every.{at₂}
 use Rattle.cube.specs.Bits.{has}
 use Rattle.cube.proofs.Bits.{zero-has}
 use Rattle.cube.proofs.Ports.{most-nodes, below-256}
-use Rattle.layout.specs.Layout.{tableLength, inTable, dimensionAt, armPlace, maskAt, enabledAt, armedAt}
-use Rattle.layout.specs.Layout.{entryPlace, linkPart, receivePart, wordAt, entryAt, ownerAt, receiverAt}
+use Rattle.layout.specs.Layout.{tableLength, inTable, dimensionAt, armPlace, maskAt, enabledAt, armedAt, entryPlace, linkPart, receivePart, wordAt, entryAt, ownerAt, receiverAt}
 use Rattle.layout.specs.LayoutContracts.{filled}
 use Rattle.layout.proofs.Entries.{within, inside}
 use Rattle.layout.proofs.Fills.{made-is}

@@ -12,8 +12,7 @@ use lib.Seq.{getD-set-same, getD-set-other}
 use borrow.Author.Tests.{ltb-true, ltb-false, eqb-true, eqb-false}
 use Rattle.cube.specs.Bits.{has, withBit}
 use Rattle.cube.proofs.Bits.{with-bit-same, with-bit-other}
-use Rattle.layout.specs.Layout.{inTable, dimensionAt, maskPlace, maskAt, enablePart, armPart, enabledAt, armedAt}
-use Rattle.layout.specs.Layout.{entryPlace, entryAt, linkPart, receivePart, ownerAt, receiverAt, wordAt}
+use Rattle.layout.specs.Layout.{inTable, dimensionAt, maskPlace, maskAt, enablePart, armPart, enabledAt, armedAt, entryPlace, entryAt, linkPart, receivePart, ownerAt, receiverAt, wordAt}
 use Rattle.layout.specs.LayoutContracts.{putWord}
 use Rattle.layout.proofs.Entries.{within, inside, byte-apart, word-same, word-apart, place-one}
 use Rattle.entries.specs.EntryContracts.{putMask, putEnabled, putArmed, putEntry, putOwner, putReceiver, Within}
