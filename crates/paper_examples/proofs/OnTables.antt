@@ -9,7 +9,7 @@ use Rattle.layout.specs.Layout.{tableLength}
 use Rattle.ownership.specs.Calls.{making, blocking, unblocking, opening, closing, tracing, arming, disarming}
 use Rattle.ownership.specs.Agrees.{tableResults}
 use Rattle.ownership.proofs.Agreement.{making-accepted, demand-3}
-use Rattle.edge_examples.specs.Examples.{Input, calls, read, write, before, shown, result, inputs, results, examples}
+use Rattle.paper_examples.specs.Examples.{Input, calls, read, write, before, shown, result, inputs, results, examples}
 
 -- what an input comes to where its calls are made on a table
 abbrev pub resultOn : List ℕ → Input → List (List (List ℕ))
