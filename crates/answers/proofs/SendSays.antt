@@ -12,14 +12,16 @@ use Rattle.paths.specs.Send.{channel, none-available, Outcome, acknowledged, ro
 use Rattle.paths.specs.Sentences.{AttemptsSay}
 use Rattle.paths.specs.CubeNetwork.{attempts, send}
 use Rattle.paths.proofs.Send.{Route, not-route-rejected, acknowledged-route, route-acknowledged, receive-rejected-route, send-says, send-bounded}
+use Rattle.layout.specs.Layout.{dimensionAt}
 use Rattle.table.specs.View.{View, view, receive, available, net, shapeOf}
 use Rattle.table.proofs.Receives.{chosen, none-chosen}
 use Rattle.paths.proofs.Words.{free-link}
 use Rattle.paths.proofs.Waiting.{waiting-exactly, blocked-exactly, found-waits}
-use Rattle.answers.specs.PassAnswer.{stateIn, freeIn, pass-answer}
-use Rattle.answers.specs.SendAnswer.{waitingHelps, bytesAfterSend, answerOfOutcome, sendAnswer, sendOf, sends, MaySend}
+use Rattle.answers.specs.SendOnTable.{stateIn, freeIn, pass-answer, waitingHelps, answerOfOutcome, sendOf}
+use Rattle.answers.specs.SendAnswer.{bytesAfterSend, sendAnswer, sends, MaySend}
 use Rattle.answers.specs.SendSays.{SomeRoute, CouldRoute, BlockedRoutes, Available, Lowest, SendSays}
-use Rattle.answers.proofs.Sent.{sent-leaves, sent-scouts}
+use Rattle.answers.proofs.Sent.{sent-leaves, sent-bytes, sent-numbers, sent-scouts}
+use Rattle.answers.proofs.AfterSend.{Fits, view-after-send, sent-fits, send-encoded}
 
 -- what the choice of a receive channel says
 module _ (v : View) (t : ℕ) where
@@ -116,7 +118,7 @@ module _ (b : List ℕ) (s t type vector : ℕ) (fits : shapeOf (view b) .dimens
   unfolding waitingHelps
   found-helps = found-waits (shapeOf (view b)) fits s t type vector source target (freeIn (view b)) (view b .enabled) (free-enabled (view b)) (receive (view b) t)
 
--- The users' second demand: of any answer that the contract of `search::send` allows.
+-- The users' second demand: of any answer that the contract of `send::send` allows.
 pub demand-2 : (b : List ℕ) (s t c type vector : ℕ) → MaySend b s t c vector → (x h k n : ℕ) (b′ : List ℕ)
     → pass-answer x h k n b′ ≡ sends b s t c type vector → SendSays b s t c type vector x h k n b′
 unfolding sends
@@ -124,7 +126,9 @@ demand-2 b s t c type vector may x h k n b′ q =
     record {
       outcome = o;
       says = rw counted said;
-      answer = q ∙ ap (λ i. sendAnswer helps b c s t (record { outcome = o; scouts = i })) (sym counted);
+      answer = sent-numbers b c s t helps o m q;
+      shows = ap view same ∙ view-after-send c (may .small) (dimensionAt b) (may .fits) b (may .bytes) s t (may .source) (may .target) o ports;
+      written = λ small. same ∙ send-encoded b (record { long = may .bytes; small = small }) c s t o (may .fits) (may .small) (may .source) (may .target) ports;
       exactly = (
         (λ z. let r = route z in (r .0, let l = channel-lowest (view b) t k (r .1) in (k, l .small, l .is-available))),
         (λ y. acknowledged-number b c s t helps o m x h k n b′ q
@@ -155,6 +159,12 @@ demand-2 b s t c type vector may x h k n b′ q =
 
     counted : n ≡ m
     counted = sent-scouts b c s t helps o m q
+
+    same : b′ ≡ bytesAfterSend b c s t o
+    same = sent-bytes b c s t helps o m q
+
+    ports : Fits (dimensionAt b) o
+    ports = unfold view in sent-fits (view b) s t type vector (may .fits) (may .source) (may .target)
 
     fits : shapeOf (view b) .dimension ≤ 8
     fits = unfold view in may .fits

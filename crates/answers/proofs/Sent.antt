@@ -13,8 +13,8 @@ use Rattle.paths.specs.CubeNetwork.{sendPorts}
 use Rattle.paths.proofs.CubeNetwork.{unfolded-send-ports}
 use Rattle.layout.specs.Layout.{dimensionAt}
 use Rattle.table.specs.View.{view, shapeOf}
-use Rattle.answers.specs.PassAnswer.{pass-answer}
-use Rattle.answers.specs.SendAnswer.{bytesAfterSend, answerOfOutcome, sendAnswer}
+use Rattle.answers.specs.SendOnTable.{pass-answer, answerOfOutcome}
+use Rattle.answers.specs.SendAnswer.{bytesAfterSend, sendAnswer}
 
 -- "a send tries ports from 0 upward", as after an arrival on port 7
 pub ports-in-turn : (b : List ℕ) (vector : ℕ) → dimensionAt b ≤ 8 → vector < 2 ^ dimensionAt b → helical 7 (portsOf 8 vector) ≡ sendPorts (shapeOf (view b)) vector
@@ -42,6 +42,20 @@ module _ (b : List ℕ) (c s t : ℕ) where
   sent-leaves helps (acknowledged w j) m {x} q f = let y : x ≡ 0 = cc in absurd (f y)
   sent-leaves helps route-rejected m q f = cc
   sent-leaves helps receive-rejected m q f = cc
+
+  -- the bytes are those of its outcome
+  pub sent-bytes : (helps : Bool) (o : Outcome) (m : ℕ) {x h k n : ℕ} {b₁ : List ℕ} → pass-answer x h k n b₁ ≡ sendAnswer helps b c s t (record { outcome = o; scouts = m }) → b₁ ≡ bytesAfterSend b c s t o
+  unfolding sendAnswer answerOfOutcome
+  sent-bytes helps (acknowledged w j) m q = cc
+  sent-bytes helps route-rejected m q = cc
+  sent-bytes helps receive-rejected m q = cc
+
+  -- and so are the numbers
+  pub sent-numbers : (helps : Bool) (o : Outcome) (m : ℕ) {x h k n : ℕ} {b₁ : List ℕ} → pass-answer x h k n b₁ ≡ sendAnswer helps b c s t (record { outcome = o; scouts = m }) → pass-answer x h k n b₁ ≡ answerOfOutcome helps o n b₁
+  unfolding sendAnswer answerOfOutcome
+  sent-numbers helps (acknowledged w j) m q = cc
+  sent-numbers helps route-rejected m q = cc
+  sent-numbers helps receive-rejected m q = cc
 
   pub sent-scouts : (helps : Bool) (o : Outcome) (m : ℕ) {x h k n : ℕ} {b₁ : List ℕ} → pass-answer x h k n b₁ ≡ sendAnswer helps b c s t (record { outcome = o; scouts = m }) → n ≡ m
   unfolding sendAnswer bytesAfterSend answerOfOutcome

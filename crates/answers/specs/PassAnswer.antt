@@ -1,26 +1,20 @@
--- The search on the bytes of a table: which links are free, and what the path that was found makes of the answer and of the bytes.
+-- The search on the bytes of a table: what the path that was found makes of the answer and of the bytes. Nobody has to believe these: they are what the code does to
+-- single bytes, and the proofs join them to what a send means (SendOnTable, SendSays).
 -- Assumes nothing.
 use mathlib.Core.Bool.{Bool}
 use mathlib.Core.List.{List, [], _∷_}
 use Prim.Native.Nat.{ℕ, _+_}
 use lib.ListN.{length}
 use Rattle.cube.specs.Cube.{next}
-use Rattle.paths.specs.Network.{Network, Path, LinkState, link-free, link-held, link-blocked, isFree, linkState}
+use Rattle.paths.specs.Network.{Network, Path, LinkState, link-free, link-held, link-blocked}
 use Rattle.answers.specs.declared.LinkState as State
 use Rattle.answers.specs.declared.LinkState.the-variants.{Free, Held, Blocked}
 use Rattle.paths.specs.Pass.{PassResult, none, found}
 use Rattle.paths.specs.Search.{arriving}
 use Rattle.paths.specs.Send.{Receive, channel, none-available}
 use Rattle.entries.specs.EntryContracts.{putOwner}
-use Rattle.table.specs.View.{View, view, net, heldIn}
-
--- what a table shows of a link: free, held or blocked
-unfoldable pub stateIn : View → ℕ → ℕ → LinkState
-stateIn v n p = linkState (v .enabled n p) (heldIn v n p)
-
--- "A link is free if enabled and held by nobody."
-unfoldable pub freeIn : View → ℕ → ℕ → Bool
-freeIn v n p = isFree (stateIn v n p)
+use Rattle.table.specs.View.{view, net}
+use Rattle.answers.specs.SendOnTable.{PassAnswer, pass-answer}
 
 -- the answer of the smallest question in the code
 abbrev pub stateOf : State.LinkState → LinkState
@@ -32,10 +26,6 @@ stateOf Blocked = link-blocked
 unfoldable pub holdPath : List ℕ → ℕ → ℕ → Path → List ℕ
 holdPath b c n [] = b
 holdPath b c n (p ∷ w) = holdPath (putOwner b n p c) c (next n p) w
-
--- what a pass answers, and the bytes afterwards: the number, the hops, the receive channel and the scouts
-pub data PassAnswer : Type 0 where
-  pass-answer : (number hops receive scouts : ℕ) → List ℕ → PassAnswer
 
 -- "With none, route rejected. With one", the target takes the receive channel that is there to take; where there is none, receive rejected. The path's links are
 -- held where it is acknowledged; where it is rejected each byte is as it was. The receive channel is answered here and not yet held: that is for

@@ -1,4 +1,4 @@
--- The users' second demand, in one statement about a send on the bytes of a table.
+-- The users' second demand, in one statement about a send on a table.
 -- Assumes nothing.
 use mathlib.Core.Path.{_≡_}
 use mathlib.Core.Logic.{_↔_, _≢_}
@@ -12,8 +12,8 @@ use Rattle.paths.specs.Sentences.{Free, Tries, AttemptsSay}
 use Rattle.paths.specs.Waiting.{EveryPathBlocked, SomePathEnabled}
 use Rattle.paths.specs.CubeNetwork.{attempts}
 use Rattle.table.specs.View.{View, view, receive, available, net, shapeOf}
-use Rattle.answers.specs.PassAnswer.{freeIn, pass-answer}
-use Rattle.answers.specs.SendAnswer.{waitingHelps, sendAnswer}
+use Rattle.table.specs.Encode.{encode, AllBytes}
+use Rattle.answers.specs.SendOnTable.{freeIn, viewAfterSend, waitingHelps, pass-answer, answerOfOutcome}
 use Rattle.cube.specs.Cube.{channels}
 
 -- a path from s to t that an attempt tries, free in what a table shows
@@ -47,8 +47,12 @@ pub record SendSays (b : List ℕ) (s t c type vector : ℕ) (number hops receiv
   -- the outcome and the scouts are those of the type's attempts (AnswerSays): in a pass the first free permitted path and the free beginnings up to it; of helix
   -- paths the first that is free and the free hops at the front of each path tried
   pub says : AttemptsSay (net (view b)) s t (freeIn (view b)) (receive (view b) t) (attempts (shapeOf (view b)) type vector) outcome scouts
-  -- the numbers and the bytes are those of that outcome: an acknowledged path's links and its receive channel are held, nothing else changes
-  pub answer : pass-answer number hops receives scouts after ≡ sendAnswer (waitingHelps (view b) s t type vector) b c s t (record { outcome = outcome; scouts = scouts })
+  -- the number, the hops and the receive channel are those of that outcome
+  pub answer : pass-answer number hops receives scouts after ≡ answerOfOutcome (waitingHelps (view b) s t type vector) outcome scouts after
+  -- what the table shows afterwards is what that outcome makes of it: an acknowledged path's links and its receive channel are held, nothing else changes; and its
+  -- bytes are those that show it
+  pub shows : view after ≡ viewAfterSend (view b) c s t outcome
+  pub written : AllBytes b → after ≡ encode (viewAfterSend (view b) c s t outcome)
   -- it is acknowledged exactly when one of its attempts has a free path that it tries and the target has a receive channel available
   pub exactly : (number ≡ 0) ↔ (SomeRoute (view b) s t (attempts (shapeOf (view b)) type vector) × Available (view b) t)
   -- 10 exactly when none of them has such a path, and some path that they try crosses no blocked link, so that closing circuits could help

@@ -23,7 +23,8 @@ use Rattle.paths.proofs.CubeNetwork.{cube-nearing, cube-leading, unfolded-vecto
 use Rattle.layout.specs.Layout.{dimensionAt}
 use Rattle.entries.specs.EntryContracts.{putOwner, Within}
 use Rattle.table.specs.View.{view, net, shapeOf}
-use Rattle.answers.specs.PassAnswer.{freeIn, holdPath, hopsLeft}
+use Rattle.answers.specs.SendOnTable.{freeIn}
+use Rattle.answers.specs.PassAnswer.{holdPath, hopsLeft}
 use Rattle.helix.specs.HelixContracts.{MayFollow, frontIn, freeAll, helixIn, FrontOf}
 use Rattle.answers.proofs.PassAnswer.{owner-length}
 

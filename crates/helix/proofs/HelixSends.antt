@@ -29,8 +29,9 @@ use Rattle.layout.specs.Layout.{dimensionAt}
 use Rattle.entries.specs.EntryContracts.{putReceiver}
 use Rattle.table.specs.View.{view, net, shapeOf, receive}
 use Rattle.table.specs.TableContracts.{lowestChannel}
-use Rattle.answers.specs.PassAnswer.{freeIn, holdPath, pass-answer}
-use Rattle.answers.specs.SendAnswer.{bytesAfterSend, answerOfOutcome, sendAnswer, searched, MaySend}
+use Rattle.answers.specs.SendOnTable.{freeIn, pass-answer, answerOfOutcome}
+use Rattle.answers.specs.PassAnswer.{holdPath}
+use Rattle.answers.specs.SendAnswer.{bytesAfterSend, sendAnswer, searched, MaySend}
 use Rattle.helix.specs.HelixContracts.{MayFollow, frontIn, freeAll, helixIn, FrontOf, triedIn, MayTryPaths, FirstFree}
 use Rattle.answers.proofs.PassAnswer.{receive-small}
 use Rattle.answers.proofs.Sent.{ports-in-turn}

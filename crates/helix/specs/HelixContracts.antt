@@ -13,7 +13,7 @@ use Rattle.paths.specs.Helix.{helixPath, freeFront, tryPaths}
 use Rattle.paths.specs.CubeNetwork.{sendPorts}
 use Rattle.layout.specs.Layout.{tableLength, dimensionAt}
 use Rattle.table.specs.View.{view, net, shapeOf}
-use Rattle.answers.specs.PassAnswer.{freeIn}
+use Rattle.answers.specs.SendOnTable.{freeIn}
 
 -- what they ask: a table of a cube up to dimension 8, two nodes and a port of it
 pub record MayFollow (b : List ℕ) (n t p : ℕ) : Type 0 where

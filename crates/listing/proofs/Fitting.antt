@@ -27,7 +27,7 @@ use Rattle.ownership.specs.Allowed.{Allowed}
 use Rattle.ownership.proofs.Allowed.{allowed}
 use Rattle.ownership.proofs.Stops.{none-stops, none-stops-lent, pass-tests}
 use Rattle.ownership.proofs.Steps.{table-step}
-use Rattle.ownership.proofs.Shows.{PortsBelow}
+use Rattle.answers.proofs.AfterSend.{PortsBelow}
 use Rattle.ownership.proofs.OnSound.{open-answers, open-stands}
 use Rattle.text.specs.Text.{newline, decimal}
 use Rattle.text.specs.Lines.{onFirst, cut, lines, fields}

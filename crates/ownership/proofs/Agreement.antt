@@ -40,7 +40,7 @@ use Rattle.ownership.proofs.CircuitValid.{armed-inside, valid-sound}
 use Rattle.ownership.proofs.Stopped.{path-listed, stopped-same}
 use Rattle.ownership.proofs.Applied.{made-valid, made-view, follows-valid, follows-view}
 use Rattle.ownership.proofs.Steps.{table-step, history-step}
-use Rattle.answers.specs.SendAnswer.{waitingHelps}
+use Rattle.answers.specs.SendOnTable.{waitingHelps}
 
 -- The bytes of a valid history are covered by it.
 bytes-represent : (h : History) → Valid h → Represents (bytesOf h) h

@@ -20,11 +20,13 @@ use Rattle.ownership.specs.Calls.{Call, making, blocking, unblocking, op
 use Rattle.ownership.specs.History.{Circuit, History, shapeOn, netOn, linksOf, holdsLink, holdsReceive, belongs, enabledOn, heldOn, freeOn, takenOn, openOn, armedOn, receiveOn, factsOn, stoppedOn, sendOn, withBlocked, withCircuits, withArmed, without, withOpened, applied}
 use Rattle.ownership.specs.Invariant.{CircuitValid, Disjoint, Valid}
 use Rattle.ownership.specs.HistoryView.{numberOf, viewOf}
-use Rattle.ownership.specs.Update.{holdLinks, viewAfterSend, updated}
+use Rattle.answers.specs.SendOnTable.{holdLinks, viewAfterSend}
+use Rattle.ownership.specs.Update.{updated}
 use Rattle.ownership.proofs.Circuits.{parts-belong, belongs-number, Once, number-drop}
 use Rattle.ownership.proofs.Sameness.{send-same}
 use Rattle.ownership.proofs.CircuitValid.{link-holds, receive-holds, links-once, receives-once, receiver-of}
-use Rattle.ownership.proofs.Acknowledged.{Taken, send-taken, receive-free}
+use Rattle.answers.proofs.AfterSend.{Taken, send-taken}
+use Rattle.ownership.proofs.Acknowledged.{receive-free}
 use Rattle.ownership.specs.Allowed.{Allowed}
 use Rattle.ownership.proofs.Allowed.{allowed-on}
 use Rattle.ownership.proofs.Enabled.{block-enabled, unblock-enabled}

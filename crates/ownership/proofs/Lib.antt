@@ -13,7 +13,6 @@ pub mod Applied
 pub mod Steps
 pub mod StillOpen
 pub mod OpenedBy
-pub mod Shows
 pub mod Range
 pub mod Stops
 pub mod StepBytes

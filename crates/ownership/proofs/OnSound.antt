@@ -21,8 +21,8 @@ use Rattle.circuit_path.specs.CircuitSound.{CircuitSound}
 use Rattle.soundness.specs.Sound.{Sound}
 use Rattle.soundness.specs.TableTests.{tableTests}
 use Rattle.soundness.proofs.Passing.{answers}
-use Rattle.answers.specs.PassAnswer.{pass-answer}
-use Rattle.answers.specs.SendAnswer.{answerOfOutcome, sendAnswer, sends, MaySend}
+use Rattle.answers.specs.SendOnTable.{pass-answer, answerOfOutcome}
+use Rattle.answers.specs.SendAnswer.{sendAnswer, sends, MaySend}
 use Rattle.answers.specs.SendSays.{SendSays}
 use Rattle.answers.proofs.SendSays.{demand-2}
 use Rattle.ownership.specs.Calls.{Call, making, blocking, unblocking, opening, closing, tracing, arming, disarming, callTests, CallResult, hopsOf, receiveOf, scoutsOf, only, answered, resultOf}

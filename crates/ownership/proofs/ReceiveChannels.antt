@@ -37,8 +37,8 @@ use Rattle.circuit_path.specs.PathOf.{pathOf}
 use Rattle.soundness.specs.TableTests.{tableTests}
 use Rattle.circuit_path.proofs.Stands.{path-is}
 use Rattle.soundness.proofs.Soundness.{receive-stands}
-use Rattle.answers.specs.PassAnswer.{freeIn, PassAnswer, pass-answer}
-use Rattle.answers.specs.SendAnswer.{answerOfOutcome, sendAnswer}
+use Rattle.answers.specs.SendOnTable.{freeIn, PassAnswer, pass-answer, answerOfOutcome}
+use Rattle.answers.specs.SendAnswer.{sendAnswer}
 use Rattle.answers.proofs.PassAnswer.{free-owner}
 use Rattle.ownership.specs.Calls.{Call, making, blocking, unblocking, opening, closing, tracing, arming, disarming, callTests, resultOf}
 use Rattle.ownership.specs.OnTable.{factsOf, lentTests, stoppedAt, tableStep}

@@ -14,7 +14,7 @@ use Rattle.table.specs.View.{View, view, shapeOf, heldIn, heldBy}
 use Rattle.table.specs.Encode.{encode}
 use Rattle.circuit_path.specs.PathOf.{pathOf}
 use Rattle.soundness.specs.TableTests.{tableTests}
-use Rattle.answers.specs.SendAnswer.{waitingHelps}
+use Rattle.answers.specs.SendOnTable.{waitingHelps}
 use Rattle.ownership.specs.Calls.{Call, form, CallFacts, callTests, After, callOn}
 use Rattle.ownership.specs.Update.{sendIn, updated}
 

@@ -36,9 +36,9 @@ use Rattle.circuit_path.proofs.Stands.{path-is}
 use Rattle.answers.specs.PassAnswer.{holdPath}
 use Rattle.answers.specs.SendAnswer.{bytesAfterSend}
 use Rattle.answers.proofs.PassAnswer.{owner-length}
-use Rattle.ownership.specs.Update.{holdLinks, viewAfterSend}
-use Rattle.ownership.proofs.Shows.{PortsBelow, Fits, hold-length, view-hold, view-after-send}
-use Rattle.ownership.proofs.BytesAfter.{send-bytes, armed-encoded}
+use Rattle.answers.specs.SendOnTable.{holdLinks, viewAfterSend}
+use Rattle.answers.proofs.AfterSend.{PortsBelow, Fits, hold-length, view-hold, view-after-send, send-bytes}
+use Rattle.ownership.proofs.BytesAfter.{armed-encoded}
 use Rattle.ownership.proofs.Applied.{held-path}
 use Rattle.ownership.proofs.OpenCircuits.{open-path, open-sound}
 use Rattle.release.specs.Release.{MayFree}

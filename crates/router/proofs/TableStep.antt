@@ -19,8 +19,8 @@ use Rattle.table.specs.View.{view, withoutCircuit}
 use Rattle.circuit_path.specs.PathOf.{pathOf}
 use Rattle.circuit_path.specs.Traced.{tracedInto}
 use Rattle.ownership.specs.Calls.{Call, making, blocking, unblocking, opening, closing, tracing, arming, disarming, CallResult, refusedWith, answered, callTests, resultOf, After}
-use Rattle.answers.specs.PassAnswer.{PassAnswer, pass-answer}
-use Rattle.answers.specs.SendAnswer.{answerOfOutcome, sendAnswer, sends, waitingHelps}
+use Rattle.answers.specs.SendOnTable.{PassAnswer, pass-answer, answerOfOutcome, waitingHelps}
+use Rattle.answers.specs.SendAnswer.{sendAnswer, sends}
 use Rattle.ownership.specs.Update.{sendIn}
 use Rattle.ownership.specs.OnTable.{factsOf, lentTests, stoppedAt, tableStep, done}
 use Rattle.ownership.proofs.Stops.{making-stopped}

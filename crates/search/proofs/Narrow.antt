@@ -19,7 +19,8 @@ use Rattle.paths.proofs.Depth.{trying-cons}
 use Rattle.entries.specs.EntryContracts.{enableBits, Within}
 use Rattle.table.specs.View.{View, view, receive, net}
 use Rattle.layout.proofs.Entries.{enabled-has}
-use Rattle.answers.specs.PassAnswer.{freeIn, answerOfPass, arrivalAfter}
+use Rattle.answers.specs.SendOnTable.{freeIn}
+use Rattle.answers.specs.PassAnswer.{answerOfPass, arrivalAfter}
 use Rattle.search.specs.SearchContracts.{Narrowed, Enabled, tryAnswer}
 use Rattle.answers.proofs.PassAnswer.{free-off}
 

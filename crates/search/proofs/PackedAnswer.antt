@@ -6,7 +6,7 @@ use Prim.Native.Nat.{ℕ, _+_, _-_, _*_, _/_, _%_, _≤_, _<_}
 use native.Mathlib.Omega.{arith}
 use lib.Dec.{ltb}
 use borrow.Author.Tests.{lt-ltb, le-ltb}
-use Rattle.answers.specs.PassAnswer.{PassAnswer, pass-answer}
+use Rattle.answers.specs.SendOnTable.{PassAnswer, pass-answer}
 use Rattle.search.specs.SearchContracts.{answerIn, Packed, Unpacked}
 
 module _ (x : ℕ) (b : List ℕ) where

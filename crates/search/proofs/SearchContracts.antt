@@ -33,7 +33,8 @@ use Rattle.entries.specs.EntryContracts.{putOwner, putEntry, Within}
 use Rattle.table.specs.TableContracts.{lowestChannel}
 use Rattle.table.specs.View.{view, setOwner, receive, net, shapeOf}
 use Rattle.table.proofs.Views.{view-put-owner}
-use Rattle.answers.specs.PassAnswer.{freeIn, PassAnswer, pass-answer, answerOfPass, arrivalAfter, hopsLeft}
+use Rattle.answers.specs.SendOnTable.{freeIn, PassAnswer, pass-answer}
+use Rattle.answers.specs.PassAnswer.{answerOfPass, arrivalAfter, hopsLeft}
 use Rattle.search.specs.SearchContracts.{farthest, farthestAfter, answerIn, Packed, tryAnswer, arriveAnswer, Narrowed, Enabled, SearchPre, MayTry, MayArrive}
 use Rattle.answers.proofs.PassAnswer.{owner-length, at-target, arrives, target-receives, target-full, lowest-small, behind, receive-same, given-back, free-owner, port-busy, port-acknowledged, port-receive-rejected, port-route-rejected, answer-scouts, ports-over}
 use Rattle.search.proofs.PackedAnswer.{in-route, in-receive, in-acknowledged, of-receive, of-acknowledged}

@@ -4,7 +4,7 @@ ghost use Prim.Native.Nat.{_+_, _*_};
 ghost use Rattle.entries.specs.EntryContracts.{Within};
 ghost use Rattle.table.specs.View.{view};
 ghost use Rattle.cube.specs.Helical.{FirstPorts};
-ghost use Rattle.answers.specs.PassAnswer.{pass-answer};
+ghost use Rattle.answers.specs.SendOnTable.{pass-answer};
 ghost use Rattle.search.specs.SearchContracts.{Narrowed, Enabled, Packed, Unpacked, tryAnswer, arriveAnswer, MayTry, MayArrive};
 ghost use Rattle.answers.specs.SendAnswer.{MaySend, searched};
 

@@ -12,8 +12,8 @@ use Rattle.paths.specs.Waiting.{someAttempt}
 use Rattle.paths.specs.CubeNetwork.{attempts, send}
 use Rattle.table.specs.View.{view, net, shapeOf}
 use Rattle.reach.specs.Marks.{MayAsk}
-use Rattle.answers.specs.PassAnswer.{pass-answer}
-use Rattle.answers.specs.SendAnswer.{waitingHelps, bytesAfterSend, answerOfOutcome, sendAnswer, sendOf, sends, searched, MaySend}
+use Rattle.answers.specs.SendOnTable.{pass-answer, waitingHelps, answerOfOutcome, sendOf}
+use Rattle.answers.specs.SendAnswer.{bytesAfterSend, sendAnswer, sends, searched, MaySend}
 use Rattle.answers.proofs.Sent.{sent-leaves, other-kept, rejected-as}
 
 -- what is asked after a search that leaves each byte as it was

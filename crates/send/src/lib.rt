@@ -2,7 +2,7 @@
 ghost use mathlib.Core.Path.{_≡_};
 ghost use mathlib.Core.Logic.{_≢_};
 ghost use Rattle.cube.specs.Helical.{FirstPorts};
-ghost use Rattle.answers.specs.PassAnswer.{pass-answer};
+ghost use Rattle.answers.specs.SendOnTable.{pass-answer};
 ghost use Rattle.answers.specs.SendAnswer.{MaySend, searched, sends};
 
 use answers::Opened;

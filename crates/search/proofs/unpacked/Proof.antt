@@ -3,7 +3,7 @@
 use mathlib.Core.Path.{_≡_, ap, sym, _∙_}
 use Prim.Native.Nat.{_%_}
 use native.Mathlib.Omega.{arith}
-use Rattle.answers.specs.PassAnswer.{pass-answer}
+use Rattle.answers.specs.SendOnTable.{pass-answer}
 use Rattle.search.proofs.PackedAnswer.{in-route, in-receive, in-acknowledged}
 use borrow.Author.Needs.{needs}
 use Rattle.search.proofs.unpacked.Statement.{statement}
