@@ -41,7 +41,7 @@ module _ (b : List ℕ) (bytes : Bytes b) where
   armed-encoded n k on w =
       encode-shown (putArmed b n k on) _ (unfold putArmed in mask-bytes _ b n k on bytes (w .port)) (view-put-armed b n k on w)
 
--- What the functions below leave of the bytes: `table::make`, `disable` and `enable`, `search::send`, `release::release`, `table::arm` and `disarm`.
+-- What the functions below leave of the bytes: `table::make`, `disable` and `enable`, `send::send`, `release::release`, `table::arm` and `disarm`.
 unfoldable pub writtenBy : List ℕ → Call → List ℕ
 writtenBy b (making D) = made D
 writtenBy b (blocking n p) = putEnabled b n p false
