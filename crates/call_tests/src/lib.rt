@@ -2,8 +2,9 @@
 // one comparison stands there; before them come the others, each a function that says whether it applies.
 ghost use mathlib.Core.Path.{_≡_};
 ghost use mathlib.Core.Bool.{false};
-ghost use Prim.Native.Nat.{_≤_};
+ghost use Prim.Native.Nat.{_<_};
 ghost use Rattle.common.specs.Tests.{refusal};
+ghost use Rattle.cube.specs.Cube.{channels};
 ghost use Rattle.table.specs.View.{view};
 ghost use Rattle.soundness.specs.TableTests.{tableTests};
 ghost use Rattle.ownership.specs.Calls.{blocking, unblocking, opening, closing, tracing, arming, disarming, absent, port, routingType, sendVector};
@@ -59,7 +60,7 @@ fn no_vector(t: &[u8], vector: u16) -> bool
 fn has_circuit(t: &[u8], s: Node, c: u16) -> bool
     requires { ⌜ refusal (tableTests (now t)) ≡ 0 ⌝ }
     requires { ⌜ absent (factsOf (view (now t))) (s .0) ≡ false ⌝ }
-    requires { ⌜ c ≤ 7 ⌝ }
+    requires { ⌜ c < channels ⌝ }
     ensures { λ r. ⌜ r ≡ openIn (view (now (t .entry))) (s .0) c ⌝ }
 {
     circuit_path::is_open(t, cube::circuit_of(s, c))

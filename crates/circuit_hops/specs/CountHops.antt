@@ -8,11 +8,11 @@ use mathlib.Core.List.{List, [], _∷_}
 use Prim.Native.Nat.{ℕ, _+_, _^_, _≤_, _<_}
 use lib.ListN.{length}
 use Rattle.common.specs.Lists.{_∈_}
-use Rattle.cube.specs.Cube.{next, sourceOf}
+use Rattle.cube.specs.Cube.{largestDimension, portCount, next, sourceOf}
 use Rattle.paths.specs.Network.{Path, links, offered}
 use Rattle.paths.specs.Permitted.{Permitted}
 use Rattle.paths.specs.CubeNetwork.{ports, circuitCount}
-use Rattle.layout.specs.Layout.{tableLength, portCount, dimensionAt}
+use Rattle.layout.specs.Layout.{tableLength, dimensionAt}
 use Rattle.table.specs.View.{View, shapeOf, net, heldBy}
 use Rattle.circuit_path.specs.CircuitSound.{endFor, CircuitSound}
 use Rattle.circuit_path.specs.Follow.{HasSource}
@@ -35,7 +35,7 @@ pub record Walks (v : View) (c t n walked hops : ℕ) : Type 0 where
 
 pub record WalkPre (b : List ℕ) (n t : ℕ) : Type 0 where
   pub bytes : length b ≡ tableLength
-  pub fits : dimensionAt b ≤ 8
+  pub fits : dimensionAt b ≤ largestDimension
   pub start : n < 2 ^ dimensionAt b
   pub target : t < 2 ^ dimensionAt b
 
@@ -73,6 +73,6 @@ pub record Taken (v : View) (c t : ℕ) (before after : List ℕ) (hops : ℕ) :
 -- what counting the hops of a circuit asks: the bytes of a table, how many nodes its cube has, and marks
 pub record HopsPre (b : List ℕ) (nodes : ℕ) (m : List ℕ) : Type 0 where
   pub bytes : length b ≡ tableLength
-  pub fits : dimensionAt b ≤ 8
+  pub fits : dimensionAt b ≤ largestDimension
   pub count : nodes ≡ 2 ^ dimensionAt b
   pub size : length m ≡ markCount

@@ -8,8 +8,7 @@ use Prim.Native.Nat.{ℕ, _<_}
 use lib.ListN.{getD, set}
 use lib.Bits.{bitOr}
 use Rattle.cube.specs.Bits.{has}
-use Rattle.cube.specs.Cube.{sourceOf}
-use Rattle.layout.specs.Layout.{portCount}
+use Rattle.cube.specs.Cube.{portCount, sourceOf}
 use Rattle.table.specs.View.{View, heldBy}
 
 -- a byte for each of 256 nodes

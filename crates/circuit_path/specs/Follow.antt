@@ -6,11 +6,11 @@ use mathlib.Core.List.{List}
 use Prim.Native.Nat.{ℕ, _+_, _^_, _≤_, _<_}
 use lib.ListN.{length}
 use Rattle.cube.specs.Bits.{has}
-use Rattle.cube.specs.Cube.{next, sourceOf}
+use Rattle.cube.specs.Cube.{largestDimension, portCount, next, sourceOf}
 use Rattle.cube.specs.Helical.{portsOf, firstOr, noPort}
 use Rattle.paths.specs.Network.{Path, end}
 use Rattle.paths.specs.Recover.{walkFrom, firstHopChoices}
-use Rattle.layout.specs.Layout.{tableLength, dimensionAt, portCount}
+use Rattle.layout.specs.Layout.{tableLength, dimensionAt}
 use Rattle.table.specs.View.{View, net, heldBy}
 
 -- port p is in the vector, and circuit c holds the link out of it
@@ -32,7 +32,7 @@ firstHop v c s vector = firstOr noPort (firstHopChoices (net v) (portsOf portCou
 -- what looking for the path of a circuit asks: a table of a cube up to dimension 8, and a circuit whose source is in it
 pub record HasSource (b : List ℕ) (c : ℕ) : Type 0 where
   pub bytes : length b ≡ tableLength
-  pub fits : dimensionAt b ≤ 8
+  pub fits : dimensionAt b ≤ largestDimension
   pub circuit : 0 < c
   pub source : sourceOf c < 2 ^ dimensionAt b
 

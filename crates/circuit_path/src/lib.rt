@@ -6,6 +6,7 @@ ghost use Prim.Native.Nat.{_≤_, _<_};
 ghost use lib.ListN.{length};
 ghost use Rattle.entries.specs.EntryContracts.{Within};
 ghost use Rattle.common.specs.Lists.{lowest};
+ghost use Rattle.cube.specs.Cube.{portCount};
 ghost use Rattle.table.specs.View.{view, heldBy};
 ghost use Rattle.circuit_path.specs.PathOf.{pathOf, isEmpty};
 ghost use Rattle.circuit_path.specs.Traced.{tracedInto};
@@ -53,7 +54,7 @@ fn comes_back(t: &[u8], c: Circuit, n: Node, vector: u16, p: Port) -> bool
 // The lowest port of a vector whose link a circuit holds at a node: 8 where there is none. No port below the lowest of the vector is looked at.
 fn held_port(t: &[u8], c: Circuit, n: Node, vector: u16) -> Port
     requires { ⌜ Within (now t) (n .0) 0 × (vector < 256) ⌝ }
-    ensures { λ r. ⌜ r .0 ≡ lowest (takes (view (now (t .entry))) (c .0) (n .0) vector) 8 0 ⌝ }
+    ensures { λ r. ⌜ r .0 ≡ lowest (takes (view (now (t .entry))) (c .0) (n .0) vector) portCount 0 ⌝ }
 {
     let mut p = cube::lowest_bit(vector);
     while p < 8 {
@@ -67,7 +68,7 @@ fn held_port(t: &[u8], c: Circuit, n: Node, vector: u16) -> Port
 
 // The first of two ports that were found, 8 standing for none.
 fn first_of(found: Port, p: Port) -> Port
-    ensures { λ r. ⌜ r .0 ≡ cond (ltb (found .0) 8) (found .0) (p .0) ⌝ }
+    ensures { λ r. ⌜ r .0 ≡ cond (ltb (found .0) portCount) (found .0) (p .0) ⌝ }
 {
     if found.0 < 8 { found } else { p }
 }

@@ -7,7 +7,8 @@ use mathlib.Core.List.{List}
 use Prim.Native.Nat.{ℕ, _<_}
 use lib.ListN.{length, getD, set}
 use Rattle.cube.specs.Bits.{withBit}
-use Rattle.layout.specs.Layout.{tableLength, portCount, maskPlace, enablePart, armPart, enablePlace, armPlace, entryPlace, linkPart, receivePart}
+use Rattle.cube.specs.Cube.{portCount}
+use Rattle.layout.specs.Layout.{tableLength, maskPlace, enablePart, armPart, enablePlace, armPlace, entryPlace, linkPart, receivePart}
 use Rattle.layout.specs.LayoutContracts.{putWord}
 
 -- what the functions over one entry ask: a table's bytes, a node and a port or channel within them

@@ -7,6 +7,7 @@ use mathlib.Core.List.{List, map}
 use Prim.Native.Nat.{ℕ, _^_, _≤_, _<_}
 use lib.ListN.{length}
 use Rattle.paths.specs.Network.{Path, freePath}
+use Rattle.cube.specs.Cube.{largestDimension}
 use Rattle.cube.specs.Helical.{noPort}
 use Rattle.paths.specs.Pass.{PassResult, none, found}
 use Rattle.paths.specs.Helix.{helixPath, freeFront, tryPaths}
@@ -18,7 +19,7 @@ use Rattle.answers.specs.SendOnTable.{freeIn}
 -- what they ask: a table of a cube up to dimension 8, two nodes and a port of it
 pub record MayFollow (b : List ℕ) (n t p : ℕ) : Type 0 where
   pub bytes : length b ≡ tableLength
-  pub fits : dimensionAt b ≤ 8
+  pub fits : dimensionAt b ≤ largestDimension
   pub node : n < 2 ^ dimensionAt b
   pub target : t < 2 ^ dimensionAt b
   pub port : p < dimensionAt b
@@ -44,7 +45,7 @@ triedIn b s t vector = tryPaths (net (view b)) (freeIn (view b)) s 0 (map (helix
 
 pub record MayTryPaths (b : List ℕ) (s t vector : ℕ) : Type 0 where
   pub bytes : length b ≡ tableLength
-  pub fits : dimensionAt b ≤ 8
+  pub fits : dimensionAt b ≤ largestDimension
   pub source : s < 2 ^ dimensionAt b
   pub target : t < 2 ^ dimensionAt b
   pub ports : vector < 2 ^ dimensionAt b

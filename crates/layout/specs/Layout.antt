@@ -7,14 +7,11 @@ use Prim.Native.Nat.{ℕ, _+_, _*_}
 use lib.Dec.{ltb}
 use lib.ListN.{getD}
 use Rattle.cube.specs.Bits.{has}
+use Rattle.cube.specs.Cube.{portCount}
 
 -- "8,705 in all"
 abbrev pub tableLength : ℕ
 tableLength = 8705
-
--- "for each node and port 0 to 7"
-abbrev pub portCount : ℕ
-portCount = 8
 
 -- a table has room for 256 nodes, each with 8 ports and as many receive channels
 abbrev pub inTable : ℕ → ℕ → Bool

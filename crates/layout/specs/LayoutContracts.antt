@@ -7,6 +7,7 @@ use lib.Dec.{eqb}
 use lib.ListN.{length, take, drop, getD, set, replicate}
 use Rattle.common.specs.Lists.{keep, from}
 use Rattle.cube.specs.Bits.{has}
+use Rattle.cube.specs.Cube.{portCount}
 use Rattle.layout.specs.Layout.{wordAt}
 
 -- the bytes after a word is written at place i
@@ -22,10 +23,11 @@ pub record RunOr (b : List ℕ) (i count : ℕ) (all : ℕ) : Type 0 where
   pub none-above : (j : ℕ) → j < count → getD b (i + j) 0 ≤ all
   pub below : (w : ℕ) → ((j : ℕ) → j < count → getD b (i + j) 0 < 2 ^ w) → all < 2 ^ w
 
--- Which of the eight entries of a row, from place i on, are circuit c's: as a vector, and how many.
+-- Which entries of a row, from place i on, are circuit c's: as a vector, and how many. A row has a node's links or its receive channels, of which there are as
+-- many: `portCount` stands for the entries of either.
 pub record RowVector (b : List ℕ) (i c vector : ℕ) : Type 0 where
   pub small : vector < 256
-  pub bits : (k : ℕ) → k < 8 → has vector k ≡ eqb (wordAt b (i + 2 * k)) c
+  pub bits : (k : ℕ) → k < portCount → has vector k ≡ eqb (wordAt b (i + 2 * k)) c
 
 unfoldable pub rowCount : List ℕ → ℕ → ℕ → ℕ
-rowCount b i c = length (keep (λ k. eqb (wordAt b (i + 2 * k)) c) (from 0 8))
+rowCount b i c = length (keep (λ k. eqb (wordAt b (i + 2 * k)) c) (from 0 portCount))

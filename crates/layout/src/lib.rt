@@ -6,6 +6,7 @@ ghost use Prim.Native.Nat.{ℕ, _+_, _*_, _<_, _≤_};
 ghost use lib.ListN.{length, getD, set};
 ghost use Rattle.common.specs.Decides.{Decides};
 ghost use Rattle.cube.specs.Bits.{has, withBit};
+ghost use Rattle.cube.specs.Cube.{portCount, channels};
 ghost use Rattle.layout.specs.Layout.{tableLength, wordAt, enablePlace, armPlace, linkPlace, receivePlace};
 ghost use Rattle.layout.specs.LayoutContracts.{putWord, filled, RunOr, RowVector, rowCount};
 use cube::Circuit;
@@ -87,14 +88,14 @@ pub fn arm_place(n: Node) -> usize
 }
 
 pub fn link_place(n: Node, p: Port) -> usize
-    requires { ⌜ (n .0 < 256) × (p .0 < 8) ⌝ }
+    requires { ⌜ (n .0 < 256) × (p .0 < portCount) ⌝ }
     ensures { λ r. ⌜ (r ≡ linkPlace (n .0) (p .0)) × (r + 1 < tableLength) ⌝ }
 {
     LINKS + ROW * (n.0 as usize) + ENTRY * (p.0 as usize)
 }
 
 pub fn receive_place(n: Node, channel: u16) -> usize
-    requires { ⌜ (n .0 < 256) × (channel < 8) ⌝ }
+    requires { ⌜ (n .0 < 256) × (channel < channels) ⌝ }
     ensures { λ r. ⌜ (r ≡ receivePlace (n .0) channel) × (r + 1 < tableLength) ⌝ }
 {
     RECEIVES + ROW * (n.0 as usize) + ENTRY * (channel as usize)
@@ -159,7 +160,7 @@ pub fn row_count(t: &[u8], from: usize, c: Circuit) -> u16
 // Whether a mask has every entry of a row that is not zero: so a node's links that are held are enabled, and its receive channels that are held armed.
 pub fn mask_covers(t: &[u8], row: usize, mask: usize) -> bool
     requires { ⌜ (row + 16 ≤ length (now t)) × (mask < length (now t)) ⌝ }
-    ensures { λ r. ⌜ Decides ((k : ℕ) → k < 8 → wordAt (now (t .entry)) (row + 2 * k) ≢ 0 → has (getD (now (t .entry)) mask 0) k ≡ true) r ⌝ }
+    ensures { λ r. ⌜ Decides ((k : ℕ) → k < portCount → wordAt (now (t .entry)) (row + 2 * k) ≢ 0 → has (getD (now (t .entry)) mask 0) k ≡ true) r ⌝ }
 {
     row_vector(t, row, Circuit(0)) | wide(t[mask]) == 255
 }

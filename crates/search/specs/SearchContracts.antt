@@ -8,11 +8,12 @@ use Prim.Native.Nat.{ℕ, _+_, _-_, _*_, _/_, _%_, _^_, _≤_, _<_}
 use lib.Dec.{leb, ltb}
 use lib.ListN.{length}
 use Rattle.cube.specs.Bits.{has}
+use Rattle.cube.specs.Cube.{largestDimension, portCount, channels}
 use Rattle.cube.specs.Helical.{helical, portsOf}
 use Rattle.paths.specs.Network.{Network}
 use Rattle.paths.specs.Bound.{waysFrom}
 use Rattle.paths.specs.Search.{trying, arriving}
-use Rattle.layout.specs.Layout.{tableLength, dimensionAt, portCount}
+use Rattle.layout.specs.Layout.{tableLength, dimensionAt}
 use Rattle.table.specs.View.{View, view, receive, net}
 use Rattle.answers.specs.SendOnTable.{freeIn, PassAnswer, pass-answer}
 use Rattle.answers.specs.PassAnswer.{answerOfPass, arrivalAfter, hopsLeft}
@@ -51,7 +52,7 @@ unfoldable pub answerIn : ℕ → List ℕ → PassAnswer
 answerIn x b =
     cond (ltb x 4294967296) (pass-answer 10 0 0 x b)
     (cond (ltb x 8589934592) (pass-answer 11 0 0 (x % 4294967296) b)
-    (pass-answer 0 ((x / 4294967296 - 2) / 8 % 65536) ((x / 4294967296 - 2) % 8) (x % 4294967296) b))
+    (pass-answer 0 ((x / 4294967296 - 2) / channels % 65536) ((x / 4294967296 - 2) % channels) (x % 4294967296) b))
 
 pub record Packed (x : ℕ) (b : List ℕ) (answer : PassAnswer) : Type 0 where
   pub same : answerIn x b ≡ answer
@@ -63,7 +64,7 @@ Unpacked x number hops receive scouts = (b : List ℕ) → pass-answer number ho
 -- what both ask: a table of a cube up to dimension 8, a node and a target of it, a port, a circuit
 pub record SearchPre (b : List ℕ) (t c n a : ℕ) : Type 0 where
   pub bytes : length b ≡ tableLength
-  pub fits : dimensionAt b ≤ 8
+  pub fits : dimensionAt b ≤ largestDimension
   pub node : n < 2 ^ dimensionAt b
   pub target : t < 2 ^ dimensionAt b
   pub port : a < portCount

@@ -3,6 +3,7 @@ ghost use mathlib.Core.Path.{_≡_};
 ghost use Prim.Native.Nat.{_+_, _*_};
 ghost use Rattle.entries.specs.EntryContracts.{Within};
 ghost use Rattle.table.specs.View.{view};
+ghost use Rattle.cube.specs.Cube.{channels};
 ghost use Rattle.cube.specs.Helical.{FirstPorts};
 ghost use Rattle.answers.specs.SendOnTable.{pass-answer};
 ghost use Rattle.search.specs.SearchContracts.{Narrowed, Enabled, Packed, Unpacked, tryAnswer, arriveAnswer, MayTry, MayArrive};
@@ -30,7 +31,7 @@ const ACKNOWLEDGED: u64 = 8589934592;
 
 // The number of an acknowledgement.
 fn acknowledged(hops: u16, receive: u16, scouts: u32) -> u64
-    ensures { λ r. ⌜ r ≡ 8589934592 + scouts + 4294967296 * (8 * hops + receive) ⌝ }
+    ensures { λ r. ⌜ r ≡ 8589934592 + scouts + 4294967296 * (channels * hops + receive) ⌝ }
 {
     let place = 8 * (hops as u64) + receive as u64;
     ACKNOWLEDGED + scouts as u64 + NO_CHANNEL * place

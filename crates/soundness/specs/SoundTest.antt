@@ -5,10 +5,9 @@ use mathlib.Core.Bool.{Bool, cond, _&&_, _||_, not}
 use Prim.Native.Nat.{ℕ}
 use lib.Dec.{eqb, leb}
 use Rattle.common.specs.Lists.{every}
-use Rattle.cube.specs.Cube.{channels, sourceOf}
+use Rattle.cube.specs.Cube.{portCount, channels, sourceOf}
 use Rattle.paths.specs.Network.{links, hasLink}
 use Rattle.paths.specs.CubeNetwork.{isNode, isLinkOf, circuitCount}
-use Rattle.layout.specs.Layout.{portCount}
 use Rattle.table.specs.View.{View, shapeOf, net}
 use Rattle.table.specs.TableContracts.{channelsHeld}
 use Rattle.circuit_path.specs.PathOf.{pathOf, isEmpty}

@@ -4,6 +4,7 @@ ghost use mathlib.Core.Logic.{_≢_};
 ghost use mathlib.Core.Bool.{true};
 ghost use Prim.Native.Nat.{ℕ, _+_, _*_, _<_, _≤_};
 ghost use lib.ListN.{length};
+ghost use Rattle.cube.specs.Cube.{channels};
 ghost use Rattle.layout.specs.Layout.{tableLength};
 ghost use Rattle.table.specs.View.{view};
 ghost use Rattle.soundness.specs.Counting.{Counts, Frees};
@@ -26,8 +27,8 @@ const LINKS: u32 = 2048;
 // The hops of the circuits that hold a node's receive channels.
 fn hops_at(t: &[u8], nodes: u16, n: Node, seen: &mut [u8]) -> u32
     requires { ⌜ ReceivePre (now t) nodes (now seen) × (n .0 < nodes) ⌝ }
-    requires { ⌜ ((k : ℕ) → k < 8 → view (now t) .receiver (n .0) k ≢ 0 → view (now t) .armed (n .0) k ≡ true) ⌝ }
-    ensures { λ r. ⌜ Counts (view (now (t .entry))) (8 * n .0) (8 * n .0 + 8) (now (seen .entry)) (now (seen .exit)) r ⌝ }
+    requires { ⌜ ((k : ℕ) → k < channels → view (now t) .receiver (n .0) k ≢ 0 → view (now t) .armed (n .0) k ≡ true) ⌝ }
+    ensures { λ r. ⌜ Counts (view (now (t .entry))) (channels * n .0) (channels * n .0 + channels) (now (seen .entry)) (now (seen .exit)) r ⌝ }
 {
     let mut hops: u32 = 0;
     let mut k: u16 = 0;
@@ -44,7 +45,7 @@ fn hops_at(t: &[u8], nodes: u16, n: Node, seen: &mut [u8]) -> u32
 // Most nodes of most tables hold nothing: they are passed over, in groups or else one by one.
 fn hops_of(t: &[u8], nodes: u16, n: Node, seen: &mut [u8]) -> u32
     requires { ⌜ ReceivePre (now t) nodes (now seen) × (n .0 < 256) ⌝ }
-    ensures { λ r. ⌜ Counts (view (now (t .entry))) (8 * n .0) (8 * n .0 + 8) (now (seen .entry)) (now (seen .exit)) r ⌝ }
+    ensures { λ r. ⌜ Counts (view (now (t .entry))) (channels * n .0) (channels * n .0 + channels) (now (seen .entry)) (now (seen .exit)) r ⌝ }
 {
     if table::receives_clear(t, n, 1) {
         return 0;
@@ -61,7 +62,7 @@ fn hops_of(t: &[u8], nodes: u16, n: Node, seen: &mut [u8]) -> u32
 
 fn hops_from(t: &[u8], nodes: u16, from: Node, seen: &mut [u8]) -> u32
     requires { ⌜ ReceivePre (now t) nodes (now seen) × (from .0 + 16 ≤ 256) ⌝ }
-    ensures { λ r. ⌜ Counts (view (now (t .entry))) (8 * from .0) (8 * from .0 + 128) (now (seen .entry)) (now (seen .exit)) r ⌝ }
+    ensures { λ r. ⌜ Counts (view (now (t .entry))) (channels * from .0) (channels * from .0 + channels * 16) (now (seen .entry)) (now (seen .exit)) r ⌝ }
 {
     let first = from.0;
     let mut hops: u32 = 0;
@@ -76,7 +77,7 @@ fn hops_from(t: &[u8], nodes: u16, from: Node, seen: &mut [u8]) -> u32
 
 fn hops_group(t: &[u8], nodes: u16, from: Node, seen: &mut [u8]) -> u32
     requires { ⌜ ReceivePre (now t) nodes (now seen) × (from .0 + 16 ≤ 256) ⌝ }
-    ensures { λ r. ⌜ Counts (view (now (t .entry))) (8 * from .0) (8 * from .0 + 128) (now (seen .entry)) (now (seen .exit)) r ⌝ }
+    ensures { λ r. ⌜ Counts (view (now (t .entry))) (channels * from .0) (channels * from .0 + channels * 16) (now (seen .entry)) (now (seen .exit)) r ⌝ }
 {
     if table::receives_clear(t, from, GROUP) {
         return 0;

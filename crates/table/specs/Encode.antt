@@ -6,7 +6,8 @@ use mathlib.Core.Path.{_≡_}
 use Prim.Native.Nat.{ℕ, zero, suc, _+_, _-_, _/_, _%_, _^_, _<_}
 use lib.ListN.{length, getD, replicate}
 use Rattle.common.specs.Lists.{from}
-use Rattle.layout.specs.Layout.{tableLength, portCount, inTable}
+use Rattle.cube.specs.Cube.{portCount}
+use Rattle.layout.specs.Layout.{tableLength, inTable}
 use Rattle.table.specs.View.{View}
 
 -- a byte with bit p set where a test passes, for the w bits from p on
@@ -21,10 +22,10 @@ maskByte f n = bitsFrom (f n) 0 portCount
 unfoldable pub maskBytes : (ℕ → ℕ → Bool) → List ℕ
 maskBytes f = map (maskByte f) (from 0 256)
 
--- "Circuit numbers take two bytes, low byte first. Rows run node by node", 8 entries to a row: k entries from entry i on
+-- "Circuit numbers take two bytes, low byte first. Rows run node by node", `portCount` entries to a row: k entries from entry i on
 unfoldable pub entryBytes : (ℕ → ℕ → ℕ) → ℕ → ℕ → List ℕ
 entryBytes f i zero = []
-entryBytes f i (suc k) = f (i / 8) (i % 8) % 256 ∷ f (i / 8) (i % 8) / 256 ∷ entryBytes f (suc i) k
+entryBytes f i (suc k) = f (i / portCount) (i % portCount) % 256 ∷ f (i / portCount) (i % portCount) / 256 ∷ entryBytes f (suc i) k
 
 -- 1 byte, 256 bytes, 4,096 bytes, 4,096 bytes and 256 bytes
 unfoldable pub encode : View → List ℕ

@@ -8,8 +8,8 @@ use lib.Dec.{eqb, ltb}
 use lib.ListN.{length}
 use Rattle.common.specs.Lists.{keep, from, lowest}
 use Rattle.cube.specs.Bits.{has}
-use Rattle.cube.specs.Cube.{channels}
-use Rattle.layout.specs.Layout.{portCount, ownerAt}
+use Rattle.cube.specs.Cube.{portCount, channels}
+use Rattle.layout.specs.Layout.{ownerAt}
 use Rattle.entries.specs.EntryContracts.{enableBits, armBits}
 use Rattle.table.specs.View.{View, available}
 
@@ -28,7 +28,7 @@ ArmsFit b D = (n : ℕ) → 2 ^ D ≤ n → n < 256 → armBits b n ≡ 0
 -- the ports of a node whose links circuit c holds, as a vector
 pub record HeldBy (b : List ℕ) (c n vector : ℕ) : Type 0 where
   pub small : vector < 256
-  pub held : (p : ℕ) → p < 8 → has vector p ≡ eqb (ownerAt b n p) c
+  pub held : (p : ℕ) → p < portCount → has vector p ≡ eqb (ownerAt b n p) c
 
 -- how many of the first i links pass a test, where links run node by node
 unfoldable pub linkCount : (ℕ → ℕ → Bool) → ℕ → ℕ

@@ -7,6 +7,7 @@ ghost use lib.Dec.{eqb};
 ghost use lib.ListN.{length};
 ghost use Rattle.common.specs.Decides.{Decides};
 ghost use Rattle.common.specs.Lists.{lowest};
+ghost use Rattle.cube.specs.Cube.{portCount, channels};
 ghost use Rattle.layout.specs.Layout.{tableLength, enabledAt, ownerAt, receiverAt, armedAt};
 ghost use Rattle.entries.specs.EntryContracts.{Within};
 ghost use Rattle.table.specs.View.{view};
@@ -47,7 +48,7 @@ pub fn enables_fit(t: &[u8], dimension: u16) -> bool
 // Whether the links, or the receive channels, of so many nodes from one on are all held by nobody. Where it says no, look at each.
 pub fn links_clear(t: &[u8], n: Node, nodes: u16) -> bool
     requires { ⌜ (length (now t) ≡ tableLength) × (n .0 + nodes ≤ 256) × (0 < nodes) ⌝ }
-    ensures { λ r. ⌜ (r ≡ true → (m p : ℕ) → n .0 ≤ m → m < n .0 + nodes → p < 8 → ownerAt (now (t .entry)) m p ≡ 0) ⌝ }
+    ensures { λ r. ⌜ (r ≡ true → (m p : ℕ) → n .0 ≤ m → m < n .0 + nodes → p < portCount → ownerAt (now (t .entry)) m p ≡ 0) ⌝ }
 {
     let from = layout::link_place(n, Port(0));
     layout::or_bytes(t, from, layout::ROW * (nodes as usize)) == 0
@@ -55,7 +56,7 @@ pub fn links_clear(t: &[u8], n: Node, nodes: u16) -> bool
 
 pub fn receives_clear(t: &[u8], n: Node, nodes: u16) -> bool
     requires { ⌜ (length (now t) ≡ tableLength) × (n .0 + nodes ≤ 256) × (0 < nodes) ⌝ }
-    ensures { λ r. ⌜ (r ≡ true → (m k : ℕ) → n .0 ≤ m → m < n .0 + nodes → k < 8 → receiverAt (now (t .entry)) m k ≡ 0) ⌝ }
+    ensures { λ r. ⌜ (r ≡ true → (m k : ℕ) → n .0 ≤ m → m < n .0 + nodes → k < channels → receiverAt (now (t .entry)) m k ≡ 0) ⌝ }
 {
     let from = layout::receive_place(n, 0);
     layout::or_bytes(t, from, layout::ROW * (nodes as usize)) == 0
@@ -89,14 +90,14 @@ pub fn links_held(t: &[u8], c: Circuit, n: Node) -> u16
 // Whether the links of a node that are held are enabled, and whether its receive channels that are held are armed.
 pub fn held_enabled(t: &[u8], n: Node) -> bool
     requires { ⌜ Within (now t) (n .0) 0 ⌝ }
-    ensures { λ r. ⌜ Decides ((p : ℕ) → p < 8 → ownerAt (now (t .entry)) (n .0) p ≢ 0 → enabledAt (now (t .entry)) (n .0) p ≡ true) r ⌝ }
+    ensures { λ r. ⌜ Decides ((p : ℕ) → p < portCount → ownerAt (now (t .entry)) (n .0) p ≢ 0 → enabledAt (now (t .entry)) (n .0) p ≡ true) r ⌝ }
 {
     layout::mask_covers(t, layout::link_place(n, Port(0)), layout::enable_place(n))
 }
 
 pub fn held_armed(t: &[u8], n: Node) -> bool
     requires { ⌜ Within (now t) (n .0) 0 ⌝ }
-    ensures { λ r. ⌜ Decides ((k : ℕ) → k < 8 → receiverAt (now (t .entry)) (n .0) k ≢ 0 → armedAt (now (t .entry)) (n .0) k ≡ true) r ⌝ }
+    ensures { λ r. ⌜ Decides ((k : ℕ) → k < channels → receiverAt (now (t .entry)) (n .0) k ≢ 0 → armedAt (now (t .entry)) (n .0) k ≡ true) r ⌝ }
 {
     layout::mask_covers(t, layout::receive_place(n, 0), layout::arm_place(n))
 }
@@ -104,7 +105,7 @@ pub fn held_armed(t: &[u8], n: Node) -> bool
 // How many links of so many nodes from one on nobody holds.
 pub fn free_links(t: &[u8], n: Node, nodes: u16) -> u32
     requires { ⌜ (length (now t) ≡ tableLength) × (n .0 + nodes ≤ 256) × (0 < nodes) ⌝ }
-    ensures { λ r. ⌜ (r ≤ 8 * nodes) × (freeCount (now (t .entry)) (8 * n .0) + r ≡ freeCount (now (t .entry)) (8 * (n .0 + nodes))) ⌝ }
+    ensures { λ r. ⌜ (r ≤ portCount * nodes) × (freeCount (now (t .entry)) (portCount * n .0) + r ≡ freeCount (now (t .entry)) (portCount * (n .0 + nodes))) ⌝ }
 {
     let from = layout::link_place(n, Port(0));
     let count = 8 * (nodes as usize);
@@ -122,7 +123,7 @@ pub fn free_links(t: &[u8], n: Node, nodes: u16) -> u32
 // The lowest receive channel of a node that a circuit holds, and the lowest that is armed and that nobody holds: 8 where there is none.
 pub fn held_channel(t: &[u8], c: Circuit, n: Node) -> u16
     requires { ⌜ Within (now t) (n .0) 0 ⌝ }
-    ensures { λ r. ⌜ r ≡ lowest (λ k. eqb (receiverAt (now (t .entry)) (n .0) k) (c .0)) 8 0 ⌝ }
+    ensures { λ r. ⌜ r ≡ lowest (λ k. eqb (receiverAt (now (t .entry)) (n .0) k) (c .0)) channels 0 ⌝ }
 {
     cube::lowest_bit(layout::row_vector(t, layout::receive_place(n, 0), c))
 }
