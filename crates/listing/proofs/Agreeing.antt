@@ -13,7 +13,8 @@ use Rattle.ownership.specs.OnTable.{tableStep}
 use Rattle.ownership.specs.History.{History, historyStep}
 use Rattle.ownership.specs.Invariant.{Represents}
 use Rattle.ownership.proofs.Agreement.{represents-step}
-use Rattle.ownership.proofs.Applied.{made-valid, made-view}
+use Rattle.ownership.proofs.ValidAfter.{made-valid}
+use Rattle.ownership.proofs.Applied.{made-view}
 use Rattle.table.proofs.Made.{made-bytes, view-made}
 use Rattle.listing.specs.Examples.{input, output, printed-example}
 use Rattle.text.specs.Lines.{lines}

@@ -38,7 +38,8 @@ use Rattle.ownership.proofs.Refused.{refused-within}
 use Rattle.ownership.proofs.Sameness.{send-same, waiting-same}
 use Rattle.ownership.proofs.CircuitValid.{armed-inside, valid-sound}
 use Rattle.ownership.proofs.Stopped.{path-listed, stopped-same}
-use Rattle.ownership.proofs.Applied.{made-valid, made-view, follows-valid, follows-view}
+use Rattle.ownership.proofs.ValidAfter.{made-valid, follows-valid}
+use Rattle.ownership.proofs.Applied.{made-view, follows-view}
 use Rattle.ownership.proofs.Steps.{table-step, history-step}
 use Rattle.answers.specs.SendAnswer.{waitingHelps}
 
