@@ -21,7 +21,8 @@ use Rattle.paths.specs.Permitted.{Permitted}
 use Rattle.paths.specs.Send.{Receive, channel, Outcome, acknowledged, route-rejected, receive-rejected}
 use Rattle.paths.specs.CubeNetwork.{Shape, Node, ports, network, attempts, send}
 use Rattle.paths.proofs.Apart.{permitted-below}
-use Rattle.paths.proofs.Send.{said-by, acknowledged-says, tries-permitted, send-says}
+use Rattle.paths.proofs.Attempts.{said-by, acknowledged-says}
+use Rattle.paths.proofs.Send.{tries-permitted, send-says}
 use Rattle.paths.proofs.Words.{free-links}
 use Rattle.layout.specs.Layout.{tableLength, dimensionAt, entryPlace, linkPart, receivePart}
 use Rattle.layout.specs.LayoutContracts.{putWord}

@@ -11,7 +11,8 @@ use Rattle.paths.specs.Network.{Path}
 use Rattle.paths.specs.Send.{channel, none-available, Outcome, acknowledged, route-rejected, receive-rejected, Acknowledged, Attempt, SendResult}
 use Rattle.paths.specs.Sentences.{AttemptsSay}
 use Rattle.paths.specs.CubeNetwork.{attempts, send}
-use Rattle.paths.proofs.Send.{Route, not-route-rejected, acknowledged-route, route-acknowledged, receive-rejected-route, send-says, send-bounded}
+use Rattle.paths.proofs.Attempts.{Route, not-route-rejected, acknowledged-route, route-acknowledged, receive-rejected-route}
+use Rattle.paths.proofs.Send.{send-says, send-bounded}
 use Rattle.layout.specs.Layout.{dimensionAt}
 use Rattle.table.specs.View.{View, view, receive, available, net, shapeOf}
 use Rattle.table.proofs.Receives.{chosen, none-chosen}

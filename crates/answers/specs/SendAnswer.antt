@@ -7,6 +7,7 @@ use mathlib.Core.Bool.{Bool, true}
 use mathlib.Core.List.{List}
 use Prim.Native.Nat.{ℕ, _^_, _≤_, _<_}
 use lib.ListN.{length}
+use Rattle.cube.specs.Cube.{largestDimension}
 use Rattle.paths.specs.Send.{Outcome, acknowledged, route-rejected, receive-rejected, SendResult}
 use Rattle.layout.specs.Layout.{tableLength, dimensionAt}
 use Rattle.entries.specs.EntryContracts.{putReceiver}
@@ -33,7 +34,7 @@ searched b s t c type vector = sendAnswer true b c s t (sendOf (view b) s t type
 -- what a send asks: a table of a cube up to dimension 8, a source and a target of it, a vector of its ports, a circuit
 pub record MaySend (b : List ℕ) (s t c vector : ℕ) : Type 0 where
   pub bytes : length b ≡ tableLength
-  pub fits : dimensionAt b ≤ 8
+  pub fits : dimensionAt b ≤ largestDimension
   pub source : s < 2 ^ dimensionAt b
   pub target : t < 2 ^ dimensionAt b
   pub ports : vector < 2 ^ dimensionAt b

@@ -4,7 +4,6 @@ ghost use Rattle.entries.specs.EntryContracts.{Within};
 ghost use Rattle.table.specs.View.{view};
 ghost use Rattle.answers.specs.SendOnTable.{stateIn};
 ghost use Rattle.answers.specs.PassAnswer.{stateOf};
-
 use cube::Node;
 use cube::Port;
 

@@ -2,4 +2,5 @@
 pub mod OneKept
 pub mod Marks
 pub mod Ways
+pub mod Taken
 pub mod Following

@@ -18,18 +18,18 @@ use Rattle.cube.specs.Cube.{sourceOf}
 use Rattle.cube.proofs.Bits.{has-and, has-or, no-ports, zero-has}
 use Rattle.table.specs.TableContracts.{HeldBy}
 use Rattle.table.specs.View.{view, heldBy}
-use Rattle.circuit_hops.specs.Marks.{marked, withMarks, Seen}
+use Rattle.circuit_hops.specs.Marks.{seenAt, withMarks, Seen}
 
 module _ {b : List ℕ} {c held : ℕ} (m : List ℕ) (f : HeldBy b c (sourceOf c) held) where
   -- a circuit of which no link at its source was marked is new
   pub not-seen : eqb (bitAnd (getD m (sourceOf c) 0) held) 0 ≡ true → Seen (view b) m c → ⊥
-  unfolding Seen marked view
+  unfolding Seen seenAt view
   not-seen e s =
       clash (has-and _ held (s .0) ∙ and (s .3) (f .held (s .0) (s .1) ∙ s .2)) (ap (λ x. has x (s .0)) (eqb-true _ 0 e) ∙ zero-has (s .0))
 
   -- and one of which some was is not
   pub seen-before : eqb (bitAnd (getD m (sourceOf c) 0) held) 0 ≡ false → Seen (view b) m c
-  unfolding Seen marked view
+  unfolding Seen seenAt view
   seen-before e =
       ⊎-elim (λ r. let t = both (has (getD m (sourceOf c) 0) (r .0)) (has held (r .0)) (sym (has-and _ held (r .0)) ∙ r .2) in (r .0, r .1, sym (f .held (r .0) (r .1)) ∙ t .1, t .0))
       (λ r. absurd (eqb-false _ 0 e (no-ports 8 _ (omega (arith, and-le-r (getD m (sourceOf c) 0) held, f .small)) r)))
@@ -37,9 +37,9 @@ module _ {b : List ℕ} {c held : ℕ} (m : List ℕ) (f : HeldBy b c (sourceOf 
 
   -- what is marked afterwards
   pub marks-after : {after : List ℕ} → after ≡ withMarks m (sourceOf c) held → sourceOf c < length m → (s p : ℕ) → p < 8
-      → (marked after s p ≡ true → (marked m s p ≡ true) ⊎ (view b .owner s p ≡ c)) × (marked m s p ≡ true → marked after s p ≡ true)
-      × ((s ≡ sourceOf c) → heldBy (view b) c s p ≡ true → marked after s p ≡ true)
-  unfolding marked withMarks view
+      → (seenAt after s p ≡ true → (seenAt m s p ≡ true) ⊎ (view b .owner s p ≡ c)) × (seenAt m s p ≡ true → seenAt after s p ≡ true)
+      × ((s ≡ sourceOf c) → heldBy (view b) c s p ≡ true → seenAt after s p ≡ true)
+  unfolding seenAt withMarks view
   marks-after {after} e small s p l = go (same? s (sourceOf c))
     where
       here : s ≡ sourceOf c → has (getD after s 0) p ≡ (has (getD m s 0) p || eqb (view b .owner s p) c)

@@ -16,7 +16,7 @@ use Rattle.layout.specs.Layout.{tableLength, dimensionAt}
 use Rattle.table.specs.View.{View, shapeOf, net, heldBy}
 use Rattle.circuit_path.specs.CircuitSound.{endFor, CircuitSound}
 use Rattle.circuit_path.specs.Follow.{HasSource}
-use Rattle.circuit_hops.specs.Marks.{markCount, marked, Seen}
+use Rattle.circuit_hops.specs.Marks.{markCount, seenAt, Seen}
 
 -- at node n circuit c holds the link out of port p and no other
 unfoldable pub Sole : View → ℕ → ℕ → ℕ → Type 0
@@ -65,8 +65,8 @@ pub record Taken (v : View) (c t : ℕ) (before after : List ℕ) (hops : ℕ) :
   pub in-range : hops < 4096 → c ≤ circuitCount (shapeOf v)
   pub found : hops < 4096 → FollowedPath v c t hops
   pub unseen : hops < 4096 → Seen v before c → ⊥
-  pub marks : hops < 4096 → (s p : ℕ) → s < 256 → p < portCount → (marked after s p ≡ true → (marked before s p ≡ true) ⊎ (v .owner s p ≡ c))
-      × (marked before s p ≡ true → marked after s p ≡ true) × ((s ≡ sourceOf c) → heldBy v c s p ≡ true → marked after s p ≡ true)
+  pub marks : hops < 4096 → (s p : ℕ) → s < 256 → p < portCount → (seenAt after s p ≡ true → (seenAt before s p ≡ true) ⊎ (v .owner s p ≡ c))
+      × (seenAt before s p ≡ true → seenAt after s p ≡ true) × ((s ≡ sourceOf c) → heldBy v c s p ≡ true → seenAt after s p ≡ true)
   pub forced : c ≤ circuitCount (shapeOf v) → (s : CircuitSound v c) → endFor v c (s .path) ≡ t → (Seen v before c → ⊥) → hops < 4096
   pub most : hops < 8192
 

@@ -15,8 +15,8 @@ use Rattle.table.specs.View.{View, heldBy}
 abbrev pub markCount : ℕ
 markCount = 256
 
-unfoldable pub marked : List ℕ → ℕ → ℕ → Bool
-marked m n p = has (getD m n 0) p
+unfoldable pub seenAt : List ℕ → ℕ → ℕ → Bool
+seenAt m n p = has (getD m n 0) p
 
 -- the marks after the links of a vector are marked at node n
 unfoldable pub withMarks : List ℕ → ℕ → ℕ → List ℕ
@@ -24,4 +24,4 @@ withMarks m n vector = set m n (bitOr (getD m n 0) vector)
 
 -- a link that circuit c holds at its source is marked
 unfoldable pub Seen : View → List ℕ → ℕ → Type 0
-Seen v m c = (p : ℕ) × (p < portCount) × (heldBy v c (sourceOf c) p ≡ true) × (marked m (sourceOf c) p ≡ true)
+Seen v m c = (p : ℕ) × (p < portCount) × (heldBy v c (sourceOf c) p ≡ true) × (seenAt m (sourceOf c) p ≡ true)

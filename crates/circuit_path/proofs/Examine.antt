@@ -29,7 +29,7 @@ use Rattle.entries.specs.EntryContracts.{Within}
 use Rattle.table.specs.TableContracts.{HeldBy}
 use Rattle.table.specs.View.{View, view, shapeOf, net, heldBy}
 use Rattle.circuit_path.specs.PathOf.{pathOf, isEmpty}
-use Rattle.circuit_path.specs.Follow.{takes, followed, firstHop, HasSource}
+use Rattle.circuit_path.specs.Follow.{takes, linksFollowed, firstHop, HasSource}
 use Rattle.table.proofs.Made.{ones}
 use Rattle.circuit_path.proofs.Hops.{first-none, first-is, hop-port, first-there, first-nowhere}
 
@@ -55,8 +55,8 @@ module _ (v : View) (h : v .dimension < 9) (c : ℕ) where
       ap (λ ps. takeFirst (firstHopChoices (net v) ps (heldBy v c) (sourceOf c)) (λ a. walkFrom 18 (net v) ps (heldBy v c) (net v .next (sourceOf c) a))) (unfolded-ports (shapeOf v) (omega arith) refl ∙ sym (ports-of-cube (v .dimension) h))
 
   -- the path that the code follows: its first hop, and what is followed behind it
-  pub path-first : {a : ℕ} → a ≡ firstHop v c (sourceOf c) (allPorts v) → a < 8 → pathOf v c ≡ a ∷ followed v c (next (sourceOf c) a) (allPorts v)
-  unfolding firstHop followed takeFirst hops network
+  pub path-first : {a : ℕ} → a ≡ firstHop v c (sourceOf c) (allPorts v) → a < 8 → pathOf v c ≡ a ∷ linksFollowed v c (next (sourceOf c) a) (allPorts v)
+  unfolding firstHop linksFollowed takeFirst hops network
   path-first {a} e l =
       let r = first-is hops a (sym e) l in
       let short : length (portsOf 8 (allPorts v)) ≡ v .dimension = ap length (ports-of-cube (v .dimension) h) ∙ length-from 0 (v .dimension) in
@@ -86,9 +86,9 @@ module _ (v : View) (c : ℕ) {D nodes : ℕ} (d : D ≡ v .dimension) (h : D < 
       go false l = rw (path-none v below c (every-port q e) (ltb-false a 8 l))
 
   -- and its path is that hop and what is followed behind it
-  pub path-after : {s a start : ℕ} → s ≡ sourceOf c → a ≡ firstHop v c s (nodes - 1) → a < 8 → start ≡ next s a → pathOf v c ≡ a ∷ followed v c start (nodes - 1)
+  pub path-after : {s a start : ℕ} → s ≡ sourceOf c → a ≡ firstHop v c s (nodes - 1) → a < 8 → start ≡ next s a → pathOf v c ≡ a ∷ linksFollowed v c start (nodes - 1)
   path-after {s} {a} q e g to =
-      path-first v below c (every-port q e) g ∙ ap (a ∷_) (ap₂ (followed v c) (sym (to ∙ ap (λ x. next x a) q)) (sym (ap (_- 1) (count-of d m))))
+      path-first v below c (every-port q e) g ∙ ap (a ∷_) (ap₂ (linksFollowed v c) (sym (to ∙ ap (λ x. next x a) q)) (sym (ap (_- 1) (count-of d m))))
 
 -- the links that circuit c holds at node s, as the vector that the code has of them
 module _ {b : List ℕ} {c s held : ℕ} (vector : ℕ) (f : HeldBy b c s held) where

@@ -21,7 +21,7 @@ use Rattle.paths.specs.Recover.{dropAxis, walkFrom, wayBack, firstHopChoices}
 use Rattle.paths.proofs.Recover.{first-choice}
 use Rattle.paths.proofs.Walks.{walk-none, walk-some, drop-port, way-back-one}
 use Rattle.table.specs.View.{View, net, heldBy}
-use Rattle.circuit_path.specs.Follow.{takes, comesBack, followed, firstHop}
+use Rattle.circuit_path.specs.Follow.{takes, comesBack, linksFollowed, firstHop}
 
 module _ (v : View) (c n vector p : ℕ) where
   pub takes-on : vector / 2 ^ p % 2 ≡ 1 → (r : Bool) → r ≡ heldBy v c n p → r ≡ takes v c n vector p
@@ -138,26 +138,26 @@ module _ (v : View) (c n vector : ℕ) where
   pub follow-port : (q : ℕ) → q ≡ lowest (takes v c n vector) 8 0 → q < 8 → has vector q ≡ true
   follow-port q e h = let r = first-is taken q (sym (e ∙ lowest-taken)) h in taken-port q (rw (r .1) (List·Memᴰ·head refl)) .1
 
-  pub follow-on : (q rest : ℕ) → q ≡ lowest (takes v c n vector) 8 0 → q < 8 → Without vector q rest → followed v c n vector ≡ q ∷ followed v c (next n q) rest
-  unfolding followed taken network
+  pub follow-on : (q rest : ℕ) → q ≡ lowest (takes v c n vector) 8 0 → q < 8 → Without vector q rest → linksFollowed v c n vector ≡ q ∷ linksFollowed v c (next n q) rest
+  unfolding linksFollowed taken network
   follow-on q rest e h w =
       let r = first-is taken q (sym (e ∙ lowest-taken)) h in
       let drop : dropAxis q (portsOf 8 vector) ≡ portsOf 8 rest = drop-port 8 vector q rest (omega arith) (omega arith) w in
       walk-some (net v) (heldBy v c) 8 (portsOf 8 vector) n q (r .0) (length-ports 8 vector) (r .1) ∙ ap (λ l. q ∷ walkFrom 8 (net v) l (heldBy v c) (next n q)) drop
 
-  pub follow-end : (q : ℕ) → q ≡ lowest (takes v c n vector) 8 0 → 8 ≤ q → followed v c n vector ≡ []
-  unfolding followed taken
+  pub follow-end : (q : ℕ) → q ≡ lowest (takes v c n vector) 8 0 → 8 ≤ q → linksFollowed v c n vector ≡ []
+  unfolding linksFollowed taken
   follow-end q e h =
       let z : q ≡ firstOr 8 taken = e ∙ lowest-taken in
       walk-none (net v) (heldBy v c) 8 (portsOf 8 vector) n (first-none taken (λ p m. taken-port p m .0) (omega arith))
 
 -- one hop of the walk: what is left ends where all of it ends
 module _ (v : View) (c n vector q rest m : ℕ) (e : q ≡ lowest (takes v c n vector) 8 0) (h : q < 8) (w : Without vector q rest) (to : m ≡ next n q) where
-  pub hop-ends : end (net v) m (followed v c m rest) ≡ end (net v) n (followed v c n vector)
+  pub hop-ends : end (net v) m (linksFollowed v c m rest) ≡ end (net v) n (linksFollowed v c n vector)
   unfolding end network
   hop-ends = rw (follow-on v c n vector q rest e h w, to)
 
-pub walk-ends : (v : View) (c n vector q : ℕ) → q ≡ lowest (takes v c n vector) 8 0 → 8 ≤ q → n ≡ end (net v) n (followed v c n vector)
+pub walk-ends : (v : View) (c n vector q : ℕ) → q ≡ lowest (takes v c n vector) 8 0 → 8 ≤ q → n ≡ end (net v) n (linksFollowed v c n vector)
 unfolding end
 walk-ends v c n vector q e h = rw (follow-end v c n vector q e h)
 

@@ -22,8 +22,8 @@ unfoldable pub comesBack : View → ℕ → ℕ → ℕ → ℕ → Bool
 comesBack v c n vector p = takes v c n vector p && heldBy v c (next n p) p
 
 -- the way that the code follows from a node, over the ports of a vector
-unfoldable pub followed : View → ℕ → ℕ → ℕ → Path
-followed v c n vector = walkFrom portCount (net v) (portsOf portCount vector) (heldBy v c) n
+unfoldable pub linksFollowed : View → ℕ → ℕ → ℕ → Path
+linksFollowed v c n vector = walkFrom portCount (net v) (portsOf portCount vector) (heldBy v c) n
 
 -- the first hop from the source, if there is one
 unfoldable pub firstHop : View → ℕ → ℕ → ℕ → ℕ
@@ -38,6 +38,6 @@ pub record HasSource (b : List ℕ) (c : ℕ) : Type 0 where
 
 -- what following the links of circuit c from a node over the ports of a vector comes to, where it should end at node t, after one hop
 pub record FollowsTo (v : View) (c start vector t hops : ℕ) : Type 0 where
-  pub ends : hops < 4096 → (t ≡ end (net v) start (followed v c start vector)) × (hops ≡ 1 + length (followed v c start vector))
-  pub forced : t ≡ end (net v) start (followed v c start vector) → hops < 4096
+  pub ends : hops < 4096 → (t ≡ end (net v) start (linksFollowed v c start vector)) × (hops ≡ 1 + length (linksFollowed v c start vector))
+  pub forced : t ≡ end (net v) start (linksFollowed v c start vector) → hops < 4096
   pub most : hops < 8192

@@ -4,8 +4,8 @@ mod helical;
 mod kinds;
 mod vectors;
 
-pub use helical::first_port;
 pub use first_port_table::FIRST_PORTS;
+pub use helical::first_port;
 pub use helical::first_ports;
 pub use kinds::Circuit;
 pub use kinds::Node;

@@ -2,24 +2,23 @@
 -- Assumes nothing.
 use mathlib.Core.Path.{_≡_, refl, ap, sym, _∙_}
 use mathlib.Core.Logic.{_≢_}
-use mathlib.Core.Bool.{Bool, true, false, cond, _&&_}
+use mathlib.Core.Bool.{true, false}
 use mathlib.Core.List.{List, [], _∷_, List·Memᴰ·head}
-use Prim.Native.Nat.{ℕ, zero, suc, _+_, _-_, _^_, _≤_, _<_}
+use Prim.Native.Nat.{ℕ, suc, _+_, _-_, _^_, _≤_, _<_}
 use native.Mathlib.Omega.{arith}
 use lib.ListN.{length}
 use lib.Bits.{bitXor, xor-lt}
-use borrow.Author.Tests.{eq-eqb, ne-eqb}
-use Rattle.common.specs.Lists.{_∈_}
 use Rattle.cube.specs.Cube.{next}
 use Rattle.cube.specs.Helical.{helical, portsOf, firstPort, FirstTried}
 use Rattle.cube.proofs.Order.{helical-mem, ports-mem, byte-vector, port-tried, low-port}
 use Rattle.cube.proofs.Axes.{next-inside}
 use Rattle.cube.proofs.Bits.{zero-has}
 use Rattle.common.proofs.Tests.{clash}
-use Rattle.paths.specs.Network.{Network, Path, offered, takeFirst, freePath}
-use Rattle.paths.specs.Helix.{helixFrom, helixPath, freeFront}
+use Rattle.paths.specs.Network.{Path, offered, freePath}
+use Rattle.paths.specs.Helix.{helixPath, freeFront}
 use Rattle.paths.specs.CubeNetwork.{Shape, Node, network}
 use Rattle.paths.proofs.CubeNetwork.{cube-nearing, cube-leading, unfolded-vector, distance-within}
+use Rattle.paths.proofs.ByType.{helix-ends, helix-goes-on}
 use Rattle.layout.specs.Layout.{dimensionAt}
 use Rattle.entries.specs.EntryContracts.{putOwner, Within}
 use Rattle.table.specs.View.{view, net, shapeOf}
@@ -28,29 +27,18 @@ use Rattle.answers.specs.PassAnswer.{holdPath, hopsLeft}
 use Rattle.helix.specs.HelixContracts.{MayFollow, frontIn, freeAll, helixIn, FrontOf}
 use Rattle.answers.proofs.PassAnswer.{owner-length}
 
--- at the target nothing follows
-helix-there : (k : ℕ) (N : Network) (t n a : ℕ) → n ≡ t → helixFrom k N t n a ≡ []
-unfolding helixFrom
-helix-there zero N t n a e = refl
-helix-there (suc k) N t n a e = rw (eq-eqb n t e)
-
-helix-more : (k : ℕ) (N : Network) (t n a q : ℕ) (qs : List ℕ) → n ≢ t → helical a (offered N t n) ≡ q ∷ qs → helixFrom (suc k) N t n a ≡ q ∷ helixFrom k N t (N .next n q) q
-unfolding helixFrom takeFirst
-helix-more k N t n a q qs off e = rw (ne-eqb n t off, e)
-
 -- What a node off the target does after an arrival on port a: it goes on over the port that the table of first ports gives, one hop nearer.
-record GoesOn (S : Shape) (t n a q : ℕ) : Type 0 where
+record GoesOn (S : Shape) (t n a v q : ℕ) : Type 0 where
   port : q < S .dimension
   nearer : network S .distance t n ≡ suc (network S .distance t (network S .next n q))
-  path : helixFrom (network S .distance t n) (network S) t n a ≡ helixPath (network S) n t q
+  order : helical a (offered (network S) t n) ≡ q ∷ helical a (portsOf 8 (v - 2 ^ q))
 
-goes-on : (S : Shape) → S .dimension ≤ 8 → S .fold ≡ 0 → (n t a v q : ℕ) → Node S n → Node S t → n ≢ t → v ≡ bitXor n t → q ≡ firstPort v a → GoesOn S t n a q
-unfolding helixPath
+goes-on : (S : Shape) → S .dimension ≤ 8 → S .fold ≡ 0 → (n t a v q : ℕ) → Node S n → Node S t → n ≢ t → v ≡ bitXor n t → q ≡ firstPort v a → GoesOn S t n a v q
 goes-on S h z n t a v q i l off up first =
     record {
       port = low-port (S .dimension) v q small (tried .offered);
-      nearer = nearer;
-      path = rw nearer (helix-more _ (network S) t n a q _ off order);
+      nearer = cube-nearing S t .nearer n q (helical-mem a (offered (network S) t n) (rw order (List·Memᴰ·head refl)));
+      order = order;
     }
   where
     small : v < 2 ^ S .dimension
@@ -70,9 +58,6 @@ goes-on S h z n t a v q i l off up first =
     order : helical a (offered (network S) t n) ≡ q ∷ helical a (portsOf 8 (v - 2 ^ q))
     order = ap (helical a) offers ∙ tried .rest
 
-    nearer : network S .distance t n ≡ suc (network S .distance t (network S .next n q))
-    nearer = cube-nearing S t .nearer n q (helical-mem a (offered (network S) t n) (rw order (List·Memᴰ·head refl)))
-
 -- The same of a table. Both loops below stand at a node n, before the hop over a port p, with the helix path of p from n still to go.
 module _ {b : List ℕ} {t n p : ℕ} (may : MayFollow b n t p) where
   pub hop-within : {now : List ℕ} → length now ≡ length b → Within now n p
@@ -86,15 +71,15 @@ module _ {b : List ℕ} {t n p : ℕ} (may : MayFollow b n t p) where
 
   -- at the target the path is that hop alone
   pub last-hop : {m : ℕ} → m ≡ next n p → m ≡ t → helixIn b n t p ≡ p ∷ []
-  unfolding helixPath network
-  last-hop to e = ap (p ∷_) (helix-there _ (net (view b)) t (next n p) p (sym to ∙ e))
+  unfolding network
+  last-hop to e = helix-ends (net (view b)) t n p (sym to ∙ e)
 
   -- behind a hop off the target: the port that follows, which may be taken, from one hop nearer
   module _ {m v q : ℕ} (to : m ≡ next n p) (off : m ≢ t) (up : v ≡ bitXor m t) (first : q ≡ firstPort v p) where
     inside : m < 2 ^ dimensionAt b
     inside = rw to hop-inside
 
-    on : GoesOn (shapeOf (view b)) t m p q
+    on : GoesOn (shapeOf (view b)) t m p v q
     on = unfold view in goes-on (shapeOf (view b)) (may .fits) refl m t p v q inside (may .target) off up first
 
     pub may-more : MayFollow b m t q
@@ -105,8 +90,8 @@ module _ {b : List ℕ} {t n p : ℕ} (may : MayFollow b n t p) where
     hop-nearer = rw (← to) (on .nearer)
 
     pub more-hops : helixIn b n t p ≡ p ∷ helixIn b m t q
-    unfolding helixPath network
-    more-hops = ap (p ∷_) (rw (← to) (on .path))
+    unfolding network
+    more-hops = rw to (helix-goes-on (net (view b)) t (cube-nearing (shapeOf (view b)) t) n p q _ (λ z. off (to ∙ z)) (rw to at (on .order)))
 
 -- What holds while the front of the helix path of p from s is looked at: before the hop over port q of node n, with some hops behind it, what is
 -- still to go gives the whole.

@@ -13,7 +13,8 @@ use Rattle.ownership.specs.OnTable.{tableStep}
 use Rattle.ownership.specs.History.{History, historyStep}
 use Rattle.ownership.specs.Invariant.{Represents}
 use Rattle.ownership.proofs.Agreement.{represents-step}
-use Rattle.ownership.proofs.Applied.{made-valid, made-view}
+use Rattle.ownership.proofs.ValidAfter.{made-valid}
+use Rattle.ownership.proofs.Applied.{made-view}
 use Rattle.table.proofs.Made.{made-bytes, view-made}
 use Rattle.listing.specs.Examples.{input, output, printed-example}
 use Rattle.text.specs.Lines.{lines}
@@ -34,13 +35,13 @@ row-alike b h k n none = refl
 row-alike b h k n (some a) =
     let s = represents-step b h k a in
     ap₂ (λ (x : CallResult) (w : ℕ → ℕ → List ℕ). callRow n a x w) (s .result)
-    (fun-ext (λ m. fun-ext (λ c. traced-alike (tableStep b a .state) (historyStep h a .state) (s .covered) m c)))
+    (fun-ext (λ m. fun-ext (λ c. traced-alike (tableStep b a .state) (historyStep h a .state) (s .represented) m c)))
 
 represents-after : (b : List ℕ) (h : History) → Represents b h → (a : Option Call)
     → Represents (stateAfter tableStep b a) (stateAfter historyStep h a)
 unfolding stateAfter
 represents-after b h k none = k
-represents-after b h k (some a) = represents-step b h k a .covered
+represents-after b h k (some a) = represents-step b h k a .represented
 
 rows-alike : (ls : List (List ℕ)) (b : List ℕ) (h : History) (n : ℕ) → Represents b h → rows tableStep b n ls ≡ rows historyStep h n ls
 unfolding rows

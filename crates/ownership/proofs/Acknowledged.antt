@@ -10,7 +10,8 @@ use Rattle.paths.specs.Network.{Path, Link, links}
 use Rattle.paths.specs.Permitted.{Permitted}
 use Rattle.paths.specs.Send.{Receive, channel, acknowledged}
 use Rattle.paths.specs.CubeNetwork.{Shape, Node, ports, network, attempts, send}
-use Rattle.paths.proofs.Send.{said-by, acknowledged-says, tries-permitted, send-says}
+use Rattle.paths.proofs.Attempts.{said-by, acknowledged-says}
+use Rattle.paths.proofs.Send.{tries-permitted, send-says}
 use Rattle.paths.proofs.Words.{free-links}
 use Rattle.table.proofs.Receives.{chosen}
 use Rattle.ownership.specs.History.{History, takenOn, armedOn, receiveOn}

@@ -25,7 +25,7 @@ use Rattle.ownership.specs.Invariant.{Disjoint, Represents}
 use Rattle.ownership.specs.HistoryView.{viewOf}
 use Rattle.ownership.specs.StillOpen.{numbered, StillOpen, OpenedBy}
 use Rattle.ownership.proofs.Circuits.{pairwise-one, belongs-parts}
-use Rattle.ownership.proofs.Applied.{open-send}
+use Rattle.ownership.proofs.ValidAfter.{open-send}
 use Rattle.ownership.proofs.OpenedBy.{opened-later, listed-by}
 use Rattle.ownership.proofs.CircuitValid.{owner-exactly, receiver-exactly}
 use Rattle.ownership.proofs.StillOpen.{open-exactly}

@@ -26,7 +26,8 @@ use Rattle.paths.proofs.Links.{On, on-first, on-later}
 use Rattle.paths.proofs.Apart.{permitted-inside}
 use Rattle.paths.proofs.Sentences.{permitted-end}
 use Rattle.paths.proofs.CubeNetwork.{unfolded-port}
-use Rattle.paths.proofs.Send.{said-by, receive-rejected-says, tries-permitted}
+use Rattle.paths.proofs.Attempts.{said-by, receive-rejected-says}
+use Rattle.paths.proofs.Send.{tries-permitted}
 use Rattle.paths.proofs.Words.{free-links}
 use Rattle.layout.specs.Layout.{dimensionAt, armedAt}
 use Rattle.table.specs.View.{View, view, available, receive, shapeOf, net, heldBy}

@@ -69,7 +69,7 @@ module _ (R : View → View → Type 0) (self : (v : View) → R v v) (chain : (
   step-kept : (b : List ℕ) → AllBytes b → refusal (tableTests b) ≡ 0 → (a : Call) → P a → Kept R b (tableStep b a .state)
   step-kept b small e a k =
       record {
-        small = represents-step b _ (sound-represents b small e) a .covered .bytes .small;
+        small = represents-step b _ (sound-represents b small e) a .represented .bytes .small;
         passes = keeps-sound b small e a;
         related = ⊎-elim (λ z. rw (shows-update b small e a z) (updates (view b) a k)) (λ f. rw (table-step b a .stopped f) (self (view b))) (same? (stoppedAt b a) 0);
       }

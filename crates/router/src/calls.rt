@@ -3,10 +3,10 @@ ghost use mathlib.Core.Path.{_≡_};
 ghost use mathlib.Core.List.{[], _∷_};
 ghost use Rattle.ownership.specs.Calls.{making, blocking, unblocking, opening, closing, tracing, arming, disarming};
 ghost use Rattle.ownership.specs.OnTable.{tableStep, done};
+use answers::Opened;
 use common::refusal;
 use cube::Node;
 use cube::Port;
-use answers::Opened;
 
 // Makes a table of a dimension: all its links enabled, nothing held, no receive channel armed. What the bytes were before does not matter.
 pub fn make(t: &mut [u8], dimension: u16) -> u16

@@ -1,6 +1,7 @@
 // The calls on a lent table.
 mod calls;
 
+pub use answers::Opened;
 pub use calls::Traced;
 pub use calls::arm;
 pub use calls::block;
@@ -10,4 +11,3 @@ pub use calls::make;
 pub use calls::open;
 pub use calls::trace;
 pub use calls::unblock;
-pub use answers::Opened;

@@ -36,8 +36,7 @@ use Rattle.search.specs.SearchContracts.{farthestAfter, tryAnswer, Narro
 use Rattle.answers.specs.SendAnswer.{bytesAfterSend, sendAnswer, searched, MaySend}
 use Rattle.answers.proofs.PassAnswer.{receive-small}
 use Rattle.answers.proofs.Sent.{ports-in-turn, sent-stops, sent-goes-on, sent-leaves, sent-scouts, sent-counted}
-use Rattle.search.proofs.Narrow.{narrow-tries}
-use Rattle.search.proofs.SearchContracts.{farthest-most}
+use Rattle.search.proofs.Narrow.{narrow-tries, farthest-most}
 
 -- the pass of a send over the ports of a vector
 abbrev passOf : List ℕ → ℕ → ℕ → ℕ → PassResult

@@ -8,7 +8,6 @@ ghost use Rattle.cube.specs.Helical.{FirstPorts};
 ghost use Rattle.answers.specs.SendOnTable.{pass-answer};
 ghost use Rattle.search.specs.SearchContracts.{Narrowed, Enabled, Packed, Unpacked, tryAnswer, arriveAnswer, MayTry, MayArrive};
 ghost use Rattle.answers.specs.SendAnswer.{MaySend, searched};
-
 use answers::LinkState;
 use answers::Opened;
 use common::refusal;
@@ -27,6 +26,7 @@ fn enabled_ports(t: &[u8], n: Node, vector: u16) -> u16
 // A pass's answer in one number, so that it goes back from hop to hop in a register: the scouts sent, where no path is free; NO_CHANNEL more, where one is but no
 // receive channel; and where it is acknowledged, ACKNOWLEDGED more, and NO_CHANNEL times 8 * hops + receive channel.
 const NO_CHANNEL: u64 = 4294967296;
+
 const ACKNOWLEDGED: u64 = 8589934592;
 
 // The number of an acknowledgement.

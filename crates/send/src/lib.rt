@@ -4,7 +4,6 @@ ghost use mathlib.Core.Logic.{_≢_};
 ghost use Rattle.cube.specs.Helical.{FirstPorts};
 ghost use Rattle.answers.specs.SendOnTable.{pass-answer};
 ghost use Rattle.answers.specs.SendAnswer.{MaySend, searched, sends};
-
 use answers::Opened;
 use common::refusal;
 use cube::Circuit;

@@ -14,7 +14,7 @@ use Rattle.table.specs.TableContracts.{linkCount}
 use Rattle.table.specs.View.{View, shapeOf, net, heldBy}
 use Rattle.circuit_path.specs.CircuitSound.{endFor, CircuitSound}
 use Rattle.soundness.specs.Sound.{Sound}
-use Rattle.circuit_hops.specs.Marks.{marked, Seen}
+use Rattle.circuit_hops.specs.Marks.{seenAt, Seen}
 
 -- channel k of node n comes before place i, where places run node by node
 abbrev pub Earlier : ℕ → ℕ → ℕ → Type 0
@@ -43,7 +43,7 @@ pub record Counting (v : View) (i hops : ℕ) (seen : List ℕ) : Type 0 where
   pub stands : (n k : ℕ) → Earlier i n k → v .receiver n k ≢ 0 → Standing v on n k
   pub once : (n k m j : ℕ) → Earlier i n k → Earlier i m j → v .receiver n k ≡ v .receiver m j → v .receiver n k ≢ 0 → (n ≡ m) × (k ≡ j)
   pub marks : (n k : ℕ) → Earlier i n k → v .receiver n k ≢ 0 → Seen v seen (v .receiver n k)
-  pub fair : (s p : ℕ) → s < 256 → p < portCount → marked seen s p ≡ true → ReceivedBefore v i (v .owner s p)
+  pub marks-received : (s p : ℕ) → s < 256 → p < portCount → seenAt seen s p ≡ true → ReceivedBefore v i (v .owner s p)
 
 -- what looking at the receive channels from place i up to place j comes to
 pub record Counts (v : View) (i j : ℕ) (before after : List ℕ) (hops : ℕ) : Type 0 where

@@ -21,7 +21,7 @@ use Rattle.layout.specs.Layout.{entryPlace, linkPart, receivePart, maskPlace, a
 use Rattle.layout.specs.LayoutContracts.{RowVector, rowCount}
 use Rattle.layout.proofs.Entries.{entry-is, mask-has}
 use Rattle.table.specs.View.{view, available}
-use Rattle.table.specs.TableContracts.{HeldBy, linksHeld, channelsHeld, linkCount, freeCount, lowestChannel}
+use Rattle.table.specs.TableContracts.{HeldBy, linksHeld, linkCount, freeCount, lowestChannel}
 
 -- the row of a node, in the part of links or in that of receive channels
 module _ (b : List ℕ) (n c i : ℕ) (h : n < 256) where
@@ -35,10 +35,6 @@ module _ (b : List ℕ) (n c i : ℕ) (h : n < 256) where
   pub links-count : i ≡ entryPlace linkPart n 0 → rowCount b i c ≡ linksHeld (view b) c n
   unfolding rowCount linksHeld view ownerAt
   links-count e = ap length (keep-same _ _ (from 0 8) (λ p m. entry-test linkPart p e (from-below 8 p m)))
-
-  pub channels-count : i ≡ entryPlace receivePart n 0 → rowCount b i c ≡ channelsHeld (view b) c n
-  unfolding rowCount channelsHeld view receiverAt
-  channels-count e = ap length (keep-same _ _ (from 0 8) (λ k m. entry-test receivePart k e (from-below 8 k m)))
 
   pub channels-lowest : (vector : ℕ) → i ≡ entryPlace receivePart n 0 → RowVector b i c vector → lowest (has vector) 8 0 ≡ lowest (λ k. eqb (receiverAt b n k) c) 8 0
   unfolding receiverAt

@@ -4,7 +4,8 @@ use Prim.Native.Nat.{_<_}
 use native.Mathlib.Omega.{arith}
 use lib.Dec.{lit<}
 use Rattle.cube.proofs.Axes.{next-inside}
-use Rattle.circuit_hops.proofs.Following.{nodes-most, source-small, back-none, back-followed}
+use Rattle.circuit_hops.proofs.Taken.{nodes-most, source-small}
+use Rattle.circuit_hops.proofs.Following.{back-none, back-followed}
 use borrow.Author.Needs.{needs}
 use Rattle.circuit_hops.proofs.hops_back.Statement.{statement}
 use Rattle.circuit_hops.proofs.hops_back.Tie as tie

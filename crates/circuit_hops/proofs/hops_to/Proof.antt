@@ -6,7 +6,7 @@ use native.Mathlib.Omega.{arith}
 use lib.Dec.{lit<}
 use Rattle.table.specs.TableContracts.{HeldBy}
 use Rattle.circuit_hops.proofs.Ways.{shown}
-use Rattle.circuit_hops.proofs.Following.{nodes-most, vector-inside, taken-none}
+use Rattle.circuit_hops.proofs.Taken.{nodes-most, vector-inside, taken-none}
 use borrow.Author.Needs.{needs}
 use Rattle.circuit_hops.proofs.hops_to.Statement.{statement}
 use Rattle.circuit_hops.proofs.hops_to.Tie as tie

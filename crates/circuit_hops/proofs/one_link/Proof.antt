@@ -4,7 +4,8 @@ use mathlib.Core.Path.{sym, subst, _∙_}
 use Prim.Native.Nat.{ℕ}
 use native.Mathlib.Omega.{arith}
 use Rattle.table.specs.TableContracts.{HeldBy}
-use Rattle.circuit_hops.proofs.Following.{source-small, source-held, one-link, one-followed, taken-new, taken-seen, taken-none}
+use Rattle.circuit_hops.proofs.Taken.{source-small, source-held, taken-new, taken-seen, taken-none}
+use Rattle.circuit_hops.proofs.Following.{one-link, one-followed}
 use borrow.Author.Needs.{needs}
 use Rattle.circuit_hops.proofs.one_link.Statement.{statement}
 use Rattle.circuit_hops.proofs.one_link.Tie as tie

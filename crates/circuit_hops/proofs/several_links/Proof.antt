@@ -2,7 +2,7 @@
 -- Assumes nothing.
 use mathlib.Core.Path.{sym, _∙_}
 use native.Mathlib.Omega.{arith}
-use Rattle.circuit_hops.proofs.Following.{source-small, taken-new, taken-seen}
+use Rattle.circuit_hops.proofs.Taken.{source-small, taken-new, taken-seen}
 use borrow.Author.Needs.{needs}
 use Rattle.circuit_hops.proofs.several_links.Statement.{statement}
 use Rattle.circuit_hops.proofs.several_links.Tie as tie

@@ -9,7 +9,7 @@ use lib.Pow.{pow-pos}
 use Rattle.paths.specs.Network.{end}
 use Rattle.cube.proofs.Axes.{next-inside}
 use Rattle.table.specs.View.{view, net}
-use Rattle.circuit_path.specs.Follow.{followed}
+use Rattle.circuit_path.specs.Follow.{linksFollowed}
 use Rattle.circuit_path.proofs.Hops.{follow-port, follow-on, follow-end, hop-ends, walk-ends}
 use Rattle.circuit_path.proofs.Tracing.{followed-short}
 use Rattle.circuit_path.proofs.follow.Statement.{statement}
@@ -17,8 +17,8 @@ use Rattle.circuit_path.proofs.follow.Tie as tie
 
 abbrev Inv-loop : tie.InvT-loop
 Inv-loop t c vector to at₀ left₀ count₀ at left count =
-    (at .0 < 256) × (left < 256) × (end (net (view t)) (at .0) (followed (view t) (c .0) (at .0) left) ≡ end (net (view t)) (at₀ .0) (followed (view t) (c .0) (at₀ .0) left₀))
-    × (count + length (followed (view t) (c .0) (at .0) left) ≡ 1 + length (followed (view t) (c .0) (at₀ .0) left₀))
+    (at .0 < 256) × (left < 256) × (end (net (view t)) (at .0) (linksFollowed (view t) (c .0) (at .0) left) ≡ end (net (view t)) (at₀ .0) (linksFollowed (view t) (c .0) (at₀ .0) left₀))
+    × (count + length (linksFollowed (view t) (c .0) (at .0) left) ≡ 1 + length (linksFollowed (view t) (c .0) (at₀ .0) left₀))
 
 abbrev μ-loop : tie.MeasureT-loop
 μ-loop t c vector to at₀ left₀ count₀ at left count = left
@@ -91,7 +91,7 @@ loop-again c =
       rw to (next-inside 8 (l .loop .at .0) q (omega arith) (l .loop .inv .0) small),
       omega (arith, c .without .ensures .value, l .loop .inv .1),
       hop-ends v (s .args .c .0) (l .loop .at .0) (l .loop .left) q (c .without .result) _ (h .held-port .ensures) small (c .without .ensures) to ∙ l .loop .inv .2,
-      omega (arith, ap length on, ap (λ x. length (followed v (s .args .c .0) x (c .without .result))) to, l .loop .inv .3),
+      omega (arith, ap length on, ap (λ x. length (linksFollowed v (s .args .c .0) x (c .without .result))) to, l .loop .inv .3),
     )
 
 pub follow-spec : {M : Type 1} → statement M

@@ -12,7 +12,8 @@ use Rattle.search.specs.SearchContracts.{farthestAfter}
 use Rattle.table.specs.View.{view}
 use Rattle.answers.proofs.PassAnswer.{told-free, told-held, told-blocked}
 use Rattle.cube.proofs.Order.{byte-vector}
-use Rattle.search.proofs.SearchContracts.{Turn, first-turn, here-tried, now-within, now-enabled, here-room, here-arrives, here-falls, turn-busy, turn-acknowledged, turn-full, turn-next, turn-over, arrive-receives, arrive-full, arrive-tries, arrive-may, arrive-falls}
+use Rattle.search.proofs.Turns.{Turn, first-turn, here-tried, now-within, now-enabled, here-room, here-arrives, here-falls, turn-busy, turn-acknowledged, turn-full, turn-next, turn-over}
+use Rattle.search.proofs.Arrivals.{arrive-receives, arrive-full, arrive-tries, arrive-may, arrive-falls}
 use borrow.Fn.Kinds.{In, Out}
 use borrow.Fn.PlainCycle.{Measures, is, falls, and}
 use Rattle.search.proofs.arrive.Reads as arrive

@@ -3,7 +3,7 @@
 use mathlib.Core.Path.{_∙_}
 use lib.Dec.{lit<}
 use Rattle.cube.proofs.Order.{byte-vector}
-use Rattle.search.proofs.SearchContracts.{narrow-may}
+use Rattle.search.proofs.Narrow.{narrow-may}
 use Rattle.search.proofs.PackedAnswer.{read-off}
 use Rattle.search.proofs.Sends.{may-try, maze-channel, maze-taken, maze-rejected}
 use borrow.Author.Needs.{needs}

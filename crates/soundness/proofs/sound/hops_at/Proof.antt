@@ -8,8 +8,9 @@ use native.Mathlib.Nat.{add-zero}
 use lib.ListN.{length}
 use Rattle.table.specs.View.{view}
 use Rattle.soundness.specs.Counting.{Counts}
-use Rattle.circuit_hops.proofs.Following.{nodes-most, positive}
-use Rattle.soundness.proofs.Counting.{counts-skip, counts-join, counts-entry, counts-as}
+use Rattle.circuit_hops.proofs.Taken.{nodes-most, positive}
+use Rattle.soundness.proofs.Counting.{counts-skip, counts-join, counts-as}
+use Rattle.soundness.proofs.CountedChannel.{counts-entry}
 use Rattle.circuit_hops.proofs.Ways.{shown}
 use Rattle.soundness.proofs.sound.hops_at.Statement.{statement}
 use Rattle.soundness.proofs.sound.hops_at.Tie as tie

@@ -1,75 +1,35 @@
--- The turns of the search as the code makes them: what each asks of the next, and what it makes of the answer.
+-- The turns of a node that tries its ports: what each asks of the arrival behind its port, and what it makes of the answer.
 -- Assumes nothing.
 use mathlib.Core.Path.{_≡_, refl, ap, ap₂, sym, _∙_}
-use mathlib.Core.Logic.{⊎-elim, _≢_}
-use mathlib.Core.Bool.{Bool, true, false, cond}
-use mathlib.Core.List.{List, [], _∷_, List·Memᴰ·head, List·Memᴰ·tail, List·Memᴰ·not-nil, List·Memᴰ·cases-cons}
-use Prim.Native.Nat.{ℕ, zero, suc, _+_, _-_, _*_, _/_, _%_, _^_, _≤_, _<_}
+use mathlib.Core.Logic.{_≢_}
+use mathlib.Core.Bool.{true, false}
+use mathlib.Core.List.{List, [], _∷_, List·Memᴰ·tail}
+use Prim.Native.Nat.{ℕ, suc, _+_, _-_, _*_, _^_, _≤_, _<_}
 use native.Mathlib.Omega.{arith}
 use native.Mathlib.Numerals.{add-one}
-use native.Mathlib.Nat.{le-trans, le-refl, mul-le-mul, lt-of-lt-of-le}
-use lib.Dec.{leb, ltb}
-use lib.ListN.{length, set, length-set}
-use lib.Pow.{pow-mono}
-use lib.Bits.{xor-lt}
-use borrow.Author.Tests.{leb-true, leb-false, ltb-true, ltb-false}
+use lib.ListN.{length}
 use Rattle.common.specs.Lists.{_∈_}
-use Rattle.common.proofs.Tests.{clash}
-use Rattle.cube.specs.Bits.{has}
-use Rattle.cube.specs.Cube.{next, UphillVector, Without}
-use Rattle.cube.proofs.Bits.{high-has}
+use Rattle.cube.specs.Cube.{next, Without}
 use Rattle.cube.specs.Helical.{helical, portsOf, firstPort, FirstTried}
 use Rattle.cube.proofs.Order.{byte-vector, port-tried, low-port, mem-ports, ports-mem, length-helical, helical-mem, mem-helical, helical-zero}
 use Rattle.cube.proofs.Axes.{next-inside}
-use Rattle.paths.specs.Network.{Network, offered}
+use Rattle.paths.specs.Network.{offered}
 use Rattle.paths.specs.CubeNetwork.{network}
 use Rattle.paths.specs.Search.{trying, arriving}
-use Rattle.paths.specs.Pass.{PassResult, found, scouts}
-use Rattle.paths.proofs.CubeNetwork.{cube-nearing, one-link, cube-cubical, cube-leading, unfolded-vector}
+use Rattle.paths.specs.Pass.{PassResult, scouts}
+use Rattle.paths.proofs.CubeNetwork.{cube-nearing, one-link, cube-cubical}
 use Rattle.paths.specs.Bound.{waysFrom}
 use Rattle.paths.proofs.Bound.{arriving-sends, ways-more}
-use Rattle.layout.specs.Layout.{dimensionAt, entryPlace, linkPart}
-use Rattle.entries.specs.EntryContracts.{putOwner, putEntry, Within}
-use Rattle.table.specs.TableContracts.{lowestChannel}
+use Rattle.layout.specs.Layout.{dimensionAt}
+use Rattle.entries.specs.EntryContracts.{putOwner, Within}
 use Rattle.table.specs.View.{view, setOwner, receive, net, shapeOf}
 use Rattle.table.proofs.Views.{view-put-owner}
 use Rattle.answers.specs.SendOnTable.{freeIn, PassAnswer, pass-answer}
 use Rattle.answers.specs.PassAnswer.{answerOfPass, arrivalAfter, hopsLeft}
-use Rattle.search.specs.SearchContracts.{farthest, farthestAfter, answerIn, Packed, tryAnswer, arriveAnswer, Narrowed, Enabled, SearchPre, MayTry, MayArrive}
-use Rattle.answers.proofs.PassAnswer.{owner-length, at-target, arrives, target-receives, target-full, lowest-small, behind, receive-same, given-back, free-owner, port-busy, port-acknowledged, port-receive-rejected, port-route-rejected, answer-scouts, ports-over}
-use Rattle.search.proofs.PackedAnswer.{in-route, in-receive, in-acknowledged, of-receive, of-acknowledged}
-use Rattle.search.proofs.Narrow.{narrow-fewer, narrow-mem, narrow-tries}
-
--- neither of two numbers is above the larger
-larger : (a b : ℕ) → (a ≤ cond (leb a b) b a) × (b ≤ cond (leb a b) b a)
-larger a b = go (leb a b) refl
-  where
-    go : (x : Bool) → leb a b ≡ x → (a ≤ cond x b a) × (b ≤ cond x b a)
-    go true e = (leb-true a b e, le-refl b)
-    go false e = (le-refl a, omega (arith, leb-false a b e))
-
--- every node behind a port of the list is within the farthest
-pub farthest-mem : (N : Network) (t n : ℕ) (ps : List ℕ) (p : ℕ) → p ∈ ps → N .distance t (N .next n p) ≤ farthest N t n ps
-unfolding farthest
-farthest-mem N t n [] p m = absurd (List·Memᴰ·not-nil m)
-farthest-mem N t n (q ∷ ps) p m =
-    let most = larger (farthest N t n ps) (N .distance t (N .next n q)) in
-    ⊎-elim (λ e. rw e (most .1)) (λ k. le-trans (farthest-mem N t n ps p k) (most .0)) (List·Memᴰ·cases-cons m)
-
-pub farthest-most : (N : Network) (t n m : ℕ) (ps : List ℕ) → ((p : ℕ) → p ∈ ps → N .distance t (N .next n p) ≤ m) → farthest N t n ps ≤ m
-unfolding farthest
-farthest-most N t n m [] h = omega arith
-farthest-most N t n m (q ∷ ps) h = go (leb (farthest N t n ps) (N .distance t (N .next n q))) (farthest-most N t n m ps (λ p k. h p (List·Memᴰ·tail k)))
-  where
-    go : (x : Bool) → farthest N t n ps ≤ m → cond x (N .distance t (N .next n q)) (farthest N t n ps) ≤ m
-    go true k = h q (List·Memᴰ·head refl)
-    go false k = k
-
--- the ports of a node that is k hops away, each with the ways on from one hop nearer
-one-further : (m j k : ℕ) → suc j ≤ k → m ≤ 1 * k → m * (1 + waysFrom 1 j) ≤ waysFrom 1 k
-unfolding waysFrom
-one-further m j zero h l = absurd (omega arith)
-one-further m j (suc k) h l = mul-le-mul l (let r = ways-more 1 j k (omega arith) in omega arith)
+use Rattle.search.specs.SearchContracts.{farthestAfter, answerIn, Packed, tryAnswer, arriveAnswer, Enabled, SearchPre, MayTry, MayArrive}
+use Rattle.answers.proofs.PassAnswer.{owner-length, behind, receive-same, given-back, free-owner, port-busy, port-acknowledged, port-receive-rejected, port-route-rejected, answer-scouts, ports-over}
+use Rattle.search.proofs.PackedAnswer.{in-route, in-receive, in-acknowledged}
+use Rattle.search.proofs.Narrow.{farthest-mem}
 
 -- a hop held: the same cube
 module _ (b : List ℕ) (n p c : ℕ) (w : Within b n p) (small : c < 65536) where
@@ -252,83 +212,3 @@ turn-over {b} {t} {c} {n} {v} {a} {h} {s} {now} {left} {sent} inv z =
     let none : helical a (portsOf 8 left) ≡ [] = ap (λ x. helical a (portsOf 8 x)) z ∙ helical-zero 8 a in
     let over = ports-over (freeIn (view b) n) (arrivalAfter (net (view b)) (freeIn (view b)) t n) b c n h (receive (view b) t) sent in
     record { same = in-route sent now (omega (arith, inv .room)) ∙ ap (pass-answer 10 0 0 sent) (inv .same) ∙ over ∙ ap (λ ps. tried b t c n h ps sent) (sym none) ∙ inv .rest }
-
--- ports that are not free are dropped from a vector: there is room for the rest
-narrow-reach : (b : List ℕ) (t : ℕ) {n v left : ℕ} → Narrowed (view b) n v left → farthestAfter b t n left ≤ farthestAfter b t n v
-unfolding farthestAfter
-narrow-reach b t {n} {v} {left} narrow =
-    farthest-most (net (view b)) t n (farthest (net (view b)) t n (portsOf 8 v)) (portsOf 8 left) (λ p m. farthest-mem (net (view b)) t n (portsOf 8 v) p (narrow-mem narrow p m))
-
-pub narrow-may : {b : List ℕ} {t c n v left a h s : ℕ} → MayTry b t c n v a h s → Narrowed (view b) n v left → MayTry b t c n left a h s
-narrow-may {b} {t} {c} {n} {v} {left} may narrow =
-    let near = narrow-reach b t narrow in
-    let ways = ways-more 1 (farthestAfter b t n left) (farthestAfter b t n v) near in
-    let all : length (portsOf 8 left) * (1 + waysFrom 1 (farthestAfter b t n left)) ≤ length (portsOf 8 v) * (1 + waysFrom 1 (farthestAfter b t n v)) = mul-le-mul (narrow-fewer narrow) (let w = ways in omega arith) in
-    record {
-      here = may .here;
-      ports = (let l = narrow .most in omega (arith, may .ports));
-      hops = omega (arith, may .hops, near);
-      room = omega (arith, may .room, all);
-    }
-
--- An arrival.
-module _ {b : List ℕ} {t c n a h s : ℕ} (may : MayArrive b t c n a h s) where
-  at-goal : n ≡ t → answerOfPass b c n h (receive (view b) n) (found [] s) ≡ arriveAnswer b t c n a h s
-  unfolding arriveAnswer
-  at-goal e = ap₂ (λ m w. answerOfPass b c n h (receive (view b) m) w) e (sym (at-target (net (view b)) (freeIn (view b)) t n a s (hopsLeft b t n) e))
-
-  pub arrive-receives : {k : ℕ} → n ≡ t → k ≡ lowestChannel (view b) n → k ≢ 8 → Packed (8589934592 + s + 4294967296 * (8 * h + k)) b (arriveAnswer b t c n a h s)
-  arrive-receives {k} e q g =
-      record { same = of-acknowledged h k s b (omega (arith, may .hops)) (lowest-small (view b) n q g) (omega (arith, may .room)) ∙ target-receives (view b) b c n h s q g ∙ at-goal e }
-
-  pub arrive-full : {k : ℕ} → n ≡ t → k ≡ lowestChannel (view b) n → k ≡ 8 → Packed (4294967296 + s) b (arriveAnswer b t c n a h s)
-  arrive-full e q g =
-      record { same = of-receive s b (omega (arith, may .room)) ∙ target-full (view b) b c n h s q g ∙ at-goal e }
-
-  module _ (away : n ≢ t) {v : ℕ} (uphill : UphillVector n t v) where
-    offers : offered (net (view b)) t n ≡ portsOf 8 v
-    unfolding view
-    offers = unfolded-vector (shapeOf (view b)) (may .here .fits) refl 8 n t (may .here .fits) (may .here .node) (may .here .target) ∙ ap (portsOf 8) (sym (uphill .value))
-
-    all-tried : tryAnswer b t c n v a h s ≡ arriveAnswer b t c n a h s
-    unfolding tryAnswer arriveAnswer hopsLeft
-    all-tried =
-        ap (answerOfPass b c n h (receive (view b) t))
-        (ap (λ ps. trying (freeIn (view b) n) (arrivalAfter (net (view b)) (freeIn (view b)) t n) (helical a ps) s) (sym offers) ∙ arrives (net (view b)) (freeIn (view b)) t n a s (cube-nearing (shapeOf (view b)) t) away)
-
-    nearer : (p : ℕ) → p ∈ portsOf 8 v → hopsLeft b t n ≡ suc (net (view b) .distance t (net (view b) .next n p))
-    unfolding hopsLeft
-    nearer p m = cube-nearing (shapeOf (view b)) t .nearer n p (rw offers m)
-
-    pub arrive-reach : suc (farthestAfter b t n v) ≤ hopsLeft b t n
-    arrive-reach =
-        let goal : t < 2 ^ shapeOf (view b) .dimension = unfold view in may .here .target in
-        let start : n < 2 ^ shapeOf (view b) .dimension = unfold view in may .here .node in
-        let some = cube-leading (shapeOf (view b)) (unfold view in may .here .fits) t goal .leads n start away in
-        let e = nearer (some .0) (rw offers at (some .1)) in
-        let most : farthestAfter b t n v ≤ net (view b) .distance t (net (view b) .next n (some .0)) = unfold farthestAfter in
-        farthest-most (net (view b)) t n _ (portsOf 8 v) (λ p m. let z = nearer p m in omega (arith, e)) in
-        omega (arith, e, most)
-
-    all-may : MayTry b t c n v a h s
-    unfolding hopsLeft network
-    all-may =
-        let degree : length (portsOf 8 v) ≤ 1 * hopsLeft b t n = rw (← offers) (cube-cubical (shapeOf (view b)) (one-link (shapeOf (view b)) (unfold view in may .here .fits) refl) t .degree n) in
-        let ports = one-further (length (portsOf 8 v)) (farthestAfter b t n v) (hopsLeft b t n) arrive-reach (omega (arith, degree)) in
-        record {
-          here = may .here;
-          ports = rw (uphill .value) (xor-lt (dimensionAt b) n t (may .here .node) (may .here .target));
-          hops = omega (arith, may .hops, arrive-reach);
-          room = omega (arith, may .room, ports);
-        }
-
-    -- those of them that are left
-    module _ {left : ℕ} (narrow : Narrowed (view b) n v left) where
-      pub arrive-may : MayTry b t c n left a h s
-      arrive-may = narrow-may all-may narrow
-
-      pub arrive-tries : tryAnswer b t c n left a h s ≡ arriveAnswer b t c n a h s
-      arrive-tries = narrow-tries b t c a h s narrow ∙ all-tried
-
-      pub arrive-falls : farthestAfter b t n left < hopsLeft b t n
-      arrive-falls = omega (arith, arrive-reach, narrow-reach b t narrow)
