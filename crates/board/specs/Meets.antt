@@ -5,7 +5,7 @@ use mathlib.Core.List.{List, [], _∷_}
 use Prim.Native.Nat.{ℕ}
 use Rattle.ownership.specs.Calls.{Call}
 use Rattle.ownership.specs.OnTable.{tableStep, done}
-use Rattle.search.specs.declared.Opened.{Opened}
+use Rattle.answers.specs.declared.Opened.{Opened}
 use Rattle.receiver.specs.declared.Followed.{Followed}
 use Rattle.receiver.specs.Receive.{followed}
 

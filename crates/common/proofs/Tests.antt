@@ -61,9 +61,6 @@ pub both-below : {n a p b : ℕ} → ltb n a && ltb p b ≡ true → (n < a) × 
 both-below {n} {a} {p} {b} e = let r = both (ltb n a) (ltb p b) e in (ltb-true n a (r .0), ltb-true p b (r .1))
 
 -- an answer that is known decides
-pub decided-yes : {P : Type 0} → P → Decides P true
-decided-yes p = record { holds = λ e. p; fails = λ e. absurd (true≢false e) }
-
 pub decided-no : {P : Type 0} → (P → ⊥) → Decides P false
 decided-no h = record { holds = λ e. absurd (true≢false (sym e)); fails = λ e. h }
 
@@ -89,11 +86,6 @@ first-passed false n ts h e = (refl, e)
 unfoldable pub Avoids : ℕ → List Test → Type 0
 Avoids n [] = Unit
 Avoids n (x ∷ xs) = (x .number ≢ n) × Avoids n xs
-
-pub numbered-after : (xs : List Test) (x : Test) → Avoids 0 xs → x .number ≢ 0 → Avoids 0 (xs ++ x ∷ [])
-unfolding Avoids
-numbered-after [] x h f = (f, tt)
-numbered-after (y ∷ ys) x h f = (h .0, numbered-after ys x (h .1) f)
 
 pub refusal-after : (xs ys : List Test) → Avoids 0 xs → refusal xs ≡ 0 → refusal (xs ++ ys) ≡ refusal ys
 unfolding Avoids

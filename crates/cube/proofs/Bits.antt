@@ -9,7 +9,7 @@ use native.Mathlib.Nat.{div-eq-of-lt, div-self, lt-of-lt-of-le, pow-succ', div-d
 use lib.Arith.{lt-of-le-ne}
 use lib.Dec.{eqb, ltb}
 use lib.Pow.{pow-pos, pow-mono, pow-lt, pow-add, shl-shr}
-use lib.Bits.{bitXor, bitAnd, bitOr, or-add-and, or-shr, or-mod, and-high, and-shr, and-mod, xor-add-and, xor-shr, xor-mod, xor-lt, xor-zero-r, and-le-l}
+use lib.Bits.{bitXor, bitAnd, bitOr, or-shr, or-mod, and-high, and-shr, and-mod, xor-add-and, xor-shr, xor-mod, xor-lt, xor-zero-r, and-le-l}
 use borrow.Author.Tests.{ltb-true, ltb-false, eqb-true, eqb-false, ne-eqb}
 use Rattle.common.proofs.Every.{decide}
 use Rattle.common.proofs.Tests.{below-or}
@@ -156,15 +156,6 @@ with-bit-other n p on q h = go (Bool·beq (has n p) on)
     go : (b : Bool) → has (cond b n (flip n p)) q ≡ has n q
     go true = refl
     go false = unfold has in ap (λ x. eqb x 1) (bit-kept n p q h)
-
--- to set a bit is `|` with a power of two
-pub with-bit-or : (n p : ℕ) → bitOr n (2 ^ p) ≡ withBit n p true
-unfolding withBit flip
-with-bit-or n p = go (has n p) refl
-  where
-    go : (b : Bool) → has n p ≡ b → bitOr n (2 ^ p) ≡ cond (Bool·beq b true) n (cond b (n - 2 ^ p) (n + 2 ^ p))
-    go true e = omega (arith, or-add-and n (2 ^ p), and-power n p ∙ ap (_* 2 ^ p) (has-bit n p e))
-    go false e = omega (arith, or-add-and n (2 ^ p), and-power n p ∙ ap (_* 2 ^ p) (has-no-bit n p e))
 
 pub with-bit-inside : (D n p : ℕ) (on : Bool) → n < 2 ^ D → p < D → withBit n p on < 2 ^ D
 unfolding withBit

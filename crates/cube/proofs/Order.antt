@@ -8,9 +8,11 @@ use Prim.Native.Nat.{ℕ, _+_, _-_, _*_, _/_, _%_, _^_, _≤_, _<_}
 use native.Mathlib.Omega.{arith}
 use lib.Dec.{eqb, leb, ltb}
 use lib.ListN.{length, getD, length-append}
+use lib.Pow.{pow-mono}
+use native.Mathlib.Nat.{lt-of-lt-of-le}
 use borrow.Author.Tests.{ltb-true, ltb-false, lt-leb, le-leb, le-ltb, leb-true, lt-ltb, ne-eqb, eq-eqb}
 use Rattle.common.specs.Lists.{_∈_, keep, from, Pairwise}
-use Rattle.common.proofs.Tests.{below-or}
+use Rattle.common.proofs.Tests.{below-or, clash}
 use Rattle.common.proofs.Lists.{all-append, keep-no, keep-mem, mem-keep, keep-append, keep-all, keep-keep, keep-same, keep-swap, keep-pairwise, pairwise-append, pairwise-kept, length-parts, length-keep, keep-none}
 use Rattle.common.proofs.From.{length-from, keep-wider, from-pairwise, kept-below, below-kept}
 use Rattle.common.proofs.Every.{everyEntry, table-rule}
@@ -133,3 +135,19 @@ table-of xs l t = record { entries = l; entry = λ v a h k. at v a h k }
         let row : i / 8 ≡ v = omega arith in
         let place : i % 8 ≡ a = omega arith in
         table-rule (λ k. firstPort (k / 8) (k % 8)) 2048 xs l t i (omega arith) ∙ rw (row, place)
+
+-- a number of a cube of dimension 8 or less is a byte
+pub byte-vector : {D x : ℕ} → D ≤ 8 → x < 2 ^ D → x < 256
+byte-vector h l = lt-of-lt-of-le l (pow-mono h)
+
+-- the port tried first
+pub port-tried : (D v a p : ℕ) → D ≤ 8 → v < 2 ^ D → v ≢ 0 → p ≡ firstPort v a → FirstTried 8 v a p
+unfolding firstPort
+port-tried D v a p h l z e = rw e (first-tried 8 8 v a (byte-vector h l) z)
+
+pub low-port : (D v p : ℕ) → v < 2 ^ D → has v p ≡ true → p < D
+low-port D v p l e = go (ltb p D) refl
+  where
+    go : (x : Bool) → ltb p D ≡ x → p < D
+    go true f = ltb-true p D f
+    go false f = absurd (clash e (high-has D v p l (ltb-false p D f)))

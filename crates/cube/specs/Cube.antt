@@ -12,6 +12,10 @@ use Rattle.cube.specs.Axes.{axis}
 abbrev pub largestDimension : ℕ
 largestDimension = 8
 
+-- "for each node and port 0 to 7": a row of the table, and a vector, has so many ports, whatever the dimension is
+abbrev pub portCount : ℕ
+portCount = 8
+
 -- "A node has send channels 0 to 7 and receive channels 0 to 7."
 abbrev pub channels : ℕ
 channels = 8

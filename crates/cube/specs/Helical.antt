@@ -8,6 +8,7 @@ use lib.Dec.{leb, ltb}
 use lib.ListN.{length, getD}
 use Rattle.common.specs.Lists.{keep, from}
 use Rattle.cube.specs.Bits.{has}
+use Rattle.cube.specs.Cube.{portCount}
 
 -- the ports that a vector offers among w positions, rising
 unfoldable pub portsOf : ℕ → ℕ → List ℕ
@@ -31,12 +32,12 @@ noPort = 8
 -- "An entry is the port tried first, or 8 for vector zero."
 unfoldable pub firstPort : ℕ → ℕ → ℕ
 unfolding portsOf helical firstOr
-firstPort vector arrival = firstOr noPort (helical arrival (portsOf 8 vector))
+firstPort vector arrival = firstOr noPort (helical arrival (portsOf portCount vector))
 
 -- "a constant table of 2,048 entries, at 8·vector + arrival port"
 pub record FirstPorts (table : List ℕ) : Type 0 where
   pub entries : length table ≡ 2048
-  pub entry : (vector arrival : ℕ) → vector < 256 → arrival < 8 → getD table (8 * vector + arrival) 0 ≡ firstPort vector arrival
+  pub entry : (vector arrival : ℕ) → vector < 256 → arrival < portCount → getD table (8 * vector + arrival) 0 ≡ firstPort vector arrival
 
 -- what is known of the port p that is tried first of a vector's ports among w positions: it is one of them, and the vector without it
 -- has the rest of the order

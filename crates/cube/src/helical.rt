@@ -1,6 +1,7 @@
 // The choice of port: the entry of the table of first ports at a vector and an arrival port.
 ghost use mathlib.Core.Path.{_≡_};
 ghost use Prim.Native.Nat.{_<_};
+ghost use Rattle.cube.specs.Cube.{portCount};
 ghost use Rattle.cube.specs.Helical.{firstPort, FirstPorts};
 use crate::first_port_table::FIRST_PORTS;
 use crate::kinds::Port;
@@ -20,7 +21,7 @@ pub fn first_ports() -> [u8; 2048]
 
 // The port of a vector that is tried first after an arrival, or 8 for vector zero. A send uses arrival port 7.
 pub fn first_port(table: &[u8; 2048], vector: u16, arrival: Port) -> Port
-    requires { ⌜ (vector < 256) × (arrival .0 < 8) × FirstPorts (now table) ⌝ }
+    requires { ⌜ (vector < 256) × (arrival .0 < portCount) × FirstPorts (now table) ⌝ }
     ensures { λ r. ⌜ r .0 ≡ firstPort vector (arrival .0) ⌝ }
 {
     let a = arrival.0;

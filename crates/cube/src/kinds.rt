@@ -2,7 +2,7 @@
 // 16-bit number as one of them and test it; the functions below say in their `requires` what has been tested by then.
 ghost use mathlib.Core.Path.{_≡_};
 ghost use Prim.Native.Nat.{_<_};
-ghost use Rattle.cube.specs.Cube.{circuitOf, sourceOf, channelOf};
+ghost use Rattle.cube.specs.Cube.{channels, circuitOf, sourceOf, channelOf};
 
 pub struct Node(pub u16);
 
@@ -13,7 +13,7 @@ pub struct Circuit(pub u16);
 
 // The circuit of a send channel.
 pub fn circuit_of(source: Node, channel: u16) -> Circuit
-    requires { ⌜ (source .0 < 256) × (channel < 8) ⌝ }
+    requires { ⌜ (source .0 < 256) × (channel < channels) ⌝ }
     ensures { λ r. ⌜ r .0 ≡ circuitOf (source .0) channel ⌝ }
 {
     Circuit(8 * source.0 + channel + 1)

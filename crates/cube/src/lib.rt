@@ -4,6 +4,7 @@ mod helical;
 mod kinds;
 mod vectors;
 
+pub use first_port_table::FIRST_PORTS;
 pub use helical::first_port;
 pub use helical::first_ports;
 pub use kinds::Circuit;

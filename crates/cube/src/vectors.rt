@@ -4,7 +4,7 @@ ghost use mathlib.Core.Bool.{true};
 ghost use Prim.Native.Nat.{_<_};
 ghost use Rattle.common.specs.Lists.{lowest};
 ghost use Rattle.cube.specs.Bits.{has};
-ghost use Rattle.cube.specs.Cube.{NodeCount, next, UphillVector, Without};
+ghost use Rattle.cube.specs.Cube.{portCount, NodeCount, next, UphillVector, Without};
 use crate::kinds::Node;
 use crate::kinds::Port;
 
@@ -47,7 +47,7 @@ pub fn without(vector: u16, port: Port) -> u16
 // The lowest bit that is set of eight: 8 where none is.
 pub fn lowest_bit(vector: u16) -> u16
     requires { ⌜ vector < 256 ⌝ }
-    ensures { λ r. ⌜ r ≡ lowest (has vector) 8 0 ⌝ }
+    ensures { λ r. ⌜ r ≡ lowest (has vector) portCount 0 ⌝ }
 {
     u16::trailing_zeros(vector + 256) as u16
 }

@@ -7,19 +7,21 @@ use mathlib.Core.Option.{Option, none, some}
 use Prim.Native.Nat.{ℕ, suc}
 use lib.Dec.{ltb, lit≤}
 use lib.ListN.{length, take}
-use Rattle.table.specs.Layout.{made}
+use Rattle.table.specs.Encode.{made}
 use Rattle.ownership.specs.Calls.{Call, tracing, CallResult, hopsOf, bufferOf}
 use Rattle.ownership.specs.OnTable.{tableStep}
 use Rattle.ownership.specs.History.{History, historyStep}
 use Rattle.ownership.specs.Invariant.{Represents}
 use Rattle.ownership.proofs.Agreement.{represents-step}
-use Rattle.ownership.proofs.Applied.{made-valid, made-view}
+use Rattle.ownership.proofs.ValidAfter.{made-valid}
+use Rattle.ownership.proofs.Applied.{made-view}
 use Rattle.table.proofs.Made.{made-bytes, view-made}
 use Rattle.listing.specs.Examples.{input, output, printed-example}
 use Rattle.text.specs.Lines.{lines}
-use Rattle.listing.specs.Line.{asks}
+use Rattle.input_line.specs.Line.{asks}
 use Rattle.text.specs.Row.{Row, rowsText}
-use Rattle.listing.specs.Listing.{callRow, traced, rowFor, stateAfter, rows, header, inputLimit, tooLong, empty, listing, printed, recorded}
+use Rattle.printed_line.specs.PrintedLine.{callRow, traced, rowFor, stateAfter, empty}
+use Rattle.listing.specs.Listing.{rows, header, inputLimit, tooLong, listing, printed, recorded}
 
 -- The list says what the ownership history says: on a table that a history covers, the printed lines are those of the history.
 traced-alike : (b : List ℕ) (h : History) → Represents b h → (n c : ℕ) → traced tableStep b n c ≡ traced historyStep h n c
@@ -33,13 +35,13 @@ row-alike b h k n none = refl
 row-alike b h k n (some a) =
     let s = represents-step b h k a in
     ap₂ (λ (x : CallResult) (w : ℕ → ℕ → List ℕ). callRow n a x w) (s .result)
-    (fun-ext (λ m. fun-ext (λ c. traced-alike (tableStep b a .state) (historyStep h a .state) (s .covered) m c)))
+    (fun-ext (λ m. fun-ext (λ c. traced-alike (tableStep b a .state) (historyStep h a .state) (s .represented) m c)))
 
 represents-after : (b : List ℕ) (h : History) → Represents b h → (a : Option Call)
     → Represents (stateAfter tableStep b a) (stateAfter historyStep h a)
 unfolding stateAfter
 represents-after b h k none = k
-represents-after b h k (some a) = represents-step b h k a .covered
+represents-after b h k (some a) = represents-step b h k a .represented
 
 rows-alike : (ls : List (List ℕ)) (b : List ℕ) (h : History) (n : ℕ) → Represents b h → rows tableStep b n ls ≡ rows historyStep h n ls
 unfolding rows

@@ -15,10 +15,11 @@ use Rattle.ownership.specs.Calls.{Call, making, blocking, unblocking, opening, 
 use Rattle.text.specs.Text.{newline, space}
 use Rattle.text.specs.Lines.{lines, cut, fields}
 use Rattle.text.specs.Row.{Field, nothing, shows, letter, path, bytesOf, Row, inOrder, spaced, ended, rowText, rowsText}
-use Rattle.listing.specs.Line.{asks}
-use Rattle.listing.specs.Listing.{callRow, unreadable, traced, rowFor, stateAfter, rows, headerWords, header, inputLimit, listing}
-use Rattle.listing.specs.Sentences.{Above, AllAbove}
-use Rattle.listing.proofs.Separated.{fields-spaced, above-decimal, above-turn, ended-line}
+use Rattle.input_line.specs.Line.{asks}
+use Rattle.printed_line.specs.PrintedLine.{callRow, unreadable, traced, rowFor, stateAfter}
+use Rattle.listing.specs.Listing.{rows, headerWords, header, inputLimit, listing}
+use Rattle.text.specs.Above.{Above, AllAbove}
+use Rattle.text.proofs.Separated.{fields-spaced, above-decimal, above-turn, ended-line}
 
 -- Every field of a printed line is a dash, a number, a call letter or the ports of a path, none of which has a byte up to the space;
 a-dash : Above space (bytesOf nothing)
@@ -43,26 +44,24 @@ or-dash : (b : Bool) (f : Field) → Above space (bytesOf f) → Above space (by
 or-dash true f p = p
 or-dash false f p = a-dash
 
-ruleset plain = (a-dash, a-number, a-letter, a-path, or-dash, needs)
-
 -- a printed line's eight fields, as bytes
 abbrev pub eight : Row → List (List ℕ)
 eight r = map bytesOf (inOrder r)
 
 above-eight : (n : ℕ) (a : Call) (x : CallResult) (way : ℕ → ℕ → List ℕ) → AllAbove space (eight (callRow n a x way))
 unfolding AllAbove inOrder callRow
-above-eight n (making D) x way = search plain
-above-eight n (blocking m p) x way = search plain
-above-eight n (unblocking m p) x way = search plain
-above-eight n (opening s c t y v) x way = search plain
-above-eight n (closing s c) x way = search plain
-above-eight n (tracing s c buffer) x way = search plain
-above-eight n (arming m k) x way = search plain
-above-eight n (disarming m k) x way = search plain
+above-eight n (making D) x way = (a-number _, (a-letter _ (lit< tt), (a-number _, (a-dash, (a-dash, (a-dash, (a-dash, (a-dash, tt))))))))
+above-eight n (blocking m p) x way = (a-number _, (a-letter _ (lit< tt), (a-number _, (a-number _, (a-dash, (a-dash, (a-dash, (a-number _, tt))))))))
+above-eight n (unblocking m p) x way = (a-number _, (a-letter _ (lit< tt), (a-number _, (a-number _, (a-dash, (a-dash, (a-dash, (a-number _, tt))))))))
+above-eight n (opening s c t y v) x way = search (a-dash, a-number, a-letter, a-path, or-dash, needs)
+above-eight n (closing s c) x way = (a-number _, (a-letter _ (lit< tt), (a-number _, (a-number _, (a-number _, (a-dash, (a-dash, (a-dash, tt))))))))
+above-eight n (tracing s c buffer) x way = (a-number _, (a-dash, (a-number _, (a-dash, (a-dash, (a-dash, (a-dash, (a-dash, tt))))))))
+above-eight n (arming m k) x way = (a-number _, (a-letter _ (lit< tt), (a-number _, (a-number _, (a-number _, (a-dash, (a-dash, (a-dash, tt))))))))
+above-eight n (disarming m k) x way = (a-number _, (a-letter _ (lit< tt), (a-number _, (a-number _, (a-number _, (a-dash, (a-dash, (a-dash, tt))))))))
 
 above-unreadable : (n : ℕ) → AllAbove space (eight (unreadable n))
 unfolding AllAbove inOrder unreadable
-above-unreadable n = search plain
+above-unreadable n = (a-number _, (a-dash, (a-number _, (a-dash, (a-dash, (a-dash, (a-dash, (a-dash, tt))))))))
 
 -- "always eight fields with one space between": cut at every space, a printed line is its eight fields
 row-fields : (r : Row) → AllAbove space (eight r) → fields (spaced (eight r)) ≡ eight r

@@ -16,30 +16,32 @@ use Rattle.cube.specs.Cube.{circuitOf}
 use Rattle.paths.specs.Network.{Path}
 use Rattle.paths.proofs.Apart.{permitted-below}
 use Rattle.paths.proofs.CubeNetwork.{path-hops}
-use Rattle.table.specs.Layout.{made}
+use Rattle.table.specs.Encode.{made}
 use Rattle.table.specs.View.{view, shapeOf}
-use Rattle.soundness.specs.SoundTest.{pathOf, tracedInto}
-use Rattle.soundness.proofs.Soundness.{path-is}
+use Rattle.circuit_path.specs.PathOf.{pathOf}
+use Rattle.circuit_path.specs.Traced.{tracedInto}
+use Rattle.circuit_path.proofs.Stands.{path-is}
 use Rattle.ownership.specs.Calls.{Call, making, blocking, unblocking, opening, closing, tracing, arming, disarming, CallResult, hopsOf, receiveOf, scoutsOf, bufferOf, carriesScouts, resultOf, After}
 use Rattle.ownership.specs.OnTable.{factsOf, stoppedAt, tableStep}
 use Rattle.ownership.specs.Allowed.{Allowed}
 use Rattle.ownership.proofs.Allowed.{allowed}
 use Rattle.ownership.proofs.Stops.{none-stops, none-stops-lent, pass-tests}
 use Rattle.ownership.proofs.Steps.{table-step}
-use Rattle.ownership.proofs.Shows.{PortsBelow}
+use Rattle.answers.proofs.AfterSend.{PortsBelow}
 use Rattle.ownership.proofs.OnSound.{open-answers, open-stands}
 use Rattle.text.specs.Text.{newline, decimal}
 use Rattle.text.specs.Lines.{onFirst, cut, lines, fields}
-use Rattle.listing.specs.Line.{numbers, numbersOf, byLetter, withNumbers, ofFields, longest, asks}
+use Rattle.input_line.specs.Line.{numbers, numbersOf, byLetter, withNumbers, ofFields, longest, asks}
 use Rattle.text.specs.Row.{Field, nothing, shows, path, inTurn, bytesOf, spaced, ended, rowText, rowsText}
-use Rattle.listing.specs.Listing.{accepted, callRow, unreadable, empty, traced, rowFor, stateAfter, rows, header, inputLimit, tooLong, listing, printed}
+use Rattle.printed_line.specs.PrintedLine.{accepted, callRow, unreadable, empty, traced, rowFor, stateAfter}
+use Rattle.listing.specs.Listing.{rows, header, inputLimit, tooLong, listing, printed}
 use Rattle.listing.specs.Printed.{outputBytes}
 use Rattle.text.specs.Written.{width}
 use Rattle.text.proofs.Digits.{decimal-length}
 use Rattle.text.proofs.Fields.{five-digits}
 use Rattle.text.proofs.Rows.{row-length}
 use Rattle.text.proofs.Reading.{IfRead}
-use Rattle.listing.proofs.Asking.{numbers-hold, each-letter, short-line}
+use Rattle.input_line.proofs.Asking.{numbers-hold, each-letter, short-line}
 use Rattle.listing.proofs.Refusals.{two-digits}
 
 -- a field that is shown in one case only

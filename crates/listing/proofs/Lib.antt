@@ -1,11 +1,7 @@
 -- Laws of the printed list.
-pub mod Asking
-pub mod Answers
-pub mod Separated
 pub mod EightFields
 pub mod Refusals
 pub mod Fitting
 pub mod Remaining
 pub mod Agreeing
 pub mod ShownPath
-pub mod Letters

@@ -12,16 +12,17 @@ use borrow.Author.Tests.{ne-eqb, eqb-true, eqb-false, ltb-true, not-true}
 use Rattle.common.specs.Tests.{Test, test, refusal}
 use Rattle.common.proofs.Tests.{same?, both, refused, passed, accepted as tests-accepted}
 use Rattle.paths.specs.Send.{Outcome, acknowledged, route-rejected, receive-rejected}
-use Rattle.soundness.specs.SoundTest.{tableTests}
+use Rattle.soundness.specs.TableTests.{tableTests}
 use Rattle.ownership.specs.Calls.{Call, making, blocking, unblocking, opening, closing, tracing, arming, disarming, answered, carriesScouts, CallFacts, callTests, resultOf, After}
 use Rattle.ownership.specs.OnTable.{lentTests, stoppedAt, tableStep}
 use Rattle.ownership.proofs.Steps.{table-step}
 use Rattle.text.specs.Lines.{cut, lines}
 use Rattle.text.specs.Row.{nothing, shows, inOrder, rowsText}
-use Rattle.listing.specs.Line.{asks}
-use Rattle.listing.specs.Listing.{callRow, unreadable, rowFor, rows, header, listing, printed}
+use Rattle.input_line.specs.Line.{asks}
+use Rattle.printed_line.specs.PrintedLine.{callRow, unreadable, rowFor}
+use Rattle.listing.specs.Listing.{rows, header, listing, printed}
 use Rattle.listing.specs.Sentences.{Shown, IsOpen, WasSent}
-use Rattle.listing.proofs.Asking.{short-line}
+use Rattle.input_line.proofs.Asking.{short-line}
 use Rattle.listing.proofs.EightFields.{line-shown}
 
 -- "For number 20 every field but line and answer is `-`."

@@ -13,14 +13,16 @@ use lib.ListN.{length, take, drop, length-drop, length-append, drop-of-length-le
 use lib.Seq.{sets, sets-eq}
 use borrow.Author.Tests.{lt-ltb, le-ltb}
 use Rattle.common.proofs.Tests.{same?}
-use Rattle.table.specs.Layout.{made}
+use Rattle.table.specs.Encode.{made}
 use Rattle.text.specs.Text.{newline}
 use Rattle.text.specs.Lines.{cut, lines}
-use Rattle.listing.specs.Line.{asks}
+use Rattle.input_line.specs.Line.{asks}
 use Rattle.text.specs.Row.{rowText, rowsText}
-use Rattle.listing.specs.Listing.{rowFor, stateAfter, rows, header, inputLimit, tooLong, listing, printed}
+use Rattle.printed_line.specs.PrintedLine.{rowFor, stateAfter}
+use Rattle.listing.specs.Listing.{rows, header, inputLimit, tooLong, listing, printed}
 use Rattle.text.specs.Written.{before, Wrote}
-use Rattle.listing.specs.Printed.{WroteLine, outputBytes, Filled, lists}
+use Rattle.line_answer.specs.LineWritten.{WroteLine}
+use Rattle.listing.specs.Printed.{outputBytes, Filled, lists}
 use Rattle.text.proofs.Cuts.{part-is, part-more, lines-last}
 use Rattle.text.proofs.Writing.{carries, carries-place}
 use Rattle.listing.proofs.Fitting.{text-fits}

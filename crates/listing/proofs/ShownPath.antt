@@ -12,14 +12,14 @@ use borrow.Author.Tests.{eq-eqb}
 use Rattle.common.specs.Lists.{any}
 use Rattle.paths.specs.Network.{Path}
 use Rattle.paths.specs.Send.{acknowledged}
-use Rattle.soundness.specs.SoundTest.{tracedInto}
+use Rattle.circuit_path.specs.Traced.{tracedInto}
 use Rattle.ownership.specs.Calls.{opening, tracing, CallResult, hopsOf, bufferOf, answered, resultOf}
 use Rattle.ownership.specs.Allowed.{Allowed}
 use Rattle.ownership.specs.History.{Circuit, History, belongs, openOn, listed, factsOn, stoppedOn, sendOn, withCircuits, withOpened, applied, historyStep, waitingOn}
 use Rattle.ownership.proofs.Allowed.{allowed-on, allowed-passes}
 use Rattle.ownership.proofs.Steps.{history-step}
 use Rattle.text.specs.Row.{path}
-use Rattle.listing.specs.Listing.{callRow, empty, traced, rowFor}
+use Rattle.printed_line.specs.PrintedLine.{callRow, empty, traced, rowFor}
 
 module _ (h : History) (s c t y v : ℕ) (w : Path) (k : ℕ) (passes : stoppedOn h (opening s c t y v) ≡ 0) (sends : sendOn h s t y v .outcome ≡ acknowledged w k) where
   new : Circuit

@@ -1,9 +1,7 @@
--- The printed example of document 01, with the second line that document 02, (a), gives it, computed: the bytes of its input and of its output. And what
--- a line of each letter asks for, from its bytes.
+-- The printed example of document 01, with the second line that document 02, (a), gives it, computed: the bytes of its input and of its output.
 -- Assumes nothing.
 use mathlib.Core.Path.{_≡_, refl}
-use mathlib.Core.List.{List, [], _∷_, map}
-use mathlib.Core.Option.{some}
+use mathlib.Core.List.{List, [], _∷_}
 use Prim.Native.Nat.{ℕ}
 use Rattle.common.specs.Lists.{keep, from, any, lowest}
 use Rattle.common.specs.Tests.{refusal}
@@ -15,14 +13,15 @@ use Rattle.paths.specs.Network.{offered, end, links, hasLink, linkState, isFree
 use Rattle.paths.specs.Pass.{over, ways, beginnings, scan, whole, pass, scouts}
 use Rattle.paths.specs.Send.{received, outcome, attempted, goesOn, runs, lowestOf}
 use Rattle.paths.specs.CubeNetwork.{network, ports, sendPorts, otherPorts, attempts, send}
-use Rattle.soundness.specs.SoundTest.{tracedInto}
-use Rattle.ownership.specs.Calls.{making, blocking, unblocking, opening, closing, arming, disarming, answered, carriesScouts, callTests, resultOf, callOn}
+use Rattle.circuit_path.specs.Traced.{tracedInto}
+use Rattle.ownership.specs.Calls.{answered, carriesScouts, callTests, resultOf, callOn}
 use Rattle.ownership.specs.History.{holdsLink, holdsReceive, belongs, enabledOn, heldOn, freeOn, takenOn, openOn, armedOn, receiveOn, listed, factsOn, stoppedOn, sendOn, withOpened, applied, historyStep}
 use Rattle.text.specs.Text.{digits, decimal, allDigits, value, leadingZero, number}
 use Rattle.text.specs.Lines.{onFirst, cut, lines, fields}
-use Rattle.listing.specs.Line.{inFront, numbers, numbersOf, asked, byLetter, withNumbers, ofFields, asks}
+use Rattle.input_line.specs.Line.{inFront, numbers, numbersOf, asked, byLetter, withNumbers, ofFields, asks}
 use Rattle.text.specs.Row.{inTurn, bytesOf, inOrder, spaced, ended, rowText, rowsText}
-use Rattle.listing.specs.Listing.{callRow, unreadable, traced, rowFor, stateAfter, rows, header, tooLong, listing, recorded}
+use Rattle.printed_line.specs.PrintedLine.{callRow, unreadable, traced, rowFor, stateAfter}
+use Rattle.listing.specs.Listing.{rows, header, tooLong, listing, recorded}
 
 abbrev pub input : List ℕ
 input =
@@ -65,27 +64,3 @@ output =
 pub printed-example : recorded input ≡ output
 unfolding historyStep stoppedOn callTests refusal factsOn openOn heldOn takenOn any holdsLink holdsReceive belongs enabledOn freeOn linkState isFree armedOn receiveOn lowestOf lowest listed sendOn withOpened applied resultOf callOn carriesScouts tracedInto send attempts attempted network ports sendPorts otherPorts present axis keep from has flip uphill helical offered end links hasLink freePath over ways beginnings scan whole pass scouts received outcome goesOn runs answered digits decimal allDigits value leadingZero number onFirst cut lines fields inFront numbers numbersOf asked byLetter withNumbers ofFields asks inTurn bytesOf inOrder spaced ended rowText rowsText callRow unreadable traced rowFor stateAfter rows header tooLong listing recorded
 printed-example = refl
-
--- "`F D` make, `B node port` block, `E node port` unblock, `S node channel target type vector` open, `C node channel` close", "`R node channel` arm and
--- `D node channel` disarm", with a number of its own in each place
-letters-asked :
-    map asks
-    -- F 10
-    ((70 ∷ 32 ∷ 49 ∷ 48 ∷ [])
-    -- B 11 12
-    ∷ (66 ∷ 32 ∷ 49 ∷ 49 ∷ 32 ∷ 49 ∷ 50 ∷ [])
-    -- E 13 14
-    ∷ (69 ∷ 32 ∷ 49 ∷ 51 ∷ 32 ∷ 49 ∷ 52 ∷ [])
-    -- S 1 2 3 4 5
-    ∷ (83 ∷ 32 ∷ 49 ∷ 32 ∷ 50 ∷ 32 ∷ 51 ∷ 32 ∷ 52 ∷ 32 ∷ 53 ∷ [])
-    -- C 15 16
-    ∷ (67 ∷ 32 ∷ 49 ∷ 53 ∷ 32 ∷ 49 ∷ 54 ∷ [])
-    -- R 17 18
-    ∷ (82 ∷ 32 ∷ 49 ∷ 55 ∷ 32 ∷ 49 ∷ 56 ∷ [])
-    -- D 19 20
-    ∷ (68 ∷ 32 ∷ 49 ∷ 57 ∷ 32 ∷ 50 ∷ 48 ∷ [])
-    ∷ [])
-    ≡ some (making 10) ∷ some (blocking 11 12) ∷ some (unblocking 13 14) ∷ some (opening 1 2 3 4 5) ∷ some (closing 15 16) ∷ some (arming 17 18)
-    ∷ some (disarming 19 20) ∷ []
-unfolding allDigits value leadingZero number onFirst cut fields inFront numbers numbersOf asked byLetter withNumbers ofFields asks
-letters-asked = refl

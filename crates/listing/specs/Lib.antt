@@ -1,5 +1,4 @@
--- The printed list: document 01, section "The printed list". From what a line asks up to the whole list.
-pub mod Line
+-- The printed list: document 01, section "The printed list". The whole list, from what its lines ask and show.
 pub mod Listing
 pub mod Sentences
 pub mod Printed

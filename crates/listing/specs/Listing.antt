@@ -1,72 +1,24 @@
--- The printed list of an input. It is stated over any state that calls are made on: the bytes of a table, on which the program makes them, and the
--- ownership history, on which it can be computed.
+-- The printed list of an input: document 01, section "The printed list". It is stated over any state that calls are made on, as its lines are.
 -- Assumes nothing.
-use mathlib.Core.Bool.{Bool, cond}
+use mathlib.Core.Bool.{cond}
 use mathlib.Core.List.{List, [], _∷_, _++_}
-use mathlib.Core.Option.{Option, none, some}
 use Prim.Native.Nat.{ℕ, suc}
-use lib.Dec.{eqb, ltb}
-use lib.ListN.{length, take, replicate}
-use Rattle.table.specs.Layout.{made}
-use Rattle.ownership.specs.Calls.{Call, making, blocking, unblocking, opening, closing, tracing, arming, disarming, CallResult, hopsOf, receiveOf, scoutsOf, bufferOf, carriesScouts, After}
+use lib.Dec.{ltb}
+use lib.ListN.{length}
+use Rattle.table.specs.Encode.{made}
+use Rattle.ownership.specs.Calls.{Call, After}
 use Rattle.ownership.specs.OnTable.{tableStep}
 use Rattle.ownership.specs.History.{historyStep}
 use Rattle.text.specs.Lines.{lines}
-use Rattle.listing.specs.Line.{letterB, letterC, letterD, letterE, letterF, letterR, letterS, asks}
-use Rattle.text.specs.Row.{Field, nothing, shows, path, Row, row, lone, ended, rowsText}
-
--- "Success is 0."
-abbrev pub accepted : CallResult → Bool
-accepted x = eqb (x .number) 0
-
--- a field that shows nothing unless something holds
-abbrev pub showsIf : Bool → Field → Field
-showsIf b f = cond b f nothing
-
--- "Fields: input line from 1; call letter; refusal number; node as given (source for S); channel as given; receive channel taken; scouts (S answered 0, 10
--- or 11); ports in path order, or the port of B and E as given. A refused S shows `-` for receive and ports." Document 02, (c): 22 is printed with "the same
--- scouts". The path of a send channel is what `way` says.
-unfoldable pub callRow : ℕ → Call → CallResult → (ℕ → ℕ → List ℕ) → Row
-callRow n (making D) x way = row n letterF (x .number) nothing nothing nothing nothing nothing
-callRow n (blocking m p) x way = row n letterB (x .number) (shows m) nothing nothing nothing (shows p)
-callRow n (unblocking m p) x way = row n letterE (x .number) (shows m) nothing nothing nothing (shows p)
-callRow n (opening s c t y v) x way =
-    row n letterS (x .number) (shows s) (shows c) (showsIf (accepted x) (shows (receiveOf x))) (showsIf (carriesScouts (x .number)) (shows (scoutsOf x)))
-    (showsIf (accepted x) (path (way s c)))
-callRow n (closing s c) x way = row n letterC (x .number) (shows s) (shows c) nothing nothing nothing
--- document 02, (a): "printing node and channel"
-callRow n (arming m k) x way = row n letterR (x .number) (shows m) (shows k) nothing nothing nothing
-callRow n (disarming m k) x way = row n letterD (x .number) (shows m) (shows k) nothing nothing nothing
--- no line asks for a trace
-callRow n (tracing s c buffer) x way = lone n (x .number)
-
--- "For number 20 every field but line and answer is `-`."
-unfoldable pub unreadable : ℕ → Row
-unreadable n = lone n 20
-
--- the buffer that a trace is lent
-abbrev pub empty : List ℕ
-empty = replicate 9 0
+use Rattle.text.specs.Row.{Row, ended, rowsText}
+use Rattle.input_line.specs.Line.{asks}
+use Rattle.printed_line.specs.PrintedLine.{rowFor, stateAfter}
 
 module _ {S : Type 0} (makes : S → Call → After S) where
-  -- the ports that a trace of a send channel writes
-  unfoldable pub traced : S → ℕ → ℕ → List ℕ
-  traced s n c = let x = makes s (tracing n c empty) .result in take (hopsOf x) (bufferOf x)
-
-  -- the line printed for what an input line asks
-  unfoldable pub rowFor : S → ℕ → Option Call → Row
-  rowFor s n none = unreadable n
-  rowFor s n (some a) = callRow n a (makes s a .result) (traced (makes s a .state))
-
-  -- the state behind it; a line that cannot be read changes nothing
-  unfoldable pub stateAfter : S → Option Call → S
-  stateAfter s none = s
-  stateAfter s (some a) = makes s a .state
-
   -- "one line per input line", counted from n
   unfoldable pub rows : S → ℕ → List (List ℕ) → List Row
   rows s n [] = []
-  rows s n (l ∷ ls) = rowFor s n (asks l) ∷ rows (stateAfter s (asks l)) (suc n) ls
+  rows s n (l ∷ ls) = rowFor makes s n (asks l) ∷ rows (stateAfter makes s (asks l)) (suc n) ls
 
 -- "line", "call", "answer", "node", "channel", "receive", "scouts", "ports"
 abbrev pub headerWords : List (List ℕ)

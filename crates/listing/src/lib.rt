@@ -1,6 +1,4 @@
 // The printed list: from the bytes of an input to the bytes of its list.
-mod call;
-mod line;
 mod whole;
 
 pub use whole::INPUT_LIMIT;

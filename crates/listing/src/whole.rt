@@ -8,7 +8,6 @@ ghost use Rattle.listing.specs.Listing.{rows};
 ghost use Rattle.text.specs.Written.{Wrote};
 ghost use Rattle.listing.specs.Printed.{lists};
 ghost use Rattle.ownership.specs.OnTable.{tableStep};
-use crate::call;
 use text::put;
 
 // The most bytes of an input that is listed.
@@ -27,7 +26,7 @@ fn rows(input: &[u8], t: &mut [u8], out: &mut [u8], at: usize) -> usize
     let mut line: u16 = 1;
     while from < input.len() {
         let end = text::find(input, from, b'\n');
-        place = call::answer(t, out, place, line, &input[from..end]);
+        place = line_answer::answer(t, out, place, line, &input[from..end]);
         line += 1;
         from = end + 1;
     }

@@ -13,10 +13,12 @@ use Rattle.common.proofs.Tests.{same?, passed, accepted}
 use Rattle.cube.specs.Cube.{circuitOf}
 use Rattle.paths.specs.Network.{Path}
 use Rattle.paths.specs.Send.{SendResult}
-use Rattle.table.specs.Layout.{tableLength, dimensionAt}
+use Rattle.layout.specs.Layout.{tableLength, dimensionAt}
 use Rattle.table.specs.View.{View, view}
 use Rattle.soundness.specs.Sound.{Sound}
-use Rattle.soundness.specs.SoundTest.{pathOf, tableTests, tracedInto}
+use Rattle.circuit_path.specs.PathOf.{pathOf}
+use Rattle.circuit_path.specs.Traced.{tracedInto}
+use Rattle.soundness.specs.TableTests.{tableTests}
 use Rattle.table.specs.Encode.{encode}
 use Rattle.table.proofs.Encode.{encode-view}
 use Rattle.table.proofs.Encoded.{encode-bytes, view-encode}
@@ -36,9 +38,10 @@ use Rattle.ownership.proofs.Refused.{refused-within}
 use Rattle.ownership.proofs.Sameness.{send-same, waiting-same}
 use Rattle.ownership.proofs.CircuitValid.{armed-inside, valid-sound}
 use Rattle.ownership.proofs.Stopped.{path-listed, stopped-same}
-use Rattle.ownership.proofs.Applied.{made-valid, made-view, follows-valid, follows-view}
+use Rattle.ownership.proofs.ValidAfter.{made-valid, follows-valid}
+use Rattle.ownership.proofs.Applied.{made-view, follows-view}
 use Rattle.ownership.proofs.Steps.{table-step, history-step}
-use Rattle.search.specs.SendAnswer.{waitingHelps}
+use Rattle.answers.specs.SendOnTable.{waitingHelps}
 
 -- The bytes of a valid history are covered by it.
 bytes-represent : (h : History) → Valid h → Represents (bytesOf h) h
@@ -92,7 +95,7 @@ module _ (b : List ℕ) (h : History) (k : Represents b h) where
   -- What a call gives, on the table and in the history, and that the table stays covered.
   pub record Step (a : Call) : Type 0 where
     pub result : tableStep b a .result ≡ historyStep h a .result
-    pub covered : Represents (tableStep b a .state) (historyStep h a .state)
+    pub represented : Represents (tableStep b a .state) (historyStep h a .state)
 
   result-same : (a : Call) → tableStep b a .result ≡ historyStep h a .result
   result-same a =
@@ -101,7 +104,7 @@ module _ (b : List ℕ) (h : History) (k : Represents b h) where
       (same? (stoppedOn h a) 0)
 
   pub represents-step : (a : Call) → Step a
-  represents-step a = record { result = result-same a; covered = ⊎-elim accepts refuses (same? (historyStep h a .result .number) 0) }
+  represents-step a = record { result = result-same a; represented = ⊎-elim accepts refuses (same? (historyStep h a .result .number) 0) }
     where
       number : tableStep b a .result .number ≡ historyStep h a .result .number
       number = ap (λ (g : CallResult). g .number) (result-same a)
@@ -126,12 +129,12 @@ represents-bytes b h k = sym (encode-view b (k .bytes .long) (k .bytes .small)) 
 pub represents-run : (calls : List Call) (b : List ℕ) (h : History) → Represents b h → Represents (tableAfter b calls) (historyAfter h calls)
 unfolding leaves
 represents-run [] b h k = k
-represents-run (a ∷ more) b h k = represents-run more (tableStep b a .state) (historyStep h a .state) (represents-step b h k a .covered)
+represents-run (a ∷ more) b h k = represents-run more (tableStep b a .state) (historyStep h a .state) (represents-step b h k a .represented)
 
 pub represents-results : (calls : List Call) (b : List ℕ) (h : History) → Represents b h → tableResults b calls ≡ historyResults h calls
 unfolding answers
 represents-results [] b h k = refl
-represents-results (a ∷ more) b h k = let s = represents-step b h k a in ap₂ _∷_ (s .result) (represents-results more (tableStep b a .state) (historyStep h a .state) (s .covered))
+represents-results (a ∷ more) b h k = let s = represents-step b h k a in ap₂ _∷_ (s .result) (represents-results more (tableStep b a .state) (historyStep h a .state) (s .represented))
 
 pub represents-agrees : (calls : List Call) (b : List ℕ) (h : History) → Represents b h → Agrees b h calls
 represents-agrees calls b h k =

@@ -4,7 +4,7 @@ use mathlib.Core.Path.{_≡_, refl, ap, ap₂, _∙_}
 use mathlib.Core.Logic.{_⊎_, ⊎-elim, ⊎-map, _↔_}
 use mathlib.Core.Bool.{Bool, true, false, not, _&&_, _||_}
 use mathlib.Core.List.{[]}
-use Prim.Native.Nat.{ℕ, _^_, _<_}
+use Prim.Native.Nat.{ℕ, _^_, _≤_, _<_}
 use native.Mathlib.Omega.{arith}
 use lib.Dec.{eqb, ltb, leb}
 use lib.ListN.{length}
@@ -14,7 +14,7 @@ use Rattle.common.proofs.Tests.{neither, either, or-left, or-right, passed, acc
 use Rattle.cube.proofs.Bits.{high-has, no-bit-above}
 use Rattle.ownership.specs.Calls.{Call, making, blocking, unblocking, opening, closing, tracing, arming, disarming, CallFacts, callTests}
 use Rattle.ownership.specs.Allowed.{Allowed}
-use Rattle.ownership.specs.History.{History, factsOn, stoppedOn}
+use Rattle.ownership.specs.History.{History, heldOn, takenOn, factsOn, stoppedOn}
 
 -- what the tests say where they do not apply
 pub below : (n m : ℕ) → not (ltb n m) ≡ false → n < m
@@ -103,3 +103,29 @@ allowed-passes a (disarming n k) h = passed 4 _ (is-below n _ (h .0)) ∙ passed
 pub allowed-on : (h : History) (x : Call) → stoppedOn h x ≡ 0 → Allowed (factsOn h) x
 unfolding stoppedOn
 allowed-on h x e = allowed (factsOn h) x e
+
+-- and of each call by itself
+module _ (h : History) where
+  pub made-facts : (D : ℕ) → stoppedOn h (making D) ≡ 0 → (1 ≤ D) × (D ≤ 8)
+  unfolding Allowed
+  made-facts D e = allowed-on h (making D) e
+
+  pub block-facts : (n p : ℕ) → stoppedOn h (blocking n p) ≡ 0 → (n < 2 ^ h .dimension) × (p < h .dimension) × (heldOn h n p ≡ false)
+  unfolding Allowed factsOn
+  block-facts n p e = allowed-on h (blocking n p) e
+
+  pub unblock-facts : (n p : ℕ) → stoppedOn h (unblocking n p) ≡ 0 → (n < 2 ^ h .dimension) × (p < h .dimension)
+  unfolding Allowed factsOn
+  unblock-facts n p e = allowed-on h (unblocking n p) e
+
+  pub close-facts : (s c : ℕ) → stoppedOn h (closing s c) ≡ 0 → c < 8
+  unfolding Allowed factsOn
+  close-facts s c e = allowed-on h (closing s c) e .1
+
+  pub arm-facts : (n k : ℕ) → stoppedOn h (arming n k) ≡ 0 → (n < 2 ^ h .dimension) × (k < 8)
+  unfolding Allowed factsOn
+  arm-facts n k e = allowed-on h (arming n k) e
+
+  pub disarm-facts : (n k : ℕ) → stoppedOn h (disarming n k) ≡ 0 → takenOn h n k ≡ false
+  unfolding Allowed factsOn
+  disarm-facts n k e = allowed-on h (disarming n k) e .2

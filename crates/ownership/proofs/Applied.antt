@@ -1,231 +1,34 @@
--- A call that no test stops keeps the history valid, and what a table shows then is the update of what it showed.
+-- What a table that agrees with the history shows after a call that no test stops is the update of what it showed.
 -- Assumes nothing.
-use mathlib.Core.Path.{_≡_, refl, sym, _∙_, ap, subst}
-use mathlib.Core.Logic.{⊎-elim}
+use mathlib.Core.Path.{_≡_, refl, sym, _∙_, ap}
 use mathlib.Core.Bool.{Bool, true, false, cond, not, _&&_, _||_, and-true}
-use mathlib.Core.List.{List, [], _∷_, List·Memᴰ·not-nil, List·Memᴰ·cases-cons}
-use Prim.Native.Nat.{ℕ, _^_, _≤_, _<_}
+use mathlib.Core.List.{[], _∷_}
+use Prim.Native.Nat.{ℕ, _^_}
 use lib.Dec.{eqb, ltb}
-use borrow.Author.Tests.{eqb-true, not-true}
-use Rattle.common.specs.Lists.{_∈_, keep, Pairwise}
-use Rattle.common.proofs.Tests.{clash, is-false, both}
-use Rattle.common.proofs.Lists.{keep-mem, keep-pairwise, some-any}
+use Rattle.common.specs.Lists.{keep}
 use Rattle.cube.specs.Cube.{next, circuitOf}
-use Rattle.paths.specs.Network.{Path, Link, links, hasLink}
+use Rattle.paths.specs.Network.{Path, links, hasLink}
 use Rattle.paths.specs.Send.{Outcome, acknowledged, route-rejected, receive-rejected, SendResult}
-use Rattle.paths.specs.CubeNetwork.{Shape, network, send}
-use Rattle.paths.proofs.Words.{free-link}
+use Rattle.paths.specs.CubeNetwork.{Shape, network}
 use Rattle.table.specs.View.{View, setAt, setOwner, setReceiver, setEnabled, setArmed, withoutCircuit, fresh}
 use Rattle.ownership.specs.Calls.{Call, making, blocking, unblocking, opening, closing, tracing, arming, disarming}
-use Rattle.ownership.specs.History.{Circuit, History, shapeOn, netOn, linksOf, holdsLink, holdsReceive, belongs, enabledOn, heldOn, freeOn, takenOn, openOn, armedOn, receiveOn, factsOn, stoppedOn, sendOn, withBlocked, withCircuits, withArmed, without, withOpened, applied}
-use Rattle.ownership.specs.Invariant.{CircuitValid, Disjoint, Valid}
+use Rattle.ownership.specs.History.{Circuit, History, shapeOn, netOn, holdsLink, holdsReceive, belongs, enabledOn, armedOn, stoppedOn, sendOn, withOpened, applied}
+use Rattle.ownership.specs.Invariant.{Valid}
 use Rattle.ownership.specs.HistoryView.{numberOf, viewOf}
-use Rattle.ownership.specs.Update.{holdLinks, viewAfterSend, updated}
-use Rattle.ownership.proofs.Circuits.{parts-belong, belongs-number, Once, number-drop}
+use Rattle.answers.specs.SendOnTable.{holdLinks, viewAfterSend}
+use Rattle.ownership.specs.Update.{updated}
+use Rattle.ownership.proofs.Circuits.{Once, number-drop}
 use Rattle.ownership.proofs.Sameness.{send-same}
-use Rattle.ownership.proofs.CircuitValid.{link-holds, receive-holds, links-once, receives-once, receiver-of}
-use Rattle.ownership.proofs.Acknowledged.{Taken, send-taken, receive-free}
-use Rattle.ownership.specs.Allowed.{Allowed}
-use Rattle.ownership.proofs.Allowed.{allowed-on}
+use Rattle.ownership.proofs.CircuitValid.{links-once, receives-once}
+use Rattle.ownership.proofs.Allowed.{unblock-facts, close-facts}
 use Rattle.ownership.proofs.Enabled.{block-enabled, unblock-enabled}
 use Rattle.ownership.proofs.Armed.{arm-armed, disarm-armed, close-armed}
 
--- a listed circuit holds its links and its receive channel and makes its send channel open, in the words of the history
-held-link : (h : History) (x : Circuit) → x ∈ h .circuits → (n p : ℕ) → (n, p) ∈ linksOf (netOn h) x → heldOn h n p ≡ true
-unfolding heldOn
-held-link h x m n p l = some-any (holdsLink (netOn h) n p) (h .circuits) m (link-holds (netOn h) n p x l)
-
-taken-receive : (h : History) (x : Circuit) → x ∈ h .circuits → (n k : ℕ) → n ≡ x .target → k ≡ x .receive → takenOn h n k ≡ true
-unfolding takenOn
-taken-receive h x m n k e f = some-any (holdsReceive n k) (h .circuits) m (receive-holds n k x e f)
-
-pub open-send : (h : History) (x : Circuit) → x ∈ h .circuits → (s c : ℕ) → x .source ≡ s → x .channel ≡ c → openOn h s c ≡ true
-unfolding openOn
-open-send h x m s c e f = some-any (belongs s c) (h .circuits) m (parts-belong s c x e f)
-
--- the history that a making begins, whatever was before it: it is valid, and a made table shows it
-pub made-valid : (D : ℕ) → 1 ≤ D → D ≤ 8 → Valid (record { dimension = D; blocked = []; circuits = []; armed = [] })
-unfolding Pairwise
-made-valid D l m =
-    record {
-      least = l;
-      most = m;
-      blocked = λ x k. absurd (List·Memᴰ·not-nil k);
-      armed = λ x k. absurd (List·Memᴰ·not-nil k);
-      stands = λ x k. absurd (List·Memᴰ·not-nil k);
-      apart = tt;
-    }
-
+-- a made table shows the history that a making begins
 pub made-view : (D : ℕ) → viewOf (record { dimension = D; blocked = []; circuits = []; armed = [] }) ≡ fresh D
 unfolding viewOf fresh numberOf enabledOn armedOn hasLink
 made-view D = λ i.
     record { dimension = D; enabled = λ n p. and-true (ltb n (2 ^ D) && ltb p D) i; owner = λ n p. 0; receiver = λ n k. 0; armed = λ n k. false }
-
--- what the tests that have passed say of each call
-module _ (h : History) where
-  made-facts : (D : ℕ) → stoppedOn h (making D) ≡ 0 → (1 ≤ D) × (D ≤ 8)
-  unfolding Allowed
-  made-facts D e = allowed-on h (making D) e
-
-  block-facts : (n p : ℕ) → stoppedOn h (blocking n p) ≡ 0 → (n < 2 ^ h .dimension) × (p < h .dimension) × (heldOn h n p ≡ false)
-  unfolding Allowed factsOn
-  block-facts n p e = allowed-on h (blocking n p) e
-
-  unblock-facts : (n p : ℕ) → stoppedOn h (unblocking n p) ≡ 0 → (n < 2 ^ h .dimension) × (p < h .dimension)
-  unfolding Allowed factsOn
-  unblock-facts n p e = allowed-on h (unblocking n p) e
-
-  close-facts : (s c : ℕ) → stoppedOn h (closing s c) ≡ 0 → c < 8
-  unfolding Allowed factsOn
-  close-facts s c e = allowed-on h (closing s c) e .1
-
-  arm-facts : (n k : ℕ) → stoppedOn h (arming n k) ≡ 0 → (n < 2 ^ h .dimension) × (k < 8)
-  unfolding Allowed factsOn
-  arm-facts n k e = allowed-on h (arming n k) e
-
-  disarm-facts : (n k : ℕ) → stoppedOn h (disarming n k) ≡ 0 → takenOn h n k ≡ false
-  unfolding Allowed factsOn
-  disarm-facts n k e = allowed-on h (disarming n k) e .2
-
--- a mark that is set stays so where it is set again, and where another is cleared
-set-again : (f : ℕ → ℕ → Bool) (n p m q : ℕ) → f m q ≡ true → setAt f n p true m q ≡ true
-unfolding setAt
-set-again f n p m q on = rw on (go (eqb m n && eqb q p))
-  where
-    go : (b : Bool) → cond b true true ≡ true
-    go true = refl
-    go false = refl
-
-other-cleared : (f : ℕ → ℕ → Bool) (n p m q : ℕ) → f m q ≡ true → (m ≡ n → q ≡ p → ⊥) → setAt f n p false m q ≡ true
-unfolding setAt
-other-cleared f n p m q on other =
-    let off = is-false _ (λ u. let i = both (eqb m n) (eqb q p) u in other (eqb-true m n (i .0)) (eqb-true q p (i .1))) in rw off on
-
-module _ (h : History) (valid : Valid h) where
-  -- other blocked links: those within the cube, where each held link stays enabled
-  blocked-valid : (ls : List Link) → ((l : Link) → l ∈ ls → (l .0 < 2 ^ h .dimension) × (l .1 < h .dimension))
-      → ((n p : ℕ) → heldOn h n p ≡ true → enabledOn h n p ≡ true → enabledOn (withBlocked h ls) n p ≡ true) → Valid (withBlocked h ls)
-  unfolding armedOn
-  blocked-valid ls inside on =
-      record {
-        least = valid .least;
-        most = valid .most;
-        blocked = inside;
-        armed = valid .armed;
-        stands = λ x m.
-            let s = valid .stands x m in
-            record {
-              source = s .source;
-              channel = s .channel;
-              permitted = s .permitted;
-              enabled = λ l k. on (l .0) (l .1) (held-link h x m (l .0) (l .1) k) (s .enabled l k);
-              receive = s .receive;
-              armed = s .armed;
-            };
-        apart = valid .apart;
-      }
-
-  -- other circuits and other armed channels: each circuit as it stood before, and its receive channel still armed
-  circuits-valid : (xs : List Circuit) (ls : List (ℕ × ℕ)) → ((l : ℕ × ℕ) → l ∈ ls → (l .0 < 2 ^ h .dimension) × (l .1 < 8))
-      → ((x : Circuit) → x ∈ xs → CircuitValid h x × (armedOn (withArmed h ls) (x .target) (x .receive) ≡ true)) → Pairwise (Disjoint (netOn h)) xs
-      → Valid (withArmed (withCircuits h xs) ls)
-  unfolding enabledOn armedOn
-  circuits-valid xs ls inside stand apart =
-      record {
-        least = valid .least;
-        most = valid .most;
-        blocked = valid .blocked;
-        armed = inside;
-        stands = λ x m.
-            let (s, on) = stand x m in
-            record { source = s .source; channel = s .channel; permitted = s .permitted; enabled = s .enabled; receive = s .receive; armed = on };
-        apart = apart;
-      }
-
-  -- an acknowledged open: its circuit stands, and is separate from each that is listed
-  module _ (s c t : ℕ) (there : s < 2 ^ h .dimension) (small : c < 8) (shut : openOn h s c ≡ false) (w : Path) (k : ℕ) (taken : Taken (shapeOn h) (freeOn h) (receiveOn h t) s t w k) where
-    abbrev new : Circuit
-    new = record { source = s; channel = c; ports = w; target = t; receive = k }
-
-    free-facts : (n p : ℕ) → (n, p) ∈ links (netOn h) s w → (enabledOn h n p ≡ true) × (heldOn h n p ≡ false)
-    unfolding freeOn
-    free-facts n p m = free-link (enabledOn h n p) (heldOn h n p) .0 (taken .is-free (n, p) m)
-
-    new-stands : CircuitValid h new
-    new-stands =
-        record {
-          source = there;
-          channel = small;
-          permitted = taken .permitted;
-          enabled = λ l m. free-facts (l .0) (l .1) m .0;
-          receive = receive-free h t k (taken .receives) .0;
-          armed = receive-free h t k (taken .receives) .1;
-        }
-
-    new-apart : (y : Circuit) → y ∈ h .circuits → Disjoint (netOn h) new y
-    new-apart y m =
-        record {
-          send = λ e f. clash (open-send h y m s c (sym e) (sym f)) shut;
-          link = λ l i j. clash (held-link h y m (l .0) (l .1) j) (free-facts (l .0) (l .1) i .1);
-          receives = λ e f. clash (taken-receive h y m t k e f) (receive-free h t k (taken .receives) .2);
-        }
-
-    added-valid : Valid (withCircuits h (new ∷ h .circuits))
-    added-valid =
-        circuits-valid (new ∷ h .circuits) (h .armed) (valid .armed)
-        (λ x m. let s = ⊎-elim (λ e. subst (CircuitValid h) (sym e) new-stands) (λ i. valid .stands x i) (List·Memᴰ·cases-cons m) in (s, s .armed))
-        (unfold Pairwise in (new-apart, valid .apart))
-
-  opened-valid : (s c t y v : ℕ) → Allowed (factsOn h) (opening s c t y v) → (o : Outcome) → sendOn h s t y v .outcome ≡ o → Valid (withOpened h s c t o)
-  unfolding withOpened sendOn Allowed factsOn
-  opened-valid s c t y v r (acknowledged w k) e = added-valid s c t (r .0) (r .2) (r .5) w k (send-taken (shapeOn h) (freeOn h) (receiveOn h t) s t v (valid .most) (r .0) (r .1) w k y e)
-  opened-valid s c t y v r route-rejected e = valid
-  opened-valid s c t y v r receive-rejected e = valid
-
-  -- A call that no test stops keeps the history valid.
-  pub follows-valid : (a : Call) → stoppedOn h a ≡ 0 → Valid (applied h a)
-  unfolding applied
-  follows-valid (making D) e = let r = made-facts h D e in made-valid D (r .0) (r .1)
-  follows-valid (blocking n p) e =
-      let r = block-facts h n p e in
-      blocked-valid ((n, p) ∷ h .blocked)
-      (λ l m.
-      ⊎-elim (λ q. subst (λ (x : Link). (x .0 < 2 ^ h .dimension) × (x .1 < h .dimension)) (sym q) (r .0, r .1)) (λ k. valid .blocked l k)
-      (List·Memᴰ·cases-cons m))
-      (λ m q held on. block-enabled h n p m q ∙ other-cleared (enabledOn h) n p m q on (λ x y. clash held (rw (x, y) (r .2))))
-  follows-valid (unblocking n p) e =
-      let r = unblock-facts h n p e in
-      blocked-valid (without n p (h .blocked)) (λ l m. valid .blocked l (unfold without in keep-mem _ (h .blocked) m .0))
-      (λ m q held on. unblock-enabled h n p (r .0) (r .1) m q ∙ set-again (enabledOn h) n p m q on)
-  follows-valid (opening s c t y v) e = opened-valid s c t y v (allowed-on h (opening s c t y v) e) (sendOn h s t y v .outcome) refl
-  follows-valid (closing s c) e =
-      circuits-valid (keep other (h .circuits)) (applied h (closing s c) .armed) (λ l m. valid .armed l (keep-mem _ (h .armed) m .0))
-      (λ x m. let k = keep-mem other (h .circuits) m in (valid .stands x (k .0), unfold armedOn in still-armed x (k .0) (not-true _ (k .1))))
-      (keep-pairwise other (Disjoint (netOn h)) (h .circuits) (valid .apart))
-    where
-      other : Circuit → Bool
-      other x = not (belongs s c x)
-
-      -- a circuit that is not closed holds another receive channel
-      still-armed : (x : Circuit) → x ∈ h .circuits → belongs s c x ≡ false → armedOn (applied h (closing s c)) (x .target) (x .receive) ≡ true
-      still-armed x m f =
-          let small = close-facts h s c e in
-          let stands = valid .stands x m in
-          close-armed h valid s c small (x .target) (x .receive)
-          ∙ (rw (receiver-of h valid x m, belongs-number s c x small (stands .channel), f) (stands .armed))
-  follows-valid (tracing s c buffer) e = valid
-  follows-valid (arming n k) e =
-      circuits-valid (h .circuits) ((n, k) ∷ h .armed)
-      (λ l m.
-      ⊎-elim (λ q. subst (λ (x : ℕ × ℕ). (x .0 < 2 ^ h .dimension) × (x .1 < 8)) (sym q) (arm-facts h n k e)) (λ i. valid .armed l i)
-      (List·Memᴰ·cases-cons m))
-      (λ x m. let s = valid .stands x m in (s, arm-armed h n k _ _ ∙ set-again (armedOn h) n k _ _ (s .armed))) (valid .apart)
-  follows-valid (disarming n k) e =
-      circuits-valid (h .circuits) (without n k (h .armed)) (λ l m. valid .armed l (unfold without in keep-mem _ (h .armed) m .0))
-      (λ x m.
-      let s = valid .stands x m in
-      let other : x .target ≡ n → x .receive ≡ k → ⊥ = λ i j. clash (taken-receive h x m n k (sym i) (sym j)) (disarm-facts h n k e) in
-      (s, disarm-armed h n k _ _ ∙ other-cleared (armedOn h) n k _ _ (s .armed) other)) (valid .apart)
 
 -- the view once the links of a path are held
 pub held-path : (v : View) (S : Shape) (c n : ℕ) (w : Path)

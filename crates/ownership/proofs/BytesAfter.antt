@@ -1,67 +1,35 @@
 -- The bytes after a call as the functions below the calls write them, each in its own contract: they are those of the definition.
 -- Assumes nothing.
 use mathlib.Core.Path.{_≡_, refl, sym, _∙_}
-use mathlib.Core.Logic.{⊎-elim}
 use mathlib.Core.Bool.{Bool, true, false}
-use mathlib.Core.List.{List, [], _∷_}
-use Prim.Native.Nat.{ℕ, _+_, _/_, _%_, _^_, _≤_, _<_}
+use mathlib.Core.List.{List}
+use Prim.Native.Nat.{ℕ, _≤_, _<_}
 use native.Mathlib.Omega.{arith}
-use lib.Dec.{ltb}
-use lib.ListN.{length, getD, set, length-set}
-use lib.Seq.{getD-set-same, getD-set-other, set-out}
-use borrow.Author.Tests.{ltb-true, ltb-false}
-use Rattle.common.proofs.Tests.{same?}
-use Rattle.cube.specs.Cube.{next, circuitOf}
+use Rattle.cube.specs.Cube.{circuitOf}
 use Rattle.cube.proofs.Bits.{with-bit-inside}
 use Rattle.cube.proofs.Ports.{most-nodes, below-256}
-use Rattle.paths.specs.Network.{Path}
-use Rattle.paths.specs.Send.{Outcome, acknowledged, route-rejected, receive-rejected}
-use Rattle.table.specs.Layout.{dimensionAt, maskPlace, putMask, putEnabled, putArmed, made}
-use Rattle.table.specs.Layout.{entryPlace, linkPart, receivePart, putWord, putEntry, putOwner, putReceiver}
-use Rattle.table.specs.LayoutContracts.{Within}
+use Rattle.layout.specs.Layout.{dimensionAt, maskPlace}
+use Rattle.entries.specs.EntryContracts.{putMask, putEnabled, putArmed, Within}
+use Rattle.table.specs.Encode.{made, encode, AllBytes, Bytes}
 use Rattle.table.specs.View.{view, setEnabled, setArmed, withoutCircuit, fresh}
-use Rattle.table.specs.Encode.{encode, AllBytes, Bytes}
 use Rattle.table.proofs.Encode.{encode-view}
 use Rattle.table.proofs.Encoded.{encode-shown}
 use Rattle.table.proofs.Views.{view-put-enabled, view-put-armed}
 use Rattle.table.proofs.Made.{made-bytes, view-made}
-use Rattle.search.specs.PassAnswer.{holdPath}
-use Rattle.search.specs.SendAnswer.{bytesAfterSend}
+use Rattle.answers.specs.SendAnswer.{bytesAfterSend}
 use Rattle.ownership.specs.Calls.{Call, making, blocking, unblocking, opening, closing, tracing, arming, disarming, form}
 use Rattle.ownership.specs.Allowed.{Allowed}
-use Rattle.ownership.specs.Update.{sendIn, viewAfterSend, updated}
+use Rattle.ownership.specs.Update.{sendIn, updated}
 use Rattle.ownership.specs.OnTable.{factsOf, stoppedAt, tableStep}
 use Rattle.ownership.proofs.Allowed.{allowed}
-use Rattle.ownership.proofs.Shows.{Fits, view-after-send, sent-fits}
+use Rattle.answers.proofs.AfterSend.{sent-fits, set-bytes, send-encoded}
 use Rattle.ownership.proofs.Stops.{none-stops, none-stops-lent, none-stops-length, pass-tests}
 use Rattle.ownership.proofs.StepBytes.{step-encoded}
 
--- one byte written, an entry, a bit of a mask, the links of a path, a send's marks: bytes stay bytes
-set-bytes : (b : List ℕ) (i x : ℕ) → Bytes b → x < 256 → Bytes (set b i x)
-set-bytes b i x h l =
-    record { long = length-set b i x ∙ h .long; small = λ j. ⊎-elim (λ e. rw e (go (ltb i (length b)) refl)) (λ ne. rw (getD-set-other b i j x 0 ne) (h .small j)) (same? j i) }
-  where
-    go : (y : Bool) → ltb i (length b) ≡ y → getD (set b i x) i 0 < 256
-    go true e = rw (getD-set-same b i x 0 (ltb-true i (length b) e)) l
-    go false e = rw (set-out b i x (ltb-false i (length b) e)) (h .small i)
-
-word-bytes : (b : List ℕ) (i c : ℕ) → Bytes b → c < 65536 → Bytes (putWord b i c)
-word-bytes b i c h l = set-bytes (set b i (c % 256)) (i + 1) (c / 256) (set-bytes b i (c % 256) h (omega arith)) (omega arith)
-
+-- a bit of a mask written: bytes stay bytes
 mask-bytes : (part : ℕ) (b : List ℕ) (n k : ℕ) (on : Bool) → Bytes b → k < 8 → Bytes (putMask part b n k on)
 unfolding putMask
 mask-bytes part b n k on h l = set-bytes b (maskPlace part n) _ h (with-bit-inside 8 _ k on (h .small (maskPlace part n)) l)
-
-hold-bytes : (b : List ℕ) (c n : ℕ) (w : Path) → Bytes b → c < 65536 → Bytes (holdPath b c n w)
-unfolding holdPath putOwner putEntry
-hold-bytes b c n [] h l = h
-hold-bytes b c n (p ∷ w) h l = hold-bytes (putOwner b n p c) c (next n p) w (word-bytes b (entryPlace linkPart n p) c h l) l
-
-pub send-bytes : (b : List ℕ) (c s t : ℕ) (o : Outcome) → Bytes b → c < 65536 → Bytes (bytesAfterSend b c s t o)
-unfolding bytesAfterSend putReceiver putEntry
-send-bytes b c s t (acknowledged w k) h l = word-bytes (holdPath b c s w) (entryPlace receivePart t k) c (hold-bytes b c s w h l) l
-send-bytes b c s t route-rejected h l = h
-send-bytes b c s t receive-rejected h l = h
 
 -- so they are what `encode` writes of what they show
 module _ (b : List ℕ) (bytes : Bytes b) where
@@ -73,12 +41,7 @@ module _ (b : List ℕ) (bytes : Bytes b) where
   armed-encoded n k on w =
       encode-shown (putArmed b n k on) _ (unfold putArmed in mask-bytes _ b n k on bytes (w .port)) (view-put-armed b n k on w)
 
-  send-encoded : (c s t : ℕ) (o : Outcome) → dimensionAt b ≤ 8 → c < 65536 → s < 2 ^ dimensionAt b → t < 2 ^ dimensionAt b → Fits (dimensionAt b) o
-      → bytesAfterSend b c s t o ≡ encode (viewAfterSend (view b) c s t o)
-  send-encoded c s t o most small i j h =
-      encode-shown (bytesAfterSend b c s t o) _ (send-bytes b c s t o bytes small) (view-after-send c small (dimensionAt b) most b (bytes .long) s t i j o h)
-
--- What the functions below leave of the bytes: `table::make`, `disable` and `enable`, `search::send`, `router::release`, `table::arm` and `disarm`.
+-- What the functions below leave of the bytes: `table::make`, `disable` and `enable`, `send::send`, `release::release`, `table::arm` and `disarm`.
 unfoldable pub writtenBy : List ℕ → Call → List ℕ
 writtenBy b (making D) = made D
 writtenBy b (blocking n p) = putEnabled b n p false
@@ -94,7 +57,7 @@ module _ (b : List ℕ) (small : AllBytes b) (a : Call) (e : stoppedAt b a ≡ 0
   bytes = record { long = none-stops-length b a e; small = small }
 
   encoded : (x : Call) → (form x .isMaking ≡ false → dimensionAt b ≤ 8) → Allowed (factsOf (view b)) x → writtenBy b x ≡ encode (updated (view b) x)
-  unfolding writtenBy updated Allowed factsOf view
+  unfolding writtenBy updated Allowed factsOf view sendIn
   encoded (making D) most r = encode-shown (made D) (fresh D) (made-bytes D (omega (arith, r .1))) (view-made D (omega (arith, r .1)))
   encoded (blocking n p) most r =
       let m = most refl in

@@ -19,7 +19,8 @@ use Rattle.paths.proofs.Links.{On, link-true, true-link}
 use Rattle.paths.specs.CubeNetwork.{ports}
 use Rattle.paths.proofs.CubeNetwork.{unfolded-port}
 use Rattle.paths.proofs.Apart.{permitted-inside}
-use Rattle.soundness.specs.Sound.{CircuitSound, Nowhere, Sound}
+use Rattle.circuit_path.specs.CircuitSound.{CircuitSound}
+use Rattle.soundness.specs.Sound.{Nowhere, Sound}
 use Rattle.ownership.specs.History.{Circuit, History, shapeOn, netOn, linksOf, holdsLink, holdsReceive, enabledOn, armedOn}
 use Rattle.ownership.specs.Invariant.{Disjoint, Valid}
 use Rattle.ownership.specs.HistoryView.{viewOf}

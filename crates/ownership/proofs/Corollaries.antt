@@ -12,10 +12,10 @@ use Rattle.cube.specs.Cube.{circuitOf}
 use Rattle.paths.specs.Network.{Network, Path, Link, links}
 use Rattle.paths.specs.Permitted.{Permitted}
 use Rattle.paths.proofs.Links.{link-true, true-link}
-use Rattle.table.specs.Layout.{ownerAt, receiverAt, armedAt}
+use Rattle.layout.specs.Layout.{ownerAt, receiverAt, armedAt}
 use Rattle.table.specs.View.{View, view}
 use Rattle.soundness.specs.Sound.{Sound}
-use Rattle.soundness.specs.SoundTest.{tableTests}
+use Rattle.soundness.specs.TableTests.{tableTests}
 use Rattle.paths.specs.CubeNetwork.{ports}
 use Rattle.ownership.specs.Calls.{Call, making}
 use Rattle.ownership.specs.OnTable.{tableStep}
@@ -25,7 +25,7 @@ use Rattle.ownership.specs.Invariant.{Disjoint, Represents}
 use Rattle.ownership.specs.HistoryView.{viewOf}
 use Rattle.ownership.specs.StillOpen.{numbered, StillOpen, OpenedBy}
 use Rattle.ownership.proofs.Circuits.{pairwise-one, belongs-parts}
-use Rattle.ownership.proofs.Applied.{open-send}
+use Rattle.ownership.proofs.ValidAfter.{open-send}
 use Rattle.ownership.proofs.OpenedBy.{opened-later, listed-by}
 use Rattle.ownership.proofs.CircuitValid.{owner-exactly, receiver-exactly}
 use Rattle.ownership.proofs.StillOpen.{open-exactly}

@@ -9,11 +9,11 @@ pub mod Allowed
 pub mod Reasons
 pub mod Enabled
 pub mod Armed
+pub mod ValidAfter
 pub mod Applied
 pub mod Steps
 pub mod StillOpen
 pub mod OpenedBy
-pub mod Shows
 pub mod Range
 pub mod Stops
 pub mod StepBytes
@@ -22,6 +22,7 @@ pub mod Refused
 pub mod Agreement
 pub mod OnSound
 pub mod TypesOnTable
+pub mod HistoryOf
 pub mod FromTable
 pub mod Corollaries
 pub mod Rising

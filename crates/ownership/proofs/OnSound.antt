@@ -14,18 +14,18 @@ use Rattle.common.proofs.Tests.{clash, same?, refusal-before, refusal-after, Av
 use Rattle.cube.specs.Cube.{circuitOf}
 use Rattle.cube.proofs.Bits.{no-bit-above}
 use Rattle.paths.specs.Send.{Outcome, acknowledged, route-rejected, receive-rejected}
-use Rattle.table.specs.Layout.{tableLength, dimensionAt, enabledAt, ownerAt, receiverAt, armedAt}
+use Rattle.layout.specs.Layout.{tableLength, dimensionAt, enabledAt, ownerAt, receiverAt, armedAt}
 use Rattle.table.specs.View.{View, view, heldIn}
 use Rattle.table.specs.Encode.{AllBytes, Bytes}
-use Rattle.soundness.specs.Sound.{CircuitSound, Sound}
-use Rattle.soundness.specs.SoundTest.{tableTests}
+use Rattle.circuit_path.specs.CircuitSound.{CircuitSound}
+use Rattle.soundness.specs.Sound.{Sound}
+use Rattle.soundness.specs.TableTests.{tableTests}
 use Rattle.soundness.proofs.Passing.{answers}
-use Rattle.search.specs.PassAnswer.{pass-answer}
-use Rattle.search.specs.SendAnswer.{answerOfOutcome, sendAnswer, sends, MaySend}
-use Rattle.search.specs.SendSays.{SendSays}
-use Rattle.search.proofs.SendSays.{demand-2}
-use Rattle.ownership.specs.Calls.{Call, making, blocking, unblocking, opening, closing, tracing, arming, disarming, callTests}
-use Rattle.ownership.specs.Calls.{CallResult, hopsOf, receiveOf, scoutsOf, only, answered, resultOf}
+use Rattle.answers.specs.SendOnTable.{pass-answer, answerOfOutcome}
+use Rattle.answers.specs.SendAnswer.{sendAnswer, sends, MaySend}
+use Rattle.answers.specs.SendSays.{SendSays}
+use Rattle.answers.proofs.SendSays.{demand-2}
+use Rattle.ownership.specs.Calls.{Call, making, blocking, unblocking, opening, closing, tracing, arming, disarming, callTests, CallResult, hopsOf, receiveOf, scoutsOf, only, answered, resultOf}
 use Rattle.ownership.specs.Update.{sendIn}
 use Rattle.ownership.specs.OnTable.{openIn, takenIn, factsOf, lentTests, stoppedAt, tableStep, done}
 use Rattle.ownership.specs.Allowed.{Allowed}

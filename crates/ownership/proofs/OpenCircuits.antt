@@ -13,9 +13,11 @@ use Rattle.paths.specs.Network.{Path, takeFirst}
 use Rattle.paths.specs.CubeNetwork.{ports}
 use Rattle.paths.specs.Recover.{firstHopChoices, pathOfLinks}
 use Rattle.table.specs.View.{View, shapeOf, net, heldBy}
-use Rattle.soundness.specs.Sound.{CircuitSound, Sound}
-use Rattle.soundness.specs.SoundTest.{pathOf, isEmpty}
-use Rattle.soundness.proofs.Soundness.{path-is, link-stands, some-hop}
+use Rattle.circuit_path.specs.CircuitSound.{CircuitSound}
+use Rattle.soundness.specs.Sound.{Sound}
+use Rattle.circuit_path.specs.PathOf.{pathOf, isEmpty}
+use Rattle.circuit_path.proofs.Stands.{path-is, some-hop}
+use Rattle.soundness.proofs.Soundness.{link-stands}
 use Rattle.ownership.specs.OnTable.{isOpenIn}
 
 kept-empty : (f : ℕ → Bool) (xs : List ℕ) → isEmpty (keep f xs) ≡ not (any f xs)

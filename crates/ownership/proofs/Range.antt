@@ -7,10 +7,10 @@ use Prim.Native.Nat.{ℕ, _^_, _≤_, _<_}
 use native.Mathlib.Omega.{arith}
 use Rattle.common.proofs.Tests.{clash, same?, below-or, is-false}
 use Rattle.cube.proofs.Ports.{most-nodes, below-256}
-use Rattle.table.specs.Layout.{inTable}
+use Rattle.layout.specs.Layout.{inTable}
 use Rattle.table.specs.View.{View}
 use Rattle.table.specs.Encode.{ViewFits}
-use Rattle.table.proofs.Entries.{within}
+use Rattle.layout.proofs.Entries.{within}
 use Rattle.soundness.specs.Sound.{Sound}
 
 module _ (v : View) (most : v .dimension ≤ 8) (sound : Sound v) (eight : (n k : ℕ) → v .armed n k ≡ true → k < 8) where

@@ -26,17 +26,21 @@ use Rattle.paths.proofs.Links.{On, on-first, on-later}
 use Rattle.paths.proofs.Apart.{permitted-inside}
 use Rattle.paths.proofs.Sentences.{permitted-end}
 use Rattle.paths.proofs.CubeNetwork.{unfolded-port}
-use Rattle.paths.proofs.Send.{said-by, receive-rejected-says, tries-permitted}
+use Rattle.paths.proofs.Attempts.{said-by, receive-rejected-says}
+use Rattle.paths.proofs.Send.{tries-permitted}
 use Rattle.paths.proofs.Words.{free-links}
-use Rattle.table.specs.Layout.{dimensionAt, armedAt}
+use Rattle.layout.specs.Layout.{dimensionAt, armedAt}
 use Rattle.table.specs.View.{View, view, available, receive, shapeOf, net, heldBy}
 use Rattle.table.proofs.Receives.{none-chosen}
-use Rattle.soundness.specs.Sound.{CircuitSound, Sound}
-use Rattle.soundness.specs.SoundTest.{pathOf, tableTests}
-use Rattle.soundness.proofs.Soundness.{path-is, receive-stands}
-use Rattle.search.specs.PassAnswer.{freeIn, PassAnswer, pass-answer}
-use Rattle.search.specs.SendAnswer.{answerOfOutcome, sendAnswer}
-use Rattle.search.proofs.PassAnswer.{free-owner}
+use Rattle.circuit_path.specs.CircuitSound.{CircuitSound}
+use Rattle.soundness.specs.Sound.{Sound}
+use Rattle.circuit_path.specs.PathOf.{pathOf}
+use Rattle.soundness.specs.TableTests.{tableTests}
+use Rattle.circuit_path.proofs.Stands.{path-is}
+use Rattle.soundness.proofs.Soundness.{receive-stands}
+use Rattle.answers.specs.SendOnTable.{freeIn, PassAnswer, pass-answer, answerOfOutcome}
+use Rattle.answers.specs.SendAnswer.{sendAnswer}
+use Rattle.answers.proofs.PassAnswer.{free-owner}
 use Rattle.ownership.specs.Calls.{Call, making, blocking, unblocking, opening, closing, tracing, arming, disarming, callTests, resultOf}
 use Rattle.ownership.specs.OnTable.{factsOf, lentTests, stoppedAt, tableStep}
 use Rattle.ownership.specs.AllArmed.{AllArmed, CubeArmed}

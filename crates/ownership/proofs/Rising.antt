@@ -4,7 +4,7 @@ use mathlib.Core.Path.{_≡_, refl}
 use mathlib.Core.List.{List, [], _∷_, _++_, map}
 use Prim.Native.Nat.{ℕ}
 use Rattle.common.specs.Tests.{Test}
-use Rattle.soundness.specs.SoundTest.{tableTests}
+use Rattle.soundness.specs.TableTests.{tableTests}
 use Rattle.table.specs.View.{view}
 use Rattle.ownership.specs.Calls.{Call, making, blocking, unblocking, opening, closing, tracing, arming, disarming, callTests}
 use Rattle.ownership.specs.OnTable.{factsOf, lentTests}

@@ -8,13 +8,12 @@ use Rattle.paths.specs.Network.{isFree, linkState}
 use Rattle.paths.specs.CubeNetwork.{send}
 use Rattle.table.specs.View.{heldIn, available, receive}
 use Rattle.paths.specs.Send.{lowestOf}
-use Rattle.search.specs.PassAnswer.{freeIn, stateIn}
+use Rattle.answers.specs.SendOnTable.{freeIn, stateIn, waitingHelps}
 use Rattle.ownership.specs.Update.{sendIn}
 use Rattle.ownership.specs.OnTable.{takenIn}
 use Rattle.ownership.specs.History.{History, shapeOn, netOn, holdsLink, holdsReceive, enabledOn, heldOn, freeOn, takenOn, armedOn, receiveOn, sendOn, waitingOn}
 use Rattle.ownership.specs.HistoryView.{viewOf}
 use Rattle.ownership.proofs.Circuits.{number-any}
-use Rattle.search.specs.SendAnswer.{waitingHelps}
 
 module _ (h : History) where
   -- "the link is held"

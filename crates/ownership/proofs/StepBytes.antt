@@ -10,7 +10,7 @@ use borrow.Author.Tests.{eqb-true}
 use Rattle.common.proofs.Tests.{same?, both}
 use Rattle.cube.specs.Cube.{circuitOf}
 use Rattle.paths.specs.Send.{Outcome, acknowledged, route-rejected, receive-rejected}
-use Rattle.table.specs.Layout.{enabledAt, armedAt}
+use Rattle.layout.specs.Layout.{enabledAt, armedAt}
 use Rattle.table.specs.View.{View, view, setAt, setEnabled, setArmed, fresh}
 use Rattle.table.specs.Encode.{encode, Bytes}
 use Rattle.table.proofs.Encode.{encode-view}
@@ -18,13 +18,13 @@ use Rattle.table.proofs.Encoded.{encode-bytes, view-encode}
 use Rattle.soundness.proofs.Soundness.{fresh-sound}
 use Rattle.ownership.specs.Calls.{Call, making, blocking, unblocking, opening, closing, tracing, arming, disarming, CallResult, answered, resultOf}
 use Rattle.ownership.specs.Allowed.{Allowed}
-use Rattle.ownership.specs.Update.{sendIn, viewAfterSend, updated}
+use Rattle.ownership.specs.Update.{sendIn, updated}
+use Rattle.answers.specs.SendOnTable.{viewAfterSend, waitingHelps}
 use Rattle.ownership.specs.OnTable.{factsOf, stoppedAt, tableStep}
 use Rattle.ownership.proofs.Allowed.{allowed}
 use Rattle.ownership.proofs.Range.{sound-fits}
 use Rattle.ownership.proofs.Stops.{none-stops}
 use Rattle.ownership.proofs.Steps.{table-step}
-use Rattle.search.specs.SendAnswer.{waitingHelps}
 
 -- where a search is rejected, the update is what the table showed
 pub rejected-same : (v : View) (a : Call) → resultOf (factsOf v) a .number ≢ 0 → updated v a ≡ v

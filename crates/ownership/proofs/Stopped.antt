@@ -15,9 +15,9 @@ use Rattle.common.proofs.Tests.{clash, is-false, refused, passed}
 use Rattle.cube.specs.Cube.{circuitOf, sourceOf}
 use Rattle.paths.specs.CubeNetwork.{ports}
 use Rattle.table.specs.View.{shapeOf, heldBy}
-use Rattle.soundness.specs.SoundTest.{pathOf}
-use Rattle.soundness.proofs.Soundness.{path-is}
-use Rattle.ownership.specs.Calls.{Call, making, blocking, unblocking, opening, closing, tracing, arming, disarming, channel, callTests}
+use Rattle.circuit_path.specs.PathOf.{pathOf}
+use Rattle.circuit_path.proofs.Stands.{path-is}
+use Rattle.ownership.specs.Calls.{Call, making, blocking, unblocking, opening, closing, tracing, arming, disarming, channelNumber, callTests}
 use Rattle.ownership.specs.OnTable.{isOpenIn, openIn, factsOf}
 use Rattle.ownership.specs.History.{Circuit, History, belongs, openOn, listed, factsOn, stoppedOn}
 use Rattle.ownership.specs.Invariant.{Valid}
@@ -68,7 +68,7 @@ past : (t : Test) (ts us : List Test) → refusal ts ≡ refusal us → refusal 
 unfolding refusal
 past t ts us e = rw e
 
-past-channel : (c : ℕ) (ts us : List Test) → (c < 8 → refusal ts ≡ refusal us) → refusal (channel c ∷ ts) ≡ refusal (channel c ∷ us)
+past-channel : (c : ℕ) (ts us : List Test) → (c < 8 → refusal ts ≡ refusal us) → refusal (channelNumber c ∷ ts) ≡ refusal (channelNumber c ∷ us)
 past-channel c ts us h = go (ltb 7 c) refl
   where
     go : (b : Bool) → ltb 7 c ≡ b → refusal (test b 5 ∷ ts) ≡ refusal (test b 5 ∷ us)

@@ -10,10 +10,11 @@ use lib.ListN.{length}
 use borrow.Author.Tests.{eq-eqb, eqb-true, leb-true, not-false}
 use Rattle.common.specs.Tests.{Test, test, refusal}
 use Rattle.common.proofs.Tests.{passed, accepted, first-passed, Avoids, avoids, avoiding, refusal-after, refusal-both, both}
-use Rattle.table.specs.Layout.{tableLength, dimensionAt}
+use Rattle.layout.specs.Layout.{tableLength, dimensionAt}
 use Rattle.table.specs.View.{view}
 use Rattle.soundness.specs.Sound.{Sound}
-use Rattle.soundness.specs.SoundTest.{soundTest, tableTests}
+use Rattle.soundness.specs.SoundTest.{soundTest}
+use Rattle.soundness.specs.TableTests.{tableTests}
 use Rattle.soundness.proofs.Passing.{answers, usable, decided}
 use Rattle.ownership.specs.Calls.{Call, making, form, callTests}
 use Rattle.ownership.specs.OnTable.{factsOf, lentTests, stoppedAt}

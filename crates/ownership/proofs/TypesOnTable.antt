@@ -10,10 +10,10 @@ use Rattle.paths.specs.Send.{Outcome, acknowledged, route-rejected, receive-rej
 use Rattle.paths.specs.CubeNetwork.{attempts}
 use Rattle.paths.proofs.Inclusion.{fixed-route, helix-route}
 use Rattle.paths.proofs.Send.{fixed-bounded, helix-bounded}
-use Rattle.table.specs.Layout.{dimensionAt}
+use Rattle.layout.specs.Layout.{dimensionAt}
 use Rattle.table.specs.View.{view, receive, shapeOf}
-use Rattle.search.specs.PassAnswer.{freeIn}
-use Rattle.search.specs.SendSays.{SomeRoute}
+use Rattle.answers.specs.SendOnTable.{freeIn, waitingHelps}
+use Rattle.answers.specs.SendSays.{SomeRoute}
 use Rattle.ownership.specs.Calls.{opening, scoutsOf, answered, resultOf}
 use Rattle.ownership.specs.Update.{sendIn}
 use Rattle.ownership.specs.OnTable.{factsOf, stoppedAt, tableStep}
@@ -23,7 +23,6 @@ use Rattle.ownership.proofs.Stops.{none-stops, none-stops-lent, pass-te
 use Rattle.ownership.proofs.Steps.{table-step}
 use Rattle.ownership.proofs.OnSound.{open-answers}
 use mathlib.Core.Bool.{Bool}
-use Rattle.search.specs.SendAnswer.{waitingHelps}
 
 module _ (b : List ℕ) (s c t v : ℕ) where
   -- what an open of a routing type answers

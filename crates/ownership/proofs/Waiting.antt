@@ -22,11 +22,11 @@ use Rattle.paths.specs.CubeNetwork.{attempts, ports}
 use Rattle.paths.proofs.Words.{free-link, free-links}
 use Rattle.table.specs.View.{View, view, net, shapeOf, heldIn, heldBy, setArmed, withoutCircuit, available, setAt, setEnabled, setOwner, setReceiver}
 use Rattle.table.specs.Encode.{AllBytes}
-use Rattle.soundness.specs.SoundTest.{tableTests}
-use Rattle.search.specs.PassAnswer.{stateIn, freeIn}
-use Rattle.search.specs.SendSays.{SomeRoute, CouldRoute, BlockedRoutes, Available}
+use Rattle.soundness.specs.TableTests.{tableTests}
+use Rattle.answers.specs.SendOnTable.{stateIn, freeIn, holdLinks, viewAfterSend}
+use Rattle.answers.specs.SendSays.{SomeRoute, CouldRoute, BlockedRoutes, Available}
 use Rattle.ownership.specs.Calls.{Call, opening, closing, arming, callTests, blocking, tracing, disarming}
-use Rattle.ownership.specs.Update.{updated, holdLinks, viewAfterSend, sendIn}
+use Rattle.ownership.specs.Update.{updated, sendIn}
 use Rattle.ownership.specs.OnTable.{openIn, isOpenIn, factsOf, lentTests, stoppedAt, tableStep, takenIn}
 use Rattle.ownership.specs.Agrees.{tableAfter, leaves}
 use Rattle.ownership.specs.Closing.{Each, no-call, call-more, ClosesOrArms, closes, arms, RepairsNothing, a-block, an-open, a-close, a-trace, an-arming, a-disarming, Idle}
@@ -69,7 +69,7 @@ module _ (R : View → View → Type 0) (self : (v : View) → R v v) (chain : (
   step-kept : (b : List ℕ) → AllBytes b → refusal (tableTests b) ≡ 0 → (a : Call) → P a → Kept R b (tableStep b a .state)
   step-kept b small e a k =
       record {
-        small = represents-step b _ (sound-represents b small e) a .covered .bytes .small;
+        small = represents-step b _ (sound-represents b small e) a .represented .bytes .small;
         passes = keeps-sound b small e a;
         related = ⊎-elim (λ z. rw (shows-update b small e a z) (updates (view b) a k)) (λ f. rw (table-step b a .stopped f) (self (view b))) (same? (stoppedAt b a) 0);
       }

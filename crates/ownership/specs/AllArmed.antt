@@ -5,7 +5,7 @@ use mathlib.Core.Bool.{true}
 use mathlib.Core.List.{List}
 use Prim.Native.Nat.{ℕ, _^_, _<_}
 use Rattle.cube.specs.Cube.{channels}
-use Rattle.table.specs.Layout.{dimensionAt, armedAt}
+use Rattle.layout.specs.Layout.{dimensionAt, armedAt}
 
 -- all receive channels of a node are armed
 abbrev pub AllArmed : List ℕ → ℕ → Type 0

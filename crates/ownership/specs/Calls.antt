@@ -8,7 +8,7 @@ use lib.ListN.{length, getD, replicate}
 use Rattle.common.specs.Tests.{Test, test}
 use Rattle.paths.specs.Network.{Path}
 use Rattle.paths.specs.Send.{Outcome, acknowledged, route-rejected, receive-rejected, SendResult}
-use Rattle.soundness.specs.SoundTest.{tracedInto}
+use Rattle.circuit_path.specs.Traced.{tracedInto}
 use Rattle.cube.specs.Cube.{largestDimension}
 
 -- A call with its arguments. A trace is lent a buffer, which comes with its bytes; the table is not an argument.
@@ -118,8 +118,8 @@ node a n = test (absent a n) 4
 abbrev pub nodes : CallFacts → ℕ → ℕ → Test
 nodes a s t = test (absent a s || absent a t) 4
 
-abbrev pub channel : ℕ → Test
-channel c = test (ltb 7 c) 5
+abbrev pub channelNumber : ℕ → Test
+channelNumber c = test (ltb 7 c) 5
 
 abbrev pub port : CallFacts → ℕ → Test
 port a p = test (not (ltb p (a .dimension))) 6
@@ -153,12 +153,12 @@ unfoldable pub callTests : CallFacts → Call → List Test
 callTests a (making D) = dimensionGiven D ∷ []
 callTests a (blocking n p) = node a n ∷ port a p ∷ linkHeld a n p ∷ []
 callTests a (unblocking n p) = node a n ∷ port a p ∷ []
-callTests a (opening s c t y v) = nodes a s t ∷ channel c ∷ routingType y ∷ sendVector a v ∷ inUse a s c ∷ []
-callTests a (closing s c) = node a s ∷ channel c ∷ noCircuit a s c ∷ []
-callTests a (tracing s c buffer) = node a s ∷ channel c ∷ noCircuit a s c ∷ shortBuffer buffer ∷ []
-callTests a (arming n k) = node a n ∷ channel k ∷ []
+callTests a (opening s c t y v) = nodes a s t ∷ channelNumber c ∷ routingType y ∷ sendVector a v ∷ inUse a s c ∷ []
+callTests a (closing s c) = node a s ∷ channelNumber c ∷ noCircuit a s c ∷ []
+callTests a (tracing s c buffer) = node a s ∷ channelNumber c ∷ noCircuit a s c ∷ shortBuffer buffer ∷ []
+callTests a (arming n k) = node a n ∷ channelNumber k ∷ []
 -- "after 5"
-callTests a (disarming n k) = node a n ∷ channel k ∷ channelHeld a n k ∷ []
+callTests a (disarming n k) = node a n ∷ channelNumber k ∷ channelHeld a n k ∷ []
 
 -- what a call gives where no test applies
 unfoldable pub resultOf : CallFacts → Call → CallResult

@@ -8,8 +8,8 @@ use Rattle.common.specs.Lists.{keep, from, lowest}
 use Rattle.cube.specs.Cube.{sourceOf, channelOf, channels}
 use Rattle.paths.specs.Network.{Link}
 use Rattle.table.specs.View.{View, shapeOf}
-use Rattle.soundness.specs.Sound.{endFor}
-use Rattle.soundness.specs.SoundTest.{pathOf}
+use Rattle.circuit_path.specs.CircuitSound.{endFor}
+use Rattle.circuit_path.specs.PathOf.{pathOf}
 use Rattle.ownership.specs.OnTable.{isOpenIn}
 use Rattle.ownership.specs.History.{Circuit, History}
 use Rattle.paths.specs.CubeNetwork.{circuitCount}

@@ -9,11 +9,12 @@ use Rattle.common.specs.Lists.{any}
 use Rattle.common.specs.Tests.{Test, test, refusal}
 use Rattle.cube.specs.Cube.{circuitOf, sourceOf}
 use Rattle.paths.specs.CubeNetwork.{ports}
-use Rattle.table.specs.Layout.{tableLength}
+use Rattle.layout.specs.Layout.{tableLength}
 use Rattle.table.specs.View.{View, view, shapeOf, heldIn, heldBy}
 use Rattle.table.specs.Encode.{encode}
-use Rattle.soundness.specs.SoundTest.{pathOf, tableTests}
-use Rattle.search.specs.SendAnswer.{waitingHelps}
+use Rattle.circuit_path.specs.PathOf.{pathOf}
+use Rattle.soundness.specs.TableTests.{tableTests}
+use Rattle.answers.specs.SendOnTable.{waitingHelps}
 use Rattle.ownership.specs.Calls.{Call, form, CallFacts, callTests, After, callOn}
 use Rattle.ownership.specs.Update.{sendIn, updated}
 

@@ -1,30 +1,17 @@
 -- What a table shows after a call that no test stops, from what it showed before. The layout of the bytes plays no part.
 -- Assumes nothing.
 use mathlib.Core.Bool.{true, false}
-use mathlib.Core.List.{[], _∷_}
 use Prim.Native.Nat.{ℕ}
-use Rattle.cube.specs.Cube.{next, circuitOf}
-use Rattle.paths.specs.Network.{Path}
-use Rattle.paths.specs.Send.{Outcome, acknowledged, route-rejected, receive-rejected, SendResult}
+use Rattle.cube.specs.Cube.{circuitOf}
+use Rattle.paths.specs.Send.{SendResult}
 use Rattle.paths.specs.CubeNetwork.{send}
-use Rattle.table.specs.View.{View, setOwner, setReceiver, setEnabled, setArmed, withoutCircuit, receive, fresh, shapeOf}
-use Rattle.search.specs.PassAnswer.{freeIn}
+use Rattle.table.specs.View.{View, setEnabled, setArmed, withoutCircuit, receive, fresh, shapeOf}
+use Rattle.answers.specs.SendOnTable.{freeIn, viewAfterSend}
 use Rattle.ownership.specs.Calls.{Call, making, blocking, unblocking, opening, closing, tracing, arming, disarming}
 
 -- the send of an open, read on what the table shows
 unfoldable pub sendIn : View → ℕ → ℕ → ℕ → ℕ → SendResult
 sendIn v s t y vector = send y (shapeOf v) (freeIn v) (receive v t) s vector t
-
--- the links of a path from node n given to circuit c, one after another
-unfoldable pub holdLinks : View → ℕ → ℕ → Path → View
-holdLinks v c n [] = v
-holdLinks v c n (p ∷ w) = holdLinks (setOwner v n p c) c (next n p) w
-
--- "An acknowledged send holds each link of the path and that receive channel. Nothing else in the table changes." The circuit is c, its source s, its target t.
-unfoldable pub viewAfterSend : View → ℕ → ℕ → ℕ → Outcome → View
-viewAfterSend v c s t (acknowledged w k) = setReceiver (holdLinks v c s w) t k c
-viewAfterSend v c s t route-rejected = v
-viewAfterSend v c s t receive-rejected = v
 
 unfoldable pub updated : View → Call → View
 -- "Making a table gives dimension D, all its links enabled, nothing held"; document 02, (a): "A made table has none armed."

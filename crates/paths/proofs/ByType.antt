@@ -24,6 +24,7 @@ use Rattle.paths.specs.Waiting.{findsPath, someAttempt}
 use Rattle.paths.specs.Reach.{reaches}
 use Rattle.paths.proofs.CubeNetwork.{send-port, other-port}
 use Rattle.paths.proofs.Reach.{same-truth, pass-reaches}
+use Rattle.paths.proofs.Tried.{try-on}
 
 -- paths tried in turn find one exactly where one of them is free
 paths-find : (N : Network) (allowed : ℕ → ℕ → Bool) (s c : ℕ) (ws : List Path) → findsPath (tryPaths N allowed s c ws) ≡ any (freePath N allowed s) ws
@@ -34,10 +35,7 @@ paths-find N allowed s c (w ∷ ws) = go (freePath N allowed s w) refl (paths-fi
     go : (b : Bool) → freePath N allowed s w ≡ b → findsPath (tryPaths N allowed s (c + freeFront N allowed s w) ws) ≡ any (freePath N allowed s) ws
         → findsPath (tryPaths N allowed s c (w ∷ ws)) ≡ freePath N allowed s w || any (freePath N allowed s) ws
     go true e ih = unfold tryPaths in rw e
-    go false e ih = rw (try-on e, e) ih
-      where
-        try-on : freePath N allowed s w ≡ false → tryPaths N allowed s c (w ∷ ws) ≡ tryPaths N allowed s (c + freeFront N allowed s w) ws
-        try-on e = unfold tryPaths in rw e
+    go false e ih = rw (try-on N allowed s c w ws e, e) ih
 
 any-map : {A B : Type 0} (f : B → Bool) (g : A → B) (xs : List A) → any f (map g xs) ≡ any (λ x. f (g x)) xs
 unfolding any

@@ -15,7 +15,8 @@ use Rattle.paths.specs.Send.{Receive, channel, none-available, Outcome, 
 use Rattle.paths.specs.Sentences.{Free, Tries, AttemptsSay}
 use Rattle.paths.specs.CubeNetwork.{Shape, Node, network, sendPorts, attempts, send}
 use Rattle.paths.proofs.Helix.{helix-permitted}
-use Rattle.paths.proofs.Send.{Route, acknowledged-route, route-acknowledged, send-says}
+use Rattle.paths.proofs.Attempts.{Route, acknowledged-route, route-acknowledged}
+use Rattle.paths.proofs.Send.{send-says}
 
 -- For one test of free links: some helix path of the ports of a list is free, and some permitted path of a vector.
 abbrev pub FreeHelix : Network → (ℕ → ℕ → Bool) → ℕ → ℕ → List ℕ → Type 0

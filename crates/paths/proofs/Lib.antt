@@ -9,6 +9,7 @@ pub mod Links
 pub mod Cone
 pub mod Bound
 pub mod CubeNetwork
+pub mod Attempts
 pub mod Send
 pub mod Inclusion
 pub mod Waiting
@@ -16,6 +17,7 @@ pub mod Reach
 pub mod ByType
 pub mod Helix
 pub mod Tried
+pub mod TriedHelix
 pub mod OldRule
 pub mod Apart
 pub mod Recover

@@ -15,7 +15,8 @@ use Rattle.paths.specs.Sentences.{Free, Tries, AttemptsSay}
 use Rattle.paths.specs.CubeNetwork.{Shape, Node, network, attempts, send}
 use Rattle.paths.specs.Waiting.{findsPath, someAttempt, CrossesBlocked, AllEnabled, EveryPathBlocked, SomePathEnabled}
 use Rattle.paths.proofs.Words.{free-links}
-use Rattle.paths.proofs.Send.{goes-on-after, runs-stop, runs-on, not-route-rejected, acknowledged-route, route-acknowledged, receive-rejected-route, send-says}
+use Rattle.paths.proofs.Attempts.{goes-on-after, runs-stop, runs-on, not-route-rejected, acknowledged-route, route-acknowledged, receive-rejected-route}
+use Rattle.paths.proofs.Send.{send-says}
 
 -- a test that is not false is true
 is-true : (b : Bool) → (b ≡ false → ⊥) → b ≡ true

@@ -20,7 +20,7 @@ use Rattle.paths.specs.Waiting.{findsPath, someAttempt}
 use Rattle.paths.specs.CubeNetwork.{Shape, ports, sendPorts, attempts}
 use Rattle.paths.proofs.CubeNetwork.{port-axis, unfolded-send-ports}
 use Rattle.paths.proofs.ByType.{finds-by-type}
-use Rattle.table.specs.Layout.{dimensionAt}
+use Rattle.layout.specs.Layout.{dimensionAt}
 use Rattle.table.specs.View.{view, net, shapeOf}
 use Rattle.table.proofs.Made.{ones}
 use Rattle.reach.specs.Marks.{helixEnabled, MayAsk}

@@ -27,9 +27,10 @@ use Rattle.paths.specs.Waiting.{findsPath}
 use Rattle.paths.specs.CubeNetwork.{network, sendPorts}
 use Rattle.paths.proofs.CubeNetwork.{cube-nearing, unfolded-send-ports, unfolded-vector}
 use Rattle.paths.proofs.Reach.{any-both, any-same, pass-reaches, reaches-step}
-use Rattle.table.specs.Layout.{dimensionAt, enableBits}
+use Rattle.layout.specs.Layout.{dimensionAt}
+use Rattle.entries.specs.EntryContracts.{enableBits}
 use Rattle.table.specs.View.{view, net, shapeOf}
-use Rattle.table.proofs.Entries.{enabled-has}
+use Rattle.layout.proofs.Entries.{enabled-has}
 use Rattle.reach.specs.Marks.{marked, leads, reachesOn, Marks, MaySweep}
 use Rattle.reach.proofs.Marks.{bit-below}
 

@@ -20,7 +20,7 @@ use Rattle.paths.specs.Helix.{helixPath}
 use Rattle.paths.specs.CubeNetwork.{network}
 use Rattle.paths.proofs.CubeNetwork.{cube-nearing}
 use Rattle.paths.proofs.ByType.{helix-ends, helix-goes-on}
-use Rattle.table.specs.Layout.{dimensionAt}
+use Rattle.layout.specs.Layout.{dimensionAt}
 use Rattle.table.specs.View.{view, net, shapeOf}
 use Rattle.reach.specs.Marks.{helixEnabled, MaySweep}
 use Rattle.reach.proofs.Marks.{bit-below}

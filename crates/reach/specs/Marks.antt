@@ -8,12 +8,12 @@ use Prim.Native.Nat.{ℕ, _^_, _≤_, _<_}
 use lib.Dec.{eqb}
 use lib.ListN.{length, getD}
 use Rattle.common.specs.Lists.{any}
-use Rattle.cube.specs.Cube.{next}
+use Rattle.cube.specs.Cube.{largestDimension, portCount, next}
 use Rattle.cube.specs.Helical.{portsOf}
 use Rattle.paths.specs.Network.{freePath}
 use Rattle.paths.specs.Helix.{helixPath}
 use Rattle.paths.specs.Reach.{reaches}
-use Rattle.table.specs.Layout.{tableLength, dimensionAt, portCount}
+use Rattle.layout.specs.Layout.{tableLength, dimensionAt}
 use Rattle.table.specs.View.{view, net}
 
 -- a node is marked
@@ -39,7 +39,7 @@ helixEnabled b s t p = freePath (net (view b)) (view b .enabled) s (helixPath (n
 -- what the sweep asks: a table of a cube up to dimension 8, and a target of it
 pub record MaySweep (b : List ℕ) (t : ℕ) : Type 0 where
   pub bytes : length b ≡ tableLength
-  pub fits : dimensionAt b ≤ 8
+  pub fits : dimensionAt b ≤ largestDimension
   pub target : t < 2 ^ dimensionAt b
 
 -- what the walk along a helix path asks: a node of it too, and a port

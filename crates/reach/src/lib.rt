@@ -5,6 +5,7 @@ ghost use Prim.Native.Nat.{_<_};
 ghost use lib.Dec.{eqb};
 ghost use lib.ListN.{take};
 ghost use Rattle.common.specs.Lists.{any};
+ghost use Rattle.cube.specs.Cube.{portCount};
 ghost use Rattle.cube.specs.Helical.{portsOf, FirstPorts};
 ghost use Rattle.paths.specs.Pass.{pass};
 ghost use Rattle.paths.specs.Waiting.{findsPath, someAttempt};
@@ -82,7 +83,7 @@ fn helix_enabled(t: &[u8], source: Node, target: Node, port: Port, first: &[u8; 
 fn any_helix(t: &[u8], source: Node, target: Node, vector: u16, first: &[u8; 2048]) -> bool
     requires { ⌜ FirstPorts (now first) ⌝ }
     requires { ⌜ MayAsk (now t) (source .0) (target .0) vector ⌝ }
-    ensures { λ r. ⌜ r ≡ any (helixEnabled (now (t .entry)) (source .0) (target .0)) (portsOf 8 vector) ⌝ }
+    ensures { λ r. ⌜ r ≡ any (helixEnabled (now (t .entry)) (source .0) (target .0)) (portsOf portCount vector) ⌝ }
 {
     let mut left = vector;
     while left != 0 {
@@ -99,7 +100,7 @@ fn any_helix(t: &[u8], source: Node, target: Node, vector: u16, first: &[u8; 204
 fn lowest_helix(t: &[u8], source: Node, target: Node, vector: u16, first: &[u8; 2048]) -> bool
     requires { ⌜ FirstPorts (now first) ⌝ }
     requires { ⌜ MayAsk (now t) (source .0) (target .0) vector ⌝ }
-    ensures { λ r. ⌜ r ≡ any (helixEnabled (now (t .entry)) (source .0) (target .0)) (take 1 (portsOf 8 vector)) ⌝ }
+    ensures { λ r. ⌜ r ≡ any (helixEnabled (now (t .entry)) (source .0) (target .0)) (take 1 (portsOf portCount vector)) ⌝ }
 {
     if vector == 0 {
         return false;

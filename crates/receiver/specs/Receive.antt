@@ -7,7 +7,7 @@ use lib.Dec.{eqb}
 use Rattle.common.specs.Tests.{Test, test, refusal}
 use Rattle.command_word.specs.Commands.{endOfMessage, endOfTransmission}
 use Rattle.command_word.specs.Word.{readWord}
-use Rattle.search.specs.declared.Opened.{Opened}
+use Rattle.answers.specs.declared.Opened.{Opened}
 use Rattle.receiver.specs.declared.Channel.{Channel}
 use Rattle.receiver.specs.declared.Received.{Received}
 use Rattle.receiver.specs.declared.Followed.{Followed}

@@ -1,4 +1,2 @@
--- The laws of the calls' tests.
-pub mod Stopping
+-- What a call comes to.
 pub mod TableStep
-pub mod Releasing

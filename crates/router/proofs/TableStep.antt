@@ -12,14 +12,15 @@ use borrow.Author.Tests.{ne-eqb, le-leb, lt-leb}
 use Rattle.common.proofs.Tests.{refused, passed, accepted}
 use Rattle.cube.specs.Cube.{circuitOf}
 use Rattle.paths.specs.Send.{Outcome, acknowledged, route-rejected, receive-rejected}
-use Rattle.table.specs.Layout.{tableLength, made, putEnabled, putArmed}
+use Rattle.layout.specs.Layout.{tableLength}
+use Rattle.table.specs.Encode.{made, encode, AllBytes}
+use Rattle.entries.specs.EntryContracts.{putEnabled, putArmed}
 use Rattle.table.specs.View.{view, withoutCircuit}
-use Rattle.table.specs.Encode.{encode, AllBytes}
-use Rattle.soundness.specs.SoundTest.{pathOf, tracedInto}
-use Rattle.ownership.specs.Calls.{Call, making, blocking, unblocking, opening, closing, tracing, arming, disarming}
-use Rattle.ownership.specs.Calls.{CallResult, refusedWith, answered, callTests, resultOf, After}
-use Rattle.search.specs.PassAnswer.{PassAnswer, pass-answer}
-use Rattle.search.specs.SendAnswer.{answerOfOutcome, sendAnswer, sends, waitingHelps}
+use Rattle.circuit_path.specs.PathOf.{pathOf}
+use Rattle.circuit_path.specs.Traced.{tracedInto}
+use Rattle.ownership.specs.Calls.{Call, making, blocking, unblocking, opening, closing, tracing, arming, disarming, CallResult, refusedWith, answered, callTests, resultOf, After}
+use Rattle.answers.specs.SendOnTable.{PassAnswer, pass-answer, answerOfOutcome, waitingHelps}
+use Rattle.answers.specs.SendAnswer.{sendAnswer, sends}
 use Rattle.ownership.specs.Update.{sendIn}
 use Rattle.ownership.specs.OnTable.{factsOf, lentTests, stoppedAt, tableStep, done}
 use Rattle.ownership.proofs.Stops.{making-stopped}

@@ -3,12 +3,10 @@ ghost use mathlib.Core.Path.{_≡_};
 ghost use mathlib.Core.List.{[], _∷_};
 ghost use Rattle.ownership.specs.Calls.{making, blocking, unblocking, opening, closing, tracing, arming, disarming};
 ghost use Rattle.ownership.specs.OnTable.{tableStep, done};
-use crate::release;
-use crate::tests;
+use answers::Opened;
 use common::refusal;
 use cube::Node;
 use cube::Port;
-use search::Opened;
 
 // Makes a table of a dimension: all its links enabled, nothing held, no receive channel armed. What the bytes were before does not matter.
 pub fn make(t: &mut [u8], dimension: u16) -> u16
@@ -31,7 +29,7 @@ pub fn make(t: &mut [u8], dimension: u16) -> u16
 pub fn block(t: &mut [u8], node: Node, port: Port) -> u16
     ensures { λ r. ⌜ done (now (t .exit)) r [] [] ≡ tableStep (now (t .entry)) (blocking (node .0) (port .0)) ⌝ }
 {
-    let refused = tests::block(t, node, port);
+    let refused = call_tests::block(t, node, port);
     if refused != refusal::ACCEPTED {
         return refused;
     }
@@ -43,7 +41,7 @@ pub fn block(t: &mut [u8], node: Node, port: Port) -> u16
 pub fn unblock(t: &mut [u8], node: Node, port: Port) -> u16
     ensures { λ r. ⌜ done (now (t .exit)) r [] [] ≡ tableStep (now (t .entry)) (unblocking (node .0) (port .0)) ⌝ }
 {
-    let refused = tests::unblock(t, node, port);
+    let refused = call_tests::unblock(t, node, port);
     if refused != refusal::ACCEPTED {
         return refused;
     }
@@ -62,7 +60,7 @@ pub fn open(
 ) -> Opened
     ensures { λ r. ⌜ done (now (t .exit)) (r .number) (r .hops ∷ r .receive ∷ r .scouts ∷ []) [] ≡ tableStep (now (t .entry)) (opening (source .0) channel (target .0) routing vector) ⌝ }
 {
-    let refused = tests::open(t, source, channel, target, routing, vector);
+    let refused = call_tests::open(t, source, channel, target, routing, vector);
     if refused != refusal::ACCEPTED {
         return Opened {
             number: refused,
@@ -72,14 +70,14 @@ pub fn open(
         };
     }
     let c = cube::circuit_of(source, channel);
-    search::send(t, source, target, c, routing, vector)
+    send::send(t, source, target, c, routing, vector)
 }
 
 // Closes the circuit of a send channel: it frees its links, frees and disarms its receive channel, and changes nothing else.
 pub fn close(t: &mut [u8], source: Node, channel: u16) -> u16
     ensures { λ r. ⌜ done (now (t .exit)) r [] [] ≡ tableStep (now (t .entry)) (closing (source .0) channel) ⌝ }
 {
-    let refused = tests::close(t, source, channel);
+    let refused = call_tests::close(t, source, channel);
     if refused != refusal::ACCEPTED {
         return refused;
     }
@@ -91,7 +89,7 @@ pub fn close(t: &mut [u8], source: Node, channel: u16) -> u16
 pub fn arm(t: &mut [u8], node: Node, channel: u16) -> u16
     ensures { λ r. ⌜ done (now (t .exit)) r [] [] ≡ tableStep (now (t .entry)) (arming (node .0) channel) ⌝ }
 {
-    let refused = tests::arm(t, node, channel);
+    let refused = call_tests::arm(t, node, channel);
     if refused != refusal::ACCEPTED {
         return refused;
     }
@@ -103,7 +101,7 @@ pub fn arm(t: &mut [u8], node: Node, channel: u16) -> u16
 pub fn disarm(t: &mut [u8], node: Node, channel: u16) -> u16
     ensures { λ r. ⌜ done (now (t .exit)) r [] [] ≡ tableStep (now (t .entry)) (disarming (node .0) channel) ⌝ }
 {
-    let refused = tests::disarm(t, node, channel);
+    let refused = call_tests::disarm(t, node, channel);
     if refused != refusal::ACCEPTED {
         return refused;
     }
@@ -122,14 +120,14 @@ pub struct Traced {
 pub fn trace(t: &[u8], source: Node, channel: u16, buffer: &mut [u8]) -> Traced
     ensures { λ r. ⌜ done (now (t .exit)) (r .number) (r .hops ∷ []) (now (buffer .exit) ∷ []) ≡ tableStep (now (t .entry)) (tracing (source .0) channel (now (buffer .entry))) ⌝ }
 {
-    let refused = tests::trace(t, source, channel, buffer);
+    let refused = call_tests::trace(t, source, channel, buffer);
     if refused != refusal::ACCEPTED {
         return Traced {
             number: refused,
             hops: 0,
         };
     }
-    let hops = soundness::write_path(t, cube::circuit_of(source, channel), buffer);
+    let hops = circuit_path::write_path(t, cube::circuit_of(source, channel), buffer);
     Traced {
         number: refusal::ACCEPTED,
         hops,

@@ -1,8 +1,7 @@
 // The calls on a lent table.
 mod calls;
-mod release;
-mod tests;
 
+pub use answers::Opened;
 pub use calls::Traced;
 pub use calls::arm;
 pub use calls::block;
@@ -12,4 +11,3 @@ pub use calls::make;
 pub use calls::open;
 pub use calls::trace;
 pub use calls::unblock;
-pub use search::Opened;

@@ -1,9 +1,9 @@
--- Ports that are not free may be dropped from a vector before it is tried.
+-- Ports that are not free may be dropped from a vector before it is tried: the answer is the same, and there is room for the scouts of the rest.
 -- Assumes nothing.
 use mathlib.Core.Path.{_≡_, refl, ap, sym, _∙_, fun-ext}
-use mathlib.Core.Bool.{Bool, true, false, _&&_, and-false}
-use mathlib.Core.List.{List, [], _∷_, List·Memᴰ·head, List·Memᴰ·tail}
-use Prim.Native.Nat.{ℕ, _≤_, _<_}
+use mathlib.Core.Bool.{Bool, true, false, _&&_, and-false, cond}
+use mathlib.Core.List.{List, [], _∷_, List·Memᴰ·head, List·Memᴰ·tail, List·Memᴰ·not-nil, List·Memᴰ·cases-cons}
+use Prim.Native.Nat.{ℕ, _≤_, _<_, _+_, _*_}
 use lib.ListN.{length}
 use lib.Bits.{bitAnd, and-le-l}
 use Rattle.common.specs.Lists.{_∈_, keep, from}
@@ -16,13 +16,22 @@ use Rattle.cube.proofs.Order.{helical-keep, helical-mem, ports-mem, mem-ports}
 use Rattle.paths.specs.Pass.{PassResult}
 use Rattle.paths.specs.Search.{trying}
 use Rattle.paths.proofs.Depth.{trying-cons}
-use Rattle.table.specs.Layout.{enableBits}
-use Rattle.table.specs.LayoutContracts.{Within}
+use Rattle.entries.specs.EntryContracts.{enableBits, Within}
 use Rattle.table.specs.View.{View, view, receive, net}
-use Rattle.table.proofs.Entries.{enabled-has}
-use Rattle.search.specs.PassAnswer.{freeIn, answerOfPass, arrivalAfter}
-use Rattle.search.specs.SearchContracts.{Narrowed, tryAnswer}
-use Rattle.search.proofs.PassAnswer.{free-off}
+use Rattle.layout.proofs.Entries.{enabled-has}
+use Rattle.answers.specs.SendOnTable.{freeIn}
+use Rattle.answers.specs.PassAnswer.{answerOfPass, arrivalAfter}
+use Rattle.search.specs.SearchContracts.{Narrowed, Enabled, tryAnswer, farthest, farthestAfter, MayTry}
+use Rattle.answers.proofs.PassAnswer.{free-off}
+use mathlib.Core.Logic.{⊎-elim}
+use native.Mathlib.Omega.{arith}
+use native.Mathlib.Nat.{le-trans, le-refl, mul-le-mul}
+use lib.Dec.{leb}
+use borrow.Author.Tests.{leb-true, leb-false}
+use Rattle.cube.specs.Cube.{next}
+use Rattle.paths.specs.Network.{Network}
+use Rattle.paths.specs.Bound.{waysFrom}
+use Rattle.paths.proofs.Bound.{ways-more}
 
 -- trying the ports of a list that pass a test, where those that do not pass are not free
 trying-kept : (f free : ℕ → Bool) (on : ℕ → ℕ → PassResult) (ps : List ℕ) → ((p : ℕ) → p ∈ ps → f p ≡ false → free p ≡ false) → (s : ℕ)
@@ -77,3 +86,49 @@ module _ (b : List ℕ) (n vector x : ℕ) (within : Within b n 0) (byte : x ≡
         among = λ p e. in-both p e .0;
         dropped = λ p l e f. free-off (view b) n p (read p l ∙ is-false (has x p) (λ y. clash (has-and vector x p ∙ (rw (e, y))) f));
       }
+
+  pub enabled-all : Enabled (view b) n (bitAnd vector x)
+  enabled-all p l e = read p l ∙ in-both p e .1
+
+-- neither of two numbers is above the larger
+larger : (a b : ℕ) → (a ≤ cond (leb a b) b a) × (b ≤ cond (leb a b) b a)
+larger a b = go (leb a b) refl
+  where
+    go : (x : Bool) → leb a b ≡ x → (a ≤ cond x b a) × (b ≤ cond x b a)
+    go true e = (leb-true a b e, le-refl b)
+    go false e = (le-refl a, omega (arith, leb-false a b e))
+
+-- every node behind a port of the list is within the farthest
+pub farthest-mem : (N : Network) (t n : ℕ) (ps : List ℕ) (p : ℕ) → p ∈ ps → N .distance t (N .next n p) ≤ farthest N t n ps
+unfolding farthest
+farthest-mem N t n [] p m = absurd (List·Memᴰ·not-nil m)
+farthest-mem N t n (q ∷ ps) p m =
+    let most = larger (farthest N t n ps) (N .distance t (N .next n q)) in
+    ⊎-elim (λ e. rw e (most .1)) (λ k. le-trans (farthest-mem N t n ps p k) (most .0)) (List·Memᴰ·cases-cons m)
+
+pub farthest-most : (N : Network) (t n m : ℕ) (ps : List ℕ) → ((p : ℕ) → p ∈ ps → N .distance t (N .next n p) ≤ m) → farthest N t n ps ≤ m
+unfolding farthest
+farthest-most N t n m [] h = omega arith
+farthest-most N t n m (q ∷ ps) h = go (leb (farthest N t n ps) (N .distance t (N .next n q))) (farthest-most N t n m ps (λ p k. h p (List·Memᴰ·tail k)))
+  where
+    go : (x : Bool) → farthest N t n ps ≤ m → cond x (N .distance t (N .next n q)) (farthest N t n ps) ≤ m
+    go true k = h q (List·Memᴰ·head refl)
+    go false k = k
+
+-- ports that are not free are dropped from a vector: there is room for the rest
+pub narrow-reach : (b : List ℕ) (t : ℕ) {n v left : ℕ} → Narrowed (view b) n v left → farthestAfter b t n left ≤ farthestAfter b t n v
+unfolding farthestAfter
+narrow-reach b t {n} {v} {left} narrow =
+    farthest-most (net (view b)) t n (farthest (net (view b)) t n (portsOf 8 v)) (portsOf 8 left) (λ p m. farthest-mem (net (view b)) t n (portsOf 8 v) p (narrow-mem narrow p m))
+
+pub narrow-may : {b : List ℕ} {t c n v left a h s : ℕ} → MayTry b t c n v a h s → Narrowed (view b) n v left → MayTry b t c n left a h s
+narrow-may {b} {t} {c} {n} {v} {left} may narrow =
+    let near = narrow-reach b t narrow in
+    let ways = ways-more 1 (farthestAfter b t n left) (farthestAfter b t n v) near in
+    let all : length (portsOf 8 left) * (1 + waysFrom 1 (farthestAfter b t n left)) ≤ length (portsOf 8 v) * (1 + waysFrom 1 (farthestAfter b t n v)) = mul-le-mul (narrow-fewer narrow) (let w = ways in omega arith) in
+    record {
+      here = may .here;
+      ports = (let l = narrow .most in omega (arith, may .ports));
+      hops = omega (arith, may .hops, near);
+      room = omega (arith, may .room, all);
+    }

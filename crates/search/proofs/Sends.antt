@@ -26,25 +26,21 @@ use Rattle.paths.proofs.CubeNetwork.{distance-within, unfolded-send-ports, scou
 use Rattle.paths.proofs.Send.{maze-answers, alternate-stops, alternate-goes-on}
 use Rattle.paths.specs.Bound.{waysFrom}
 use Rattle.paths.proofs.Bound.{ways-more}
-use Rattle.table.specs.Layout.{dimensionAt, putReceiver}
+use Rattle.layout.specs.Layout.{dimensionAt}
+use Rattle.entries.specs.EntryContracts.{putReceiver}
 use Rattle.table.specs.View.{View, view, receive, available, net, shapeOf}
 use Rattle.table.proofs.Made.{ones}
-use Rattle.table.proofs.Receives.{chosen}
-use Rattle.search.specs.PassAnswer.{freeIn, holdPath, pass-answer, answerOfPass, arrivalAfter}
+use Rattle.answers.specs.SendOnTable.{freeIn, pass-answer, answerOfOutcome}
+use Rattle.answers.specs.PassAnswer.{holdPath, answerOfPass, arrivalAfter}
 use Rattle.search.specs.SearchContracts.{farthestAfter, tryAnswer, Narrowed, MayTry}
-use Rattle.search.specs.SendAnswer.{bytesAfterSend, answerOfOutcome, sendAnswer, searched, MaySend}
-use Rattle.search.proofs.Narrow.{narrow-tries}
-use Rattle.search.proofs.SearchContracts.{farthest-most}
+use Rattle.answers.specs.SendAnswer.{bytesAfterSend, sendAnswer, searched, MaySend}
+use Rattle.answers.proofs.PassAnswer.{receive-small}
+use Rattle.answers.proofs.Sent.{ports-in-turn, sent-stops, sent-goes-on, sent-leaves, sent-scouts, sent-counted}
+use Rattle.search.proofs.Narrow.{narrow-tries, farthest-most}
 
 -- the pass of a send over the ports of a vector
 abbrev passOf : List ℕ → ℕ → ℕ → ℕ → PassResult
 passOf b s t vector = pass (net (view b)) (freeIn (view b)) s (sendPorts (shapeOf (view b)) vector) t
-
--- "a send tries ports from 0 upward", as after an arrival on port 7
-pub ports-in-turn : (b : List ℕ) (vector : ℕ) → dimensionAt b ≤ 8 → vector < 2 ^ dimensionAt b → helical 7 (portsOf 8 vector) ≡ sendPorts (shapeOf (view b)) vector
-ports-in-turn b vector fits small =
-    helical-last 7 (portsOf 8 vector) (λ p m. let r = ports-mem 8 vector m in omega arith)
-    ∙ (unfold view in ports-wider (dimensionAt b) 8 vector fits small ∙ sym (unfolded-send-ports (shapeOf (view b)) fits refl vector))
 
 module _ {b : List ℕ} {s t c vector : ℕ} (may : MaySend b s t c vector) where
   -- ports after arrival port 7 are tried from 0 upward: the search is the pass
@@ -71,11 +67,6 @@ module _ {b : List ℕ} {s t c vector : ℕ} (may : MaySend b s t c vector) wher
         hops = omega (arith, near);
         room = omega (arith, all, more, most);
       }
-
--- the receive channel that a target takes is one of its eight
-pub receive-small : (v : View) (t k : ℕ) → receive v t ≡ channel k → k < 8
-unfolding receive
-receive-small v t k e = chosen (available v t) k e .0
 
 -- The answer of a pass that was acknowledged, with the receive channel taken; and of one that was not.
 module _ (b : List ℕ) (c s t : ℕ) (r : Receive) where
@@ -111,40 +102,6 @@ module _ (b : List ℕ) (c s t : ℕ) (r : Receive) where
       go : (r : Receive) → pass-answer x h k n b₁ ≡ answerOfPass b c s 0 r (found w m) → pass-answer x h k n b₁ ≡ sendAnswer true b c s t (oneResult r (found w m))
       go none-available u = u
       go (channel j) u = let y : x ≡ 0 = cc in absurd (f y)
-
--- What the answer of a send tells: whether another pass follows, as one does after a route rejection alone; that a rejection leaves each byte as it was;
--- and its scouts.
-module _ (b : List ℕ) (c s t : ℕ) where
-  pub sent-stops : (o : Outcome) (m : ℕ) {x h k n : ℕ} {b₁ : List ℕ} → pass-answer x h k n b₁ ≡ sendAnswer true b c s t (record { outcome = o; scouts = m }) → x ≢ 10 → goesOn o ≡ false
-  unfolding sendAnswer bytesAfterSend answerOfOutcome goesOn
-  sent-stops (acknowledged w j) m q f = refl
-  sent-stops route-rejected m {x} q f = let y : x ≡ 10 = cc in absurd (f y)
-  sent-stops receive-rejected m q f = refl
-
-  pub sent-goes-on : (o : Outcome) (m : ℕ) {x h k n : ℕ} {b₁ : List ℕ} → pass-answer x h k n b₁ ≡ sendAnswer true b c s t (record { outcome = o; scouts = m }) → x ≡ 10 → goesOn o ≡ true
-  unfolding sendAnswer bytesAfterSend answerOfOutcome goesOn
-  sent-goes-on (acknowledged w j) m {x} q z = let y : x ≡ 0 = cc in absurd (omega arith)
-  sent-goes-on route-rejected m q z = refl
-  sent-goes-on receive-rejected m {x} q z = let y : x ≡ 11 = cc in absurd (omega arith)
-
-  pub sent-leaves : (helps : Bool) (o : Outcome) (m : ℕ) {x h k n : ℕ} {b₁ : List ℕ} → pass-answer x h k n b₁ ≡ sendAnswer helps b c s t (record { outcome = o; scouts = m }) → x ≢ 0 → b₁ ≡ b
-  unfolding sendAnswer bytesAfterSend answerOfOutcome
-  sent-leaves helps (acknowledged w j) m {x} q f = let y : x ≡ 0 = cc in absurd (f y)
-  sent-leaves helps route-rejected m q f = cc
-  sent-leaves helps receive-rejected m q f = cc
-
-  pub sent-scouts : (helps : Bool) (o : Outcome) (m : ℕ) {x h k n : ℕ} {b₁ : List ℕ} → pass-answer x h k n b₁ ≡ sendAnswer helps b c s t (record { outcome = o; scouts = m }) → n ≡ m
-  unfolding sendAnswer bytesAfterSend answerOfOutcome
-  sent-scouts helps (acknowledged w j) m q = cc
-  sent-scouts helps route-rejected m q = cc
-  sent-scouts helps receive-rejected m q = cc
-
-  -- the same answer with other scouts
-  pub sent-counted : (o : Outcome) (m j : ℕ) {x h k n : ℕ} {b₁ : List ℕ} → pass-answer x h k n b₁ ≡ sendAnswer true b c s t (record { outcome = o; scouts = m }) → pass-answer x h k j b₁ ≡ sendAnswer true b c s t (record { outcome = o; scouts = j })
-  unfolding sendAnswer bytesAfterSend answerOfOutcome
-  sent-counted (acknowledged w i) m j q = cc
-  sent-counted route-rejected m j q = cc
-  sent-counted receive-rejected m j q = cc
 
 -- "every port below D that was not in the given vector": the ports of the vector with every bit below D changed
 module _ (D vector : ℕ) (h : D ≤ 8) where
@@ -246,8 +203,3 @@ module _ {b : List ℕ} {s t c vector : ℕ} (may : MaySend b s t c vector) {x h
           ∙ ap (λ m. sendAnswer true b c s t (record { outcome = outcome r second; scouts = m }))
           (ap₂ _+_ (sent-scouts b c s t true (outcome r first) (scouts first) first-is) (sent-scouts b c s t true (outcome r second) (scouts second) second-is))
           ∙ ap (sendAnswer true b c s t) (sym (alternate-goes-on S (freeIn (view b)) r s vector t (sent-goes-on b c s t (outcome r first) (scouts first) first-is z)))
-
--- A type that is none of the others makes one pass.
-pub send-maze : (b : List ℕ) (s t c type vector : ℕ) → type ≢ 4 → type ≢ 3 → type ≢ 1 → searched b s t c 0 vector ≡ searched b s t c type vector
-unfolding searched send attempts
-send-maze b s t c type vector f g h = rw (ne-eqb type 3 g, ne-eqb type 1 h, ne-eqb type 4 f)

@@ -1,6 +1,2 @@
--- A pass and a whole send on a lent table: what they answer, and its bytes afterwards; and the users' second demand.
-pub mod HelixContracts
-pub mod PassAnswer
+-- What the two halves of the search ask and answer.
 pub mod SearchContracts
-pub mod SendAnswer
-pub mod SendSays

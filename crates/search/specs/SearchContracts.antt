@@ -4,27 +4,26 @@ use mathlib.Core.Path.{_≡_}
 use mathlib.Core.Logic.{_≢_}
 use mathlib.Core.Bool.{true, false, cond}
 use mathlib.Core.List.{List, [], _∷_}
-use Prim.Native.Nat.{ℕ, _+_, _*_, _^_, _≤_, _<_}
-use lib.Dec.{leb}
+use Prim.Native.Nat.{ℕ, _+_, _-_, _*_, _/_, _%_, _^_, _≤_, _<_}
+use lib.Dec.{leb, ltb}
 use lib.ListN.{length}
 use Rattle.cube.specs.Bits.{has}
+use Rattle.cube.specs.Cube.{largestDimension, portCount, channels}
 use Rattle.cube.specs.Helical.{helical, portsOf}
 use Rattle.paths.specs.Network.{Network}
 use Rattle.paths.specs.Bound.{waysFrom}
 use Rattle.paths.specs.Search.{trying, arriving}
-use Rattle.table.specs.Layout.{tableLength, dimensionAt, portCount}
+use Rattle.layout.specs.Layout.{tableLength, dimensionAt}
 use Rattle.table.specs.View.{View, view, receive, net}
-use Rattle.search.specs.PassAnswer.{freeIn, PassAnswer, answerOfPass, arrivalAfter}
+use Rattle.answers.specs.SendOnTable.{freeIn, PassAnswer, pass-answer}
+use Rattle.answers.specs.PassAnswer.{answerOfPass, arrivalAfter, hopsLeft}
 
 -- the largest distance to a target among the nodes behind the ports of a list
 unfoldable pub farthest : Network → ℕ → ℕ → List ℕ → ℕ
 farthest N t n [] = 0
 farthest N t n (p ∷ ps) = cond (leb (farthest N t n ps) (N .distance t (N .next n p))) (N .distance t (N .next n p)) (farthest N t n ps)
 
--- how far node n of a table's cube is from t
-unfoldable pub hopsLeft : List ℕ → ℕ → ℕ → ℕ
-hopsLeft b t n = net (view b) .distance t n
-
+-- the largest such distance behind the ports of a vector
 unfoldable pub farthestAfter : List ℕ → ℕ → ℕ → ℕ → ℕ
 farthestAfter b t n vector = farthest (net (view b)) t n (portsOf portCount vector)
 
@@ -42,10 +41,30 @@ pub record Narrowed (v : View) (n vector left : ℕ) : Type 0 where
   pub among : (p : ℕ) → has left p ≡ true → has vector p ≡ true
   pub dropped : (p : ℕ) → p < portCount → has vector p ≡ true → has left p ≡ false → freeIn v n p ≡ false
 
+-- the ports of a vector are all enabled at node n
+abbrev pub Enabled : View → ℕ → ℕ → Type 0
+Enabled v n vector = (p : ℕ) → p < portCount → has vector p ≡ true → v .enabled n p ≡ true
+
+-- The answer goes back from hop to hop as one number. Below 2 ^ 32 it is a route rejection and the number its scouts; below 2 * 2 ^ 32 a receive rejection, the
+-- scouts above 2 ^ 32; else an acknowledgement: of how often it has 2 ^ 32, less 2, the hops are the eighth part and the receive channel is the rest; what it has
+-- beyond that are the scouts.
+unfoldable pub answerIn : ℕ → List ℕ → PassAnswer
+answerIn x b =
+    cond (ltb x 4294967296) (pass-answer 10 0 0 x b)
+    (cond (ltb x 8589934592) (pass-answer 11 0 0 (x % 4294967296) b)
+    (pass-answer 0 ((x / 4294967296 - 2) / channels % 65536) ((x / 4294967296 - 2) % channels) (x % 4294967296) b))
+
+pub record Packed (x : ℕ) (b : List ℕ) (answer : PassAnswer) : Type 0 where
+  pub same : answerIn x b ≡ answer
+
+-- the parts of such a number
+abbrev pub Unpacked : ℕ → ℕ → ℕ → ℕ → ℕ → Type 0
+Unpacked x number hops receive scouts = (b : List ℕ) → pass-answer number hops receive scouts b ≡ answerIn x b
+
 -- what both ask: a table of a cube up to dimension 8, a node and a target of it, a port, a circuit
 pub record SearchPre (b : List ℕ) (t c n a : ℕ) : Type 0 where
   pub bytes : length b ≡ tableLength
-  pub fits : dimensionAt b ≤ 8
+  pub fits : dimensionAt b ≤ largestDimension
   pub node : n < 2 ^ dimensionAt b
   pub target : t < 2 ^ dimensionAt b
   pub port : a < portCount

@@ -1,15 +1,15 @@
-// The search for a free permitted path on a lent table.
+// The search for a free permitted path on a lent table, for routing types 0 and 4.
 ghost use mathlib.Core.Path.{_≡_};
-ghost use mathlib.Core.Logic.{_≢_};
-ghost use Rattle.table.specs.LayoutContracts.{Within};
+ghost use Prim.Native.Nat.{_+_, _*_};
+ghost use Rattle.entries.specs.EntryContracts.{Within};
 ghost use Rattle.table.specs.View.{view};
+ghost use Rattle.cube.specs.Cube.{channels};
 ghost use Rattle.cube.specs.Helical.{FirstPorts};
-ghost use Rattle.search.specs.PassAnswer.{stateIn, stateOf, pass-answer};
-ghost use Rattle.search.specs.SearchContracts.{Narrowed, tryAnswer, arriveAnswer, MayTry, MayArrive};
-ghost use Rattle.search.specs.SendAnswer.{MaySend, searched, sends};
-
-mod helix;
-
+ghost use Rattle.answers.specs.SendOnTable.{pass-answer};
+ghost use Rattle.search.specs.SearchContracts.{Narrowed, Enabled, Packed, Unpacked, tryAnswer, arriveAnswer, MayTry, MayArrive};
+ghost use Rattle.answers.specs.SendAnswer.{MaySend, searched};
+use answers::LinkState;
+use answers::Opened;
 use common::refusal;
 use cube::Circuit;
 use cube::Node;
@@ -18,44 +18,58 @@ use cube::Port;
 // The ports of a vector that are enabled at a node: no scout leaves by another.
 fn enabled_ports(t: &[u8], n: Node, vector: u16) -> u16
     requires { ⌜ Within (now t) (n .0) 0 ⌝ }
-    ensures { λ r. ⌜ Narrowed (view (now (t .entry))) (n .0) vector r ⌝ }
+    ensures { λ r. ⌜ Narrowed (view (now (t .entry))) (n .0) vector r × Enabled (view (now (t .entry))) (n .0) r ⌝ }
 {
     vector & table::enable_bits(t, n)
 }
 
-// A link: free, held by a circuit, or blocked.
-pub enum LinkState {
-    Free,
-    Held,
-    Blocked,
+// A pass's answer in one number, so that it goes back from hop to hop in a register: the scouts sent, where no path is free; NO_CHANNEL more, where one is but no
+// receive channel; and where it is acknowledged, ACKNOWLEDGED more, and NO_CHANNEL times 8 * hops + receive channel.
+const NO_CHANNEL: u64 = 4294967296;
+
+const ACKNOWLEDGED: u64 = 8589934592;
+
+// The number of an acknowledgement.
+fn acknowledged(hops: u16, receive: u16, scouts: u32) -> u64
+    ensures { λ r. ⌜ r ≡ 8589934592 + scouts + 4294967296 * (channels * hops + receive) ⌝ }
+{
+    let place = 8 * (hops as u64) + receive as u64;
+    ACKNOWLEDGED + scouts as u64 + NO_CHANNEL * place
 }
 
-// The state of a link. Every hop of every search asks this.
-fn link_state(t: &[u8], n: Node, p: Port) -> LinkState
-    requires { ⌜ Within (now t) (n .0) (p .0) ⌝ }
-    ensures { λ r. ⌜ stateOf r ≡ stateIn (view (now (t .entry))) (n .0) (p .0) ⌝ }
+// The parts of that number.
+fn unpacked(answer: u64) -> Opened
+    ensures { λ r. ⌜ Unpacked answer (r .number) (r .hops) (r .receive) (r .scouts) ⌝ }
 {
-    if table::enabled(t, n, p) {
-        if table::owner(t, n, p).0 == 0 {
-            LinkState::Free
-        } else {
-            LinkState::Held
-        }
-    } else {
-        LinkState::Blocked
+    let scouts = (answer % NO_CHANNEL) as u32;
+    if answer < NO_CHANNEL {
+        return Opened {
+            number: refusal::ROUTE_REJECTED,
+            hops: 0,
+            receive: 0,
+            scouts,
+        };
+    }
+    if answer < ACKNOWLEDGED {
+        return Opened {
+            number: refusal::RECEIVE_REJECTED,
+            hops: 0,
+            receive: 0,
+            scouts,
+        };
+    }
+    let place = answer / NO_CHANNEL - 2;
+    let hops = (place / 8 % 65536) as u16;
+    let receive = (place % 8) as u16;
+    Opened {
+        number: refusal::ACCEPTED,
+        hops,
+        receive,
+        scouts,
     }
 }
 
-// What a pass, a send and an open answer: 0 with the hops of the path and the receive channel taken, or the refusal; and the scouts sent.
-#[repr(C)]
-pub struct Opened {
-    pub number: u16,
-    pub hops: u16,
-    pub receive: u16,
-    pub scouts: u32,
-}
-
-// A node tries the ports of a vector. With none it rejects at once, as many do in a search that finds no path.
+// A node tries the ports of a vector, all of them enabled. With none it rejects at once, as many do in a search that finds no path.
 fn try_ports(
     t: &mut [u8],
     at: Node,
@@ -66,18 +80,14 @@ fn try_ports(
     hops: u16,
     scouts: u32,
     first: &[u8; 2048],
-) -> Opened
+) -> u64
     requires { ⌜ FirstPorts (now first) ⌝ }
     requires { ⌜ MayTry (now t) (target .0) (c .0) (at .0) vector (arrival .0) hops scouts ⌝ }
-    ensures { λ r. ⌜ pass-answer (r .number) (r .hops) (r .receive) (r .scouts) (now (t .exit)) ≡ tryAnswer (now (t .entry)) (target .0) (c .0) (at .0) vector (arrival .0) hops scouts ⌝ }
+    requires { ⌜ Enabled (view (now t)) (at .0) vector ⌝ }
+    ensures { λ r. ⌜ Packed r (now (t .exit)) (tryAnswer (now (t .entry)) (target .0) (c .0) (at .0) vector (arrival .0) hops scouts) ⌝ }
 {
     if vector == 0 {
-        return Opened {
-            number: refusal::ROUTE_REJECTED,
-            hops: 0,
-            receive: 0,
-            scouts,
-        };
+        return scouts as u64;
     }
     try_in_turn(t, at, target, c, vector, arrival, hops, scouts, first)
 }
@@ -94,17 +104,18 @@ fn try_in_turn(
     hops: u16,
     scouts: u32,
     first: &[u8; 2048],
-) -> Opened
+) -> u64
     requires { ⌜ FirstPorts (now first) ⌝ }
     requires { ⌜ MayTry (now t) (target .0) (c .0) (at .0) vector (arrival .0) hops scouts ⌝ }
-    ensures { λ r. ⌜ pass-answer (r .number) (r .hops) (r .receive) (r .scouts) (now (t .exit)) ≡ tryAnswer (now (t .entry)) (target .0) (c .0) (at .0) vector (arrival .0) hops scouts ⌝ }
+    requires { ⌜ Enabled (view (now t)) (at .0) vector ⌝ }
+    ensures { λ r. ⌜ Packed r (now (t .exit)) (tryAnswer (now (t .entry)) (target .0) (c .0) (at .0) vector (arrival .0) hops scouts) ⌝ }
 {
     let mut left = vector;
     let mut sent = scouts;
     while left != 0 {
         let p = cube::first_port(first, left, arrival);
         left = cube::without(left, p);
-        let state = link_state(t, at, p);
+        let state = answers::link_state(t, at, p, true);
         match state {
             LinkState::Free => {
                 table::set_owner(t, at, p, c);
@@ -118,25 +129,20 @@ fn try_in_turn(
                     sent + 1,
                     first,
                 );
-                if got.number == refusal::ACCEPTED {
+                if got >= ACKNOWLEDGED {
                     return got;
                 }
                 table::set_owner(t, at, p, Circuit(0));
-                if got.number == refusal::RECEIVE_REJECTED {
+                if got >= NO_CHANNEL {
                     return got;
                 }
-                sent = got.scouts;
+                sent = got as u32;
             }
             LinkState::Held => {}
             LinkState::Blocked => {}
         }
     }
-    Opened {
-        number: refusal::ROUTE_REJECTED,
-        hops: 0,
-        receive: 0,
-        scouts: sent,
-    }
+    sent as u64
 }
 
 // A scout arrives: at the target, whose lowest receive channel that is armed and not held is answered, or at a node, which hands on to the trying of its
@@ -150,27 +156,17 @@ fn arrive(
     hops: u16,
     scouts: u32,
     first: &[u8; 2048],
-) -> Opened
+) -> u64
     requires { ⌜ FirstPorts (now first) ⌝ }
     requires { ⌜ MayArrive (now t) (target .0) (c .0) (at .0) (arrival .0) hops scouts ⌝ }
-    ensures { λ r. ⌜ pass-answer (r .number) (r .hops) (r .receive) (r .scouts) (now (t .exit)) ≡ arriveAnswer (now (t .entry)) (target .0) (c .0) (at .0) (arrival .0) hops scouts ⌝ }
+    ensures { λ r. ⌜ Packed r (now (t .exit)) (arriveAnswer (now (t .entry)) (target .0) (c .0) (at .0) (arrival .0) hops scouts) ⌝ }
 {
     if at.0 == target.0 {
         let receive = table::free_channel(t, at);
         if receive == 8 {
-            Opened {
-                number: refusal::RECEIVE_REJECTED,
-                hops: 0,
-                receive: 0,
-                scouts,
-            }
+            NO_CHANNEL + scouts as u64
         } else {
-            Opened {
-                number: refusal::ACCEPTED,
-                hops,
-                receive,
-                scouts,
-            }
+            acknowledged(hops, receive, scouts)
         }
     } else {
         let vector = enabled_ports(t, at, cube::uphill_vector(at, target));
@@ -180,7 +176,7 @@ fn arrive(
 
 // A pass from a source, over the ports of a send vector: a send tries them from 0 upward, as a scout does that came in on port 7. Where it is
 // acknowledged, the links of the path and the receive channel are held by the circuit. Routing type 0 is one pass.
-fn maze(
+pub fn maze(
     t: &mut [u8],
     source: Node,
     target: Node,
@@ -193,7 +189,8 @@ fn maze(
     ensures { λ r. ⌜ pass-answer (r .number) (r .hops) (r .receive) (r .scouts) (now (t .exit)) ≡ searched (now (t .entry)) (source .0) (target .0) (c .0) 0 vector ⌝ }
 {
     let ports = enabled_ports(t, source, vector);
-    let got = try_in_turn(t, source, target, c, ports, Port(7), 0, 0, first);
+    let answer = try_in_turn(t, source, target, c, ports, Port(7), 0, 0, first);
+    let got = unpacked(answer);
     if got.number == refusal::ACCEPTED {
         table::set_receiver(t, target, got.receive, c);
     }
@@ -202,7 +199,7 @@ fn maze(
 
 // Routing type 4: where the pass finds no path, a second one over the ports of the cube that are not in the vector. The answer is that of the last pass,
 // with the scouts of both. A receive rejection ends the send: the second pass would come to the same target.
-fn alternate_maze(
+pub fn alternate_maze(
     t: &mut [u8],
     source: Node,
     target: Node,
@@ -225,64 +222,6 @@ fn alternate_maze(
         number: again.number,
         hops: again.hops,
         receive: again.receive,
-        scouts,
-    }
-}
-
-// The search of a routing type, 0, 1, 3 or 4.
-fn search(
-    t: &mut [u8],
-    source: Node,
-    target: Node,
-    c: Circuit,
-    routing: u16,
-    vector: u16,
-    first: &[u8; 2048],
-) -> Opened
-    requires { ⌜ FirstPorts (now first) ⌝ }
-    requires { ⌜ MaySend (now t) (source .0) (target .0) (c .0) vector ⌝ }
-    requires { ⌜ vector ≢ 0 ⌝ }
-    ensures { λ r. ⌜ pass-answer (r .number) (r .hops) (r .receive) (r .scouts) (now (t .exit)) ≡ searched (now (t .entry)) (source .0) (target .0) (c .0) routing vector ⌝ }
-{
-    if routing == 4 {
-        return alternate_maze(t, source, target, c, vector, first);
-    }
-    if routing == 3 {
-        return helix::try_lowest(t, source, target, c, vector, first);
-    }
-    if routing == 1 {
-        return helix::try_each(t, source, target, c, vector, first);
-    }
-    maze(t, source, target, c, vector, first)
-}
-
-// A send of a routing type. Where its search is route rejected, it asks whether a path that it may try has no blocked link: with none, waiting does not help.
-// The table of first ports is built once for all its hops.
-pub fn send(
-    t: &mut [u8],
-    source: Node,
-    target: Node,
-    c: Circuit,
-    routing: u16,
-    vector: u16,
-) -> Opened
-    requires { ⌜ MaySend (now t) (source .0) (target .0) (c .0) vector ⌝ }
-    requires { ⌜ vector ≢ 0 ⌝ }
-    ensures { λ r. ⌜ pass-answer (r .number) (r .hops) (r .receive) (r .scouts) (now (t .exit)) ≡ sends (now (t .entry)) (source .0) (target .0) (c .0) routing vector ⌝ }
-{
-    let first = cube::first_ports();
-    let answer = search(t, source, target, c, routing, vector, &first);
-    if answer.number != refusal::ROUTE_REJECTED {
-        return answer;
-    }
-    if reach::some_path_enabled(t, source, target, routing, vector, &first) {
-        return answer;
-    }
-    let scouts = answer.scouts;
-    Opened {
-        number: refusal::NO_ROUTE,
-        hops: 0,
-        receive: 0,
         scouts,
     }
 }

@@ -2,9 +2,9 @@
 -- Assumes nothing.
 use mathlib.Core.Path.{_≡_, refl, ap, sym, _∙_, subst}
 use mathlib.Core.Logic.{_⊎_, inl, inr, ⊎-elim, _≢_}
-use mathlib.Core.Bool.{Bool, true, false, cond, _&&_, not}
-use mathlib.Core.List.{List, [], _∷_}
-use Prim.Native.Nat.{ℕ, _+_, _*_, _^_, _≤_, _<_}
+use mathlib.Core.Bool.{Bool, true, false, cond, not}
+use mathlib.Core.List.{List}
+use Prim.Native.Nat.{ℕ, _+_, _^_, _≤_, _<_}
 use native.Mathlib.Omega.{arith}
 use native.Mathlib.Nat.{zero-add}
 use lib.Dec.{eqb, ltb}
@@ -18,30 +18,27 @@ use Rattle.common.proofs.Tests.{same?, below-or, clash, is-false, both, both-be
 use Rattle.cube.specs.Bits.{has}
 use Rattle.cube.specs.Cube.{sourceOf}
 use Rattle.cube.proofs.Bits.{high-has, no-bit-above, no-ports}
-use Rattle.cube.proofs.Ports.{most-nodes}
-use Rattle.paths.specs.Network.{Network, Path, links}
+use Rattle.paths.specs.Network.{Path, links}
 use Rattle.paths.specs.Permitted.{Permitted}
 use Rattle.paths.specs.CubeNetwork.{ports, circuitCount}
 use Rattle.paths.proofs.Apart.{permitted-inside}
 use Rattle.paths.proofs.Sentences.{permitted-end}
 use Rattle.paths.proofs.CubeNetwork.{unfolded-port}
 use Rattle.paths.proofs.Links.{On}
-use Rattle.table.specs.Layout.{dimensionAt, enableBits, enablePlace, receiverAt, armedAt, armBits, armPlace, armPart}
-use Rattle.table.specs.LayoutContracts.{linkCount, enableLimit, EnablesFit, ArmsFit}
+use Rattle.layout.specs.Layout.{dimensionAt, enablePlace, receiverAt, armedAt, armPlace, armPart}
+use Rattle.entries.specs.EntryContracts.{enableBits, armBits}
+use Rattle.table.specs.TableContracts.{linkCount, enableLimit, EnablesFit, ArmsFit}
 use Rattle.table.specs.View.{View, view, shapeOf, net, heldBy}
-use Rattle.table.proofs.Entries.{enabled-has, mask-has}
-use Rattle.soundness.specs.Sound.{endFor, CircuitSound, Nowhere, Sound}
+use Rattle.layout.proofs.Entries.{enabled-has, mask-has}
+use Rattle.circuit_path.specs.CircuitSound.{endFor, CircuitSound}
+use Rattle.soundness.specs.Sound.{Nowhere, Sound}
 use Rattle.soundness.specs.SoundTest.{soundTest}
 use Rattle.soundness.specs.Counting.{Earlier, ReceivedBefore, Standing, Counting, Counts, Frees}
-use Rattle.soundness.proofs.Soundness.{Framed, placed, link-stands}
+use Rattle.soundness.proofs.Soundness.{placed, link-stands}
 use Rattle.soundness.proofs.LinkCount.{links-same, links-more, links-parts}
 use Rattle.soundness.proofs.Passing.{off, unarmed, view-framed, decided, same-answer}
 use Rattle.soundness.proofs.Counting.{counting-none}
-use Rattle.soundness.proofs.Ways.{shown}
-
-to-on : (N : Network) (s : ℕ) (w : Path) (m q : ℕ) → (m, q) ∈ links N s w → On N s w m q
-unfolding On
-to-on N s w m q o = o
+use Rattle.circuit_hops.proofs.Ways.{shown}
 
 -- what the cube lacks is off
 absent-off : (b : List ℕ) → EnablesFit b (dimensionAt b) → (n p : ℕ) → n < 256 → ((n < 2 ^ view b .dimension) × (p < view b .dimension) → ⊥) → view b .enabled n p ≡ false
@@ -131,8 +128,8 @@ module _ (b : List ℕ) (d : dimensionAt b ≤ 8) (fit : EnablesFit b (dimension
         let t = stands (r .0) (r .1) (r .3) in
         let c = view b .receiver (r .0) (r .1) in
         let in-source : sourceOf c < 2 ^ view b .dimension = source-inside c (r .3) (t .in-range) in
-        let o = t .exactly .only n p (and (eq-eqb _ c (sym (r .2))) (all n p h)) in
-        let i = permitted-inside (shapeOf (view b)) (sourceOf c) (r .0) (t .path) in-source (t .permitted) .0 n p (to-on (net (view b)) (sourceOf c) (t .path) n p o) in
+        let o : On (net (view b)) (sourceOf c) (t .path) n p = unfold On in t .exactly .only n p (and (eq-eqb _ c (sym (r .2))) (all n p h)) in
+        let i = permitted-inside (shapeOf (view b)) (sourceOf c) (r .0) (t .path) in-source (t .permitted) .0 n p o in
         (i .0, unfolded-port (shapeOf (view b)) small refl p .0 (i .1))
       where
         source-inside : (c : ℕ) → c ≢ 0 → c ≤ circuitCount (shapeOf (view b)) → sourceOf c < 2 ^ view b .dimension

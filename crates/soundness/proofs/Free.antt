@@ -1,6 +1,6 @@
 -- Counting the links that nobody holds, where those that are held must be enabled.
 -- Assumes nothing.
-use mathlib.Core.Path.{_≡_, refl, ap, sym, _∙_}
+use mathlib.Core.Path.{_≡_, ap, sym, _∙_}
 use mathlib.Core.Logic.{⊎-elim, _≢_}
 use mathlib.Core.Bool.{Bool, true}
 use mathlib.Core.List.{List}
@@ -14,10 +14,9 @@ use Rattle.common.specs.Lists.{keep, from}
 use Rattle.common.proofs.From.{count-yes, length-from}
 use Rattle.common.proofs.Lists.{length-keep}
 use Rattle.common.proofs.Tests.{below-or}
-use Rattle.table.specs.Layout.{ownerAt}
-use Rattle.table.specs.LayoutContracts.{linkCount, freeCount}
+use Rattle.layout.specs.Layout.{ownerAt}
+use Rattle.table.specs.TableContracts.{linkCount, freeCount}
 use Rattle.table.specs.View.{View, view, heldBy}
-use Rattle.soundness.specs.Sound.{Sound}
 use Rattle.soundness.specs.Counting.{Frees}
 
 -- so many that pass, one after the other

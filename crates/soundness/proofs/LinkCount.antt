@@ -1,7 +1,7 @@
 -- Counting: one more that passes, and tests that pass as often.
 -- Assumes nothing.
 use mathlib.Core.Path.{_≡_, refl, ap, ap₂, sym, _∙_, fun-ext}
-use mathlib.Core.Logic.{_⊎_, inl, inr, ⊎-elim, _≢_}
+use mathlib.Core.Logic.{_⊎_, ⊎-elim, _≢_}
 use mathlib.Core.Bool.{Bool, true, false, _&&_, _||_, not, or-false, or-assoc}
 use mathlib.Core.List.{List, [], _∷_, _++_, List·Memᴰ·head, List·Memᴰ·tail, List·Memᴰ·not-nil, List·Memᴰ·cases-cons}
 use Prim.Native.Nat.{ℕ, suc, _+_, _-_, _*_, _/_, _%_, _≤_, _<_}
@@ -9,13 +9,13 @@ use native.Mathlib.Omega.{arith}
 use native.Mathlib.Nat.{zero-add, add-zero}
 use lib.Dec.{eqb}
 use lib.ListN.{length, length-append}
-use borrow.Author.Tests.{eqb-true, eq-eqb, ne-eqb}
+use borrow.Author.Tests.{eqb-true, eq-eqb}
 use Rattle.common.specs.Lists.{_∈_, keep, from, Pairwise}
 use Rattle.common.proofs.Lists.{keep-yes, keep-no, keep-append, keep-same, keep-none, length-parts, length-keep}
 use Rattle.common.proofs.From.{from-mem, mem-from, from-below, from-split, length-from}
-use Rattle.common.proofs.Tests.{same?, clash, is-false, both, and, or-right}
+use Rattle.common.proofs.Tests.{clash, is-false, both, and, or-right}
 use Rattle.paths.specs.Network.{Link, hasLink}
-use Rattle.table.specs.LayoutContracts.{linkCount}
+use Rattle.table.specs.TableContracts.{linkCount}
 
 module _ {A : Type 0} (f g : A → Bool) where
   -- a test that passes where another does passes as often or more

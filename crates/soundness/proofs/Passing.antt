@@ -16,14 +16,14 @@ use Rattle.common.specs.Lists.{every}
 use Rattle.common.proofs.Every.{at, all}
 use Rattle.cube.specs.Bits.{has}
 use Rattle.cube.proofs.Bits.{high-has, zero-has}
-use Rattle.table.specs.Layout.{tableLength, inTable, dimensionAt, maskAt, enabledAt, enableBits, armedAt, armBits}
-use Rattle.table.specs.Layout.{entryAt, ownerAt, receiverAt}
-use Rattle.table.specs.LayoutContracts.{enableLimit, ArmsFit}
+use Rattle.layout.specs.Layout.{tableLength, inTable, dimensionAt, maskAt, enabledAt, armedAt, entryAt, ownerAt, receiverAt}
+use Rattle.entries.specs.EntryContracts.{enableBits, armBits}
+use Rattle.table.specs.TableContracts.{enableLimit, ArmsFit}
 use Rattle.table.specs.View.{View, view}
-use Rattle.table.proofs.Views.{inside}
+use Rattle.layout.proofs.Entries.{inside}
 use Rattle.soundness.specs.Sound.{Sound}
-use Rattle.soundness.specs.SoundTest.{linkTest, receiveTest, soundTest, tableTests}
-use Rattle.soundness.specs.TestContracts.{TableAnswer}
+use Rattle.soundness.specs.SoundTest.{linkTest, receiveTest, soundTest}
+use Rattle.soundness.specs.TableTests.{tableTests, TableAnswer}
 use Rattle.soundness.proofs.Soundness.{Framed, EntriesPass, sound-entries, entries-sound}
 
 -- a link that the cube lacks is off where the enable bits of its node are below their limit

@@ -3,30 +3,29 @@
 use mathlib.Core.Path.{_≡_, refl, sym, _∙_, ap}
 use mathlib.Core.Logic.{_⊎_, inl, inr, ⊎-elim, _≢_}
 use mathlib.Core.Bool.{Bool, true, false, cond, _&&_, not, and-false, false≢true}
-use mathlib.Core.List.{List, [], _∷_, List·Memᴰ·head, List·Memᴰ·tail, List·Memᴰ·not-nil, List·Memᴰ·cases-cons}
 use Prim.Native.Nat.{ℕ, _*_, _^_, _≤_, _<_}
 use native.Mathlib.Omega.{arith}
 use lib.Dec.{eqb, ltb, leb}
-use lib.ListN.{length}
 use borrow.Author.Tests.{eqb-true, eq-eqb, ne-eqb, not-true, ltb-true, lt-ltb, leb-true, le-leb}
-use Rattle.common.specs.Lists.{_∈_, keep, from, Pairwise}
+use Rattle.common.specs.Lists.{_∈_}
 use Rattle.common.proofs.Tests.{same?, clash, is-false, both-below, both, and, or-left, or-right}
 use Rattle.common.proofs.Every.{decide₂}
-use Rattle.common.proofs.Lists.{keep-mem, mem-keep, keep-pairwise}
-use Rattle.common.proofs.From.{from-mem, mem-from, from-pairwise, from-below, below-from}
 use Rattle.cube.specs.Cube.{sourceOf}
 use Rattle.cube.proofs.Ports.{most-nodes}
-use Rattle.paths.specs.Network.{Network, Path, links}
-use Rattle.paths.specs.Permitted.{Permitted}
+use Rattle.paths.specs.Network.{links}
 use Rattle.paths.proofs.Links.{On, link-true, true-link}
 use Rattle.paths.proofs.Apart.{apart-permitted}
-use Rattle.paths.proofs.Recover.{path-found}
 use Rattle.paths.proofs.Walks.{path-owned, path-apart}
-use Rattle.table.specs.Layout.{inTable}
-use Rattle.table.specs.View.{View, fresh, channelsHeld, shapeOf, net, heldBy}
+use Rattle.layout.specs.Layout.{inTable}
+use Rattle.table.specs.View.{View, fresh, shapeOf, net, heldBy}
+use Rattle.table.specs.TableContracts.{channelsHeld}
 use Rattle.paths.specs.CubeNetwork.{ports}
-use Rattle.soundness.specs.Sound.{endFor, CircuitSound, Nowhere, Sound}
-use Rattle.soundness.specs.SoundTest.{pathOf, isEmpty, reaches, linkTest, receiveTest, onPathOf}
+use Rattle.circuit_path.specs.CircuitSound.{endFor, CircuitSound}
+use Rattle.circuit_path.specs.PathOf.{pathOf, isEmpty}
+use Rattle.circuit_path.proofs.Stands.{not-empty, some-hop, path-is}
+use Rattle.circuit_hops.proofs.OneKept.{one-kept, kept-one}
+use Rattle.soundness.specs.Sound.{Nowhere, Sound}
+use Rattle.soundness.specs.SoundTest.{reaches, linkTest, receiveTest, onPathOf}
 
 -- a table shows nothing at a place that it has no room for
 pub record Framed (v : View) : Type 0 where
@@ -38,35 +37,6 @@ pub record Framed (v : View) : Type 0 where
 pub record EntriesPass (v : View) : Type 0 where
   pub links-pass : (n p : ℕ) → n < 256 → p < 8 → linkTest v n p ≡ true
   pub receives-pass : (n k : ℕ) → n < 256 → k < 8 → receiveTest v n k ≡ true
-
--- one number below 8 passes a test, and no other, exactly where one is kept
-pub one-kept : (f : ℕ → Bool) (k : ℕ) → k < 8 → f k ≡ true → ((j : ℕ) → j < 8 → f j ≡ true → j ≡ k) → length (keep f (from 0 8)) ≡ 1
-one-kept f k h e u = only (keep f (from 0 8)) (keep-pairwise f _<_ (from 0 8) (from-pairwise 0 8)) (mem-keep f (from 0 8) (below-from 8 k h) e) (λ j m. let r = keep-mem f (from 0 8) m in u j (let b = from-mem 0 8 (r .0) in omega arith) (r .1))
-  where
-    only : (xs : List ℕ) → Pairwise _<_ xs → k ∈ xs → ((j : ℕ) → j ∈ xs → j ≡ k) → length xs ≡ 1
-    only [] s m g = absurd (List·Memᴰ·not-nil m)
-    only (x ∷ []) s m g = refl
-    only (x ∷ y ∷ xs) s m g = unfold Pairwise in absurd (omega (arith, s .0 y (List·Memᴰ·head refl), g x (List·Memᴰ·head refl), g y (List·Memᴰ·tail (List·Memᴰ·head refl))))
-
-pub kept-one : (f : ℕ → Bool) → length (keep f (from 0 8)) ≡ 1 → (k : ℕ) × (k < 8) × (f k ≡ true) × ((j : ℕ) → j < 8 → f j ≡ true → j ≡ k)
-kept-one f e = go (keep f (from 0 8)) refl e
-  where
-    go : (xs : List ℕ) → keep f (from 0 8) ≡ xs → length xs ≡ 1 → (k : ℕ) × (k < 8) × (f k ≡ true) × ((j : ℕ) → j < 8 → f j ≡ true → j ≡ k)
-    go [] q l = absurd (omega arith)
-    go (x ∷ y ∷ xs) q l = absurd (omega arith)
-    go (x ∷ []) q l =
-        let m : x ∈ keep f (from 0 8) = rw q (List·Memᴰ·head refl) in
-        let r = keep-mem f (from 0 8) m in
-        (x, from-below 8 x (r .0), r .1, λ j h t. let i : j ∈ (x ∷ []) = rw q at (mem-keep f (from 0 8) (mem-from 0 8 j (omega arith) (omega arith)) t) in ⊎-elim (λ z. z) (λ z. absurd (List·Memᴰ·not-nil z)) (List·Memᴰ·cases-cons i))
-
-pub not-empty : (w : Path) → not (isEmpty w) ≡ true → w ≢ []
-unfolding isEmpty
-not-empty [] e q = false≢true e
-not-empty (p ∷ w) e q = let z : isEmpty (p ∷ w) ≡ true = ap isEmpty q in false≢true z
-
-pub some-hop : (N : Network) (s : ℕ) (vector : List ℕ) (t : ℕ) (w : Path) → Permitted N s vector t w → not (isEmpty w) ≡ true
-unfolding Permitted isEmpty
-some-hop N s vector t (p ∷ w) o = refl
 
 -- two bounds tested together
 beyond : {n a p b : ℕ} → ltb n a && ltb p b ≡ false → (n < a) × (p < b) → ⊥
@@ -86,16 +56,11 @@ passing true e = e
 passing false e = absurd (false≢true e)
 
 module _ (v : View) where
-  -- the path recovered is the one on which a circuit stands
-  pub path-is : (c : ℕ) (s : CircuitSound v c) → pathOf v c ≡ s .path
-  unfolding pathOf
-  path-is c s = path-found (shapeOf v) (heldBy v c) (sourceOf c) (endFor v c (s .path)) (s .path) (s .permitted) (s .exactly)
-
   reaches-passes : (c : ℕ) → c ≤ 8 * 2 ^ v .dimension → CircuitSound v c → reaches v c ≡ true
   unfolding reaches channelsHeld
   reaches-passes c h s =
       and (le-leb c _ h)
-      (rw (path-is c s)
+      (rw (path-is v c s)
       (and (some-hop (net v) (sourceOf c) (ports (shapeOf v)) (endFor v c (s .path)) (s .path) (s .permitted))
       (eq-eqb _ 1 (one-kept (λ k. eqb (v .receiver (endFor v c (s .path)) k) c) (s .channel) (s .small) (eq-eqb _ c (s .receives)) (λ j l e. s .once (endFor v c (s .path)) j (eqb-true _ c e) .1)))))
 
@@ -137,7 +102,7 @@ module _ (v : View) where
           let s = link-stands sound n p h in
           rw e
           (or-right (eqb (v .owner n p) 0) (and (sound .held-enabled n p h) (and (reaches-passes _ (sound .link-number n p) s)
-          (unfold onPathOf in rw (path-is _ s) (link-true _ n p (s .exactly .only n p (eq-eqb (v .owner n p) _ refl)))))))
+          (unfold onPathOf in rw (path-is v _ s) (link-true _ n p (s .exactly .only n p (eq-eqb (v .owner n p) _ refl)))))))
       go false e z = let h = beyond e in absent-passes n p h (sound .absent-link n p h)
 
   -- a receive channel that nobody holds passes; outside the cube where it is not armed
@@ -160,7 +125,7 @@ module _ (v : View) where
           let s = receive-stands sound n k h in
           rw e
           (or-right (eqb (v .receiver n k) 0) (and (sound .held-armed n k h) (and (reaches-passes _ (sound .receive-number n k) s)
-          (rw (path-is _ s) (eq-eqb n _ (s .once n k refl .0))))))
+          (rw (path-is v _ s) (eq-eqb n _ (s .once n k refl .0))))))
 
   pub sound-entries : Sound v → EntriesPass v
   sound-entries sound = record { links-pass = λ n p h l. sound-link sound n p; receives-pass = λ n k h l. sound-receive sound n k }
@@ -261,10 +226,6 @@ module _ (v : View) where
 
       receives : (n k : ℕ) → receiveTest v n k ≡ true
       receives n k = ⊎-elim (λ i. pass .receives-pass n k (i .0) (i .1)) (λ o. free-receive n k (framed .no-receive n k o) (λ out. framed .no-armed n k o)) (placed n k)
-
-  -- In a sound table a circuit that occurs has exactly one path and one receive channel.
-  pub stands-once : (c : ℕ) (s r : CircuitSound v c) → (s .path ≡ r .path) × (s .channel ≡ r .channel)
-  stands-once c s r = (sym (path-is c s) ∙ path-is c r, r .once (endFor v c (s .path)) (s .channel) (s .receives) .1)
 
 -- A made table is sound.
 pub fresh-sound : (D : ℕ) → Sound (fresh D)

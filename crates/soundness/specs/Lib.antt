@@ -1,7 +1,6 @@
--- When a table is sound, and how it is tested: the path of a circuit from the links that it holds.
+-- When a table is sound, and how it is tested.
 pub mod Sound
-pub mod Marks
 pub mod SoundTest
-pub mod Follow
+pub mod TableTests
 pub mod Counting
 pub mod TestContracts

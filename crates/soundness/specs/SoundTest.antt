@@ -1,33 +1,17 @@
--- The path of a circuit from the links that it holds; the test of a table that looks at each entry once, and for a held one follows its circuit; and the
--- tests of a lent table.
--- That the test decides soundness is proved (Soundness, Passing).
+-- The test of a table that looks at each entry once, and for a held one follows its circuit.
+-- That it decides soundness is proved (Soundness, Passing).
 -- Assumes nothing.
-use mathlib.Core.Bool.{Bool, true, false, cond, _&&_, _||_, not}
-use mathlib.Core.List.{List, [], _∷_, _++_}
-use Prim.Native.Nat.{ℕ, _*_, _^_}
-use lib.Dec.{eqb, ltb, leb}
-use lib.ListN.{length, drop}
+use mathlib.Core.Bool.{Bool, cond, _&&_, _||_, not}
+use Prim.Native.Nat.{ℕ}
+use lib.Dec.{eqb, leb}
 use Rattle.common.specs.Lists.{every}
-use Rattle.common.specs.Tests.{Test, test}
-use Rattle.cube.specs.Cube.{largestDimension, channels, sourceOf}
-use Rattle.paths.specs.Network.{Path, links, hasLink}
-use Rattle.paths.specs.Recover.{pathOfLinks}
-use Rattle.table.specs.Layout.{tableLength, portCount, dimensionAt}
-use Rattle.table.specs.View.{View, view, channelsHeld, shapeOf, net, heldBy}
-use Rattle.soundness.specs.Sound.{endFor}
+use Rattle.cube.specs.Cube.{portCount, channels, sourceOf}
+use Rattle.paths.specs.Network.{links, hasLink}
 use Rattle.paths.specs.CubeNetwork.{isNode, isLinkOf, circuitCount}
-
--- the path that the links held by circuit c make
-unfoldable pub pathOf : View → ℕ → Path
-pathOf v c = pathOfLinks (shapeOf v) (heldBy v c) (sourceOf c)
-
-unfoldable pub isEmpty : Path → Bool
-isEmpty [] = true
-isEmpty (p ∷ w) = false
-
--- "Tracing writes the ports of a circuit, one byte per hop in path order, from the start of a lent buffer; later bytes keep their content."
-unfoldable pub tracedInto : Path → List ℕ → List ℕ
-tracedInto w buffer = w ++ drop (length w) buffer
+use Rattle.table.specs.View.{View, shapeOf, net}
+use Rattle.table.specs.TableContracts.{channelsHeld}
+use Rattle.circuit_path.specs.PathOf.{pathOf, isEmpty}
+use Rattle.circuit_path.specs.CircuitSound.{endFor}
 
 -- The number is in range, its path is not empty, and it holds one channel where that ends. This is weaker than `CircuitSound`: a link off the path, or a
 -- channel elsewhere, fails at its own entry.
@@ -53,11 +37,3 @@ receiveTest v n k =
 -- the test of a whole table
 unfoldable pub soundTest : View → Bool
 soundTest v = every 256 (λ n. every portCount (linkTest v n) && every channels (receiveTest v n))
-
--- The tests of a lent table: its length is not 8,705; the dimension that it stores is outside 1 to 8; it is not sound.
-unfoldable pub tableTests : List ℕ → List Test
-tableTests b =
-    test (not (eqb (length b) tableLength)) 1
-    ∷ test (not (leb 1 (dimensionAt b) && leb (dimensionAt b) largestDimension)) 2
-    ∷ test (not (soundTest (view b))) 3
-    ∷ []

@@ -1,22 +1,13 @@
--- What the functions that test a table ask and answer. That the whole test decides soundness is proved (Soundness, Passing).
+-- What the functions that test a table ask.
 -- Assumes nothing.
 use mathlib.Core.Path.{_≡_}
 use mathlib.Core.List.{List}
 use Prim.Native.Nat.{ℕ, _^_, _≤_, _<_}
 use lib.ListN.{length}
-use Rattle.common.specs.Tests.{refusal}
-use Rattle.table.specs.Layout.{tableLength, dimensionAt}
-use Rattle.table.specs.LayoutContracts.{ArmsFit}
-use Rattle.table.specs.View.{view}
-use Rattle.soundness.specs.Sound.{Sound}
-use Rattle.soundness.specs.Marks.{markCount}
-use Rattle.soundness.specs.SoundTest.{tableTests}
-
--- What checking a table answers: the refusal of the first test that applies, 0 where none does. The third test is of soundness as declared.
-pub record TableAnswer (b : List ℕ) (answer : ℕ) : Type 0 where
-  pub tests : answer ≡ refusal (tableTests b)
-  pub sound : answer ≡ 0 → Sound (view b)
-  pub not-sound : answer ≡ 3 → Sound (view b) → ⊥
+use Rattle.cube.specs.Cube.{largestDimension}
+use Rattle.layout.specs.Layout.{tableLength, dimensionAt}
+use Rattle.table.specs.TableContracts.{ArmsFit}
+use Rattle.circuit_hops.specs.Marks.{markCount}
 
 -- what the parts of the test ask: the bytes of a table, and the dimension that they store, 8 at most
 pub record Usable (b : List ℕ) (dimension : ℕ) : Type 0 where
@@ -27,7 +18,7 @@ pub record Usable (b : List ℕ) (dimension : ℕ) : Type 0 where
 -- what the parts that look at receive channels ask: the bytes of a table, how many nodes its cube has, no channel armed at any other, and marks
 pub record ReceivePre (b : List ℕ) (nodes : ℕ) (m : List ℕ) : Type 0 where
   pub bytes : length b ≡ tableLength
-  pub fits : dimensionAt b ≤ 8
+  pub fits : dimensionAt b ≤ largestDimension
   pub count : nodes ≡ 2 ^ dimensionAt b
   pub arms : ArmsFit b (dimensionAt b)
   pub size : length m ≡ markCount

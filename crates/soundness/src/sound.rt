@@ -3,19 +3,15 @@ ghost use mathlib.Core.Path.{_≡_};
 ghost use mathlib.Core.Logic.{_≢_};
 ghost use mathlib.Core.Bool.{true};
 ghost use Prim.Native.Nat.{ℕ, _+_, _*_, _<_, _≤_};
-ghost use lib.Dec.{eqb};
-ghost use lib.Bits.{bitAnd};
-ghost use lib.ListN.{length, getD};
-ghost use Rattle.table.specs.Layout.{tableLength, dimensionAt};
-ghost use Rattle.table.specs.LayoutContracts.{HeldBy};
-ghost use Rattle.table.specs.View.{view, linksHeld};
-ghost use Rattle.soundness.specs.Marks.{withMarks};
-ghost use Rattle.soundness.specs.Follow.{HasSource};
-ghost use Rattle.soundness.specs.Counting.{Walks, WalkPre, Followed, Taken, TakePre, Counts, Frees};
+ghost use lib.ListN.{length};
+ghost use Rattle.cube.specs.Cube.{channels};
+ghost use Rattle.layout.specs.Layout.{tableLength};
+ghost use Rattle.table.specs.View.{view};
+ghost use Rattle.soundness.specs.Counting.{Counts, Frees};
 ghost use Rattle.soundness.specs.SoundTest.{soundTest};
-ghost use Rattle.soundness.specs.TestContracts.{Usable, ReceivePre, TableAnswer};
-use crate::circuit_path;
-use crate::circuit_path::NONE;
+ghost use Rattle.soundness.specs.TestContracts.{Usable, ReceivePre};
+ghost use Rattle.soundness.specs.TableTests.{TableAnswer};
+use circuit_path::NONE;
 use common::refusal;
 use cube::Circuit;
 use cube::Node;
@@ -28,131 +24,18 @@ const GROUPS: u16 = 16;
 // All links of a table.
 const LINKS: u32 = 2048;
 
-// The hops of a circuit that has made one, to a node: at each node the one link that it holds there, and uphill. NONE or more where it does not lead there.
-fn walk(t: &[u8], c: Circuit, from: Node, end: Node) -> u32
-    requires { ⌜ WalkPre (now t) (from .0) (end .0) ⌝ }
-    ensures { λ r. ⌜ Walks (view (now (t .entry))) (c .0) (end .0) (from .0) 1 r ⌝ }
-{
-    let mut at = from;
-    let mut hops: u32 = 1;
-    while at.0 != end.0 {
-        // The count beside the vector, and the vector behind both ends of the test: so the compiler reads the row in one go.
-        let held = table::held_by(t, c, at);
-        if table::links_held(t, c, at) > 1 {
-            return NONE + held as u32;
-        }
-        if held & cube::uphill_vector(at, end) == 0 {
-            return NONE;
-        }
-        at = Node(at.0 ^ held);
-        hops += 1;
-    }
-    hops
-}
-
-// The hops of a circuit that holds several links at its source: its path comes through there again.
-fn hops_back(t: &[u8], nodes: u16, c: Circuit, source: Node, end: Node) -> u32
-    requires { ⌜ TakePre (now t) nodes (c .0) (source .0) (end .0) ⌝ }
-    ensures { λ r. ⌜ Followed (view (now (t .entry))) (c .0) (end .0) r ⌝ }
-{
-    let first = circuit_path::first_hop(t, c, source, nodes - 1);
-    if first.0 >= 8 {
-        return NONE;
-    }
-    circuit_path::follow(t, c, cube::neighbour(source, first), nodes - 1, end)
-}
-
-// Marks the links that a circuit holds at its source. No other circuit holds one of them: so where one was marked before, the circuit was.
-fn mark_new(source: Node, held: u16, seen: &mut [u8]) -> bool
-    requires { ⌜ (source .0 < 256) × (held < 256) × (length (now seen) ≡ 256) ⌝ }
-    ensures { λ r. ⌜ r ≡ eqb (bitAnd (getD (now (seen .entry)) (source .0) 0) held) 0 ⌝ }
-    ensures { λ r. ⌜ (r ≡ true → now (seen .exit) ≡ withMarks (now (seen .entry)) (source .0) held) ⌝ }
-{
-    let at = source.0 as usize;
-    let old = table::wide(seen[at]);
-    if old & held != 0 {
-        return false;
-    }
-    seen[at] = ((old | held) % 256) as u8;
-    true
-}
-
-// The hops of a circuit to a node, where it holds at most one link at its source, and where it holds several.
-fn one_link(
-    t: &[u8],
-    nodes: u16,
-    c: Circuit,
-    source: Node,
-    held: u16,
-    end: Node,
-    seen: &mut [u8],
-) -> u32
-    requires { ⌜ TakePre (now t) nodes (c .0) (source .0) (end .0) × HeldBy (now t) (c .0) (source .0) held × (held < nodes) × (length (now seen) ≡ 256) ⌝ }
-    requires { ⌜ linksHeld (view (now t)) (c .0) (source .0) ≤ 1 ⌝ }
-    ensures { λ r. ⌜ Taken (view (now (t .entry))) (c .0) (end .0) (now (seen .entry)) (now (seen .exit)) r ⌝ }
-{
-    if held == 0 {
-        return NONE;
-    }
-    if mark_new(source, held, seen) {
-        walk(t, c, Node(source.0 ^ held), end)
-    } else {
-        NONE
-    }
-}
-
-fn several_links(
-    t: &[u8],
-    nodes: u16,
-    c: Circuit,
-    source: Node,
-    held: u16,
-    end: Node,
-    seen: &mut [u8],
-) -> u32
-    requires { ⌜ TakePre (now t) nodes (c .0) (source .0) (end .0) × HeldBy (now t) (c .0) (source .0) held × (length (now seen) ≡ 256) ⌝ }
-    ensures { λ r. ⌜ Taken (view (now (t .entry))) (c .0) (end .0) (now (seen .entry)) (now (seen .exit)) r ⌝ }
-{
-    if mark_new(source, held, seen) {
-        hops_back(t, nodes, c, source, end)
-    } else {
-        NONE
-    }
-}
-
-fn hops_to(t: &[u8], nodes: u16, c: Circuit, end: Node, seen: &mut [u8]) -> u32
-    requires { ⌜ ReceivePre (now t) nodes (now seen) × (0 < c .0) × (end .0 < nodes) ⌝ }
-    ensures { λ r. ⌜ Taken (view (now (t .entry))) (c .0) (end .0) (now (seen .entry)) (now (seen .exit)) r ⌝ }
-{
-    if c.0 > 8 * nodes {
-        return NONE;
-    }
-    let source = cube::source_of(c);
-    let held = table::held_by(t, c, source);
-    if table::links_held(t, c, source) > 1 {
-        if nodes <= held {
-            return NONE;
-        }
-        return several_links(t, nodes, c, source, held, end, seen);
-    }
-    if held >= nodes {
-        return NONE;
-    }
-    one_link(t, nodes, c, source, held, end, seen)
-}
-
 // The hops of the circuits that hold a node's receive channels.
 fn hops_at(t: &[u8], nodes: u16, n: Node, seen: &mut [u8]) -> u32
     requires { ⌜ ReceivePre (now t) nodes (now seen) × (n .0 < nodes) ⌝ }
-    requires { ⌜ ((k : ℕ) → k < 8 → view (now t) .receiver (n .0) k ≢ 0 → view (now t) .armed (n .0) k ≡ true) ⌝ }
-    ensures { λ r. ⌜ Counts (view (now (t .entry))) (8 * n .0) (8 * n .0 + 8) (now (seen .entry)) (now (seen .exit)) r ⌝ }
+    requires { ⌜ ((k : ℕ) → k < channels → view (now t) .receiver (n .0) k ≢ 0 → view (now t) .armed (n .0) k ≡ true) ⌝ }
+    ensures { λ r. ⌜ Counts (view (now (t .entry))) (channels * n .0) (channels * n .0 + channels) (now (seen .entry)) (now (seen .exit)) r ⌝ }
 {
     let mut hops: u32 = 0;
     let mut k: u16 = 0;
     while k < 8 {
         let c = table::receiver(t, n, k);
         if c.0 != 0 {
-            hops += hops_to(t, nodes, c, n, seen);
+            hops += circuit_hops::hops_to(t, nodes, c, n, seen);
         }
         k += 1;
     }
@@ -162,7 +45,7 @@ fn hops_at(t: &[u8], nodes: u16, n: Node, seen: &mut [u8]) -> u32
 // Most nodes of most tables hold nothing: they are passed over, in groups or else one by one.
 fn hops_of(t: &[u8], nodes: u16, n: Node, seen: &mut [u8]) -> u32
     requires { ⌜ ReceivePre (now t) nodes (now seen) × (n .0 < 256) ⌝ }
-    ensures { λ r. ⌜ Counts (view (now (t .entry))) (8 * n .0) (8 * n .0 + 8) (now (seen .entry)) (now (seen .exit)) r ⌝ }
+    ensures { λ r. ⌜ Counts (view (now (t .entry))) (channels * n .0) (channels * n .0 + channels) (now (seen .entry)) (now (seen .exit)) r ⌝ }
 {
     if table::receives_clear(t, n, 1) {
         return 0;
@@ -179,7 +62,7 @@ fn hops_of(t: &[u8], nodes: u16, n: Node, seen: &mut [u8]) -> u32
 
 fn hops_from(t: &[u8], nodes: u16, from: Node, seen: &mut [u8]) -> u32
     requires { ⌜ ReceivePre (now t) nodes (now seen) × (from .0 + 16 ≤ 256) ⌝ }
-    ensures { λ r. ⌜ Counts (view (now (t .entry))) (8 * from .0) (8 * from .0 + 128) (now (seen .entry)) (now (seen .exit)) r ⌝ }
+    ensures { λ r. ⌜ Counts (view (now (t .entry))) (channels * from .0) (channels * from .0 + channels * 16) (now (seen .entry)) (now (seen .exit)) r ⌝ }
 {
     let first = from.0;
     let mut hops: u32 = 0;
@@ -194,7 +77,7 @@ fn hops_from(t: &[u8], nodes: u16, from: Node, seen: &mut [u8]) -> u32
 
 fn hops_group(t: &[u8], nodes: u16, from: Node, seen: &mut [u8]) -> u32
     requires { ⌜ ReceivePre (now t) nodes (now seen) × (from .0 + 16 ≤ 256) ⌝ }
-    ensures { λ r. ⌜ Counts (view (now (t .entry))) (8 * from .0) (8 * from .0 + 128) (now (seen .entry)) (now (seen .exit)) r ⌝ }
+    ensures { λ r. ⌜ Counts (view (now (t .entry))) (channels * from .0) (channels * from .0 + channels * 16) (now (seen .entry)) (now (seen .exit)) r ⌝ }
 {
     if table::receives_clear(t, from, GROUP) {
         return 0;

@@ -12,11 +12,10 @@ use borrow.Author.Tests.{eqb-true}
 use Rattle.common.specs.Lists.{from}
 use Rattle.common.proofs.Every.{at}
 use Rattle.cube.specs.Bits.{has}
-use Rattle.table.specs.Layout.{tableLength, dimensionAt, maskPlace, maskAt, enablePart, armPart, enabledAt, armedAt}
-use Rattle.table.specs.Layout.{entryPlace, entryAt, linkPart, receivePart, ownerAt, receiverAt}
+use Rattle.layout.specs.Layout.{tableLength, dimensionAt, maskPlace, maskAt, enablePart, armPart, enabledAt, armedAt, entryPlace, entryAt, linkPart, receivePart, ownerAt, receiverAt}
+use Rattle.layout.proofs.Entries.{within, mask-has}
 use Rattle.table.specs.View.{view}
 use Rattle.table.specs.Encode.{bitsFrom, maskByte, maskBytes, entryBytes, encode}
-use Rattle.table.proofs.Entries.{within, mask-has}
 
 -- the bits of a byte make it
 byte-bits : (x : ℕ) → x < 256 → bitsFrom (has x) 0 8 ≡ x

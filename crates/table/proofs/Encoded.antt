@@ -15,12 +15,11 @@ use Rattle.common.proofs.From.{length-from}
 use Rattle.common.proofs.Tests.{same?}
 use Rattle.cube.specs.Bits.{has, flip, withBit}
 use Rattle.cube.proofs.Bits.{zero-has, with-bit-same, with-bit-other, with-bit-inside}
-use Rattle.table.specs.Layout.{inTable, dimensionAt, maskPlace, maskAt, enablePart, armPart, enabledAt, armedAt}
-use Rattle.table.specs.Layout.{entryPlace, entryAt, linkPart, receivePart, ownerAt, receiverAt, wordAt}
+use Rattle.layout.specs.Layout.{inTable, dimensionAt, maskPlace, maskAt, enablePart, armPart, enabledAt, armedAt, entryPlace, entryAt, linkPart, receivePart, ownerAt, receiverAt, wordAt}
+use Rattle.layout.proofs.Entries.{inside}
 use Rattle.table.specs.View.{View, view}
 use Rattle.table.specs.Encode.{bitsFrom, maskByte, maskBytes, entryBytes, encode, Bytes, EntriesFit, ViewFits}
 use Rattle.table.proofs.Encode.{encode-view}
-use Rattle.table.proofs.Views.{inside}
 
 -- a bit put in a byte that does not have it
 bit-added : (y p : ℕ) (on : Bool) → has y p ≡ false → cond on (2 ^ p) 0 + y ≡ withBit y p on

@@ -1,24 +1,24 @@
--- What a made table shows.
+-- The fills that make a table, and what a made table shows.
 -- Assumes nothing.
 use mathlib.Core.Path.{_≡_, refl, ap, ap₂, sym, _∙_}
 use mathlib.Core.Bool.{Bool, true, false, cond, _&&_, Bool·beq, true≢false, and-false}
-use mathlib.Core.List.{_++_}
-use Prim.Native.Nat.{ℕ, zero, suc, _+_, _-_, _^_, _≤_, _<_}
+use mathlib.Core.List.{List, _++_}
+use Prim.Native.Nat.{ℕ, zero, suc, _+_, _-_, _%_, _^_, _≤_, _<_}
 use native.Mathlib.Omega.{arith}
 use native.Mathlib.Numerals.{one-add}
 use lib.Dec.{ltb, lit≤}
-use lib.ListN.{length, getD, replicate, length-append, length-replicate, getD-replicate, List·getD-append}
+use lib.ListN.{length, getD, set, replicate, length-append, length-replicate, getD-replicate, List·getD-append}
 use borrow.Author.Tests.{ltb-true, ltb-false, le-ltb}
 use Rattle.common.proofs.Every.{at₂}
 use Rattle.cube.specs.Bits.{has}
 use Rattle.cube.proofs.Bits.{zero-has}
 use Rattle.cube.proofs.Ports.{most-nodes, below-256}
-use Rattle.table.specs.Layout.{tableLength, inTable, dimensionAt, armPlace, maskAt, enabledAt, armedAt, made}
-use Rattle.table.specs.Layout.{entryPlace, linkPart, receivePart, wordAt, entryAt, ownerAt, receiverAt}
+use Rattle.layout.specs.Layout.{tableLength, inTable, dimensionAt, armPlace, maskAt, enabledAt, armedAt, entryPlace, linkPart, receivePart, wordAt, entryAt, ownerAt, receiverAt}
+use Rattle.layout.specs.LayoutContracts.{filled}
+use Rattle.layout.proofs.Entries.{within, inside}
+use Rattle.layout.proofs.Fills.{made-is}
 use Rattle.table.specs.View.{view, fresh}
-use Rattle.table.specs.Encode.{Bytes}
-use Rattle.table.proofs.Entries.{within}
-use Rattle.table.proofs.Views.{inside}
+use Rattle.table.specs.Encode.{made, Bytes}
 
 -- a value k times and then zeros
 run-front : (k m x j : ℕ) → j < k → getD (replicate k x ++ replicate m 0) j 0 ≡ x
@@ -44,6 +44,13 @@ same-test false false e = refl
 pub ones : (D p : ℕ) → D < 9 → p < 8 → has (2 ^ D - 1) p ≡ ltb p D
 unfolding has
 ones D p h l = same-test _ _ (at₂ 9 8 (λ D p. Bool·beq (has (2 ^ D - 1) p) (ltb p D)) refl D p h l)
+
+-- two fills and the first byte: with as many nodes as the dimension has, and all their bits
+pub made-of : (b : List ℕ) (D n : ℕ) → length b ≡ tableLength → n ≡ 2 ^ D → 0 < n → n ≤ 256 → set (filled (filled b (1 + n) tableLength 0) 1 (1 + n) ((n - 1) % 256)) 0 D ≡ made D
+unfolding made
+made-of b D n h e s l =
+    let x : (n - 1) % 256 ≡ n - 1 = omega arith in
+    rw x (made-is b D n (n - 1) h l ∙ rw e)
 
 module _ (D : ℕ) (h : D < 9) where
   byte-of : (j : ℕ) → getD (made D) (suc j) 0 ≡ cond (ltb j (2 ^ D)) (2 ^ D - 1) 0

@@ -1,63 +1,27 @@
--- A row of eight entries: which of them are a circuit's, as loops find them, and what that says of links and receive channels.
+-- The row of a node: what its entries, found as a vector or counted, say of links and receive channels, and how many links nobody holds.
 -- Assumes nothing.
-use mathlib.Core.Path.{_≡_, refl, ap, ap₂, sym, _∙_, subst}
+use mathlib.Core.Path.{_≡_, refl, ap, ap₂, sym, _∙_}
 use mathlib.Core.Logic.{_≢_}
-use mathlib.Core.Bool.{true, false, _&&_, and-comm}
+use mathlib.Core.Bool.{true, _&&_, and-comm}
 use mathlib.Core.List.{List}
-use Prim.Native.Nat.{ℕ, _+_, _*_, _^_, _%_, _<_}
+use Prim.Native.Nat.{ℕ, _+_, _*_, _/_, _%_, _<_}
 use native.Mathlib.Omega.{arith}
-use native.Mathlib.Nat.{lt-of-lt-of-le}
-use lib.Dec.{eqb, lit<}
+use lib.Dec.{eqb}
 use lib.ListN.{length, getD}
-use lib.Bits.{bitXor, bitAnd}
-use lib.Pow.{pow-mono}
-use borrow.Author.Count.{below-more}
+use lib.Bits.{bitAnd}
 use borrow.Author.Tests.{eq-eqb, ne-eqb}
+use Rattle.common.specs.Decides.{Decides}
 use Rattle.common.specs.Lists.{from, lowest}
 use Rattle.common.proofs.Lists.{keep-same}
-use Rattle.common.proofs.From.{from-below}
+use Rattle.common.proofs.From.{from-below, count-yes, count-no}
 use Rattle.common.proofs.Lowest.{lowest-same}
-use Rattle.cube.specs.Bits.{has, flip}
-use Rattle.cube.proofs.Bits.{has-and, has-no-bit, high-has, bit-flipped, bit-kept, flip-xor, flip-inside}
-use Rattle.cube.proofs.Ports.{port-bit}
-use Rattle.table.specs.Layout.{entryPlace, linkPart, receivePart, armPart, armPlace, wordAt, entryAt, ownerAt, receiverAt, armedAt}
-use Rattle.table.specs.LayoutContracts.{RowVector, rowCount, HeldBy}
-use Rattle.table.specs.View.{view, linksHeld, channelsHeld, available, lowestChannel}
-use Rattle.table.proofs.Entries.{entry-is, mask-has}
-
--- what was found of the first k entries
-pub record Found (b : List ℕ) (i c k vector : ℕ) : Type 0 where
-  pub below : vector < 2 ^ k
-  pub bits : (j : ℕ) → j < k → has vector j ≡ eqb (wordAt b (i + 2 * j)) c
-
-module _ (b : List ℕ) (i c : ℕ) where
-  pub found-none : Found b i c 0 0
-  found-none = record { below = lit< tt; bits = λ j h. absurd (omega arith) }
-
-  module _ (k vector x : ℕ) (f : Found b i c k vector) (h : k < 8) (e : x ≡ wordAt b (i + 2 * k)) where
-    wider : vector < 2 ^ (k + 1)
-    wider = lt-of-lt-of-le (f .below) (pow-mono {i = k} {j = k + 1} (omega arith))
-
-    clear : has vector k ≡ false
-    clear = high-has k vector k (f .below) (omega arith)
-
-    pub found-no : x ≢ c → Found b i c (k + 1) vector
-    found-no z = record { below = wider; bits = below-more (λ (j : ℕ). has vector j ≡ eqb (wordAt b (i + 2 * j)) c) k (f .bits) (clear ∙ sym (ne-eqb _ c (λ y. z (e ∙ y)))) }
-
-    pub found-yes : x ≡ c → Found b i c (k + 1) (bitXor vector (1 * 2 ^ k % 65536))
-    found-yes z = rw (port-bit 16 k (omega arith), flip-xor vector k) (record {
-      below = flip-inside (k + 1) vector k wider (omega arith);
-      bits = below-more (λ (j : ℕ). has (flip vector k) j ≡ eqb (wordAt b (i + 2 * j)) c) k (λ j l. kept j l ∙ f .bits j l) (now ∙ sym (eq-eqb _ c (sym e ∙ z)));
-    })
-      where
-        kept : (j : ℕ) → j < k → has (flip vector k) j ≡ has vector j
-        kept j l = unfold has in ap (λ x. eqb x 1) (bit-kept vector k j (λ y. omega arith))
-
-        now : has (flip vector k) k ≡ true
-        now = unfold has in rw (bit-flipped vector k, has-no-bit vector k clear)
-
-  pub found-all : (k vector : ℕ) → k ≡ 8 → Found b i c k vector → RowVector b i c vector
-  found-all k vector e f = let g = subst (λ (x : ℕ). Found b i c x vector) e f in record { small = g .below; bits = g .bits }
+use Rattle.cube.specs.Bits.{has}
+use Rattle.cube.proofs.Bits.{has-and}
+use Rattle.layout.specs.Layout.{entryPlace, linkPart, receivePart, maskPlace, armPart, armPlace, wordAt, entryAt, maskAt, ownerAt, receiverAt, armedAt}
+use Rattle.layout.specs.LayoutContracts.{RowVector, rowCount}
+use Rattle.layout.proofs.Entries.{entry-is, mask-has}
+use Rattle.table.specs.View.{view, available}
+use Rattle.table.specs.TableContracts.{HeldBy, linksHeld, linkCount, freeCount, lowestChannel}
 
 -- the row of a node, in the part of links or in that of receive channels
 module _ (b : List ℕ) (n c i : ℕ) (h : n < 256) where
@@ -72,10 +36,6 @@ module _ (b : List ℕ) (n c i : ℕ) (h : n < 256) where
   unfolding rowCount linksHeld view ownerAt
   links-count e = ap length (keep-same _ _ (from 0 8) (λ p m. entry-test linkPart p e (from-below 8 p m)))
 
-  pub channels-count : i ≡ entryPlace receivePart n 0 → rowCount b i c ≡ channelsHeld (view b) c n
-  unfolding rowCount channelsHeld view receiverAt
-  channels-count e = ap length (keep-same _ _ (from 0 8) (λ k m. entry-test receivePart k e (from-below 8 k m)))
-
   pub channels-lowest : (vector : ℕ) → i ≡ entryPlace receivePart n 0 → RowVector b i c vector → lowest (has vector) 8 0 ≡ lowest (λ k. eqb (receiverAt b n k) c) 8 0
   unfolding receiverAt
   channels-lowest vector e r = lowest-same (has vector) _ 8 0 (λ k g l. r .bits k l ∙ entry-test receivePart k e l)
@@ -89,3 +49,30 @@ module _ (b : List ℕ) (n c i : ℕ) (h : n < 256) where
       has-and free armed k ∙ and-comm (has free k) (has armed k)
       ∙ ap₂ _&&_ (ap (λ x. has x k) a ∙ sym (mask-has b n k h l armPart))
       (r .bits k l ∙ entry-test receivePart k e l ∙ ap (eqb (entryAt receivePart b n k)) z))
+
+-- a mask that has every entry of a row that is not zero: of a node's entries in one part and its mask in another
+pub covers-node : (b : List ℕ) (n part masks i j : ℕ) {answer : _} → n < 256 → i ≡ entryPlace part n 0 → j ≡ maskPlace masks n
+    → Decides ((k : ℕ) → k < 8 → wordAt b (i + 2 * k) ≢ 0 → has (getD b j 0) k ≡ true) answer
+    → Decides ((k : ℕ) → k < 8 → entryAt part b n k ≢ 0 → maskAt masks b n k ≡ true) answer
+covers-node b n part masks i j h e f d =
+    record {
+      holds = λ t k l z. mask-has b n k h l masks ∙ ap (λ x. has (getD b x 0) k) (sym f) ∙ d .holds t k l (λ y. z (sym (word k l) ∙ y));
+      fails = λ t all. d .fails t (λ k l z. ap (λ x. has (getD b x 0) k) f ∙ sym (mask-has b n k h l masks) ∙ all k l (λ y. z (word k l ∙ y)));
+    }
+  where
+    word : (k : ℕ) → k < 8 → wordAt b (i + 2 * k) ≡ entryAt part b n k
+    word k l = entry-is b n k h l part (wordAt b (i + 2 * k)) (i + 2 * k) (omega arith) refl
+
+-- one more link is looked at
+module _ (b : List ℕ) (n i place x count : ℕ) (h : 8 * n + i < 2048) (p : place ≡ entryPlace linkPart n 0) (e : x ≡ wordAt b (place + 2 * i)) (c : count ≡ freeCount b (8 * n + i)) where
+  link : x ≡ ownerAt b ((8 * n + i) / 8) ((8 * n + i) % 8)
+  unfolding ownerAt
+  link = entry-is b ((8 * n + i) / 8) ((8 * n + i) % 8) (omega arith) (omega arith) linkPart x (place + 2 * i) (omega arith) e
+
+  pub free-yes : x ≡ 0 → count + 1 ≡ freeCount b (8 * n + i + 1)
+  unfolding freeCount linkCount
+  free-yes z = count-yes (λ l. eqb (ownerAt b (l / 8) (l % 8)) 0) (8 * n + i) count (eq-eqb _ 0 (sym link ∙ z)) c
+
+  pub free-no : x ≢ 0 → count ≡ freeCount b (8 * n + i + 1)
+  unfolding freeCount linkCount
+  free-no z = count-no (λ l. eqb (ownerAt b (l / 8) (l % 8)) 0) (8 * n + i) count (ne-eqb _ 0 (λ y. z (link ∙ y))) c

@@ -1,64 +1,22 @@
 -- What a table shows after one value is written: the new value at its place, and everything else as it was.
 -- Assumes nothing.
-use mathlib.Core.Path.{_≡_, refl, ap, sym, _∙_}
+use mathlib.Core.Path.{_≡_, refl, ap}
 use mathlib.Core.Logic.{_⊎_, inl, inr, ⊎-elim, _≢_}
 use mathlib.Core.Bool.{Bool, true, false, cond, _&&_}
 use mathlib.Core.List.{List}
-use Prim.Native.Nat.{ℕ, _+_, _*_, _/_, _%_, _≤_, _<_}
+use Prim.Native.Nat.{ℕ, _+_, _≤_, _<_}
 use native.Mathlib.Omega.{arith}
 use lib.Dec.{eqb, ltb, lit<, lit≤}
-use lib.ListN.{length, getD, set, length-set}
+use lib.ListN.{length, getD}
 use lib.Seq.{getD-set-same, getD-set-other}
 use borrow.Author.Tests.{ltb-true, ltb-false, eqb-true, eqb-false}
-use Rattle.common.proofs.Tests.{both-below}
 use Rattle.cube.specs.Bits.{has, withBit}
 use Rattle.cube.proofs.Bits.{with-bit-same, with-bit-other}
-use Rattle.table.specs.Layout.{inTable, dimensionAt, maskPlace, maskAt, enablePart, armPart, enabledAt, armedAt, putMask, putEnabled, putArmed}
-use Rattle.table.specs.Layout.{entryPlace, entryAt, linkPart, receivePart, ownerAt, receiverAt, wordAt, putWord, putEntry, putOwner, putReceiver}
-use Rattle.table.specs.LayoutContracts.{Within}
+use Rattle.layout.specs.Layout.{inTable, dimensionAt, maskPlace, maskAt, enablePart, armPart, enabledAt, armedAt, entryPlace, entryAt, linkPart, receivePart, ownerAt, receiverAt, wordAt}
+use Rattle.layout.specs.LayoutContracts.{putWord}
+use Rattle.layout.proofs.Entries.{within, inside, byte-apart, word-same, word-apart, place-one}
+use Rattle.entries.specs.EntryContracts.{putMask, putEnabled, putArmed, putEntry, putOwner, putReceiver, Within}
 use Rattle.table.specs.View.{view, setAt, setOwner, setReceiver, setEnabled, setArmed}
-use Rattle.table.proofs.Entries.{within}
-
--- a word written: the word there, and every byte and word apart from it
-module _ (b : List ℕ) (i c : ℕ) where
-  pub byte-apart : (j : ℕ) → j ≢ i → j ≢ i + 1 → getD (putWord b i c) j 0 ≡ getD b j 0
-  byte-apart j h k = getD-set-other (set b i (c % 256)) (i + 1) j (c / 256) 0 k ∙ getD-set-other b i j (c % 256) 0 h
-
-  pub word-same : i + 1 < length b → c < 65536 → wordAt (putWord b i c) i ≡ c
-  word-same h l =
-      let low : getD (putWord b i c) i 0 ≡ c % 256 = getD-set-other (set b i (c % 256)) (i + 1) i (c / 256) 0 (λ e. omega arith) ∙ getD-set-same b i (c % 256) 0 (omega arith) in
-      let high : getD (putWord b i c) (i + 1) 0 ≡ c / 256 = getD-set-same (set b i (c % 256)) (i + 1) (c / 256) 0 (rw (length-set b i (c % 256)) h) in
-      rw (low, high) (omega arith)
-
-  pub word-apart : (j : ℕ) → (j + 1 < i) ⊎ (i + 1 < j) → wordAt (putWord b i c) j ≡ wordAt b j
-  word-apart j h =
-      let low = byte-apart j (λ e. off h e) (λ e. off′ h e) in
-      let high = byte-apart (j + 1) (λ e. off″ h e) (λ e. off‴ h e) in
-      rw (low, high)
-    where
-      off : (j + 1 < i) ⊎ (i + 1 < j) → j ≢ i
-      off g e = ⊎-elim (λ x. omega arith) (λ x. omega arith) g
-
-      off′ : (j + 1 < i) ⊎ (i + 1 < j) → j ≢ i + 1
-      off′ g e = ⊎-elim (λ x. omega arith) (λ x. omega arith) g
-
-      off″ : (j + 1 < i) ⊎ (i + 1 < j) → j + 1 ≢ i
-      off″ g e = ⊎-elim (λ x. omega arith) (λ x. omega arith) g
-
-      off‴ : (j + 1 < i) ⊎ (i + 1 < j) → j + 1 ≢ i + 1
-      off‴ g e = ⊎-elim (λ x. omega arith) (λ x. omega arith) g
-
-pub inside : (n k : ℕ) → inTable n k ≡ true → (n < 256) × (k < 8)
-inside n k e = both-below e
-
--- two entries of one part lie at one place only if they are one
-place-one : (part m q n k : ℕ) → q < 8 → k < 8 → entryPlace part m q ≡ entryPlace part n k → (m ≡ n) × (q ≡ k)
-place-one part m q n k h l e =
-    let row : (8 * m + q) / 8 ≡ m = omega arith in
-    let row′ : (8 * n + k) / 8 ≡ n = omega arith in
-    let same : 8 * m + q ≡ 8 * n + k = omega arith in
-    let node : m ≡ n = sym row ∙ ap (_/ 8) same ∙ row′ in
-    (node, omega arith)
 
 -- an entry written: that entry, and every other of the same part and of the other
 module _ (part : ℕ) (b : List ℕ) (n k c : ℕ) (i : n < 256) (l : k < 8) where

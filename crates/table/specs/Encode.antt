@@ -1,12 +1,13 @@
--- The bytes of a table that shows a given view: the parts of its layout, one after another.
+-- The bytes of a table that shows a given view, the parts of its layout one after another; and those of a made table.
 -- Assumes nothing.
 use mathlib.Core.Bool.{Bool, false, cond}
 use mathlib.Core.List.{List, [], _∷_, _++_, map}
 use mathlib.Core.Path.{_≡_}
-use Prim.Native.Nat.{ℕ, zero, suc, _+_, _/_, _%_, _^_, _<_}
-use lib.ListN.{length, getD}
+use Prim.Native.Nat.{ℕ, zero, suc, _+_, _-_, _/_, _%_, _^_, _<_}
+use lib.ListN.{length, getD, replicate}
 use Rattle.common.specs.Lists.{from}
-use Rattle.table.specs.Layout.{tableLength, portCount, inTable}
+use Rattle.cube.specs.Cube.{portCount}
+use Rattle.layout.specs.Layout.{tableLength, inTable}
 use Rattle.table.specs.View.{View}
 
 -- a byte with bit p set where a test passes, for the w bits from p on
@@ -21,14 +22,19 @@ maskByte f n = bitsFrom (f n) 0 portCount
 unfoldable pub maskBytes : (ℕ → ℕ → Bool) → List ℕ
 maskBytes f = map (maskByte f) (from 0 256)
 
--- "Circuit numbers take two bytes, low byte first. Rows run node by node", 8 entries to a row: k entries from entry i on
+-- "Circuit numbers take two bytes, low byte first. Rows run node by node", `portCount` entries to a row: k entries from entry i on
 unfoldable pub entryBytes : (ℕ → ℕ → ℕ) → ℕ → ℕ → List ℕ
 entryBytes f i zero = []
-entryBytes f i (suc k) = f (i / 8) (i % 8) % 256 ∷ f (i / 8) (i % 8) / 256 ∷ entryBytes f (suc i) k
+entryBytes f i (suc k) = f (i / portCount) (i % portCount) % 256 ∷ f (i / portCount) (i % portCount) / 256 ∷ entryBytes f (suc i) k
 
 -- 1 byte, 256 bytes, 4,096 bytes, 4,096 bytes and 256 bytes
 unfoldable pub encode : View → List ℕ
 encode v = v .dimension ∷ maskBytes (v .enabled) ++ entryBytes (v .owner) 0 2048 ++ entryBytes (v .receiver) 0 2048 ++ maskBytes (v .armed)
+
+-- "Making a table gives dimension D, all its links enabled, nothing held", and "A made table has none armed": D, the D bits of each of its 2^D nodes,
+-- and nothing else
+unfoldable pub made : ℕ → List ℕ
+made D = D ∷ replicate (2 ^ D) (2 ^ D - 1) ++ replicate (tableLength - 1 - 2 ^ D) 0
 
 -- every number of a list is a byte
 abbrev pub AllBytes : List ℕ → Type 0

@@ -1,6 +1,5 @@
--- The table of document 01: where each value lies in its bytes, and what they show.
-pub mod Layout
-pub mod LayoutContracts
+-- The table of document 01: what its bytes show, and the bytes that show it.
 pub mod View
 pub mod Encode
+pub mod TableContracts
 pub mod Examples

@@ -4,15 +4,12 @@
 -- Assumes nothing.
 use mathlib.Core.Bool.{Bool, false, cond, not, _&&_}
 use mathlib.Core.List.{List}
-use Prim.Native.Nat.{ℕ, _^_}
-use lib.Dec.{eqb, ltb}
-use lib.ListN.{length}
-use Rattle.common.specs.Lists.{keep, from, lowest}
-use Rattle.cube.specs.Cube.{channels}
+use Prim.Native.Nat.{ℕ}
+use lib.Dec.{eqb}
 use Rattle.paths.specs.Network.{Network}
 use Rattle.paths.specs.Send.{Receive, lowestOf}
 use Rattle.paths.specs.CubeNetwork.{Shape, network, unfolded, isLinkOf}
-use Rattle.table.specs.Layout.{portCount, dimensionAt, enabledAt, ownerAt, receiverAt, armedAt}
+use Rattle.layout.specs.Layout.{dimensionAt, enabledAt, ownerAt, receiverAt, armedAt}
 
 pub record View : Type 0 where
   pub dimension : ℕ
@@ -55,13 +52,6 @@ setEnabled v n p on = record { dimension = v .dimension; enabled = setAt (v .ena
 unfoldable pub setArmed : View → ℕ → ℕ → Bool → View
 setArmed v n k on = record { dimension = v .dimension; enabled = v .enabled; owner = v .owner; receiver = v .receiver; armed = setAt (v .armed) n k on }
 
--- how many links, or receive channels, of node n circuit c holds
-unfoldable pub linksHeld : View → ℕ → ℕ → ℕ
-linksHeld v c n = length (keep (λ p. eqb (v .owner n p) c) (from 0 portCount))
-
-unfoldable pub channelsHeld : View → ℕ → ℕ → ℕ
-channelsHeld v c n = length (keep (λ k. eqb (v .receiver n k) c) (from 0 channels))
-
 -- every entry of a circuit freed: "Closing a circuit disarms its channel."
 unfoldable pub withoutCircuit : View → ℕ → View
 withoutCircuit v c =
@@ -76,10 +66,6 @@ withoutCircuit v c =
 -- a receive channel "that is armed and not held"
 unfoldable pub available : View → ℕ → ℕ → Bool
 available v n k = v .armed n k && eqb (v .receiver n k) 0
-
--- "its lowest channel that is armed and not held"; the number of channels where there is none
-unfoldable pub lowestChannel : View → ℕ → ℕ
-lowestChannel v n = lowest (available v n) channels 0
 
 unfoldable pub receive : View → ℕ → Receive
 receive v n = lowestOf (available v n)

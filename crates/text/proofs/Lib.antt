@@ -6,3 +6,4 @@ pub mod Cuts
 pub mod Fields
 pub mod Rows
 pub mod ReadBack
+pub mod Separated

@@ -3,3 +3,4 @@ pub mod Text
 pub mod Lines
 pub mod Row
 pub mod Written
+pub mod Above

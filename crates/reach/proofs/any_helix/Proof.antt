@@ -7,7 +7,7 @@ use lib.Pow.{pow-pos}
 use Rattle.common.specs.Lists.{any}
 use Rattle.cube.specs.Helical.{portsOf}
 use Rattle.cube.proofs.Ports.{below-256}
-use Rattle.table.specs.Layout.{dimensionAt}
+use Rattle.layout.specs.Layout.{dimensionAt}
 use Rattle.reach.specs.Marks.{helixEnabled}
 use Rattle.reach.proofs.Marks.{lowest-of, bit-below, none-passes, one-passes, rest-passes}
 use Rattle.reach.proofs.any_helix.Statement.{statement}

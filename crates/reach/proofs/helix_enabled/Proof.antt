@@ -4,7 +4,7 @@ use mathlib.Core.Path.{_≡_, refl, sym, _∙_}
 use Prim.Native.Nat.{_<_, _^_}
 use native.Mathlib.Omega.{arith}
 use Rattle.cube.proofs.Ports.{below-256}
-use Rattle.table.specs.Layout.{dimensionAt}
+use Rattle.layout.specs.Layout.{dimensionAt}
 use Rattle.table.specs.View.{view}
 use Rattle.reach.specs.Marks.{helixEnabled}
 use Rattle.reach.proofs.Walk.{hopsAfter, a-hop, node-there, walk-blocked, walk-ends, uphill-small, port-there, walk-on, walk-nearer}

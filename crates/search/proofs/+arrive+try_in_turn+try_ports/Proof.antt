@@ -2,15 +2,18 @@
 -- Assumes nothing.
 use borrow.Author.Needs.{needs}
 use native.Mathlib.Omega.{arith}
-use mathlib.Core.Path.{_∙_, ap}
+use mathlib.Core.Path.{refl, sym, _∙_, ap}
 use Prim.Native.Nat.{ℕ, _+_, _*_, _<_}
 use lib.Dec.{lit<}
 use lib.ListN.{length}
 use lib.Pow.{pow-pos}
-use Rattle.search.specs.SearchContracts.{hopsLeft, farthestAfter}
+use Rattle.answers.specs.PassAnswer.{hopsLeft}
+use Rattle.search.specs.SearchContracts.{farthestAfter}
 use Rattle.table.specs.View.{view}
-use Rattle.search.proofs.PassAnswer.{told-free, told-held, told-blocked}
-use Rattle.search.proofs.SearchContracts.{Turn, first-turn, byte-vector, here-tried, now-within, here-room, here-arrives, here-falls, turn-busy, turn-acknowledged, turn-full, turn-next, turn-over, arrive-receives, arrive-full, arrive-tries, arrive-may, arrive-falls}
+use Rattle.answers.proofs.PassAnswer.{told-free, told-held, told-blocked}
+use Rattle.cube.proofs.Order.{byte-vector}
+use Rattle.search.proofs.Turns.{Turn, first-turn, here-tried, now-within, now-enabled, here-room, here-arrives, here-falls, turn-busy, turn-acknowledged, turn-full, turn-next, turn-over}
+use Rattle.search.proofs.Arrivals.{arrive-receives, arrive-full, arrive-tries, arrive-may, arrive-falls}
 use borrow.Fn.Kinds.{In, Out}
 use borrow.Fn.PlainCycle.{Measures, is, falls, and}
 use Rattle.search.proofs.arrive.Reads as arrive
@@ -26,8 +29,9 @@ use Rattle.cube.proofs.first_port.Reads as first-port-reads
 use Rattle.cube.proofs.neighbour.Reads as neighbour-reads
 use Rattle.cube.proofs.uphill_vector.Reads as uphill-vector-reads
 use Rattle.cube.proofs.without.Reads as without-reads
+use Rattle.search.proofs.acknowledged.Reads as acknowledged-reads
 use Rattle.search.proofs.enabled_ports.Reads as enabled-ports-reads
-use Rattle.search.proofs.link_state.Reads as link-state-reads
+use Rattle.answers.proofs.link_state.Reads as link-state-reads
 use Rattle.table.proofs.free_channel.Reads as free-channel-reads
 use Rattle.table.proofs.set_owner.Reads as set-owner-reads
 use Rattle.search.proofs.+arrive+try_in_turn+try_ports.{statement}
@@ -74,6 +78,8 @@ abbrev arrive-in : ℕ → arrive-lts.Claims
 arrive-in t = (
   free-channel-reads.Asked,
   free-channel-reads.Learnt,
+  acknowledged-reads.Asked,
+  acknowledged-reads.Learnt,
   uphill-vector-reads.Asked,
   uphill-vector-reads.Learnt,
   enabled-ports-reads.Asked,
@@ -117,6 +123,12 @@ arrive-free-channel-requires t c κs =
     let s = c .before .before .before .before .before in
     record { bytes = s .pre .1 .1 .here .bytes; node = byte-vector (s .pre .1 .1 .here .fits) (s .pre .1 .1 .here .node); port = lit< tt }
 
+arrive-add-result : (t : ℕ) → arrive-At arrive-lts.Need-add-result t
+arrive-add-result t c = search needs
+
+arrive-acknowledged-requires : (t : ℕ) → arrive-At arrive-lts.Need-acknowledged-requires t
+arrive-acknowledged-requires t c κs = search needs
+
 arrive-uphill-vector-requires : (t : ℕ) → arrive-At arrive-lts.Need-uphill-vector-requires t
 arrive-uphill-vector-requires t c κs = search needs
 
@@ -132,8 +144,8 @@ arrive-try-ports-requires t c κs =
     let u = g .before in
     let e = u .before .before in
     let s = e .before .before .before .before in (
-      omega (arith, arrive-falls (s .pre .1 .1) (e .if1 .left) (u .uphill-vector .ensures) (g .enabled-ports .ensures), s .pre .0),
-      (s .pre .1 .0, arrive-may (s .pre .1 .1) (e .if1 .left) (u .uphill-vector .ensures) (g .enabled-ports .ensures)),
+      omega (arith, arrive-falls (s .pre .1 .1) (e .if1 .left) (u .uphill-vector .ensures) (g .enabled-ports .ensures .0), s .pre .0),
+      (s .pre .1 .0, (arrive-may (s .pre .1 .1) (e .if1 .left) (u .uphill-vector .ensures) (g .enabled-ports .ensures .0), g .enabled-ports .ensures .1)),
     )
 
 arrive-same-length : (t : ℕ) → arrive-At arrive-lts.Need-same-length t
@@ -151,10 +163,10 @@ arrive-same-length-2 t c = search needs
 
 arrive-returns-2 : (t : ℕ) → arrive-At arrive-lts.Need-returns-2 t
 arrive-returns-2 t c =
-    let k = c .before in
+    let k = c .before .before in
     let e = k .before .before in
     let s = e .before .before .before .before in
-    arrive-receives (s .pre .1 .1) (e .if1 .taken) (k .free-channel .ensures) (c .if2 .left)
+    rw (c .acknowledged .ensures) (arrive-receives (s .pre .1 .1) (e .if1 .taken) (k .free-channel .ensures) (c .before .if2 .left))
 
 arrive-same-length-3 : (t : ℕ) → arrive-At arrive-lts.Need-same-length-3 t
 arrive-same-length-3 t c = search needs
@@ -166,24 +178,24 @@ arrive-returns-3 t c =
     let u = g .before in
     let e = u .before .before in
     let s = e .before .before .before .before in
-    y .try-ports .ensures ∙ arrive-tries (s .pre .1 .1) (e .if1 .left) (u .uphill-vector .ensures) (g .enabled-ports .ensures)
+    record { same = y .try-ports .ensures .same ∙ arrive-tries (s .pre .1 .1) (e .if1 .left) (u .uphill-vector .ensures) (g .enabled-ports .ensures .0) }
 
 try-in-turn-loop-holds : (t : ℕ) → try-in-turn-At try-in-turn-lts.Need-loop-holds t
 try-in-turn-loop-holds t c =
     let s = c .before in
-    first-turn (s .pre .1 .1)
+    first-turn (s .pre .1 .1 .0)
 
 try-in-turn-first-port-requires : (t : ℕ) → try-in-turn-At try-in-turn-lts.Need-first-port-requires t
 try-in-turn-first-port-requires t c κs =
     let l = c .before in
     let s = l .before .before in
-    (byte-vector (s .pre .1 .1 .here .fits) (l .loop .inv .ports), s .pre .1 .1 .here .port, s .pre .1 .0)
+    (byte-vector (s .pre .1 .1 .0 .here .fits) (l .loop .inv .ports), s .pre .1 .1 .0 .here .port, s .pre .1 .0)
 
 try-in-turn-without-requires : (t : ℕ) → try-in-turn-At try-in-turn-lts.Need-without-requires t
 try-in-turn-without-requires t c κs =
     let l = c .before .before in
     let s = l .before .before in
-    let r = here-tried (s .pre .1 .1) (l .loop .inv) (c .before .loop-test .taken) (c .first-port .ensures) in
+    let r = here-tried (s .pre .1 .1 .0) (l .loop .inv) (c .before .loop-test .taken) (c .first-port .ensures) in
     (omega (arith, r .small), r .offered)
 
 try-in-turn-link-state-requires : (t : ℕ) → try-in-turn-At try-in-turn-lts.Need-link-state-requires t
@@ -191,7 +203,7 @@ try-in-turn-link-state-requires t c κs =
     let f = c .before .before in
     let l = f .before .before in
     let s = l .before .before in
-    now-within (s .pre .1 .1) (l .loop .inv) (f .before .loop-test .taken) (f .first-port .ensures)
+    (now-within (s .pre .1 .1 .0) (l .loop .inv) (f .before .loop-test .taken) (f .first-port .ensures), sym (now-enabled (s .pre .1 .1 .0) (l .loop .inv) (f .before .loop-test .taken) (f .first-port .ensures) (s .pre .1 .1 .1)))
 
 try-in-turn-enum-told : (t : ℕ) → try-in-turn-At try-in-turn-lts.Need-enum-told t
 try-in-turn-enum-told t c = search needs
@@ -201,7 +213,7 @@ try-in-turn-set-owner-requires t c κs =
     let f = c .before .before .before .before .before .before in
     let l = f .before .before in
     let s = l .before .before in
-    now-within (s .pre .1 .1) (l .loop .inv) (f .before .loop-test .taken) (f .first-port .ensures)
+    now-within (s .pre .1 .1 .0) (l .loop .inv) (f .before .loop-test .taken) (f .first-port .ensures)
 
 try-in-turn-neighbour-requires : (t : ℕ) → try-in-turn-At try-in-turn-lts.Need-neighbour-requires t
 try-in-turn-neighbour-requires t c κs =
@@ -209,7 +221,7 @@ try-in-turn-neighbour-requires t c κs =
     let f = i .before .before .before in
     let l = f .before .before in
     let s = l .before .before in
-    omega (arith, here-tried (s .pre .1 .1) (l .loop .inv) (f .before .loop-test .taken) (f .first-port .ensures) .small)
+    omega (arith, here-tried (s .pre .1 .1 .0) (l .loop .inv) (f .before .loop-test .taken) (f .first-port .ensures) .small)
 
 try-in-turn-add-arrive : (t : ℕ) → try-in-turn-At try-in-turn-lts.Need-add-arrive t
 try-in-turn-add-arrive t c = search needs
@@ -220,7 +232,7 @@ try-in-turn-add-arrive-2 t c =
     let f = i .before .before .before in
     let l = f .before .before in
     let s = l .before .before in
-    omega (arith, here-room (s .pre .1 .1) (l .loop .inv) (f .before .loop-test .taken) (f .first-port .ensures))
+    omega (arith, here-room (s .pre .1 .1 .0) (l .loop .inv) (f .before .loop-test .taken) (f .first-port .ensures))
 
 try-in-turn-arrive-requires : (t : ℕ) → try-in-turn-At try-in-turn-lts.Need-arrive-requires t
 try-in-turn-arrive-requires t c κs =
@@ -229,13 +241,13 @@ try-in-turn-arrive-requires t c κs =
     let f = i .before .before .before in
     let l = f .before .before in
     let s = l .before .before in (
-      omega (arith, here-falls (s .pre .1 .1) (l .loop .inv) (f .before .loop-test .taken) (f .first-port .ensures) (o .set-owner .ensures) (c .neighbour .ensures), s .pre .0),
-      (s .pre .1 .0, here-arrives (s .pre .1 .1) (l .loop .inv) (f .before .loop-test .taken) (f .first-port .ensures) (o .set-owner .ensures) (c .neighbour .ensures)),
+      omega (arith, here-falls (s .pre .1 .1 .0) (l .loop .inv) (f .before .loop-test .taken) (f .first-port .ensures) (o .set-owner .ensures) (c .neighbour .ensures), s .pre .0),
+      (s .pre .1 .0, here-arrives (s .pre .1 .1 .0) (l .loop .inv) (f .before .loop-test .taken) (f .first-port .ensures) (o .set-owner .ensures) (c .neighbour .ensures)),
     )
 
 try-in-turn-same-length : (t : ℕ) → try-in-turn-At try-in-turn-lts.Need-same-length t
 try-in-turn-same-length t c =
-    let y = c .before .before .before .before in
+    let y = c .before .before .before in
     let o = y .before .before .before .before .before in
     let i = o .before .before .before .before in
     let f = i .before .before .before in
@@ -244,47 +256,50 @@ try-in-turn-same-length t c =
 
 try-in-turn-returns : (t : ℕ) → try-in-turn-At try-in-turn-lts.Need-returns t
 try-in-turn-returns t c =
+    let y = c .before .before .before in
+    let o = y .before .before .before .before .before in
+    let i = o .before .before .before .before in
+    let f = i .before .before .before in
+    let l = f .before .before in
+    let s = l .before .before in
+    turn-acknowledged (s .pre .1 .1 .0) (l .loop .inv) (f .before .loop-test .taken) (f .first-port .ensures) (told-free (view (l .loop .t)) (s .args .at .0) (f .first-port .result .0) (i .link-state .ensures) (o .before .before .enum-told .given .1)) (o .set-owner .ensures) (y .before .neighbour .ensures) (y .arrive .ensures) (c .if1 .taken)
+
+try-in-turn-set-owner-requires-2 : (t : ℕ) → try-in-turn-At try-in-turn-lts.Need-set-owner-requires-2 t
+try-in-turn-set-owner-requires-2 t c κs =
     let y = c .before .before .before .before in
     let o = y .before .before .before .before .before in
     let i = o .before .before .before .before in
     let f = i .before .before .before in
     let l = f .before .before in
     let s = l .before .before in
-    turn-acknowledged (s .pre .1 .1) (l .loop .inv) (f .before .loop-test .taken) (f .first-port .ensures) (told-free (view (l .loop .t)) (s .args .at .0) (f .first-port .result .0) (i .link-state .ensures) (o .before .before .enum-told .given .1)) (o .set-owner .ensures) (y .before .neighbour .ensures) (y .arrive .ensures) (c .if1 .taken)
-
-try-in-turn-set-owner-requires-2 : (t : ℕ) → try-in-turn-At try-in-turn-lts.Need-set-owner-requires-2 t
-try-in-turn-set-owner-requires-2 t c κs =
-    let y = c .before .before .before .before .before in
-    let o = y .before .before .before .before .before in
-    let i = o .before .before .before .before in
-    let f = i .before .before .before in
-    let l = f .before .before in
-    let s = l .before .before in
-    let w = now-within (s .pre .1 .1) (l .loop .inv) (f .before .loop-test .taken) (f .first-port .ensures) in
+    let w = now-within (s .pre .1 .1 .0) (l .loop .inv) (f .before .loop-test .taken) (f .first-port .ensures) in
     record { bytes = y .arrive .kept .0 ∙ o .set-owner .kept .0 ∙ w .bytes; node = w .node; port = w .port }
 
 try-in-turn-same-length-2 : (t : ℕ) → try-in-turn-At try-in-turn-lts.Need-same-length-2 t
 try-in-turn-same-length-2 t c =
-    let y = c .before .before .before .before .before .before .before .before .before .before in
+    let y = c .before .before .before .before .before .before .before .before in
     let o = y .before .before .before .before .before in
     let i = o .before .before .before .before in
     let f = i .before .before .before in
     let l = f .before .before in
-    omega (arith, c .before .before .before .before .set-owner2 .kept .0, y .arrive .kept .0, o .set-owner .kept .0, ap length (l .loop .inv .same))
+    omega (arith, c .before .before .before .set-owner2 .kept .0, y .arrive .kept .0, o .set-owner .kept .0, ap length (l .loop .inv .same))
 
 try-in-turn-returns-2 : (t : ℕ) → try-in-turn-At try-in-turn-lts.Need-returns-2 t
 try-in-turn-returns-2 t c =
-    let y = c .before .before .before .before .before .before .before .before .before .before in
+    let y = c .before .before .before .before .before .before .before .before in
     let o = y .before .before .before .before .before in
     let i = o .before .before .before .before in
     let f = i .before .before .before in
     let l = f .before .before in
     let s = l .before .before in
-    turn-full (s .pre .1 .1) (l .loop .inv) (f .before .loop-test .taken) (f .first-port .ensures) (told-free (view (l .loop .t)) (s .args .at .0) (f .first-port .result .0) (i .link-state .ensures) (o .before .before .enum-told .given .1)) (o .set-owner .ensures) (y .before .neighbour .ensures) (y .arrive .ensures) (c .if2 .taken) (c .before .before .before .before .set-owner2 .ensures)
+    turn-full (s .pre .1 .1 .0) (l .loop .inv) (f .before .loop-test .taken) (f .first-port .ensures) (told-free (view (l .loop .t)) (s .args .at .0) (f .first-port .result .0) (i .link-state .ensures) (o .before .before .enum-told .given .1)) (o .set-owner .ensures) (y .before .neighbour .ensures) (y .arrive .ensures) (c .if2 .taken) (c .before .before .before .before .before .if1 .left) (c .before .before .before .set-owner2 .ensures)
+
+try-in-turn-cast-sent : (t : ℕ) → try-in-turn-At try-in-turn-lts.Need-cast-sent t
+try-in-turn-cast-sent t c = omega (arith, c .if2 .left)
 
 try-in-turn-loop-less : (t : ℕ) → try-in-turn-At try-in-turn-lts.Need-loop-less t
 try-in-turn-loop-less t c =
-    let y = c .before .before .before .before .before .before .before .before .before .before in
+    let y = c .before .before .before .before .before .before .before .before in
     let o = y .before .before .before .before .before in
     let i = o .before .before .before .before in
     let f = i .before .before .before in
@@ -292,13 +307,13 @@ try-in-turn-loop-less t c =
 
 try-in-turn-loop-again : (t : ℕ) → try-in-turn-At try-in-turn-lts.Need-loop-again t
 try-in-turn-loop-again t c =
-    let y = c .before .before .before .before .before .before .before .before .before .before in
+    let y = c .before .before .before .before .before .before .before .before in
     let o = y .before .before .before .before .before in
     let i = o .before .before .before .before in
     let f = i .before .before .before in
     let l = f .before .before in
     let s = l .before .before in
-    turn-next (s .pre .1 .1) (l .loop .inv) (f .before .loop-test .taken) (f .first-port .ensures) (told-free (view (l .loop .t)) (s .args .at .0) (f .first-port .result .0) (i .link-state .ensures) (o .before .before .enum-told .given .1)) (o .set-owner .ensures) (y .before .neighbour .ensures) (y .arrive .ensures) (c .before .before .before .before .before .before .if1 .left) (c .if2 .left) (i .before .before .without .ensures) (c .before .before .before .before .set-owner2 .ensures)
+    turn-next (s .pre .1 .1 .0) (l .loop .inv) (f .before .loop-test .taken) (f .first-port .ensures) (told-free (view (l .loop .t)) (s .args .at .0) (f .first-port .result .0) (i .link-state .ensures) (o .before .before .enum-told .given .1)) (o .set-owner .ensures) (y .before .neighbour .ensures) (y .arrive .ensures) (c .if2 .left) (i .before .before .without .ensures) (c .before .before .before .set-owner2 .ensures) refl
 
 try-in-turn-enum-told-2 : (t : ℕ) → try-in-turn-At try-in-turn-lts.Need-enum-told-2 t
 try-in-turn-enum-told-2 t c = search needs
@@ -315,7 +330,7 @@ try-in-turn-loop-again-2 t c =
     let f = i .before .before .before in
     let l = f .before .before in
     let s = l .before .before in
-    turn-busy (s .pre .1 .1) (l .loop .inv) (f .before .loop-test .taken) (f .first-port .ensures)
+    turn-busy (s .pre .1 .1 .0) (l .loop .inv) (f .before .loop-test .taken) (f .first-port .ensures)
     (told-held (view (l .loop .t)) (s .args .at .0) (f .first-port .result .0) (i .link-state .ensures) (c .enum-told2 .given .1)) (i .before .before .without .ensures)
 
 try-in-turn-enum-told-3 : (t : ℕ) → try-in-turn-At try-in-turn-lts.Need-enum-told-3 t
@@ -333,8 +348,11 @@ try-in-turn-loop-again-3 t c =
     let f = i .before .before .before in
     let l = f .before .before in
     let s = l .before .before in
-    turn-busy (s .pre .1 .1) (l .loop .inv) (f .before .loop-test .taken) (f .first-port .ensures)
+    turn-busy (s .pre .1 .1 .0) (l .loop .inv) (f .before .loop-test .taken) (f .first-port .ensures)
     (told-blocked (view (l .loop .t)) (s .args .at .0) (f .first-port .result .0) (i .link-state .ensures) (c .enum-told3 .given .1)) (i .before .before .without .ensures)
+
+try-in-turn-cast-result : (t : ℕ) → try-in-turn-At try-in-turn-lts.Need-cast-result t
+try-in-turn-cast-result t c = search needs
 
 try-in-turn-same-length-3 : (t : ℕ) → try-in-turn-At try-in-turn-lts.Need-same-length-3 t
 try-in-turn-same-length-3 t c = search needs
@@ -345,7 +363,7 @@ try-in-turn-returns-3 t c = turn-over (c .before .loop .inv) (c .loop-test .left
 try-ports-returns : (t : ℕ) → try-ports-At try-ports-lts.Need-returns t
 try-ports-returns t c =
     let s = c .before .before in
-    turn-over (first-turn (s .pre .1 .1)) (c .if1 .taken)
+    turn-over (first-turn (s .pre .1 .1 .0)) (c .if1 .taken)
 
 try-ports-try-in-turn-requires : (t : ℕ) → try-ports-At try-ports-lts.Need-try-in-turn-requires t
 try-ports-try-in-turn-requires t c κs =
@@ -365,6 +383,8 @@ pub +arrive+try-in-turn+try-ports-spec : {M : Type 1} → statement M
     (arrive-at t)
     arrive.Post
     (arrive-free-channel-requires t)
+    (arrive-add-result t)
+    (arrive-acknowledged-requires t)
     (arrive-uphill-vector-requires t)
     (arrive-enabled-ports-requires t)
     (arrive-try-ports-requires t)
@@ -394,6 +414,7 @@ pub +arrive+try-in-turn+try-ports-spec : {M : Type 1} → statement M
     (try-in-turn-set-owner-requires-2 t)
     (try-in-turn-same-length-2 t)
     (try-in-turn-returns-2 t)
+    (try-in-turn-cast-sent t)
     (try-in-turn-loop-less t)
     (try-in-turn-loop-again t)
     (try-in-turn-enum-told-2 t)
@@ -402,6 +423,7 @@ pub +arrive+try-in-turn+try-ports-spec : {M : Type 1} → statement M
     (try-in-turn-enum-told-3 t)
     (try-in-turn-loop-less-3 t)
     (try-in-turn-loop-again-3 t)
+    (try-in-turn-cast-result t)
     (try-in-turn-same-length-3 t)
     (try-in-turn-returns-3 t))
     λ t. try-ports-lts.spec (try-ports-in t)

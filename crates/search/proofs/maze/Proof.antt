@@ -2,7 +2,9 @@
 -- Assumes nothing.
 use mathlib.Core.Path.{_∙_}
 use lib.Dec.{lit<}
-use Rattle.search.proofs.SearchContracts.{byte-vector, narrow-may}
+use Rattle.cube.proofs.Order.{byte-vector}
+use Rattle.search.proofs.Narrow.{narrow-may}
+use Rattle.search.proofs.PackedAnswer.{read-off}
 use Rattle.search.proofs.Sends.{may-try, maze-channel, maze-taken, maze-rejected}
 use borrow.Author.Needs.{needs}
 use Rattle.search.proofs.maze.Statement.{statement}
@@ -18,18 +20,22 @@ try-in-turn-requires : tie.Need-try-in-turn-requires
 try-in-turn-requires c κs =
     let e = c .before in
     let s = e .before .before .before in
-    (s .pre .0, narrow-may (may-try (s .pre .1)) (e .enabled-ports .ensures))
+    (s .pre .0, (narrow-may (may-try (s .pre .1)) (e .enabled-ports .ensures .0), e .enabled-ports .ensures .1))
+
+unpacked-requires : tie.Need-unpacked-requires
+unpacked-requires c κs = search needs
 
 set-receiver-requires : tie.Need-set-receiver-requires
 set-receiver-requires c κs =
-    let g = c .before .before .before .before .before in
+    let u = c .before .before .before in
+    let g = u .before .before .before in
     let e = g .before .before in
     let s = e .before .before .before in
     let may = s .pre .1 in
     record {
       bytes = g .try-in-turn .kept .0 ∙ may .bytes;
       node = byte-vector (may .fits) (may .target);
-      port = maze-channel may (e .enabled-ports .ensures) (g .try-in-turn .ensures) (c .before .if1 .taken);
+      port = maze-channel may (e .enabled-ports .ensures .0) (read-off (u .unpacked .ensures) (g .try-in-turn .ensures)) (c .before .if1 .taken);
     }
 
 same-length : tie.Need-same-length
@@ -38,20 +44,22 @@ same-length c = search needs
 returns : tie.Need-returns
 returns c =
     let r = c .before .before in
-    let g = r .before .before .before .before .before .before in
+    let u = r .before .before .before .before in
+    let g = u .before .before .before in
     let e = g .before .before in
     let s = e .before .before .before in
-    maze-taken (s .pre .1) (e .enabled-ports .ensures) (g .try-in-turn .ensures) (r .before .before .if1 .taken) (r .set-receiver .ensures)
+    maze-taken (s .pre .1) (e .enabled-ports .ensures .0) (read-off (u .unpacked .ensures) (g .try-in-turn .ensures)) (r .before .before .if1 .taken) (r .set-receiver .ensures)
 
 same-length-2 : tie.Need-same-length-2
 same-length-2 c = search needs
 
 returns-2 : tie.Need-returns-2
 returns-2 c =
-    let g = c .before .before .before .before in
+    let u = c .before .before in
+    let g = u .before .before .before in
     let e = g .before .before in
     let s = e .before .before .before in
-    maze-rejected (s .pre .1) (e .enabled-ports .ensures) (g .try-in-turn .ensures) (c .if1 .left)
+    maze-rejected (s .pre .1) (e .enabled-ports .ensures .0) (read-off (u .unpacked .ensures) (g .try-in-turn .ensures)) (c .if1 .left)
 
 pub maze-spec : {M : Type 1} → statement M
-maze-spec = tie.close (tie.spec enabled-ports-requires try-in-turn-requires set-receiver-requires same-length returns same-length-2 returns-2)
+maze-spec = tie.close (tie.spec enabled-ports-requires try-in-turn-requires unpacked-requires set-receiver-requires same-length returns same-length-2 returns-2)

@@ -1,6 +1,6 @@
 -- `router::calls::arm` meets its contract: its tests, then the bit of the armed channel.
 -- Assumes nothing.
-use Rattle.router.proofs.Stopping.{arm-passed, receive-within}
+use Rattle.call_tests.proofs.Stopping.{arm-passed, receive-within}
 use Rattle.router.proofs.TableStep.{call-arms, call-stopped}
 use native.Mathlib.Omega.{arith}
 use borrow.Author.Needs.{needs}

@@ -1,6 +1,6 @@
 -- `router::calls::block` meets its contract: its tests, then the enable bit.
 -- Assumes nothing.
-use Rattle.router.proofs.Stopping.{block-passed, link-within}
+use Rattle.call_tests.proofs.Stopping.{block-passed, link-within}
 use Rattle.router.proofs.TableStep.{call-blocks, call-stopped}
 use native.Mathlib.Omega.{arith}
 use borrow.Author.Needs.{needs}

@@ -1,7 +1,7 @@
 -- `router::calls::close` meets its contract: its tests, then every entry of the circuit freed.
 -- Assumes nothing.
 use mathlib.Core.Path.{_∙_}
-use Rattle.router.proofs.Stopping.{close-passed, small-source, has-source, channel-path}
+use Rattle.call_tests.proofs.Stopping.{close-passed, small-source, has-source, channel-path}
 use Rattle.router.proofs.TableStep.{call-stopped, call-closes}
 use native.Mathlib.Omega.{arith}
 use borrow.Author.Needs.{needs}

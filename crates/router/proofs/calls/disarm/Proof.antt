@@ -1,6 +1,6 @@
 -- `router::calls::disarm` meets its contract: its tests, then the bit of the armed channel.
 -- Assumes nothing.
-use Rattle.router.proofs.Stopping.{disarm-passed, receive-within}
+use Rattle.call_tests.proofs.Stopping.{disarm-passed, receive-within}
 use Rattle.router.proofs.TableStep.{call-disarms, call-stopped}
 use native.Mathlib.Omega.{arith}
 use borrow.Author.Needs.{needs}

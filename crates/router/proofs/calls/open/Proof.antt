@@ -1,7 +1,7 @@
 -- `router::calls::open` meets its contract: its tests, then the send of its routing type.
 -- Assumes nothing.
 use native.Mathlib.Omega.{arith}
-use Rattle.router.proofs.Stopping.{open-passed, small-source, node-room}
+use Rattle.call_tests.proofs.Stopping.{open-passed, small-source, node-room}
 use Rattle.router.proofs.TableStep.{call-stopped, call-opens}
 use borrow.Author.Needs.{needs}
 use Rattle.router.proofs.calls.open.Statement.{statement}

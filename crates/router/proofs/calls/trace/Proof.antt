@@ -1,7 +1,7 @@
 -- `router::calls::trace` meets its contract: its tests, then the path of the circuit written.
 -- Assumes nothing.
 use mathlib.Core.Path.{_∙_}
-use Rattle.router.proofs.Stopping.{trace-passed, small-source, has-source, channel-path}
+use Rattle.call_tests.proofs.Stopping.{trace-passed, small-source, has-source, channel-path}
 use Rattle.router.proofs.TableStep.{call-stopped, call-traces}
 use native.Mathlib.Omega.{arith}
 use borrow.Author.Needs.{needs}

@@ -1,6 +1,6 @@
 -- `soundness::sound::all_free` meets its contract: the groups so far are counted.
 -- Assumes nothing.
-use mathlib.Core.Path.{_≡_, ap, subst}
+use mathlib.Core.Path.{_≡_, subst}
 use Prim.Native.Nat.{ℕ, _+_, _*_, _-_, _≤_}
 use native.Mathlib.Omega.{arith}
 use Rattle.table.specs.View.{view}

@@ -5,7 +5,7 @@ use native.Mathlib.Omega.{arith}
 use borrow.Author.Needs.{needs}
 use borrow.Author.Tests.{not-true, not-false}
 use Rattle.cube.proofs.Ports.{count-of}
-use Rattle.table.specs.LayoutContracts.{ArmsFit, EnablesFit}
+use Rattle.table.specs.TableContracts.{ArmsFit, EnablesFit}
 use Rattle.soundness.proofs.Deciding.{sound-arms, sound-enables, refuse, sum-answers}
 use Rattle.soundness.proofs.sound.entries_sound.Statement.{statement}
 use Rattle.soundness.proofs.sound.entries_sound.Tie as tie

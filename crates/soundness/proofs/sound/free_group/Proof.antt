@@ -1,6 +1,5 @@
 -- `soundness::sound::free_group` meets its contract: nothing is held there, or the nodes are looked at.
 -- Assumes nothing.
-use Rattle.table.specs.View.{view}
 use Rattle.soundness.proofs.Free.{frees-clear}
 use borrow.Author.Needs.{needs}
 use Rattle.soundness.proofs.sound.free_group.Statement.{statement}

@@ -8,9 +8,10 @@ use native.Mathlib.Nat.{add-zero}
 use lib.ListN.{length}
 use Rattle.table.specs.View.{view}
 use Rattle.soundness.specs.Counting.{Counts}
-use Rattle.soundness.proofs.Following.{nodes-most, positive}
-use Rattle.soundness.proofs.Counting.{counts-skip, counts-join, counts-entry, counts-as}
-use Rattle.soundness.proofs.Ways.{shown}
+use Rattle.circuit_hops.proofs.Taken.{nodes-most, positive}
+use Rattle.soundness.proofs.Counting.{counts-skip, counts-join, counts-as}
+use Rattle.soundness.proofs.CountedChannel.{counts-entry}
+use Rattle.circuit_hops.proofs.Ways.{shown}
 use Rattle.soundness.proofs.sound.hops_at.Statement.{statement}
 use Rattle.soundness.proofs.sound.hops_at.Tie as tie
 
@@ -32,7 +33,7 @@ hops-to-requires c κs =
     let l = i .before .before .before .before in
     let s = l .before .before .before in
     let pre = s .pre .0 .0 in
-    (record { bytes = pre .bytes; fits = pre .fits; count = pre .count; arms = pre .arms; size = l .loop .inv .1 }, positive (i .if1 .taken), s .pre .0 .1)
+    (record { bytes = pre .bytes; fits = pre .fits; count = pre .count; size = l .loop .inv .1 }, positive (i .if1 .taken), s .pre .0 .1)
 
 add-hops : tie.Need-add-hops Inv-loop μ-loop
 add-hops c =

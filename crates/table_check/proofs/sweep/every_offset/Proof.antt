@@ -4,7 +4,7 @@ use mathlib.Core.Path.{_≡_, refl}
 use Prim.Native.Nat.{_-_, _≤_}
 use native.Mathlib.Omega.{arith}
 use lib.ListN.{length}
-use Rattle.table.specs.Layout.{tableLength}
+use Rattle.layout.specs.Layout.{tableLength}
 use borrow.Author.Needs.{needs}
 use Rattle.table_check.proofs.sweep.every_offset.Statement.{statement}
 use Rattle.table_check.proofs.sweep.every_offset.Tie as tie

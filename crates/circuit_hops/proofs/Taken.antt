@@ -1,0 +1,116 @@
+-- A circuit whose hops are taken: its links are within the cube, and what its marks and the path that was followed tell of it.
+-- Assumes nothing.
+use mathlib.Core.Path.{_≡_, refl, ap, sym, _∙_, subst}
+use mathlib.Core.Logic.{_⊎_, inl, inr, ⊎-elim, _≢_}
+use mathlib.Core.Bool.{Bool, true, false}
+use mathlib.Core.List.{List, [], _∷_}
+use Prim.Native.Nat.{ℕ, _*_, _^_, _≤_, _<_}
+use native.Mathlib.Omega.{arith}
+use lib.Dec.{eqb}
+use lib.ListN.{length, getD}
+use lib.Bits.{bitAnd}
+use Rattle.common.specs.Lists.{_∈_}
+use Rattle.common.proofs.Tests.{below-or, clash, is-false}
+use Rattle.cube.specs.Bits.{has}
+use Rattle.cube.specs.Cube.{sourceOf}
+use Rattle.cube.proofs.Bits.{zero-has, high-has, no-bit-above}
+use Rattle.cube.proofs.Ports.{most-nodes}
+use Rattle.paths.specs.Network.{Path, links}
+use Rattle.paths.specs.Permitted.{Permitted}
+use Rattle.paths.specs.CubeNetwork.{ports}
+use Rattle.paths.proofs.Apart.{permitted-inside}
+use Rattle.paths.proofs.CubeNetwork.{unfolded-port}
+use Rattle.paths.proofs.Links.{On, on-first}
+use Rattle.layout.specs.Layout.{dimensionAt}
+use Rattle.table.specs.TableContracts.{HeldBy}
+use Rattle.table.specs.View.{view, shapeOf, net, heldBy}
+use Rattle.circuit_path.specs.CircuitSound.{endFor, CircuitSound}
+use Rattle.circuit_hops.specs.Marks.{withMarks}
+use Rattle.circuit_hops.specs.CountHops.{TakePre, Followed, Taken}
+use Rattle.circuit_hops.proofs.Marks.{not-seen, seen-before, marks-after}
+use Rattle.circuit_hops.proofs.Ways.{shown}
+
+-- a circuit that stands holds links of its cube alone
+module _ (b : List ℕ) (c : ℕ) (d : dimensionAt b ≤ 8) (i : sourceOf c < 2 ^ dimensionAt b) (s : CircuitSound (view b) c) where
+  small : view b .dimension ≤ 8
+  small = omega (arith, shown b)
+
+  pub link-inside : (m q : ℕ) → On (net (view b)) (sourceOf c) (s .path) m q → (m < 2 ^ dimensionAt b) × (q < dimensionAt b)
+  link-inside m q o =
+      let r = permitted-inside (shapeOf (view b)) (sourceOf c) (endFor (view b) c (s .path)) (s .path) (rw (shown b) i) (s .permitted) .0 m q o in
+      (rw (shown b) at (r .0), rw (shown b) at (unfolded-port (shapeOf (view b)) small refl q .0 (r .1)))
+
+  pub held-inside : (m q : ℕ) → heldBy (view b) c m q ≡ true → (m < 2 ^ dimensionAt b) × (q < dimensionAt b)
+  held-inside m q o = link-inside m q (unfold On in s .exactly .only m q o)
+
+  -- so one at its source at least, and all of those in a vector of the cube's ports
+  pub source-held : {held : ℕ} → HeldBy b c (sourceOf c) held → held ≡ 0 → ⊥
+  source-held {held} f z = go (s .path) (s .permitted) (λ m q o. s .exactly .all m q o)
+    where
+      go : (u : Path) → Permitted (net (view b)) (sourceOf c) (ports (shapeOf (view b))) (endFor (view b) c (s .path)) u → ((m q : ℕ) → (m, q) ∈ links (net (view b)) (sourceOf c) u → heldBy (view b) c m q ≡ true) → ⊥
+      go [] o all = unfold Permitted in o
+      go (a ∷ u) o all =
+          unfold Permitted in
+          let k = unfolded-port (shapeOf (view b)) small refl a .0 (o .0) in
+          let l : a < 8 = omega (arith, shown b) in
+          clash (f .held a l ∙ (unfold view in all (sourceOf c) a (unfold On in on-first (net (view b)) (sourceOf c) a u))) (ap (λ x. has x a) z ∙ zero-has a)
+
+  pub vector-inside : {held : ℕ} → HeldBy b c (sourceOf c) held → held < 2 ^ dimensionAt b
+  vector-inside {held} f = no-bit-above (dimensionAt b) held (λ p l. is-false (has held p) (λ t. go p l t (below-or 8 p)))
+    where
+      go : (p : ℕ) → dimensionAt b ≤ p → has held p ≡ true → (p < 8) ⊎ (8 ≤ p) → ⊥
+      go p l t (inl k) = let r = held-inside (sourceOf c) p (unfold view in sym (f .held p k) ∙ t) in omega arith
+      go p l t (inr k) = clash t (high-has 8 held p (f .small) k)
+
+-- what looking for a path asks, in numbers
+pub nodes-most : {D nodes : ℕ} → D ≤ 8 → nodes ≡ 2 ^ D → nodes ≤ 256
+nodes-most d m = omega (arith, most-nodes d)
+
+pub positive : {c : ℕ} → c ≢ 0 → 0 < c
+positive {c} h = ⊎-elim (λ z. absurd (h (omega arith))) (λ z. z) (below-or 1 c)
+
+pub source-small : {b : List ℕ} {nodes c s t : ℕ} → TakePre b nodes c s t → s < 256
+source-small pre = omega (arith, pre .source, pre .known .source, most-nodes (pre .known .fits))
+
+-- a circuit that is followed and marked; one that was marked before; and one that cannot stand on a path to t
+module _ (b : List ℕ) (c t : ℕ) (before after : List ℕ) where
+  module _ {s held : ℕ} (q : s ≡ sourceOf c) (at : HeldBy b c s held) where
+    f : HeldBy b c (sourceOf c) held
+    f = subst (λ (x : ℕ). HeldBy b c x held) q at
+
+    marked-at : {x : Bool} → eqb (bitAnd (getD before s 0) held) 0 ≡ x → eqb (bitAnd (getD before (sourceOf c) 0) held) 0 ≡ x
+    marked-at e = ap (λ y. eqb (bitAnd (getD before y 0) held) 0) (sym q) ∙ e
+
+    pub taken-new : {hops : ℕ} → eqb (bitAnd (getD before s 0) held) 0 ≡ true → after ≡ withMarks before s held → s < length before → sourceOf c < 2 ^ dimensionAt b → Followed (view b) c t hops
+        → Taken (view b) c t before after hops
+    taken-new e m small i x =
+        record {
+          in-range = λ k. omega (arith, ap (2 ^_) (shown b));
+          found = x .found;
+          unseen = λ k. not-seen before f (marked-at e);
+          marks = λ k s p h l. marks-after before f (m ∙ ap (λ y. withMarks before y held) q) (omega arith) s p l;
+          forced = λ l z q u. x .forced z q;
+          most = x .most;
+        }
+
+    pub taken-seen : eqb (bitAnd (getD before s 0) held) 0 ≡ false → Taken (view b) c t before after 4096
+    taken-seen e =
+        record {
+          in-range = λ k. absurd (omega arith);
+          found = λ k. absurd (omega arith);
+          unseen = λ k. absurd (omega arith);
+          marks = λ k. absurd (omega arith);
+          forced = λ l z q u. absurd (u (seen-before before f (marked-at e)));
+          most = omega arith;
+        }
+
+  pub taken-none : (c ≤ 8 * 2 ^ view b .dimension → CircuitSound (view b) c → ⊥) → Taken (view b) c t before after 4096
+  taken-none h =
+      record {
+        in-range = λ k. absurd (omega arith);
+        found = λ k. absurd (omega arith);
+        unseen = λ k. absurd (omega arith);
+        marks = λ k. absurd (omega arith);
+        forced = λ l z q u. absurd (h l z);
+        most = omega arith;
+      }

@@ -1,0 +1,204 @@
+-- Walking over links that are a circuit's only ones at their nodes.
+-- Assumes nothing.
+use mathlib.Core.Path.{_≡_, refl, ap, sym, _∙_, subst}
+use mathlib.Core.Logic.{_⊎_, inl, inr, ⊎-elim, _≢_}
+use mathlib.Core.Bool.{true}
+use mathlib.Core.List.{List, [], _∷_, List·Memᴰ·not-nil}
+use Prim.Native.Nat.{ℕ, _+_, _^_, _≤_, _<_}
+use native.Mathlib.Omega.{arith}
+use lib.Bits.{bitXor, bitAnd, and-le-l}
+use lib.Dec.{ltb}
+use lib.ListN.{length}
+use borrow.Author.Tests.{ltb-true}
+use Rattle.common.specs.Lists.{_∈_, keep, from}
+use Rattle.common.proofs.Every.{at, decide}
+use Rattle.common.proofs.Lists.{mem-keep, length-keep}
+use Rattle.common.proofs.From.{mem-from, length-from}
+use Rattle.common.proofs.Tests.{same?, below-or, clash, is-false, both, and}
+use Rattle.cube.specs.Bits.{bitAt, has, flip}
+use Rattle.cube.specs.Cube.{next, uphill, UphillVector}
+use Rattle.cube.proofs.Axes.{axis-low, next-inside}
+use Rattle.cube.proofs.Bits.{has-and, has-bit, has-no-bit, bit-power, bit-power-other, bit-high, flip-xor, no-ports, same-bits, zero-has}
+use Rattle.paths.specs.Network.{Path, offered}
+use Rattle.paths.specs.Permitted.{Onward}
+use Rattle.paths.specs.CubeNetwork.{network}
+use Rattle.paths.proofs.CubeNetwork.{offered-port, port-offered, unfolded-port, cube-nearing}
+use Rattle.paths.proofs.Links.{On, on-cases, on-first, on-later, on-none, onward-past}
+use Rattle.layout.specs.Layout.{dimensionAt}
+use Rattle.table.specs.TableContracts.{HeldBy, linksHeld}
+use Rattle.table.specs.View.{View, view, shapeOf, net, heldBy}
+use Rattle.circuit_hops.specs.CountHops.{Sole, SoleWay, Walks}
+use Rattle.circuit_hops.proofs.OneKept.{kept-one, one-kept}
+
+module _ (v : View) (c t : ℕ) where
+  -- such a way is one of uphill hops, over links of the circuit
+  pub way-onward : (n : ℕ) (w : Path) → SoleWay v c t n w → Onward (net v) t n w
+  unfolding SoleWay Onward network
+  way-onward n [] x = x
+  way-onward n (p ∷ w) x = (x .0, x .1, way-onward (next n p) w (x .3))
+
+  pub way-owned : (n : ℕ) (w : Path) → SoleWay v c t n w → (m q : ℕ) → On (net v) n w m q → heldBy v c m q ≡ true
+  unfolding SoleWay Sole network
+  way-owned n [] x m q o = absurd (on-none (net v) n m q o)
+  way-owned n (p ∷ w) x m q o = ⊎-elim (λ e. rw (e .0, e .1) (x .2 .0)) (λ k. way-owned (next n p) w (x .3) m q k) (on-cases (net v) n p w m q o)
+
+  -- a port that is offered is below 8
+  pub offered-below : v .dimension ≤ 8 → (n q : ℕ) → q ∈ offered (net v) t n → q < 8
+  offered-below h n q m = let k = unfolded-port (shapeOf v) h refl q .0 (offered-port (shapeOf v) t n q m .0) in omega arith
+
+  -- it is the only way of uphill hops over links of the circuit
+  pub way-only : v .dimension ≤ 8 → (n : ℕ) (w u : Path) → SoleWay v c t n w → Onward (net v) t n u → ((m q : ℕ) → On (net v) n u m q → heldBy v c m q ≡ true) → u ≡ w
+  unfolding SoleWay Sole Onward network
+  way-only h n [] [] x o own = refl
+  way-only h n [] (p ∷ u) x o own = absurd (o .0 x)
+  way-only h n (p ∷ w) [] x o own = absurd (x .0 o)
+  way-only h n (p ∷ w) (q ∷ u) x o own =
+      let same : q ≡ p = x .2 .1 q (offered-below h n q (o .1)) (own n q (on-first (net v) n q u)) in
+      ap (q ∷_) (way-only h (next n q) w u (subst (λ (z : ℕ). SoleWay v c t (next n z) w) (sym same) (x .3)) (o .2) (λ m r i. own m r (on-later (net v) n q u m r i))) ∙ ap (_∷ w) same
+
+  -- uphill hops whose links are the only ones at their nodes are such a way
+  pub onward-way : (n : ℕ) (w : Path) → Onward (net v) t n w → ((m q : ℕ) → On (net v) n w m q → Sole v c m q) → SoleWay v c t n w
+  unfolding SoleWay Onward network
+  onward-way n [] o s = o
+  onward-way n (p ∷ w) o s = (o .0, o .1, s n p (on-first (net v) n p w), onward-way (next n p) w (o .2) (λ m q i. s m q (on-later (net v) n p w m q i)))
+
+  -- uphill hops leave each node once
+  pub onward-once : (n : ℕ) (w : Path) → Onward (net v) t n w → (m q r : ℕ) → On (net v) n w m q → On (net v) n w m r → q ≡ r
+  unfolding Onward
+  onward-once n [] o m q r i j = absurd (on-none (net v) n m q i)
+  onward-once n (p ∷ w) o m q r i j = go (on-cases (net v) n p w m q i) (on-cases (net v) n p w m r j) (onward-once (net v .next n p) w (o .2) m q r)
+    where
+      past : (x : ℕ) → m ≡ n → On (net v) (net v .next n p) w m x → ⊥
+      past x e k = onward-past (cube-nearing (shapeOf v) t) n p w o x (subst (λ (y : ℕ). On (net v) (net v .next n p) w y x) e k)
+
+      go : ((m ≡ n) × (q ≡ p)) ⊎ On (net v) (net v .next n p) w m q → ((m ≡ n) × (r ≡ p)) ⊎ On (net v) (net v .next n p) w m r
+          → (On (net v) (net v .next n p) w m q → On (net v) (net v .next n p) w m r → q ≡ r) → q ≡ r
+      go (inl e) (inl f) ih = e .1 ∙ sym (f .1)
+      go (inl e) (inr k) ih = absurd (past r (e .0) k)
+      go (inr k) (inl f) ih = absurd (past q (f .0) k)
+      go (inr k) (inr l) ih = ih k l
+
+-- one link held, as a vector: it is the bit of its port
+module _ {b : List ℕ} {c n held : ℕ} (f : HeldBy b c n held) (few : linksHeld (view b) c n ≤ 1) where
+  -- where some port passes, it is the only one
+  pub sole-port : {p : ℕ} → p < 8 → has held p ≡ true → Sole (view b) c n p × (held ≡ 2 ^ p)
+  unfolding Sole view
+  sole-port {p} l t = ((mine, only), same-bits 8 held (2 ^ p) (f .small) (power-small p l) bits)
+    where
+      mine : heldBy (view b) c n p ≡ true
+      mine = sym (f .held p l) ∙ t
+
+      only : (q : ℕ) → q < 8 → heldBy (view b) c n q ≡ true → q ≡ p
+      only q k o = unfold linksHeld in
+          let one = kept-one (heldBy (view b) c n) (exactly-one (keep (heldBy (view b) c n) (from 0 8)) (mem-keep (heldBy (view b) c n) (from 0 8) (mem-from 0 8 p (omega arith) (omega arith)) mine) few) in
+          one .3 q k o ∙ sym (one .3 p l mine)
+        where
+          exactly-one : (xs : List ℕ) → p ∈ xs → length xs ≤ 1 → length xs ≡ 1
+          exactly-one [] m h = absurd (List·Memᴰ·not-nil m)
+          exactly-one (x ∷ xs) m h = omega arith
+
+      power-small : (p : ℕ) → p < 8 → 2 ^ p < 256
+      power-small p l = ltb-true _ _ (at 8 (λ p. ltb (2 ^ p) 256) refl p l)
+
+      bits : (q : ℕ) → q < 8 → bitAt held q ≡ bitAt (2 ^ p) q
+      bits q k = ⊎-elim (λ e. rw e (has-bit held p t ∙ sym (bit-power p)))
+          (λ h. has-no-bit held q (is-false (has held q) (λ x. h (only q k (sym (f .held q k) ∙ x)))) ∙ sym (bit-power-other p q h)) (same? q p)
+
+  -- where a vector has none of them, no port of it is held; where it has some, the one
+  pub sole-in : (vector : ℕ) → (bitAnd held vector ≡ 0 → ⊥) → (p : ℕ) × (p < 8) × (has held p ≡ true) × (has vector p ≡ true)
+  sole-in vector h =
+      ⊎-elim (λ r. let x = both (has held (r .0)) (has vector (r .0)) (sym (has-and held vector (r .0)) ∙ r .2) in (r .0, r .1, x .0, x .1))
+      (λ r. absurd (h (no-ports 8 _ (omega (arith, and-le-l held vector, f .small)) r))) (decide 8 (has (bitAnd held vector)))
+
+pub none-in : {b : List ℕ} {c n held : ℕ} → HeldBy b c n held → (vector : ℕ) → bitAnd held vector ≡ 0 → (p : ℕ) → p < 8 → heldBy (view b) c n p ≡ true → has vector p ≡ true → ⊥
+unfolding view
+none-in {held = held} f vector z p l o h = clash (has-and held vector p ∙ and (f .held p l ∙ o) h) (ap (λ x. has x p) z ∙ zero-has p)
+
+pub shown : (b : List ℕ) → view b .dimension ≡ dimensionAt b
+unfolding view
+shown b = refl
+
+one-nearer : (v : View) (t n p : ℕ) → p ∈ offered (net v) t n → net v .distance t n ≡ 1 + net v .distance t (next n p)
+unfolding network
+one-nearer v t n p m = let near = cube-nearing (shapeOf v) t .nearer n p m in omega arith
+
+-- what a turn of the walk finds at node n, towards t: the port of the one link held, uphill, and the node that it leads to
+pub record Turn (b : List ℕ) (c n t to : ℕ) : Type 0 where
+  pub port : ℕ
+  pub sole : Sole (view b) c n port
+  pub is-offered : port ∈ offered (net (view b)) t n
+  pub there : to ≡ next n port
+  pub inside : to < 2 ^ dimensionAt b
+  pub nearer : net (view b) .distance t n ≡ 1 + net (view b) .distance t to
+
+-- the branches of the walk: at node n, towards t, after some hops
+module _ (b : List ℕ) (c n t hops : ℕ) (d : dimensionAt b ≤ 8) where
+  small : view b .dimension ≤ 8
+  small = omega (arith, shown b)
+
+  pub walks-here : n ≡ t → hops < 4096 → Walks (view b) c t n hops hops
+  unfolding SoleWay
+  walks-here e l = record { way = λ k. ([], e, omega arith); forced = λ w x. l; most = omega arith }
+
+  -- several links are held there, or none uphill
+  pub walks-several : {x : ℕ} → n ≢ t → 1 < linksHeld (view b) c n → x < 256 → Walks (view b) c t n hops (4096 + x)
+  walks-several {x} h l k =
+      record { way = λ e. absurd (omega arith); forced = λ w s. absurd (go w s); most = omega arith }
+    where
+      go : (w : Path) → SoleWay (view b) c t n w → ⊥
+      go [] s = unfold SoleWay in h s
+      go (p ∷ w) s = unfold SoleWay Sole linksHeld in omega (arith, one-kept (heldBy (view b) c n) p (offered-below (view b) c t small n p (s .1)) (s .2 .0) (s .2 .1))
+
+  pub walks-flat : {held vector : ℕ} → n ≢ t → HeldBy b c n held → UphillVector n t vector → bitAnd held vector ≡ 0 → Walks (view b) c t n hops 4096
+  walks-flat {held} {vector} h f u z = record { way = λ e. absurd (omega arith); forced = λ w s. absurd (go w s); most = omega arith }
+    where
+      go : (w : Path) → SoleWay (view b) c t n w → ⊥
+      go [] s = unfold SoleWay in h s
+      go (p ∷ w) s =
+          unfold SoleWay Sole in
+          let l = offered-below (view b) c t small n p (s .1) in
+          none-in f vector z p l (s .2 .0) (u .bits p ∙ rw (axis-low p (omega arith)) at (offered-port (shapeOf (view b)) t n p (s .1) .1))
+
+  -- a port is uphill only where the cube has it
+  uphill-below : n < 2 ^ dimensionAt b → t < 2 ^ dimensionAt b → (p : ℕ) → uphill t n p ≡ true → p < dimensionAt b
+  unfolding uphill
+  uphill-below h l p u = ⊎-elim (λ k. k) (λ k. absurd (clash u (rw (bit-high _ n p h k, bit-high _ t p l k)))) (below-or (dimensionAt b) p)
+
+  pub turn : {held vector : ℕ} → HeldBy b c n held → linksHeld (view b) c n ≤ 1 → UphillVector n t vector → bitAnd held vector ≢ 0 → n < 2 ^ dimensionAt b → t < 2 ^ dimensionAt b
+      → Turn b c n t (bitXor n held)
+  turn {held} {vector} f few u h i j =
+      let r = sole-in f few vector h in
+      let p = r .0 in
+      let up : uphill t n p ≡ true = sym (u .bits p) ∙ r .3 in
+      let low : p < dimensionAt b = uphill-below i j p up in
+      let one = sole-port f few (r .1) (r .2) in
+      let to : bitXor n held ≡ next n p = ap (bitXor n) (one .1) ∙ flip-xor n p ∙ ap (flip n) (sym (axis-low p (omega arith))) in
+      let mine : p ∈ offered (net (view b)) t n = port-offered (shapeOf (view b)) t n p (unfolded-port (shapeOf (view b)) small refl p .1 (rw (shown b) low)) (rw (axis-low p (omega arith)) up) in
+      record {
+        port = p;
+        sole = one .0;
+        is-offered = mine;
+        there = to;
+        inside = rw to (next-inside (dimensionAt b) n p d i low);
+        nearer = one-nearer (view b) t n p mine ∙ ap (λ x. 1 + net (view b) .distance t x) (sym to);
+      }
+
+  pub walks-on : {to r : ℕ} → n ≢ t → Turn b c n t to → Walks (view b) c t to (hops + 1) r → Walks (view b) c t n hops r
+  walks-on {to} {r} h x k =
+      record {
+        way = λ l. let w = k .way l in (x .port ∷ w .0, unfold SoleWay in (h, x .is-offered, x .sole, subst (λ (y : ℕ). SoleWay (view b) c t y (w .0)) (x .there) (w .1)), omega (arith, w .2));
+        forced = go;
+        most = k .most;
+      }
+    where
+      go : (w : Path) → SoleWay (view b) c t n w → r < 4096
+      go [] s = unfold SoleWay in absurd (h s)
+      go (q ∷ w) s =
+          unfold SoleWay Sole in
+          let same : q ≡ x .port = x .sole .1 q (offered-below (view b) c t small n q (s .1)) (s .2 .0) in
+          k .forced w (subst (λ (y : ℕ). SoleWay (view b) c t y w) (ap (next n) same ∙ sym (x .there)) (s .3))
+
+-- a target is at most 8 hops away
+pub distance-most : (v : View) (t n : ℕ) → v .dimension ≤ 8 → net v .distance t n ≤ 8
+unfolding network
+distance-most v t n h = omega (arith, length-keep (uphill t n) (from 0 (v .dimension)), length-from 0 (v .dimension))

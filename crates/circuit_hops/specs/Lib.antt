@@ -1,0 +1,3 @@
+-- The hops of one circuit to a node, and the marks of the circuits that were followed.
+pub mod Marks
+pub mod CountHops

@@ -1,0 +1,5 @@
+-- The path of a circuit from the links that it holds: when a circuit stands on one, how a trace writes it, and how the code follows it.
+pub mod CircuitSound
+pub mod Traced
+pub mod PathOf
+pub mod Follow

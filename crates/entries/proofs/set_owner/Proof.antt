@@ -1,0 +1,27 @@
+-- `entries::set_owner` meets its contract: the two bytes at its place are written.
+-- Assumes nothing.
+use mathlib.Core.Path.{ap, _∙_}
+use Rattle.layout.specs.LayoutContracts.{putWord}
+use Rattle.entries.specs.EntryContracts.{putEntry, putOwner}
+use borrow.Author.Needs.{needs}
+use Rattle.entries.proofs.set_owner.Statement.{statement}
+use Rattle.entries.proofs.set_owner.Tie as tie
+
+link-place-requires : tie.Need-link-place-requires
+link-place-requires c κs = search needs
+
+put-word-requires : tie.Need-put-word-requires
+put-word-requires c κs = search needs
+
+same-length : tie.Need-same-length
+same-length c = search needs
+
+returns : tie.Need-returns
+unfolding putOwner putEntry
+returns c =
+    let w = c .before .before in
+    let s = w .before .before .before .before in
+    w .put-word .ensures ∙ ap (λ i. putWord (s .args .t .now) i (s .args .c .0)) (w .before .link-place .ensures .0)
+
+pub set-owner-spec : {M : Type 1} → statement M
+set-owner-spec = tie.close (tie.spec link-place-requires put-word-requires same-length returns)

@@ -1,0 +1,2 @@
+-- One value of a table at a time.
+pub mod EntryContracts

@@ -1,0 +1,2 @@
+-- What following helix paths asks and answers.
+pub mod HelixContracts

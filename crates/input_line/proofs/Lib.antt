@@ -1,0 +1,3 @@
+-- Laws of what a line asks.
+pub mod Asking
+pub mod Letters

@@ -1,0 +1,2 @@
+-- Laws of answering an input line.
+pub mod WrittenLine

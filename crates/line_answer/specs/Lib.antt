@@ -1,0 +1,2 @@
+-- What answering an input line comes to.
+pub mod LineWritten

@@ -1,0 +1,3 @@
+-- The printed line of an input line.
+pub mod PrintedLine
+pub mod LineContracts

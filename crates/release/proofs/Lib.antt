@@ -1,0 +1,2 @@
+-- The laws of freeing.
+pub mod Releasing
