@@ -31,8 +31,8 @@ use Rattle.layout.proofs.Entries.{within}
 use Rattle.table.proofs.Views.{view-put-owner}
 use Rattle.answers.specs.declared.LinkState as State
 use Rattle.answers.specs.declared.LinkState.the-variants.{Free, Held, Blocked}
-use Rattle.answers.specs.SendOnTable.{stateIn, freeIn, PassAnswer, pass-answer}
-use Rattle.answers.specs.PassAnswer.{stateOf, holdPath, answerOfPass, arrivalAfter}
+use Rattle.answers.specs.SendOnTable.{stateIn, freeIn, PassAnswer, pass-answer, stateOf}
+use Rattle.answers.specs.PassAnswer.{holdPath, answerOfPass, arrivalAfter}
 
 -- A hop held and given back leaves each byte as it was.
 given-word : (b : List ℕ) (i c : ℕ) → wordAt b i ≡ 0 → putWord (putWord b i c) i 0 ≡ b

@@ -6,21 +6,13 @@ use mathlib.Core.List.{List, [], _∷_}
 use Prim.Native.Nat.{ℕ, _+_}
 use lib.ListN.{length}
 use Rattle.cube.specs.Cube.{next}
-use Rattle.paths.specs.Network.{Network, Path, LinkState, link-free, link-held, link-blocked}
-use Rattle.answers.specs.declared.LinkState as State
-use Rattle.answers.specs.declared.LinkState.the-variants.{Free, Held, Blocked}
+use Rattle.paths.specs.Network.{Network, Path}
 use Rattle.paths.specs.Pass.{PassResult, none, found}
 use Rattle.paths.specs.Search.{arriving}
 use Rattle.paths.specs.Send.{Receive, channel, none-available}
 use Rattle.entries.specs.EntryContracts.{putOwner}
 use Rattle.table.specs.View.{view, net}
 use Rattle.answers.specs.SendOnTable.{PassAnswer, pass-answer}
-
--- the answer of the smallest question in the code
-abbrev pub stateOf : State.LinkState → LinkState
-stateOf Free = link-free
-stateOf Held = link-held
-stateOf Blocked = link-blocked
 
 -- the bytes after the links of a path from node n are given to circuit c, one after another
 unfoldable pub holdPath : List ℕ → ℕ → ℕ → Path → List ℕ

@@ -6,7 +6,9 @@ use mathlib.Core.List.{List, [], _∷_}
 use Prim.Native.Nat.{ℕ}
 use lib.ListN.{length}
 use Rattle.cube.specs.Cube.{next}
-use Rattle.paths.specs.Network.{Path, LinkState, isFree, linkState}
+use Rattle.paths.specs.Network.{Path, LinkState, link-free, link-held, link-blocked, isFree, linkState}
+use Rattle.answers.specs.declared.LinkState as State
+use Rattle.answers.specs.declared.LinkState.the-variants.{Free, Held, Blocked}
 use Rattle.paths.specs.Send.{Outcome, acknowledged, route-rejected, receive-rejected, SendResult}
 use Rattle.paths.specs.Waiting.{someAttempt}
 use Rattle.paths.specs.CubeNetwork.{attempts, send}
@@ -19,6 +21,12 @@ stateIn v n p = linkState (v .enabled n p) (heldIn v n p)
 -- "A link is free if enabled and held by nobody."
 unfoldable pub freeIn : View → ℕ → ℕ → Bool
 freeIn v n p = isFree (stateIn v n p)
+
+-- document 02, (c): "The smallest question, whether one link is free, shall answer one of three: free, held or blocked." Its three answers in the code:
+abbrev pub stateOf : State.LinkState → LinkState
+stateOf Free = link-free
+stateOf Held = link-held
+stateOf Blocked = link-blocked
 
 -- the send of a routing type from s to t over the ports of a vector, read on what a table shows
 abbrev pub sendOf : View → ℕ → ℕ → ℕ → ℕ → SendResult
@@ -40,7 +48,7 @@ viewAfterSend v c s t receive-rejected = v
 unfoldable pub waitingHelps : View → ℕ → ℕ → ℕ → ℕ → Bool
 waitingHelps v s t type vector = someAttempt (net v) (v .enabled) s t (attempts (shapeOf v) type vector)
 
--- what a send answers, and the bytes afterwards: the number, the hops, the receive channel and the scouts
+-- what a send answers: the number, the hops, the receive channel, the scouts, and the bytes afterwards
 pub data PassAnswer : Type 0 where
   pass-answer : (number hops receive scouts : ℕ) → List ℕ → PassAnswer
 

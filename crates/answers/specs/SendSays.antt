@@ -49,8 +49,8 @@ pub record SendSays (b : List ℕ) (s t c type vector : ℕ) (number hops receiv
   pub says : AttemptsSay (net (view b)) s t (freeIn (view b)) (receive (view b) t) (attempts (shapeOf (view b)) type vector) outcome scouts
   -- the number, the hops and the receive channel are those of that outcome
   pub answer : pass-answer number hops receives scouts after ≡ answerOfOutcome (waitingHelps (view b) s t type vector) outcome scouts after
-  -- what the table shows afterwards is what that outcome makes of it: an acknowledged path's links and its receive channel are held, nothing else changes; and its
-  -- bytes are those that show it
+  -- what the table shows afterwards is what that outcome makes of it: an acknowledged path's links and its receive channel are held, nothing else changes; and,
+  -- where each number of the list is a byte, as in every lent table, its bytes are those that show it
   pub shows : view after ≡ viewAfterSend (view b) c s t outcome
   pub written : AllBytes b → after ≡ encode (viewAfterSend (view b) c s t outcome)
   -- it is acknowledged exactly when one of its attempts has a free path that it tries and the target has a receive channel available

@@ -2,8 +2,7 @@
 ghost use mathlib.Core.Path.{_≡_};
 ghost use Rattle.entries.specs.EntryContracts.{Within};
 ghost use Rattle.table.specs.View.{view};
-ghost use Rattle.answers.specs.SendOnTable.{stateIn};
-ghost use Rattle.answers.specs.PassAnswer.{stateOf};
+ghost use Rattle.answers.specs.SendOnTable.{stateIn, stateOf};
 use cube::Node;
 use cube::Port;
 

@@ -1,5 +1,5 @@
-// Which test stops a call: the refusal of the first that applies, 0 where none does. A function for each call has its tests in the order of its list. A test of
-// one comparison stands there; before them come the others, each a function that says whether it applies.
+// Which test stops a call: the refusal of the first that applies, 0 where none does. A function for each call has its tests in the order of its list. A test that
+// only one or two of them make, by one comparison, stands there; before them come the others, each a function that says whether it applies.
 ghost use mathlib.Core.Path.{_≡_};
 ghost use mathlib.Core.Bool.{false};
 ghost use Prim.Native.Nat.{_<_};
@@ -66,7 +66,7 @@ fn has_circuit(t: &[u8], s: Node, c: u16) -> bool
     circuit_path::is_open(t, cube::circuit_of(s, c))
 }
 
-// The calls.
+// The tests of each call.
 pub fn block(t: &[u8], node: Node, port: Port) -> u16
     ensures { λ r. ⌜ r ≡ stoppedAt (now (t .entry)) (blocking (node .0) (port .0)) ⌝ }
 {

@@ -105,6 +105,7 @@ fn several_links(
     }
 }
 
+// The hops of the circuit that holds a receive channel at a node, or 4,096 and more where its links do not fit together or it was counted before.
 pub fn hops_to(t: &[u8], nodes: u16, c: Circuit, end: Node, seen: &mut [u8]) -> u32
     requires { ⌜ HopsPre (now t) nodes (now seen) × (0 < c .0) × (end .0 < nodes) ⌝ }
     ensures { λ r. ⌜ Taken (view (now (t .entry))) (c .0) (end .0) (now (seen .entry)) (now (seen .exit)) r ⌝ }

@@ -12,7 +12,7 @@ fn wide(x: u8) -> u16
     x as u16
 }
 
-// The whole table. The compiler builds a constant array anew wherever it is indexed, so a search takes it once and lends it on.
+// The whole table, and the rule of its entries. The compiler builds a constant array anew wherever it is indexed, so a send takes it once, by its name, and lends it on.
 pub fn first_ports() -> [u8; 2048]
     ensures { λ r. ⌜ FirstPorts r ⌝ }
 {

@@ -1,5 +1,5 @@
 -- Document 01, "The cube and its table", and document 02, (a): where each value lies in the 8,705 bytes, and how it is read there. No other definition
--- knows an offset, and no code outside this crate.
+-- knows an offset, and no code outside this crate has one as a number.
 -- Assumes nothing.
 use mathlib.Core.Bool.{Bool, cond, _&&_}
 use mathlib.Core.List.{List}

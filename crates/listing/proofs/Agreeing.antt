@@ -23,7 +23,7 @@ use Rattle.text.specs.Row.{Row, rowsText}
 use Rattle.printed_line.specs.PrintedLine.{callRow, traced, rowFor, stateAfter, empty}
 use Rattle.listing.specs.Listing.{rows, header, inputLimit, tooLong, listing, printed, recorded}
 
--- The list says what the ownership history says: on a table that a history covers, the printed lines are those of the history.
+-- The list says what the ownership history says: on a table that represents a history, the printed lines are those of the history.
 traced-alike : (b : List ℕ) (h : History) → Represents b h → (n c : ℕ) → traced tableStep b n c ≡ traced historyStep h n c
 unfolding traced
 traced-alike b h k n c =

@@ -1,4 +1,4 @@
--- The users' third demand: one theorem about lists of calls. A table that a history covers stays covered by every call, and an accepted making covers any bytes.
+-- The users' third demand: one theorem about lists of calls. A table that represents a history represents one after every call, and after an accepted making any bytes.
 -- Assumes nothing.
 use mathlib.Core.Path.{_≡_, refl, ap, ap₂, sym, _∙_}
 use mathlib.Core.Logic.{⊎-elim, _≢_}
@@ -43,7 +43,7 @@ use Rattle.ownership.proofs.Applied.{made-view, follows-view}
 use Rattle.ownership.proofs.Steps.{table-step, history-step}
 use Rattle.answers.specs.SendOnTable.{waitingHelps}
 
--- The bytes of a valid history are covered by it.
+-- The bytes of a valid history represent it.
 bytes-represent : (h : History) → Valid h → Represents (bytesOf h) h
 unfolding bytesOf
 bytes-represent h valid =
@@ -51,7 +51,7 @@ bytes-represent h valid =
     let fits = sound-fits (viewOf h) (unfold viewOf in valid .most) (valid-sound h valid) eight in
     record { bytes = encode-bytes (viewOf h) fits; shows = view-encode (viewOf h) fits; valid = valid }
 
--- what a covered table is
+-- what a table that represents a history is
 module _ (b : List ℕ) (h : History) (k : Represents b h) where
   dimension-is : dimensionAt b ≡ h .dimension
   dimension-is = unfold view viewOf in ap (λ (v : View). v .dimension) (k .shows)
@@ -62,7 +62,7 @@ module _ (b : List ℕ) (h : History) (k : Represents b h) where
   most : dimensionAt b ≤ 8
   most = rw dimension-is (k .valid .most)
 
-  -- Every table that a history covers is sound, and none of the tests of the lent table stops a call on it.
+  -- Every table that represents a history is sound, and none of the tests of the lent table stops a call on it.
   pub represents-sound : Sound (view b)
   represents-sound = rw (k .shows) (valid-sound h (k .valid))
 
@@ -92,7 +92,7 @@ module _ (b : List ℕ) (h : History) (k : Represents b h) where
           let r : Allowed (factsOn h) (tracing s c buffer) = allowed-on h (tracing s c buffer) e in
           unfold Allowed factsOn in ap (λ v. pathOf v (circuitOf s c)) (k .shows) ∙ path-listed h (k .valid) s c (r .1) (r .2)
 
-  -- What a call gives, on the table and in the history, and that the table stays covered.
+  -- What a call gives, on the table and in the history, and that the table represents the history still.
   pub record Step (a : Call) : Type 0 where
     pub result : tableStep b a .result ≡ historyStep h a .result
     pub represented : Represents (tableStep b a .state) (historyStep h a .state)
@@ -120,12 +120,12 @@ module _ (b : List ℕ) (h : History) (k : Represents b h) where
       refuses : historyStep h a .result .number ≢ 0 → Represents (tableStep b a .state) (historyStep h a .state)
       refuses f = rw (table-step b a .refused (λ z. f (sym number ∙ z)), history-step h a .refused f) k
 
--- A covered table's bytes are those of its history.
+-- The bytes of a table that represents a history are those of the history.
 pub represents-bytes : (b : List ℕ) (h : History) → Represents b h → b ≡ bytesOf h
 unfolding bytesOf
 represents-bytes b h k = sym (encode-view b (k .bytes .long) (k .bytes .small)) ∙ ap encode (k .shows)
 
--- From any covered table, a list of calls agrees with the history and leaves the table covered.
+-- From any table that represents a history, a list of calls agrees with the history, and the table represents it afterwards.
 pub represents-run : (calls : List Call) (b : List ℕ) (h : History) → Represents b h → Represents (tableAfter b calls) (historyAfter h calls)
 unfolding leaves
 represents-run [] b h k = k
@@ -147,7 +147,7 @@ making-accepted b D long l m =
     let inside : not (leb 1 D && leb D 8) ≡ false = ap not (ap₂ _&&_ (le-leb 1 D l) (le-leb D 8 m)) in
     ap (λ (g : CallResult). g .number) (table-step b (making D) .result (making-stopped b long D ∙ passed 2 [] inside ∙ accepted))
 
--- An accepted making covers any bytes, whatever the table and the history were.
+-- After an accepted making any bytes represent the history, whatever the table and the history were.
 module _ (b : List ℕ) (h : History) (D : ℕ) (e : Accepted b (making D)) where
   pub making-passes : stoppedOn h (making D) ≡ 0
   unfolding stoppedOn callTests

@@ -1,4 +1,4 @@
--- Every table that passes the tests of a lent table is covered by a history. So what the theorem about lists of calls says holds from any such table on.
+-- Every table that passes the tests of a lent table represents a history. So what the theorem about lists of calls says holds from any such table on.
 -- Assumes nothing.
 use mathlib.Core.Path.{_≡_, ap, sym, _∙_}
 use mathlib.Core.Logic.{⊎-elim}

@@ -1,4 +1,4 @@
--- What the calls say of any table that passes the tests of a lent table, whether a history covers it or not.
+-- What the calls say of any table that passes the tests of a lent table, whether it represents a history or not.
 -- Assumes nothing.
 use mathlib.Core.Path.{_≡_, refl, ap, sym, _∙_}
 use mathlib.Core.Logic.{⊎-elim, _≢_, _↔_}

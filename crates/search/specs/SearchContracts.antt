@@ -45,9 +45,8 @@ pub record Narrowed (v : View) (n vector left : ℕ) : Type 0 where
 abbrev pub Enabled : View → ℕ → ℕ → Type 0
 Enabled v n vector = (p : ℕ) → p < portCount → has vector p ≡ true → v .enabled n p ≡ true
 
--- The answer goes back from hop to hop as one number. Below 2 ^ 32 it is a route rejection and the number its scouts; below 2 * 2 ^ 32 a receive rejection, the
--- scouts above 2 ^ 32; else an acknowledgement: of how often it has 2 ^ 32, less 2, the hops are the eighth part and the receive channel is the rest; what it has
--- beyond that are the scouts.
+-- The answer goes back from hop to hop as one number x. Below 2 ^ 32 it is a route rejection, and x is its scouts. Below 2 * 2 ^ 32 it is a receive rejection, and the
+-- scouts are x % 2 ^ 32. Else it is an acknowledgement: the scouts are x % 2 ^ 32, and x / 2 ^ 32 is 2 + 8 * hops + receive channel (the hops as 16 bits).
 unfoldable pub answerIn : ℕ → List ℕ → PassAnswer
 answerIn x b =
     cond (ltb x 4294967296) (pass-answer 10 0 0 x b)

@@ -67,6 +67,7 @@ withoutCircuit v c =
 unfoldable pub available : View → ℕ → ℕ → Bool
 available v n k = v .armed n k && eqb (v .receiver n k) 0
 
+-- document 02, (a): the target takes "its lowest channel that is armed and not held"
 unfoldable pub receive : View → ℕ → Receive
 receive v n = lowestOf (available v n)
 
