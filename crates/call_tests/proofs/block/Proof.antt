@@ -9,22 +9,13 @@ use Rattle.call_tests.proofs.Stopping.{stops, onPathOf, node-passed, li
 use Rattle.call_tests.proofs.block.Statement.{statement}
 use Rattle.call_tests.proofs.block.Tie as tie
 
-check-requires : tie.Need-check-requires
-check-requires c κs = search needs
-
 returns : tie.Need-returns
 unfolding stoppedAt lentTests
 returns c = search stops
 
-is-absent-requires : tie.Need-is-absent-requires
-is-absent-requires c κs = search needs
-
 returns-2 : tie.Need-returns-2
 unfolding stoppedAt lentTests callTests factsOf
 returns-2 c = search stops depth 12
-
-no-port-requires : tie.Need-no-port-requires
-no-port-requires c κs = search needs
 
 returns-3 : tie.Need-returns-3
 unfolding stoppedAt lentTests callTests factsOf
@@ -43,4 +34,4 @@ unfolding stoppedAt lentTests callTests factsOf heldIn view
 returns-5 c = search stops depth 12
 
 pub block-spec : {M : Type 1} → statement M
-block-spec = tie.close (tie.spec check-requires returns is-absent-requires returns-2 no-port-requires returns-3 owner-requires returns-4 returns-5)
+block-spec = tie.close (tie.spec (search needs) returns (search needs) returns-2 (search needs) returns-3 owner-requires returns-4 returns-5)

@@ -8,15 +8,9 @@ use Rattle.call_tests.proofs.Stopping.{stops, onPathOf, node-passed, be
 use Rattle.call_tests.proofs.disarm.Statement.{statement}
 use Rattle.call_tests.proofs.disarm.Tie as tie
 
-check-requires : tie.Need-check-requires
-check-requires c κs = search needs
-
 returns : tie.Need-returns
 unfolding stoppedAt lentTests
 returns c = search stops
-
-is-absent-requires : tie.Need-is-absent-requires
-is-absent-requires c κs = search needs
 
 returns-2 : tie.Need-returns-2
 unfolding stoppedAt lentTests callTests factsOf
@@ -38,4 +32,4 @@ unfolding stoppedAt lentTests callTests factsOf takenIn view
 returns-5 c = search stops depth 12
 
 pub disarm-spec : {M : Type 1} → statement M
-disarm-spec = tie.close (tie.spec check-requires returns is-absent-requires returns-2 returns-3 receiver-requires returns-4 returns-5)
+disarm-spec = tie.close (tie.spec (search needs) returns (search needs) returns-2 returns-3 receiver-requires returns-4 returns-5)

@@ -6,23 +6,11 @@ use borrow.Author.Needs.{needs}
 use Rattle.circuit_path.proofs.is_open.Statement.{statement}
 use Rattle.circuit_path.proofs.is_open.Tie as tie
 
-dimension-requires : tie.Need-dimension-requires
-dimension-requires c κs = search needs
-
-node-count-requires : tie.Need-node-count-requires
-node-count-requires c κs = search needs
-
-source-of-requires : tie.Need-source-of-requires
-source-of-requires c κs = search needs
-
 held-by-requires : tie.Need-held-by-requires
 held-by-requires c κs =
     let m = c .before in
     let d = m .before in
     source-within (d .before .before .pre) (d .dimension .ensures) (m .node-count .ensures) (c .source-of .ensures)
-
-sub-result : tie.Need-sub-result
-sub-result c = search needs
 
 returns : tie.Need-returns
 returns c =
@@ -35,9 +23,9 @@ pub is-open-spec : {M : Type 1} → statement M
 is-open-spec =
     tie.close
     (tie.spec
-    dimension-requires
-    node-count-requires
-    source-of-requires
+    (search needs)
+    (search needs)
+    (search needs)
     held-by-requires
-    sub-result
+    (search needs)
     returns)

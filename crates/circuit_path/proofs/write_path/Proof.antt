@@ -19,18 +19,6 @@ Inv-loop t c buffer₀ left₀ at₀ hops₀ buffer left at hops = Tracing (view
 abbrev μ-loop : tie.MeasureT-loop
 μ-loop t c buffer₀ left₀ at₀ hops₀ buffer left at hops = left
 
-dimension-requires : tie.Need-dimension-requires Inv-loop μ-loop
-dimension-requires c κs = search needs
-
-node-count-requires : tie.Need-node-count-requires Inv-loop μ-loop
-node-count-requires c κs = search needs
-
-sub-left : tie.Need-sub-left Inv-loop μ-loop
-sub-left c = search needs
-
-source-of-requires : tie.Need-source-of-requires Inv-loop μ-loop
-source-of-requires c κs = search needs
-
 first-hop-requires : tie.Need-first-hop-requires Inv-loop μ-loop
 first-hop-requires c κs =
     let g = c in
@@ -46,9 +34,6 @@ cast-buffer c =
     let d = m .before in
     let s = d .before .before .before in
     omega (arith, first-below (s .pre .0) (d .dimension .ensures) (m .node-count .ensures) (g .source-of .ensures) (h .first-hop .ensures) (s .pre .1 .0))
-
-slice-write-buffer : tie.Need-slice-write-buffer Inv-loop μ-loop
-slice-write-buffer c = search needs
 
 neighbour-requires : tie.Need-neighbour-requires Inv-loop μ-loop
 neighbour-requires c κs =
@@ -143,13 +128,13 @@ write-path-spec =
     (tie.spec
     Inv-loop
     μ-loop
-    dimension-requires
-    node-count-requires
-    sub-left
-    source-of-requires
+    (search needs)
+    (search needs)
+    (search needs)
+    (search needs)
     first-hop-requires
     cast-buffer
-    slice-write-buffer
+    (search needs)
     neighbour-requires
     loop-holds
     held-port-requires

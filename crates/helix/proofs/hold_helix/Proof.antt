@@ -35,9 +35,6 @@ returns c =
     let o = a .before .before .before in
     holding-arrived (o .before .before .loop .inv) (o .set-owner .ensures) (a .neighbour .ensures) (c .if1 .taken)
 
-uphill-vector-requires : tie.Need-uphill-vector-requires Inv-loop μ-loop
-uphill-vector-requires c κs = search needs
-
 first-port-requires : tie.Need-first-port-requires Inv-loop μ-loop
 first-port-requires c κs =
     let a = c .before .before .before .before in
@@ -70,7 +67,7 @@ hold-helix-spec =
     neighbour-requires
     same-length
     returns
-    uphill-vector-requires
+    (search needs)
     first-port-requires
     loop-less
     loop-again)

@@ -17,9 +17,6 @@ abbrev μ-loop : tie.MeasureT-loop
 loop-holds : tie.Need-loop-holds Inv-loop μ-loop
 loop-holds c = let s = c .before .before in without-start (shapeOf (view (s .args .t .now))) (s .pre .node)
 
-cast-hop : tie.Need-cast-hop Inv-loop μ-loop
-cast-hop c = omega arith
-
 shared-slice-read-p : tie.Need-shared-slice-read-p Inv-loop μ-loop
 shared-slice-read-p c =
     let l = c .before .before in
@@ -45,12 +42,6 @@ neighbour-requires c κs =
     let l = i .before in
     let s = l .before .before .before in
     omega (arith, s .pre .below (l .loop .i) (i .loop-test .taken))
-
-add-i : tie.Need-add-i Inv-loop μ-loop
-add-i c = omega arith
-
-loop-less : tie.Need-loop-less Inv-loop μ-loop
-loop-less c = omega arith
 
 loop-again : tie.Need-loop-again Inv-loop μ-loop
 loop-again c =
@@ -78,13 +69,13 @@ free-links-spec =
     Inv-loop
     μ-loop
     loop-holds
-    cast-hop
+    (λ c. omega arith)
     shared-slice-read-p
     cast-p
     set-owner-requires
     neighbour-requires
-    add-i
-    loop-less
+    (λ c. omega arith)
+    (λ c. omega arith)
     loop-again
     same-length
     returns)

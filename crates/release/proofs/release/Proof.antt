@@ -14,12 +14,6 @@ slice-aggregate-write-path c = refl
 write-path-requires : tie.Need-write-path-requires
 write-path-requires c κs = let s = c .before .before .before in (s .pre .0, (s .pre .1 .0, lit≤ tt))
 
-source-of-requires : tie.Need-source-of-requires
-source-of-requires c κs = search needs
-
-slice-aggregate-free-links : tie.Need-slice-aggregate-free-links
-slice-aggregate-free-links c = search needs
-
 free-links-requires : tie.Need-free-links-requires
 free-links-requires c κs =
     let m = c .before in
@@ -57,9 +51,6 @@ disarm-requires c κs =
     freed-within (s .pre .0) (s .pre .1 .0) (s .pre .1 .1) _ (lit≤ tt) (w .write-path .ensures .0) (w .write-path .ensures .1) (m .source-of .ensures)
     (f .free-links .ensures .0) (f .free-links .ensures .1) (h .held-channel .ensures) (r .set-receiver .ensures)
 
-same-length : tie.Need-same-length
-same-length c = search needs
-
 returns : tie.Need-returns
 returns c =
     let d = c .before .before in
@@ -81,11 +72,11 @@ release-spec =
     (tie.spec
     slice-aggregate-write-path
     write-path-requires
-    source-of-requires
-    slice-aggregate-free-links
+    (search needs)
+    (search needs)
     free-links-requires
     held-channel-requires
     set-receiver-requires
     disarm-requires
-    same-length
+    (search needs)
     returns)

@@ -18,32 +18,8 @@ Inv-loop t nodes from count free₀ i₀ free i =
 abbrev μ-loop : tie.MeasureT-loop
 μ-loop t nodes from count free₀ i₀ free i = count - i
 
-link-place-requires : tie.Need-link-place-requires Inv-loop μ-loop
-link-place-requires c κs = omega arith
-
-mul-count : tie.Need-mul-count Inv-loop μ-loop
-mul-count c = omega arith
-
 loop-holds : tie.Need-loop-holds Inv-loop μ-loop
 loop-holds c = (omega arith, omega arith, λ n e l. simp add-zero)
-
-mul-word : tie.Need-mul-word Inv-loop μ-loop
-mul-word c = omega arith
-
-add-word : tie.Need-add-word Inv-loop μ-loop
-add-word c = omega arith
-
-word-requires : tie.Need-word-requires Inv-loop μ-loop
-word-requires c κs = omega arith
-
-add-free : tie.Need-add-free Inv-loop μ-loop
-add-free c = omega arith
-
-add-i : tie.Need-add-i Inv-loop μ-loop
-add-i c = omega arith
-
-loop-less : tie.Need-loop-less Inv-loop μ-loop
-loop-less c = omega arith
 
 loop-again : tie.Need-loop-again Inv-loop μ-loop
 loop-again c =
@@ -60,9 +36,6 @@ loop-again c =
           (c .if1 .came),
     )
 
-cast-result : tie.Need-cast-result Inv-loop μ-loop
-cast-result c = omega arith
-
 returns : tie.Need-returns Inv-loop μ-loop
 returns c =
     let l = c .before in
@@ -78,15 +51,15 @@ free-links-spec =
     (tie.spec
     Inv-loop
     μ-loop
-    link-place-requires
-    mul-count
+    (λ c. omega arith)
+    (λ c. omega arith)
     loop-holds
-    mul-word
-    add-word
-    word-requires
-    add-free
-    add-i
-    loop-less
+    (λ c. omega arith)
+    (λ c. omega arith)
+    (λ c. omega arith)
+    (λ c. omega arith)
+    (λ c. omega arith)
+    (λ c. omega arith)
     loop-again
-    cast-result
+    (λ c. omega arith)
     returns)

@@ -8,12 +8,6 @@ use borrow.Author.Needs.{needs}
 use Rattle.router.proofs.calls.close.Statement.{statement}
 use Rattle.router.proofs.calls.close.Tie as tie
 
-close-requires : tie.Need-close-requires
-close-requires c κs = search needs
-
-same-length : tie.Need-same-length
-same-length c = search needs
-
 returns : tie.Need-returns
 returns c = call-stopped _ _ (c .before .close .ensures) (c .if1 .taken)
 
@@ -30,9 +24,6 @@ release-requires c κs =
       (channel-path _ _ _ (c .circuit-of .ensures) ∙ r .2, r .0 .sound),
     )
 
-same-length-2 : tie.Need-same-length-2
-same-length-2 c = search needs
-
 returns-2 : tie.Need-returns-2
 returns-2 c =
     let g = c .before .before in
@@ -41,4 +32,4 @@ returns-2 c =
     call-closes _ _ _ (e .before .close .ensures) (e .if1 .left) (λ i. omega (arith, e .before .before .before .slice-known .given i)) (m .circuit-of .ensures) (g .release .ensures)
 
 pub close-spec : {M : Type 1} → statement M
-close-spec = tie.close (tie.spec close-requires same-length returns circuit-of-requires release-requires same-length-2 returns-2)
+close-spec = tie.close (tie.spec (search needs) (search needs) returns circuit-of-requires release-requires (search needs) returns-2)

@@ -8,12 +8,6 @@ use borrow.Author.Needs.{needs}
 use Rattle.router.proofs.calls.trace.Statement.{statement}
 use Rattle.router.proofs.calls.trace.Tie as tie
 
-trace-requires : tie.Need-trace-requires
-trace-requires c κs = search needs
-
-same-length : tie.Need-same-length
-same-length c = search needs
-
 returns : tie.Need-returns
 returns c = call-stopped _ _ (c .before .trace .ensures) (c .if1 .taken)
 
@@ -30,9 +24,6 @@ write-path-requires c κs =
       (channel-path _ _ _ (m .circuit-of .ensures) ∙ r .0 .2, r .1),
     )
 
-same-length-2 : tie.Need-same-length-2
-same-length-2 c = search needs
-
 returns-2 : tie.Need-returns-2
 returns-2 c =
     let g = c .before .before in
@@ -41,4 +32,4 @@ returns-2 c =
     call-traces _ _ _ _ (o .trace .ensures) (m .before .if1 .left) (λ i. omega (arith, o .before .before .before .shared-slice-known .given i)) (m .circuit-of .ensures) (g .write-path .ensures .0) (g .write-path .ensures .1)
 
 pub trace-spec : {M : Type 1} → statement M
-trace-spec = tie.close (tie.spec trace-requires same-length returns circuit-of-requires write-path-requires same-length-2 returns-2)
+trace-spec = tie.close (tie.spec (search needs) (search needs) returns circuit-of-requires write-path-requires (search needs) returns-2)

@@ -22,9 +22,6 @@ abbrev μ-loop : tie.MeasureT-loop
 loop-holds : tie.Need-loop-holds Inv-loop μ-loop
 loop-holds c = (omega arith, λ n p g h l z. absurd (omega arith))
 
-add-n : tie.Need-add-n Inv-loop μ-loop
-add-n c = omega arith
-
 held-enabled-requires : tie.Need-held-enabled-requires Inv-loop μ-loop
 held-enabled-requires c κs = let s = c .before .before .before in record { bytes = s .pre .0; node = omega arith; port = lit< tt }
 
@@ -33,12 +30,6 @@ returns c =
     let e = c .before in
     let s = e .before .before .before .before in
     frees-none (s .args .from .0 + e .before .before .loop .i) (omega arith) (λ h. e .held-enabled .ensures .fails (not-true _ (c .if1 .taken)) (unfold view in h))
-
-add-i : tie.Need-add-i Inv-loop μ-loop
-add-i c = omega arith
-
-loop-less : tie.Need-loop-less Inv-loop μ-loop
-loop-less c = omega arith
 
 loop-again : tie.Need-loop-again Inv-loop μ-loop
 loop-again c =
@@ -68,11 +59,11 @@ free-from-spec =
     Inv-loop
     μ-loop
     loop-holds
-    add-n
+    (λ c. omega arith)
     held-enabled-requires
     returns
-    add-i
-    loop-less
+    (λ c. omega arith)
+    (λ c. omega arith)
     loop-again
     free-links-requires
     returns-2)
