@@ -13,7 +13,7 @@ use lib.Seq.{getD-set-same, getD-set-other, set-out}
 use borrow.Author.Tests.{ltb-true, ltb-false}
 use Rattle.common.specs.Lists.{_∈_}
 use Rattle.common.proofs.Tests.{same?}
-use Rattle.cube.specs.Cube.{next}
+use Rattle.cube.specs.Cube.{largestDimension, channels, NodeOf, next}
 use Rattle.cube.proofs.Axes.{next-inside}
 use Rattle.cube.proofs.Ports.{below-256}
 use Rattle.paths.specs.Network.{Path, Link, links}
@@ -44,7 +44,7 @@ module _ (S : Shape) (free : ℕ → ℕ → Bool) (r : Receive) (s t : ℕ) whe
     pub receives : r ≡ channel k
 
   -- A send that is acknowledged:
-  pub send-taken : (vector : ℕ) → S .dimension ≤ 8 → Node S s → Node S t → (w : Path) (k type : ℕ)
+  pub send-taken : (vector : ℕ) → S .dimension ≤ largestDimension → Node S s → Node S t → (w : Path) (k type : ℕ)
       → send type S free r s vector t .outcome ≡ acknowledged w k → Taken w k
   send-taken vector fits i l w k type e =
       let says = send-says S free r s vector t type fits i l in
@@ -62,7 +62,7 @@ PortsBelow D w = (p : ℕ) → p ∈ w → p < D
 
 -- and so for the path of an outcome, whose receive channel is one of eight
 unfoldable pub Fits : ℕ → Outcome → Type 0
-Fits D (acknowledged w k) = PortsBelow D w × (k < 8)
+Fits D (acknowledged w k) = PortsBelow D w × (k < channels)
 Fits D route-rejected = Unit
 Fits D receive-rejected = Unit
 
@@ -71,9 +71,9 @@ unfolding holdPath
 hold-length b c n [] = refl
 hold-length b c n (p ∷ w) = hold-length (putOwner b n p c) c (next n p) w ∙ owner-length b n p c
 
-module _ (c : ℕ) (small : c < 65536) (D : ℕ) (fits : D ≤ 8) where
+module _ (c : ℕ) (small : c < 65536) (D : ℕ) (fits : D ≤ largestDimension) where
   -- What the table shows after the links of a path are held.
-  pub view-hold : (b : List ℕ) → length b ≡ tableLength → (s : ℕ) (w : Path) → s < 2 ^ D → PortsBelow D w → view (holdPath b c s w) ≡ holdLinks (view b) c s w
+  pub view-hold : (b : List ℕ) → length b ≡ tableLength → (s : ℕ) (w : Path) → NodeOf D s → PortsBelow D w → view (holdPath b c s w) ≡ holdLinks (view b) c s w
   unfolding holdPath holdLinks PortsBelow
   view-hold b l s [] i h = refl
   view-hold b l s (p ∷ w) i h =
@@ -82,7 +82,7 @@ module _ (c : ℕ) (small : c < 65536) (D : ℕ) (fits : D ≤ 8) where
       ∙ ap (λ v. holdLinks v c (next s p) w) (view-put-owner b s p c record { bytes = l; node = below-256 fits i; port = omega arith } small)
 
   -- What it shows after a send.
-  pub view-after-send : (b : List ℕ) → length b ≡ tableLength → (s t : ℕ) → s < 2 ^ D → t < 2 ^ D → (o : Outcome) → Fits D o → view (bytesAfterSend b c s t o) ≡ viewAfterSend (view b) c s t o
+  pub view-after-send : (b : List ℕ) → length b ≡ tableLength → (s t : ℕ) → NodeOf D s → NodeOf D t → (o : Outcome) → Fits D o → view (bytesAfterSend b c s t o) ≡ viewAfterSend (view b) c s t o
   unfolding bytesAfterSend viewAfterSend Fits
   view-after-send b l s t i j (acknowledged w k) h =
       view-put-receiver (holdPath b c s w) t k c record { bytes = hold-length b c s w ∙ l; node = below-256 fits j; port = h .1 } small
@@ -91,7 +91,7 @@ module _ (c : ℕ) (small : c < 65536) (D : ℕ) (fits : D ≤ 8) where
   view-after-send b l s t i j receive-rejected h = refl
 
 -- An acknowledged send's ports are below the dimension, and its receive channel is one of eight.
-pub sent-fits : (v : View) (s t y vector : ℕ) → v .dimension ≤ 8 → s < 2 ^ v .dimension → t < 2 ^ v .dimension → Fits (v .dimension) (sendOf v s t y vector .outcome)
+pub sent-fits : (v : View) (s t y vector : ℕ) → v .dimension ≤ largestDimension → NodeOf (v .dimension) s → NodeOf (v .dimension) t → Fits (v .dimension) (sendOf v s t y vector .outcome)
 sent-fits v s t y vector h i j = go (sendOf v s t y vector .outcome) refl
   where
     go : (o : Outcome) → sendOf v s t y vector .outcome ≡ o → Fits (v .dimension) o
@@ -125,7 +125,7 @@ send-bytes b c s t route-rejected h l = h
 send-bytes b c s t receive-rejected h l = h
 
 -- so they are what `encode` writes of what they show
-pub send-encoded : (b : List ℕ) → Bytes b → (c s t : ℕ) (o : Outcome) → dimensionAt b ≤ 8 → c < 65536 → s < 2 ^ dimensionAt b → t < 2 ^ dimensionAt b → Fits (dimensionAt b) o
+pub send-encoded : (b : List ℕ) → Bytes b → (c s t : ℕ) (o : Outcome) → dimensionAt b ≤ largestDimension → c < 65536 → NodeOf (dimensionAt b) s → NodeOf (dimensionAt b) t → Fits (dimensionAt b) o
     → bytesAfterSend b c s t o ≡ encode (viewAfterSend (view b) c s t o)
 send-encoded b bytes c s t o most small i j h =
     encode-shown (bytesAfterSend b c s t o) _ (send-bytes b c s t o bytes small) (view-after-send c small (dimensionAt b) most b (bytes .long) s t i j o h)

@@ -11,7 +11,7 @@ use lib.ListN.{length, set, getD, length-set}
 use lib.Seq.{set-getD, set-set, set-comm}
 use borrow.Author.Tests.{eq-eqb, ne-eqb, eqb-true, not-false}
 use Rattle.common.specs.Lists.{_∈_}
-use Rattle.cube.specs.Cube.{next}
+use Rattle.cube.specs.Cube.{channels, next}
 use Rattle.cube.specs.Helical.{helical}
 use Rattle.cube.proofs.Order.{helical-mem}
 use Rattle.paths.specs.Network.{Network, Path, offered, Nearing, link-free, link-held, link-blocked, isFree, linkState}
@@ -228,11 +228,11 @@ module _ (N : Network) (free : ℕ → ℕ → Bool) (t n a s : ℕ) where
           (λ p m d. let q : N .distance t (N .next n p) ≡ k = omega (arith, near .nearer n p (helical-mem a _ m)) in ap (λ j. arriving j N free t (N .next n p) p d) q) s)
 
 -- the receive channel that a target takes is one of its eight
-pub receive-small : (v : View) (t k : ℕ) → receive v t ≡ channel k → k < 8
+pub receive-small : (v : View) (t k : ℕ) → receive v t ≡ channel k → k < channels
 unfolding receive
 receive-small v t k e = chosen (available v t) k e .0
 
-pub lowest-small : (v : View) (n : ℕ) {k : ℕ} → k ≡ lowestChannel v n → k ≢ 8 → k < 8
+pub lowest-small : (v : View) (n : ℕ) {k : ℕ} → k ≡ lowestChannel v n → k ≢ 8 → k < channels
 lowest-small v n {k} low g = receive-small v n k (unfold receive lowestOf lowestChannel in rw (← low, ne-eqb k 8 g))
 
 module _ (v : View) (b : List ℕ) (c n h s : ℕ) {k : ℕ} (low : k ≡ lowestChannel v n) where

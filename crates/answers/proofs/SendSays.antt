@@ -6,6 +6,7 @@ use mathlib.Core.Bool.{Bool, true, false, cond}
 use mathlib.Core.List.{List}
 use Prim.Native.Nat.{ℕ, _^_, _≤_, _<_}
 use native.Mathlib.Omega.{arith}
+use Rattle.cube.specs.Cube.{largestDimension, NodeOf}
 use Rattle.common.proofs.Tests.{clash}
 use Rattle.paths.specs.Network.{Path}
 use Rattle.paths.specs.Send.{channel, none-available, Outcome, acknowledged, route-rejected, receive-rejected, Acknowledged, Attempt, SendResult}
@@ -106,7 +107,7 @@ unfolding freeIn stateIn
 free-enabled v n p e = free-link _ _ .0 e .0
 
 -- whether waiting helps, in the words of the request
-module _ (b : List ℕ) (s t type vector : ℕ) (fits : shapeOf (view b) .dimension ≤ 8) (source : s < 2 ^ shapeOf (view b) .dimension) (target : t < 2 ^ shapeOf (view b) .dimension) where
+module _ (b : List ℕ) (s t type vector : ℕ) (fits : shapeOf (view b) .dimension ≤ largestDimension) (source : NodeOf (shapeOf (view b) .dimension) s) (target : NodeOf (shapeOf (view b) .dimension) t) where
   pub could-route : (waitingHelps (view b) s t type vector ≡ true) ↔ CouldRoute (view b) s t (attempts (shapeOf (view b)) type vector)
   unfolding waitingHelps
   could-route = waiting-exactly (shapeOf (view b)) fits s t type vector source target (view b .enabled)
@@ -167,16 +168,16 @@ demand-2 b s t c type vector may x h k n b′ q =
     ports : Fits (dimensionAt b) o
     ports = unfold view in sent-fits (view b) s t type vector (may .fits) (may .source) (may .target)
 
-    fits : shapeOf (view b) .dimension ≤ 8
+    fits : shapeOf (view b) .dimension ≤ largestDimension
     fits = unfold view in may .fits
 
     said : AttemptsSay (net (view b)) s t (freeIn (view b)) (receive (view b) t) tried o m
     said = send-says (shapeOf (view b)) (freeIn (view b)) (receive (view b) t) s vector t type fits (unfold view in may .source) (unfold view in may .target)
 
-    source : s < 2 ^ shapeOf (view b) .dimension
+    source : NodeOf (shapeOf (view b) .dimension) s
     source = unfold view in may .source
 
-    target : t < 2 ^ shapeOf (view b) .dimension
+    target : NodeOf (shapeOf (view b) .dimension) t
     target = unfold view in may .target
 
     which : Rejections b c s t tried helps (could-route b s t type vector fits source target) (routes-blocked b s t type vector fits source target) x

@@ -5,9 +5,9 @@ use mathlib.Core.Path.{_≡_}
 use mathlib.Core.Logic.{_≢_}
 use mathlib.Core.Bool.{Bool, true}
 use mathlib.Core.List.{List}
-use Prim.Native.Nat.{ℕ, _^_, _≤_, _<_}
+use Prim.Native.Nat.{ℕ, _≤_, _<_}
 use lib.ListN.{length}
-use Rattle.cube.specs.Cube.{largestDimension}
+use Rattle.cube.specs.Cube.{largestDimension, NodeOf, VectorOf}
 use Rattle.paths.specs.Send.{Outcome, acknowledged, route-rejected, receive-rejected, SendResult}
 use Rattle.layout.specs.Layout.{tableLength, dimensionAt}
 use Rattle.entries.specs.EntryContracts.{putReceiver}
@@ -35,8 +35,8 @@ searched b s t c type vector = sendAnswer true b c s t (sendOf (view b) s t type
 pub record MaySend (b : List ℕ) (s t c vector : ℕ) : Type 0 where
   pub bytes : length b ≡ tableLength
   pub fits : dimensionAt b ≤ largestDimension
-  pub source : s < 2 ^ dimensionAt b
-  pub target : t < 2 ^ dimensionAt b
-  pub ports : vector < 2 ^ dimensionAt b
+  pub source : NodeOf (dimensionAt b) s
+  pub target : NodeOf (dimensionAt b) t
+  pub ports : VectorOf (dimensionAt b) vector
   pub circuit : c ≢ 0
   pub small : c < 65536

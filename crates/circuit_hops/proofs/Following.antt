@@ -14,7 +14,7 @@ use Rattle.common.proofs.Every.{decide}
 use Rattle.common.specs.Lists.{_∈_}
 use Rattle.common.proofs.Tests.{below-or}
 use Rattle.cube.specs.Bits.{has, flip}
-use Rattle.cube.specs.Cube.{next, sourceOf}
+use Rattle.cube.specs.Cube.{largestDimension, portCount, NodeOf, next, sourceOf}
 use Rattle.cube.proofs.Bits.{no-ports, has-room, flip-xor}
 use Rattle.cube.proofs.Axes.{axis-low, next-inside}
 use Rattle.paths.specs.Network.{Path, end, links, Exactly}
@@ -41,12 +41,12 @@ pub record OneLink (b : List ℕ) (c s held : ℕ) : Type 0 where
   pub sole : Sole (view b) c s port
   pub low : port < dimensionAt b
   pub to : bitXor s held ≡ next s port
-  pub inside : bitXor s held < 2 ^ dimensionAt b
+  pub inside : NodeOf (dimensionAt b) (bitXor s held)
 
 pub one-link : {b : List ℕ} {nodes c s t held : ℕ} → TakePre b nodes c s t → HeldBy b c s held → linksHeld (view b) c s ≤ 1 → held < nodes → held ≢ 0 → OneLink b c s held
 one-link {b} {nodes} {c} {s} {t} {held} pre f few l h = ⊎-elim (λ r. found (r .0) (r .1) (r .2)) (λ r. absurd (h (no-ports 8 held (f .small) r))) (decide 8 (has held))
   where
-    found : (p : ℕ) → p < 8 → has held p ≡ true → OneLink b c s held
+    found : (p : ℕ) → p < portCount → has held p ≡ true → OneLink b c s held
     found p k x =
         let one = sole-port f few k x in
         let low : p < dimensionAt b = ⊎-elim (λ y. y) (λ y. absurd (omega (arith, has-room held p x, pow-mono {i = dimensionAt b} {j = p} y, pre .count))) (below-or (dimensionAt b) p) in
@@ -64,7 +64,7 @@ module _ {b : List ℕ} {nodes c s t p start hops : ℕ} (pre : TakePre b nodes 
   v : View
   v = view b
 
-  fits : v .dimension ≤ 8
+  fits : v .dimension ≤ largestDimension
   unfolding v
   fits = omega (arith, shown b, pre .known .fits)
 
@@ -88,7 +88,7 @@ module _ {b : List ℕ} {nodes c s t p start hops : ℕ} (pre : TakePre b nodes 
   unroll [] o x = absurd o
   unroll (a ∷ u) o x = begin same
     where
-      below : (q : ℕ) → q ∈ ports (shapeOf v) → q < 8
+      below : (q : ℕ) → q ∈ ports (shapeOf v) → q < portCount
       below q m = let k = unfolded-port (shapeOf v) fits refl q .0 m in omega (arith, fits)
 
       same : a ≡ p
@@ -110,7 +110,7 @@ module _ {b : List ℕ} {nodes c s t p start hops : ℕ} (pre : TakePre b nodes 
           mine : (m q : ℕ) → On (net v) (next (sourceOf c) a) u m q → heldBy v c m q ≡ true
           mine m q i = unfold On in x .all m q (on-later (net v) (sourceOf c) a u m q i)
 
-          port : (m q : ℕ) → On (net v) (next (sourceOf c) a) u m q → q < 8
+          port : (m q : ℕ) → On (net v) (next (sourceOf c) a) u m q → q < portCount
           port m q i = below q (permitted-inside (shapeOf v) (sourceOf c) t (a ∷ u) (unfold v in rw (shown b) (pre .known .source)) o .0 m q (on-later (net v) (sourceOf c) a u m q i) .1)
 
           other : (m q r : ℕ) → On (net v) (next (sourceOf c) a) u m q → r < 8 → heldBy v c m r ≡ true → r ≡ q
@@ -149,10 +149,10 @@ module _ {b : List ℕ} {nodes c s t a : ℕ} (pre : TakePre b nodes c s t) (e :
   count : nodes ≡ 2 ^ view b .dimension
   count = pre .count ∙ ap (2 ^_) (sym (shown b))
 
-  most : view b .dimension < 9
+  most : view b .dimension ≤ largestDimension
   most = omega (arith, shown b, pre .known .fits)
 
-  stands-open : CircuitSound (view b) c → a < 8
+  stands-open : CircuitSound (view b) c → a < portCount
   stands-open z =
       ltb-true a 8 (opened (view b) c refl most count (pre .source) e
       ∙ rw (path-is (view b) c z) (some-hop (net (view b)) (sourceOf c) (ports (shapeOf (view b))) (endFor (view b) c (z .path)) (z .path) (z .permitted)))
@@ -160,7 +160,7 @@ module _ {b : List ℕ} {nodes c s t a : ℕ} (pre : TakePre b nodes c s t) (e :
   pub back-none : 8 ≤ a → Followed (view b) c t 4096
   back-none l = record { found = λ k. absurd (omega arith); forced = λ z q. absurd (omega (arith, stands-open z)); most = omega arith }
 
-  module _ {start hops : ℕ} (l : a < 8) (to : start ≡ next s a) (f : FollowsTo (view b) c start (nodes - 1) t hops) where
+  module _ {start hops : ℕ} (l : a < portCount) (to : start ≡ next s a) (f : FollowsTo (view b) c start (nodes - 1) t hops) where
     path-is-followed : pathOf (view b) c ≡ a ∷ linksFollowed (view b) c start (nodes - 1)
     path-is-followed = path-after (view b) c refl most count (pre .source) e l to
 

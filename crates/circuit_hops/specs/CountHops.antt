@@ -5,10 +5,10 @@ use mathlib.Core.Path.{_≡_}
 use mathlib.Core.Logic.{_⊎_, _≢_}
 use mathlib.Core.Bool.{true}
 use mathlib.Core.List.{List, [], _∷_}
-use Prim.Native.Nat.{ℕ, _+_, _^_, _≤_, _<_}
+use Prim.Native.Nat.{ℕ, _+_, _≤_, _<_}
 use lib.ListN.{length}
 use Rattle.common.specs.Lists.{_∈_}
-use Rattle.cube.specs.Cube.{largestDimension, portCount, next, sourceOf}
+use Rattle.cube.specs.Cube.{largestDimension, portCount, next, sourceOf, NodeOf, cubeNodes}
 use Rattle.paths.specs.Network.{Path, links, offered}
 use Rattle.paths.specs.Permitted.{Permitted}
 use Rattle.paths.specs.CubeNetwork.{ports, circuitCount}
@@ -36,14 +36,14 @@ pub record Walks (v : View) (c t n walked hops : ℕ) : Type 0 where
 pub record WalkPre (b : List ℕ) (n t : ℕ) : Type 0 where
   pub bytes : length b ≡ tableLength
   pub fits : dimensionAt b ≤ largestDimension
-  pub start : n < 2 ^ dimensionAt b
-  pub target : t < 2 ^ dimensionAt b
+  pub start : NodeOf (dimensionAt b) n
+  pub target : NodeOf (dimensionAt b) t
 
 -- what looking for the path of circuit c from its source s to node t asks
 pub record TakePre (b : List ℕ) (nodes c s t : ℕ) : Type 0 where
   pub known : HasSource b c
   pub source : s ≡ sourceOf c
-  pub count : nodes ≡ 2 ^ dimensionAt b
+  pub count : nodes ≡ cubeNodes (dimensionAt b)
   pub target : t < nodes
 
 -- a permitted path to node t over links of circuit c, and the circuit's own if it stands on one that ends there
@@ -74,5 +74,5 @@ pub record Taken (v : View) (c t : ℕ) (before after : List ℕ) (hops : ℕ) :
 pub record HopsPre (b : List ℕ) (nodes : ℕ) (m : List ℕ) : Type 0 where
   pub bytes : length b ≡ tableLength
   pub fits : dimensionAt b ≤ largestDimension
-  pub count : nodes ≡ 2 ^ dimensionAt b
+  pub count : nodes ≡ cubeNodes (dimensionAt b)
   pub size : length m ≡ markCount

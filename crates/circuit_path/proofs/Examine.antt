@@ -15,7 +15,7 @@ use Rattle.common.proofs.Every.{decide}
 use Rattle.common.proofs.Lists.{keep-same, keep-all}
 use Rattle.common.proofs.From.{keep-wider, length-from, from-below}
 use Rattle.cube.specs.Bits.{has}
-use Rattle.cube.specs.Cube.{NodeCount, next, sourceOf}
+use Rattle.cube.specs.Cube.{largestDimension, portCount, NodeCount, next, sourceOf}
 use Rattle.cube.specs.Helical.{portsOf}
 use Rattle.cube.proofs.Bits.{has-and, zero-has, no-ports}
 use Rattle.cube.proofs.Ports.{count-of}
@@ -34,7 +34,7 @@ use Rattle.table.proofs.Made.{ones}
 use Rattle.circuit_path.proofs.Hops.{first-none, first-is, hop-port, first-there, first-nowhere}
 
 -- the vector of all ports of a cube
-ports-of-cube : (D : ℕ) → D < 9 → portsOf 8 (2 ^ D - 1) ≡ from 0 D
+ports-of-cube : (D : ℕ) → D ≤ largestDimension → portsOf portCount (2 ^ D - 1) ≡ from 0 D
 unfolding portsOf
 ports-of-cube D h =
     keep-same (has (2 ^ D - 1)) (λ p. ltb p D) (from 0 8) (λ p m. ones D p h (from-below 8 p m))
@@ -45,32 +45,32 @@ ports-of-cube D h =
 abbrev pub allPorts : View → ℕ
 allPorts v = 2 ^ v .dimension - 1
 
-module _ (v : View) (h : v .dimension < 9) (c : ℕ) where
+module _ (v : View) (h : v .dimension ≤ largestDimension) (c : ℕ) where
   hops : List ℕ
-  hops = firstHopChoices (net v) (portsOf 8 (allPorts v)) (heldBy v c) (sourceOf c)
+  hops = firstHopChoices (net v) (portsOf portCount (allPorts v)) (heldBy v c) (sourceOf c)
 
-  path-over : pathOf v c ≡ takeFirst hops (λ a. walkFrom 18 (net v) (portsOf 8 (allPorts v)) (heldBy v c) (net v .next (sourceOf c) a))
+  path-over : pathOf v c ≡ takeFirst hops (λ a. walkFrom 18 (net v) (portsOf portCount (allPorts v)) (heldBy v c) (net v .next (sourceOf c) a))
   unfolding pathOf pathOfLinks hops
   path-over =
       ap (λ ps. takeFirst (firstHopChoices (net v) ps (heldBy v c) (sourceOf c)) (λ a. walkFrom 18 (net v) ps (heldBy v c) (net v .next (sourceOf c) a))) (unfolded-ports (shapeOf v) (omega arith) refl ∙ sym (ports-of-cube (v .dimension) h))
 
   -- the path that the code follows: its first hop, and what is followed behind it
-  pub path-first : {a : ℕ} → a ≡ firstHop v c (sourceOf c) (allPorts v) → a < 8 → pathOf v c ≡ a ∷ linksFollowed v c (next (sourceOf c) a) (allPorts v)
+  pub path-first : {a : ℕ} → a ≡ firstHop v c (sourceOf c) (allPorts v) → a < portCount → pathOf v c ≡ a ∷ linksFollowed v c (next (sourceOf c) a) (allPorts v)
   unfolding firstHop linksFollowed takeFirst hops network
   path-first {a} e l =
       let r = first-is hops a (sym e) l in
-      let short : length (portsOf 8 (allPorts v)) ≡ v .dimension = ap length (ports-of-cube (v .dimension) h) ∙ length-from 0 (v .dimension) in
-      path-over ∙ ap (λ ps. takeFirst ps (λ a. walkFrom 18 (net v) (portsOf 8 (allPorts v)) (heldBy v c) (net v .next (sourceOf c) a))) (r .1)
-      ∙ ap (a ∷_) (walk-fuel (net v) (heldBy v c) 18 8 (portsOf 8 (allPorts v)) (next (sourceOf c) a) (omega arith) (omega arith))
+      let short : length (portsOf portCount (allPorts v)) ≡ v .dimension = ap length (ports-of-cube (v .dimension) h) ∙ length-from 0 (v .dimension) in
+      path-over ∙ ap (λ ps. takeFirst ps (λ a. walkFrom 18 (net v) (portsOf portCount (allPorts v)) (heldBy v c) (net v .next (sourceOf c) a))) (r .1)
+      ∙ ap (a ∷_) (walk-fuel (net v) (heldBy v c) 18 8 (portsOf portCount (allPorts v)) (next (sourceOf c) a) (omega arith) (omega arith))
 
   pub path-none : {a : ℕ} → a ≡ firstHop v c (sourceOf c) (allPorts v) → 8 ≤ a → pathOf v c ≡ []
   unfolding firstHop takeFirst hops
   path-none e l =
-      path-over ∙ ap (λ ps. takeFirst ps (λ a. walkFrom 18 (net v) (portsOf 8 (allPorts v)) (heldBy v c) (net v .next (sourceOf c) a))) (first-none hops (λ p m. hop-port v c (sourceOf c) (allPorts v) p m) (omega arith))
+      path-over ∙ ap (λ ps. takeFirst ps (λ a. walkFrom 18 (net v) (portsOf portCount (allPorts v)) (heldBy v c) (net v .next (sourceOf c) a))) (first-none hops (λ p m. hop-port v c (sourceOf c) (allPorts v) p m) (omega arith))
 
 -- the same, of the numbers that the code has: the dimension, the count of nodes and the source
-module _ (v : View) (c : ℕ) {D nodes : ℕ} (d : D ≡ v .dimension) (h : D < 9) (m : nodes ≡ 2 ^ D) where
-  below : v .dimension < 9
+module _ (v : View) (c : ℕ) {D nodes : ℕ} (d : D ≡ v .dimension) (h : D ≤ largestDimension) (m : nodes ≡ 2 ^ D) where
+  below : v .dimension ≤ largestDimension
   below = omega arith
 
   every-port : {s a : ℕ} → s ≡ sourceOf c → a ≡ firstHop v c s (nodes - 1) → a ≡ firstHop v c (sourceOf c) (allPorts v)
@@ -86,13 +86,13 @@ module _ (v : View) (c : ℕ) {D nodes : ℕ} (d : D ≡ v .dimension) (h : D < 
       go false l = rw (path-none v below c (every-port q e) (ltb-false a 8 l))
 
   -- and its path is that hop and what is followed behind it
-  pub path-after : {s a start : ℕ} → s ≡ sourceOf c → a ≡ firstHop v c s (nodes - 1) → a < 8 → start ≡ next s a → pathOf v c ≡ a ∷ linksFollowed v c start (nodes - 1)
+  pub path-after : {s a start : ℕ} → s ≡ sourceOf c → a ≡ firstHop v c s (nodes - 1) → a < portCount → start ≡ next s a → pathOf v c ≡ a ∷ linksFollowed v c start (nodes - 1)
   path-after {s} {a} q e g to =
       path-first v below c (every-port q e) g ∙ ap (a ∷_) (ap₂ (linksFollowed v c) (sym (to ∙ ap (λ x. next x a) q)) (sym (ap (_- 1) (count-of d m))))
 
 -- the links that circuit c holds at node s, as the vector that the code has of them
 module _ {b : List ℕ} {c s held : ℕ} (vector : ℕ) (f : HeldBy b c s held) where
-  takes-vector : (p : ℕ) → p < 8 → has (bitAnd held vector) p ≡ takes (view b) c s vector p
+  takes-vector : (p : ℕ) → p < portCount → has (bitAnd held vector) p ≡ takes (view b) c s vector p
   unfolding takes view
   takes-vector p l = has-and held vector p ∙ and-comm (has held p) (has vector p) ∙ ap (has vector p &&_) (f .held p l)
 
@@ -107,7 +107,7 @@ module _ {b : List ℕ} {c s held : ℕ} (vector : ℕ) (f : HeldBy b c s held) 
           (λ r. absurd (eqb-false _ 0 e (no-ports 8 _ (omega (arith, and-le-l held vector, f .small)) r))) (decide 8 (has (bitAnd held vector)))
 
 -- so whether a circuit is open is told by the links that it holds at its source
-pub opened-vector : {b : List ℕ} {c D nodes s held : ℕ} → D ≡ dimensionAt b → D < 9 → nodes ≡ 2 ^ D → s ≡ sourceOf c → HeldBy b c s held → not (eqb (bitAnd held (nodes - 1)) 0) ≡ not (isEmpty (pathOf (view b) c))
+pub opened-vector : {b : List ℕ} {c D nodes s held : ℕ} → D ≡ dimensionAt b → D ≤ largestDimension → nodes ≡ 2 ^ D → s ≡ sourceOf c → HeldBy b c s held → not (eqb (bitAnd held (nodes - 1)) 0) ≡ not (isEmpty (pathOf (view b) c))
 unfolding view
 opened-vector {b} {c} {D} {nodes} d h m q f = hop-there (nodes - 1) f ∙ opened (view b) c d h m q refl
 

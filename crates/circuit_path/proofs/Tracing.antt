@@ -12,7 +12,7 @@ use lib.Seq.{sets, sets-eq}
 use borrow.Author.Tests.{ltb-true}
 use Rattle.common.specs.Lists.{keep, lowest}
 use Rattle.cube.specs.Bits.{has}
-use Rattle.cube.specs.Cube.{next, sourceOf, NodeCount, Without}
+use Rattle.cube.specs.Cube.{largestDimension, portCount, next, sourceOf, NodeCount, Without}
 use Rattle.cube.proofs.Axes.{next-inside}
 use Rattle.cube.proofs.Ports.{without-power}
 use Rattle.paths.specs.Network.{Network, Path, takeFirst}
@@ -63,7 +63,7 @@ module _ {v : View} {c left₀ n₀ left n hops q : ℕ} {buffer₀ buffer : Lis
   pub end-bytes : 8 ≤ q → buffer ≡ sets buffer₀ 1 (linksFollowed v c n₀ left₀)
   end-bytes h = sym (ap (sets buffer hops) (follow-end v c n left q e h)) ∙ inv .bytes
 
-  module _ (h : q < 8) where
+  module _ (h : q < portCount) where
     pub port-left : has left q ≡ true
     port-left = follow-port v c n left q e h
 
@@ -89,10 +89,10 @@ module _ {b : List ℕ} {c D nodes s a : ℕ} (known : HasSource b c) (d : D ≡
   unfolding view
   shown = d
 
-  fits : D < 9
+  fits : D ≤ largestDimension
   fits = omega (arith, known .fits)
 
-  pub first-below : a < 8
+  pub first-below : a < portCount
   first-below = ltb-true a 8 (opened (view b) c shown fits (m .value) q e ∙ some)
 
   module _ {start : ℕ} (to : start ≡ next s a) where

@@ -20,9 +20,20 @@ portCount = 8
 abbrev pub channels : ℕ
 channels = 8
 
--- "A cube of dimension D has nodes 0 to 2^D - 1": how many, for a dimension up to 8
+-- "A cube of dimension D has nodes 0 to 2^D - 1": how many, and a node of it
+abbrev pub cubeNodes : ℕ → ℕ
+cubeNodes D = 2 ^ D
+
+abbrev pub NodeOf : ℕ → ℕ → Type 0
+NodeOf D n = n < cubeNodes D
+
+-- a vector with no bit "at or above D"
+abbrev pub VectorOf : ℕ → ℕ → Type 0
+VectorOf D vector = vector < 2 ^ D
+
+-- the count of nodes for a dimension up to 8, which fits two bytes
 pub record NodeCount (D count : ℕ) : Type 0 where
-  pub value : count ≡ 2 ^ D
+  pub value : count ≡ cubeNodes D
   pub some : 0 < count
   pub most : count ≤ 256
 

@@ -4,6 +4,7 @@ use mathlib.Core.Path.{_≡_}
 use mathlib.Core.Bool.{Bool, true, false, not}
 use Prim.Native.Nat.{ℕ, _≤_, _<_}
 use borrow.Author.Tests.{not-true}
+use Rattle.cube.specs.Cube.{channels}
 use Rattle.common.specs.Lists.{_∈_}
 use Rattle.common.proofs.Tests.{both}
 use Rattle.paths.specs.Network.{Path, Link, links}
@@ -17,7 +18,7 @@ use Rattle.table.proofs.Receives.{chosen}
 use Rattle.ownership.specs.History.{History, takenOn, armedOn, receiveOn}
 
 -- In the history, the receive channel that a target takes is one of the eight, it is armed, and no circuit holds it.
-pub receive-free : (h : History) (t k : ℕ) → receiveOn h t ≡ channel k → (k < 8) × (armedOn h t k ≡ true) × (takenOn h t k ≡ false)
+pub receive-free : (h : History) (t k : ℕ) → receiveOn h t ≡ channel k → (k < channels) × (armedOn h t k ≡ true) × (takenOn h t k ≡ false)
 unfolding receiveOn
 receive-free h t k e =
     let r = chosen _ k e in

@@ -10,7 +10,7 @@ use lib.ListN.{length}
 use borrow.Author.Tests.{le-leb}
 use Rattle.common.specs.Tests.{refusal}
 use Rattle.common.proofs.Tests.{same?, passed, accepted}
-use Rattle.cube.specs.Cube.{circuitOf}
+use Rattle.cube.specs.Cube.{largestDimension, channels, circuitOf}
 use Rattle.paths.specs.Network.{Path}
 use Rattle.paths.specs.Send.{SendResult}
 use Rattle.layout.specs.Layout.{tableLength, dimensionAt}
@@ -47,7 +47,7 @@ use Rattle.answers.specs.SendOnTable.{waitingHelps}
 bytes-represent : (h : History) → Valid h → Represents (bytesOf h) h
 unfolding bytesOf
 bytes-represent h valid =
-    let eight : (n k : ℕ) → viewOf h .armed n k ≡ true → k < 8 = unfold viewOf in λ n k e. armed-inside h valid n k e .1 in
+    let eight : (n k : ℕ) → viewOf h .armed n k ≡ true → k < channels = unfold viewOf in λ n k e. armed-inside h valid n k e .1 in
     let fits = sound-fits (viewOf h) (unfold viewOf in valid .most) (valid-sound h valid) eight in
     record { bytes = encode-bytes (viewOf h) fits; shows = view-encode (viewOf h) fits; valid = valid }
 
@@ -59,7 +59,7 @@ module _ (b : List ℕ) (h : History) (k : Represents b h) where
   least : 1 ≤ dimensionAt b
   least = rw dimension-is (k .valid .least)
 
-  most : dimensionAt b ≤ 8
+  most : dimensionAt b ≤ largestDimension
   most = rw dimension-is (k .valid .most)
 
   -- Every table that represents a history is sound, and none of the tests of the lent table stops a call on it.
@@ -141,7 +141,7 @@ represents-agrees calls b h k =
     let after = represents-run calls b h k in record { bytes = represents-bytes _ _ after; results = represents-results calls b h k; valid = after .valid; refused = λ before a more e. refused-within before b a }
 
 -- a making of a dimension from 1 to 8 is accepted on any table of the right length
-pub making-accepted : (b : List ℕ) (D : ℕ) → length b ≡ tableLength → 1 ≤ D → D ≤ 8 → Accepted b (making D)
+pub making-accepted : (b : List ℕ) (D : ℕ) → length b ≡ tableLength → 1 ≤ D → D ≤ largestDimension → Accepted b (making D)
 unfolding resultOf callTests
 making-accepted b D long l m =
     let inside : not (leb 1 D && leb D 8) ≡ false = ap not (ap₂ _&&_ (le-leb 1 D l) (le-leb D 8 m)) in

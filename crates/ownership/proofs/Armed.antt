@@ -6,7 +6,7 @@ use mathlib.Core.List.{_∷_}
 use Prim.Native.Nat.{ℕ, _<_}
 use lib.Dec.{eqb}
 use Rattle.common.specs.Lists.{any}
-use Rattle.cube.specs.Cube.{circuitOf}
+use Rattle.cube.specs.Cube.{channels, circuitOf}
 use Rattle.paths.specs.Network.{hasLink}
 use Rattle.table.specs.View.{setAt}
 use Rattle.ownership.specs.Calls.{closing}
@@ -34,7 +34,7 @@ unfolding armedOn setAt
 disarm-armed h n k m q = dropped n k (h .armed) m q ∙ off-where (eqb m n && eqb q k) (hasLink (h .armed) m q)
 
 -- "Closing a circuit disarms its channel": that whose entry is the circuit's number, and no other
-pub close-armed : (h : History) → Valid h → (s c : ℕ) → c < 8 → (n k : ℕ)
+pub close-armed : (h : History) → Valid h → (s c : ℕ) → c < channels → (n k : ℕ)
     → armedOn (applied h (closing s c)) n k ≡ cond (eqb (viewOf h .receiver n k) (circuitOf s c)) false (armedOn h n k)
 unfolding armedOn applied viewOf
 close-armed h valid s c small n k =

@@ -5,7 +5,7 @@ use mathlib.Core.Bool.{Bool, true, false}
 use mathlib.Core.List.{List}
 use Prim.Native.Nat.{ℕ, _≤_, _<_}
 use native.Mathlib.Omega.{arith}
-use Rattle.cube.specs.Cube.{circuitOf}
+use Rattle.cube.specs.Cube.{largestDimension, channels, circuitOf}
 use Rattle.cube.proofs.Bits.{with-bit-inside}
 use Rattle.cube.proofs.Ports.{most-nodes, below-256}
 use Rattle.layout.specs.Layout.{dimensionAt, maskPlace}
@@ -27,7 +27,7 @@ use Rattle.ownership.proofs.Stops.{none-stops, none-stops-lent, none-st
 use Rattle.ownership.proofs.StepBytes.{step-encoded}
 
 -- a bit of a mask written: bytes stay bytes
-mask-bytes : (part : ℕ) (b : List ℕ) (n k : ℕ) (on : Bool) → Bytes b → k < 8 → Bytes (putMask part b n k on)
+mask-bytes : (part : ℕ) (b : List ℕ) (n k : ℕ) (on : Bool) → Bytes b → k < channels → Bytes (putMask part b n k on)
 unfolding putMask
 mask-bytes part b n k on h l = set-bytes b (maskPlace part n) _ h (with-bit-inside 8 _ k on (h .small (maskPlace part n)) l)
 
@@ -56,7 +56,7 @@ module _ (b : List ℕ) (small : AllBytes b) (a : Call) (e : stoppedAt b a ≡ 0
   bytes : Bytes b
   bytes = record { long = none-stops-length b a e; small = small }
 
-  encoded : (x : Call) → (form x .isMaking ≡ false → dimensionAt b ≤ 8) → Allowed (factsOf (view b)) x → writtenBy b x ≡ encode (updated (view b) x)
+  encoded : (x : Call) → (form x .isMaking ≡ false → dimensionAt b ≤ largestDimension) → Allowed (factsOf (view b)) x → writtenBy b x ≡ encode (updated (view b) x)
   unfolding writtenBy updated Allowed factsOf view sendIn
   encoded (making D) most r = encode-shown (made D) (fresh D) (made-bytes D (omega (arith, r .1))) (view-made D (omega (arith, r .1)))
   encoded (blocking n p) most r =

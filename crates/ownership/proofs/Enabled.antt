@@ -6,6 +6,7 @@ use mathlib.Core.List.{List, [], _∷_}
 use Prim.Native.Nat.{ℕ, _^_, _<_}
 use lib.Dec.{eqb, ltb}
 use borrow.Author.Tests.{eqb-true, lt-ltb}
+use Rattle.cube.specs.Cube.{channels, NodeOf}
 use Rattle.common.specs.Lists.{keep}
 use Rattle.common.proofs.Tests.{both}
 use Rattle.common.proofs.Lists.{keep-nil, keep-yes, keep-no}
@@ -46,7 +47,7 @@ block-enabled h n p m q = go (eqb m n && eqb q p)
     go true = and-false (ltb m (2 ^ h .dimension) && ltb q (h .dimension))
     go false = refl
 
-pub unblock-enabled : (h : History) (n p : ℕ) → n < 2 ^ h .dimension → p < h .dimension → (m q : ℕ)
+pub unblock-enabled : (h : History) (n p : ℕ) → NodeOf (h .dimension) n → p < h .dimension → (m q : ℕ)
     → enabledOn (withBlocked h (without n p (h .blocked))) m q ≡ setAt (enabledOn h) n p true m q
 unfolding enabledOn setAt
 unblock-enabled h n p i l m q = rw (dropped n p (h .blocked) m q) (go (eqb m n && eqb q p) refl)

@@ -5,6 +5,7 @@ use mathlib.Core.Logic.{⊎-elim}
 use mathlib.Core.Bool.{true}
 use mathlib.Core.List.{List}
 use Prim.Native.Nat.{ℕ, _<_}
+use Rattle.cube.specs.Cube.{channels}
 use Rattle.common.specs.Tests.{refusal}
 use Rattle.common.proofs.Tests.{same?, both, both-below}
 use Rattle.layout.specs.Layout.{inTable, maskAt, armedAt}
@@ -27,7 +28,7 @@ use Rattle.ownership.proofs.Agreement.{represents-not-stopped, represen
 use Rattle.ownership.proofs.HistoryOf.{shows-same, table-valid}
 
 -- no bytes show a channel armed beyond the eight of a node
-eight : (b : List ℕ) (n k : ℕ) → view b .armed n k ≡ true → k < 8
+eight : (b : List ℕ) (n k : ℕ) → view b .armed n k ≡ true → k < channels
 unfolding view armedAt maskAt
 eight b n k e = both-below {n = n} {a = 256} (both (inTable n k) _ e .0) .1
 

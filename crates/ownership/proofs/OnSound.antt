@@ -11,7 +11,7 @@ use lib.ListN.{length}
 use borrow.Author.Tests.{eq-eqb}
 use Rattle.common.specs.Tests.{test, refusal}
 use Rattle.common.proofs.Tests.{clash, same?, refusal-before, refusal-after, Avoids, avoids, avoiding, never-answered}
-use Rattle.cube.specs.Cube.{circuitOf}
+use Rattle.cube.specs.Cube.{channels, NodeOf, circuitOf}
 use Rattle.cube.proofs.Bits.{no-bit-above}
 use Rattle.paths.specs.Send.{Outcome, acknowledged, route-rejected, receive-rejected}
 use Rattle.layout.specs.Layout.{tableLength, dimensionAt, enabledAt, ownerAt, receiverAt, armedAt}
@@ -117,7 +117,7 @@ module _ (b : List ℕ) (small : AllBytes b) (pass : refusal (tableTests b) ≡ 
       let z : stoppedAt b a ≡ 0 = stopped-is b (r .0) (r .1) (r .2) (r .3) a ∙ allowed-passes (factsOf (view b)) a may in
       λ i. record { state = same i; result = (table-step b a .result z ∙ gives) i }
 
-  module _ (n p : ℕ) (i : n < 2 ^ dimensionAt b) (l : p < dimensionAt b) where
+  module _ (n p : ℕ) (i : NodeOf (dimensionAt b) n) (l : p < dimensionAt b) where
     idle : enabledAt b n p ≡ false → heldIn (view b) n p ≡ false
     unfolding heldIn view
     idle e =
@@ -132,7 +132,7 @@ module _ (b : List ℕ) (small : AllBytes b) (pass : refusal (tableTests b) ≡ 
     unfolding Allowed factsOf view resultOf
     enabled-again e = leaves-all (unblocking n p) (i, l) refl (unblocking-again b bytes n p e)
 
-  module _ (n k : ℕ) (i : n < 2 ^ dimensionAt b) (l : k < 8) where
+  module _ (n k : ℕ) (i : NodeOf (dimensionAt b) n) (l : k < channels) where
     untaken : armedAt b n k ≡ false → takenIn (view b) n k ≡ false
     unfolding takenIn view
     untaken e =

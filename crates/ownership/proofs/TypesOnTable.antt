@@ -5,6 +5,7 @@ use mathlib.Core.Logic.{_⊎_, inl, inr, ⊎-elim}
 use mathlib.Core.List.{List}
 use Prim.Native.Nat.{ℕ, _≤_}
 use native.Mathlib.Omega.{arith}
+use Rattle.cube.specs.Cube.{largestDimension}
 use Rattle.common.proofs.Tests.{same?}
 use Rattle.paths.specs.Send.{Outcome, acknowledged, route-rejected, receive-rejected}
 use Rattle.paths.specs.CubeNetwork.{attempts}
@@ -54,7 +55,7 @@ module _ (b : List ℕ) (s c t v : ℕ) where
   answered-scouts helps route-rejected n = refl
   answered-scouts helps receive-rejected n = refl
 
-  scouts-most : (y m : ℕ) → ((p : dimensionAt b ≤ 8) → sendIn (view b) s t y v .scouts ≤ m) → scoutsOf (tableStep b (opening s c t y v) .result) ≤ m
+  scouts-most : (y m : ℕ) → ((p : dimensionAt b ≤ largestDimension) → sendIn (view b) s t y v .scouts ≤ m) → scoutsOf (tableStep b (opening s c t y v) .result) ≤ m
   unfolding resultOf factsOf
   scouts-most y m most =
       let step = table-step b (opening s c t y v) in

@@ -7,6 +7,7 @@ use mathlib.Core.List.{List, [], _∷_, List·Memᴰ·not-nil, List·Memᴰ·cas
 use Prim.Native.Nat.{ℕ, _^_, _≤_, _<_}
 use lib.Dec.{eqb}
 use borrow.Author.Tests.{eqb-true, not-true}
+use Rattle.cube.specs.Cube.{largestDimension, channels, NodeOf}
 use Rattle.common.specs.Lists.{_∈_, keep, Pairwise}
 use Rattle.common.proofs.Tests.{clash, is-false, both}
 use Rattle.common.proofs.Lists.{keep-mem, keep-pairwise, some-any}
@@ -41,7 +42,7 @@ unfolding openOn
 open-send h x m s c e f = some-any (belongs s c) (h .circuits) m (parts-belong s c x e f)
 
 -- the history that a making begins, whatever was before it, is valid
-pub made-valid : (D : ℕ) → 1 ≤ D → D ≤ 8 → Valid (record { dimension = D; blocked = []; circuits = []; armed = [] })
+pub made-valid : (D : ℕ) → 1 ≤ D → D ≤ largestDimension → Valid (record { dimension = D; blocked = []; circuits = []; armed = [] })
 unfolding Pairwise
 made-valid D l m =
     record {
@@ -109,7 +110,7 @@ module _ (h : History) (valid : Valid h) where
       }
 
   -- an acknowledged open: its circuit stands, and is separate from each that is listed
-  module _ (s c t : ℕ) (there : s < 2 ^ h .dimension) (small : c < 8) (shut : openOn h s c ≡ false) (w : Path) (k : ℕ) (taken : Taken (shapeOn h) (freeOn h) (receiveOn h t) s t w k) where
+  module _ (s c t : ℕ) (there : NodeOf (h .dimension) s) (small : c < channels) (shut : openOn h s c ≡ false) (w : Path) (k : ℕ) (taken : Taken (shapeOn h) (freeOn h) (receiveOn h t) s t w k) where
     abbrev new : Circuit
     new = record { source = s; channel = c; ports = w; target = t; receive = k }
 

@@ -9,7 +9,7 @@ use Rattle.common.specs.Tests.{Test, test}
 use Rattle.paths.specs.Network.{Path}
 use Rattle.paths.specs.Send.{Outcome, acknowledged, route-rejected, receive-rejected, SendResult}
 use Rattle.circuit_path.specs.Traced.{tracedInto}
-use Rattle.cube.specs.Cube.{largestDimension}
+use Rattle.cube.specs.Cube.{largestDimension, cubeNodes}
 
 -- A call with its arguments. A trace is lent a buffer, which comes with its bytes; the table is not an argument.
 pub data Call : Type 0 where
@@ -110,7 +110,7 @@ dimensionGiven D = test (not (leb 1 D && leb D largestDimension)) 2
 
 -- "a node, source or target, not below 2^D"; "channel above 7"; "port not below D"
 abbrev pub absent : CallFacts → ℕ → Bool
-absent a n = not (ltb n (2 ^ a .dimension))
+absent a n = not (ltb n (cubeNodes (a .dimension)))
 
 abbrev pub node : CallFacts → ℕ → Test
 node a n = test (absent a n) 4

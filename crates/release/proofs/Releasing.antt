@@ -15,7 +15,7 @@ use borrow.Author.Tests.{eqb-true, eqb-false, eq-eqb}
 use Rattle.common.specs.Lists.{_∈_, lowest}
 use Rattle.common.proofs.Tests.{below-or, clash, is-false, both, and}
 use Rattle.common.proofs.Lowest.{lowest-passes, lowest-before}
-use Rattle.cube.specs.Cube.{next, sourceOf}
+use Rattle.cube.specs.Cube.{portCount, channels, NodeOf, next, sourceOf}
 use Rattle.cube.proofs.Axes.{next-inside}
 use Rattle.cube.proofs.Ports.{below-256}
 use Rattle.paths.specs.Network.{Network, Path, end, links, hasLink}
@@ -55,7 +55,7 @@ module _ (S : Shape) {b ports : List ℕ} {s hops : ℕ} where
   pub without-start : s < 256 → Freeing (network S) b ports s hops b s 0
   without-start h = record { most = omega arith; node = h; long = refl; ends = refl; holds = refl }
 
-  pub without-on : {now after : List ℕ} {at to i p : ℕ} → Freeing (network S) b ports s hops now at i → i < hops → hops ≤ length ports → p ≡ getD ports i 0 → p < 8
+  pub without-on : {now after : List ℕ} {at to i p : ℕ} → Freeing (network S) b ports s hops now at i → i < hops → hops ≤ length ports → p ≡ getD ports i 0 → p < portCount
       → after ≡ putOwner now at p 0 → to ≡ next at p → Freeing (network S) b ports s hops after to (i + 1)
   without-on {now} {after} {at} {to} {i} {p} f h room e l q t =
       record {
@@ -113,7 +113,7 @@ module _ {b : List ℕ} {c : ℕ} (known : HasSource b c) (some : not (isEmpty (
       subst (PortsBelow (dimensionAt b)) same
       (unfold PortsBelow in permitted-below (shapeOf (view b)) (known .fits) refl (sourceOf c) (endFor (view b) c (stands .path)) (stands .path) (stands .permitted))
 
-  target-inside : target < 2 ^ dimensionAt b
+  target-inside : NodeOf (dimensionAt b) target
   unfolding view
   target-inside = subst (_< 2 ^ dimensionAt b) target-is (permitted-inside (shapeOf (view b)) (sourceOf c) (endFor (view b) c (stands .path)) (stands .path) (known .source) (stands .permitted) .1)
 

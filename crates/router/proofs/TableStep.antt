@@ -10,7 +10,7 @@ use lib.Dec.{leb}
 use lib.ListN.{length}
 use borrow.Author.Tests.{ne-eqb, le-leb, lt-leb}
 use Rattle.common.proofs.Tests.{refused, passed, accepted}
-use Rattle.cube.specs.Cube.{circuitOf}
+use Rattle.cube.specs.Cube.{largestDimension, circuitOf}
 use Rattle.paths.specs.Send.{Outcome, acknowledged, route-rejected, receive-rejected}
 use Rattle.layout.specs.Layout.{tableLength}
 use Rattle.table.specs.Encode.{made, encode, AllBytes}
@@ -34,7 +34,7 @@ dimension-zero {D} e = ap (_&& leb D 8) (lt-leb 1 D (omega (arith, e)))
 pub dimension-large : {D : ℕ} → 8 < D → (leb 1 D && leb D 8) ≡ false
 dimension-large {D} h = ap (leb 1 D &&_) (lt-leb D 8 h) ∙ and-false (leb 1 D)
 
-pub dimension-is : {D : ℕ} → D ≢ 0 → D ≤ 8 → (leb 1 D && leb D 8) ≡ true
+pub dimension-is : {D : ℕ} → D ≢ 0 → D ≤ largestDimension → (leb 1 D && leb D 8) ≡ true
 dimension-is {D} f h = ap₂ _&&_ (le-leb 1 D (omega (arith, f))) (le-leb D 8 h)
 
 -- A call that a test stops changes nothing. One that no test stops gives its result, and the bytes are those that the functions below write.

@@ -9,7 +9,7 @@ use native.Mathlib.Omega.{arith}
 use native.Mathlib.Numerals.{add-one}
 use lib.ListN.{length}
 use Rattle.common.specs.Lists.{_∈_}
-use Rattle.cube.specs.Cube.{next, Without}
+use Rattle.cube.specs.Cube.{portCount, VectorOf, next, Without}
 use Rattle.cube.specs.Helical.{helical, portsOf, firstPort, FirstTried}
 use Rattle.cube.proofs.Order.{byte-vector, port-tried, low-port, mem-ports, ports-mem, length-helical, helical-mem, mem-helical, helical-zero}
 use Rattle.cube.proofs.Axes.{next-inside}
@@ -56,9 +56,9 @@ handed-on b t c n p h s w small z e q =
 -- the scouts still to be sent, and what is left to do gives the whole
 pub record Turn (b : List ℕ) (t c n vector a h s : ℕ) (now : List ℕ) (left sent : ℕ) : Type 0 where
   pub same : now ≡ b
-  pub ports : left < 2 ^ dimensionAt b
-  pub sub : (p : ℕ) → p ∈ portsOf 8 left → p ∈ portsOf 8 vector
-  pub room : sent + length (portsOf 8 left) * (1 + waysFrom 1 (farthestAfter b t n vector)) < 2 ^ 32
+  pub ports : VectorOf (dimensionAt b) left
+  pub sub : (p : ℕ) → p ∈ portsOf portCount left → p ∈ portsOf portCount vector
+  pub room : sent + length (portsOf portCount left) * (1 + waysFrom 1 (farthestAfter b t n vector)) < 2 ^ 32
   pub rest : tryAnswer b t c n left a h sent ≡ tryAnswer b t c n vector a h s
 
 pub first-turn : {b : List ℕ} {t c n v a h s : ℕ} → MayTry b t c n v a h s → Turn b t c n v a h s b v s
@@ -82,7 +82,7 @@ module _ {b now : List ℕ} {t c n a h v left p sent s : ℕ} (may : MayTry b t 
   pub now-within : Within now n p
   now-within = rw (inv .same) here-within
 
-  here-member : p ∈ portsOf 8 left
+  here-member : p ∈ portsOf portCount left
   here-member = mem-ports 8 left p (here-tried .small) (here-tried .offered)
 
   pub now-enabled : Enabled (view b) n v → view now .enabled n p ≡ true
@@ -90,13 +90,13 @@ module _ {b now : List ℕ} {t c n a h v left p sent s : ℕ} (may : MayTry b t 
 
   here-reach : hopsLeft b t (next n p) ≤ farthestAfter b t n v
   unfolding hopsLeft farthestAfter network
-  here-reach = farthest-mem (net (view b)) t n (portsOf 8 v) p (inv .sub p here-member)
+  here-reach = farthest-mem (net (view b)) t n (portsOf portCount v) p (inv .sub p here-member)
 
   -- one port fewer
-  here-fewer : length (portsOf 8 left) ≡ suc (length (portsOf 8 (left - 2 ^ p)))
-  here-fewer = sym (length-helical a (portsOf 8 left)) ∙ ap length (here-tried .rest) ∙ ap suc (length-helical a (portsOf 8 (left - 2 ^ p)))
+  here-fewer : length (portsOf portCount left) ≡ suc (length (portsOf portCount (left - 2 ^ p)))
+  here-fewer = sym (length-helical a (portsOf portCount left)) ∙ ap length (here-tried .rest) ∙ ap suc (length-helical a (portsOf portCount (left - 2 ^ p)))
 
-  pub here-room : sent + (1 + waysFrom 1 (farthestAfter b t n v)) + length (portsOf 8 (left - 2 ^ p)) * (1 + waysFrom 1 (farthestAfter b t n v)) < 2 ^ 32
+  pub here-room : sent + (1 + waysFrom 1 (farthestAfter b t n v)) + length (portsOf portCount (left - 2 ^ p)) * (1 + waysFrom 1 (farthestAfter b t n v)) < 2 ^ 32
   here-room = let e = rw here-fewer at (inv .room) in omega (arith, e)
 
   now-held : {b₁ : List ℕ} → b₁ ≡ putOwner now n p c → b₁ ≡ putOwner b n p c
@@ -135,11 +135,11 @@ module _ {b now : List ℕ} {t c n a h v left p sent s : ℕ} (may : MayTry b t 
   left-over : {r : ℕ} → Without left p r → r ≡ left - 2 ^ p
   left-over less = omega (arith, less .value)
 
-  tail-ports : (q : ℕ) → q ∈ portsOf 8 (left - 2 ^ p) → q ∈ portsOf 8 v
-  tail-ports q m = inv .sub q (helical-mem a (portsOf 8 left) (rw (here-tried .rest) (List·Memᴰ·tail (mem-helical a (portsOf 8 (left - 2 ^ p)) m))))
+  tail-ports : (q : ℕ) → q ∈ portsOf portCount (left - 2 ^ p) → q ∈ portsOf portCount v
+  tail-ports q m = inv .sub q (helical-mem a (portsOf portCount left) (rw (here-tried .rest) (List·Memᴰ·tail (mem-helical a (portsOf portCount (left - 2 ^ p)) m))))
 
   abbrev others : List ℕ
-  others = helical a (portsOf 8 (left - 2 ^ p))
+  others = helical a (portsOf portCount (left - 2 ^ p))
 
   all-tries : tried b t c n h (p ∷ others) sent ≡ tryAnswer b t c n v a h s
   unfolding tryAnswer
@@ -209,6 +209,6 @@ module _ {b now : List ℕ} {t c n a h v left p sent s : ℕ} (may : MayTry b t 
 pub turn-over : {b : List ℕ} {t c n v a h s : ℕ} {now : List ℕ} {left sent : ℕ} → Turn b t c n v a h s now left sent → left ≡ 0 → Packed sent now (tryAnswer b t c n v a h s)
 unfolding tryAnswer
 turn-over {b} {t} {c} {n} {v} {a} {h} {s} {now} {left} {sent} inv z =
-    let none : helical a (portsOf 8 left) ≡ [] = ap (λ x. helical a (portsOf 8 x)) z ∙ helical-zero 8 a in
+    let none : helical a (portsOf portCount left) ≡ [] = ap (λ x. helical a (portsOf portCount x)) z ∙ helical-zero 8 a in
     let over = ports-over (freeIn (view b) n) (arrivalAfter (net (view b)) (freeIn (view b)) t n) b c n h (receive (view b) t) sent in
     record { same = in-route sent now (omega (arith, inv .room)) ∙ ap (pass-answer 10 0 0 sent) (inv .same) ∙ over ∙ ap (λ ps. tried b t c n h ps sent) (sym none) ∙ inv .rest }

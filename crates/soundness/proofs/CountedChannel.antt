@@ -10,7 +10,7 @@ use lib.ListN.{length}
 use borrow.Author.Tests.{eqb-true}
 use Rattle.common.specs.Lists.{_∈_}
 use Rattle.common.proofs.Tests.{below-or, is-false, both, and, either, or-left, or-right}
-use Rattle.cube.specs.Cube.{sourceOf}
+use Rattle.cube.specs.Cube.{largestDimension, portCount, channels, NodeOf, sourceOf}
 use Rattle.cube.proofs.Ports.{most-nodes}
 use Rattle.paths.specs.Network.{Network, Path, Link, links, hasLink, Exactly}
 use Rattle.paths.specs.Permitted.{Permitted}
@@ -37,7 +37,7 @@ length-links N s (p ∷ w) = ap suc (length-links N (N .next s p) w)
 
 module _ {v : View} where
   -- a receive channel that a circuit holds
-  module _ {c n k hops : ℕ} {m after : List ℕ} (fits : v .dimension ≤ 8) (held : c ≡ v .receiver n k) (some : c ≢ 0) (l : k < 8) (node : n < 2 ^ v .dimension) (armed : v .armed n k ≡ true)
+  module _ {c n k hops : ℕ} {m after : List ℕ} (fits : v .dimension ≤ largestDimension) (held : c ≡ v .receiver n k) (some : c ≢ 0) (l : k < channels) (node : NodeOf (v .dimension) n) (armed : v .armed n k ≡ true)
       (taken : Taken v c n m after hops) where
     here : ReceivedBefore v (8 * n + k + 1) c
     unfolding ReceivedBefore
@@ -150,7 +150,7 @@ module _ {v : View} where
               unfold Permitted Seen On in
               let q = unfolded-port (shapeOf v) fits refl p .0 (o .0) in
               let mine = own (sourceOf c) p (on-first (net v) (sourceOf c) p w) in
-              let low : p < 8 = omega arith in
+              let low : p < portCount = omega arith in
               (p, low, mine, taken .marks got (sourceOf c) p (omega (arith, source-inside, most-nodes fits)) low .2 refl mine)
 
       still-seen : (d : ℕ) → sourceOf d < 256 → Seen v m d → Seen v after d

@@ -10,7 +10,7 @@ use borrow.Author.Tests.{eqb-true, eq-eqb, ne-eqb, not-true, ltb-true, lt-ltb, l
 use Rattle.common.specs.Lists.{_∈_}
 use Rattle.common.proofs.Tests.{same?, clash, is-false, both-below, both, and, or-left, or-right}
 use Rattle.common.proofs.Every.{decide₂}
-use Rattle.cube.specs.Cube.{sourceOf}
+use Rattle.cube.specs.Cube.{largestDimension, portCount, channels, cubeNodes, NodeOf, sourceOf}
 use Rattle.cube.proofs.Ports.{most-nodes}
 use Rattle.paths.specs.Network.{links}
 use Rattle.paths.proofs.Links.{On, link-true, true-link}
@@ -35,18 +35,18 @@ pub record Framed (v : View) : Type 0 where
 
 -- the test passes at every entry
 pub record EntriesPass (v : View) : Type 0 where
-  pub links-pass : (n p : ℕ) → n < 256 → p < 8 → linkTest v n p ≡ true
-  pub receives-pass : (n k : ℕ) → n < 256 → k < 8 → receiveTest v n k ≡ true
+  pub links-pass : (n p : ℕ) → n < 256 → p < portCount → linkTest v n p ≡ true
+  pub receives-pass : (n k : ℕ) → n < 256 → k < channels → receiveTest v n k ≡ true
 
 -- two bounds tested together
 beyond : {n a p b : ℕ} → ltb n a && ltb p b ≡ false → (n < a) × (p < b) → ⊥
 beyond e i = clash (and (lt-ltb _ _ (i .0)) (lt-ltb _ _ (i .1))) e
 
 -- a place is in the table or not
-pub placed : (n p : ℕ) → ((n < 256) × (p < 8)) ⊎ (inTable n p ≡ false)
+pub placed : (n p : ℕ) → ((n < 256) × (p < portCount)) ⊎ (inTable n p ≡ false)
 placed n p = go (inTable n p) refl
   where
-    go : (b : Bool) → inTable n p ≡ b → ((n < 256) × (p < 8)) ⊎ (inTable n p ≡ false)
+    go : (b : Bool) → inTable n p ≡ b → ((n < 256) × (p < portCount)) ⊎ (inTable n p ≡ false)
     go true e = inl (both-below e)
     go false e = inr e
 
@@ -56,7 +56,7 @@ passing true e = e
 passing false e = absurd (false≢true e)
 
 module _ (v : View) where
-  reaches-passes : (c : ℕ) → c ≤ 8 * 2 ^ v .dimension → CircuitSound v c → reaches v c ≡ true
+  reaches-passes : (c : ℕ) → c ≤ channels * cubeNodes (v .dimension) → CircuitSound v c → reaches v c ≡ true
   unfolding reaches channelsHeld
   reaches-passes c h s =
       and (le-leb c _ h)
@@ -72,7 +72,7 @@ module _ (v : View) where
   receive-stands sound n k h = ⊎-elim (λ z. absurd (z .1 n k refl)) (λ s. s) (sound .numbers (v .receiver n k) h)
 
   -- what is left of a test outside the cube, where it passes for an entry that is zero and for no other
-  module _ (n p : ℕ) (out : (n < 2 ^ v .dimension) × (p < v .dimension) → ⊥) where
+  module _ (n p : ℕ) (out : (NodeOf (v .dimension) n) × (p < v .dimension) → ⊥) where
     test-outside : linkTest v n p ≡ (not (v .enabled n p) && eqb (v .owner n p) 0)
     unfolding linkTest
     test-outside = rw (is-false (ltb n (2 ^ v .dimension) && ltb p (v .dimension)) (λ e. out (both-below e)))
@@ -83,7 +83,7 @@ module _ (v : View) where
     link-absent : linkTest v n p ≡ true → (v .enabled n p ≡ false) × (v .owner n p ≡ 0)
     link-absent t = let r = both (not (v .enabled n p)) _ (sym test-outside ∙ t) in (not-true _ (r .0), eqb-true _ 0 (r .1))
 
-  module _ (n k : ℕ) (out : n < 2 ^ v .dimension → ⊥) where
+  module _ (n k : ℕ) (out : NodeOf (v .dimension) n → ⊥) where
     receive-outside : receiveTest v n k ≡ (not (v .armed n k) && eqb (v .receiver n k) 0)
     unfolding receiveTest
     receive-outside = rw (is-false (ltb n (2 ^ v .dimension)) (λ e. out (ltb-true n _ e)))
@@ -106,7 +106,7 @@ module _ (v : View) where
       go false e z = let h = beyond e in absent-passes n p h (sound .absent-link n p h)
 
   -- a receive channel that nobody holds passes; outside the cube where it is not armed
-  free-receive : (n k : ℕ) → v .receiver n k ≡ 0 → ((n < 2 ^ v .dimension → ⊥) → v .armed n k ≡ false) → receiveTest v n k ≡ true
+  free-receive : (n k : ℕ) → v .receiver n k ≡ 0 → ((NodeOf (v .dimension) n → ⊥) → v .armed n k ≡ false) → receiveTest v n k ≡ true
   unfolding receiveTest
   free-receive n k z off = go (ltb n (2 ^ v .dimension)) refl
     where
@@ -132,17 +132,17 @@ module _ (v : View) where
 
   -- what it says that a number reaches its end: it is in range, its path is not empty, and it holds one receive channel there
   pub record ReachFacts (c : ℕ) : Type 0 where
-    pub in-range : c ≤ 8 * 2 ^ v .dimension
+    pub in-range : c ≤ channels * cubeNodes (v .dimension)
     pub some : not (isEmpty (pathOf v c)) ≡ true
     pub channel : ℕ
-    pub small : channel < 8
+    pub small : channel < channels
     pub receives : v .receiver (endFor v c (pathOf v c)) channel ≡ c
-    pub once : (k : ℕ) → k < 8 → v .receiver (endFor v c (pathOf v c)) k ≡ c → k ≡ channel
+    pub once : (k : ℕ) → k < channels → v .receiver (endFor v c (pathOf v c)) k ≡ c → k ≡ channel
 
   pub reach-facts : (c : ℕ) → reaches v c ≡ true → ReachFacts c
   unfolding reaches channelsHeld
   reach-facts c e =
-      let a = both (leb c (8 * 2 ^ v .dimension)) _ e in
+      let a = both (leb c (channels * cubeNodes (v .dimension))) _ e in
       let b = both (not (isEmpty (pathOf v c))) _ (a .1) in
       let j = kept-one (λ k. eqb (v .receiver (endFor v c (pathOf v c)) k) c) (eqb-true _ 1 (b .1)) in
       record { in-range = leb-true c _ (a .0); some = b .0; channel = j .0; small = j .1; receives = eqb-true _ c (j .2); once = λ k l x. j .3 k l (eq-eqb _ c x) }
@@ -218,11 +218,11 @@ module _ (v : View) where
       }
 
   -- A table that passes at every entry is sound.
-  pub entries-sound : v .dimension ≤ 8 → Framed v → EntriesPass v → Sound v
+  pub entries-sound : v .dimension ≤ largestDimension → Framed v → EntriesPass v → Sound v
   entries-sound fits framed pass = passes-sound links receives framed
     where
       links : (n p : ℕ) → linkTest v n p ≡ true
-      links n p = ⊎-elim (λ i. pass .links-pass n p (i .0) (i .1)) (λ o. absent-passes n p (λ i. let within : (n < 256) × (p < 8) = omega (arith, most-nodes fits) in beyond o within) (framed .no-link n p o)) (placed n p)
+      links n p = ⊎-elim (λ i. pass .links-pass n p (i .0) (i .1)) (λ o. absent-passes n p (λ i. let within : (n < 256) × (p < portCount) = omega (arith, most-nodes fits) in beyond o within) (framed .no-link n p o)) (placed n p)
 
       receives : (n k : ℕ) → receiveTest v n k ≡ true
       receives n k = ⊎-elim (λ i. pass .receives-pass n k (i .0) (i .1)) (λ o. free-receive n k (framed .no-receive n k o) (λ out. framed .no-armed n k o)) (placed n k)

@@ -5,8 +5,8 @@ use mathlib.Core.Path.{_≡_}
 use mathlib.Core.Logic.{_≢_}
 use mathlib.Core.Bool.{Bool, true, _&&_}
 use mathlib.Core.List.{List}
-use Prim.Native.Nat.{ℕ, _+_, _*_, _^_, _≤_, _<_}
-use Rattle.cube.specs.Cube.{portCount, channels, sourceOf}
+use Prim.Native.Nat.{ℕ, _+_, _*_, _≤_, _<_}
+use Rattle.cube.specs.Cube.{portCount, channels, sourceOf, NodeOf}
 use Rattle.paths.specs.Network.{Path, Exactly}
 use Rattle.paths.specs.Permitted.{Permitted}
 use Rattle.paths.specs.CubeNetwork.{ports, circuitCount}
@@ -26,7 +26,7 @@ ReceivedBefore v i c = (n : ℕ) × (k : ℕ) × Earlier i n k × (v .receiver n
 
 -- what is known of the circuit on channel k of node n once it was followed: its path has exactly those of its links that are on
 pub record Standing (v : View) (on : ℕ → ℕ → Bool) (n k : ℕ) : Type 0 where
-  pub node : n < 2 ^ v .dimension
+  pub node : NodeOf (v .dimension) n
   pub armed : v .armed n k ≡ true
   pub in-range : v .receiver n k ≤ circuitCount (shapeOf v)
   pub path : Path

@@ -2,9 +2,9 @@
 -- Assumes nothing.
 use mathlib.Core.Path.{_≡_}
 use mathlib.Core.List.{List}
-use Prim.Native.Nat.{ℕ, _^_, _≤_, _<_}
+use Prim.Native.Nat.{ℕ, _≤_}
 use lib.ListN.{length}
-use Rattle.cube.specs.Cube.{largestDimension}
+use Rattle.cube.specs.Cube.{largestDimension, cubeNodes}
 use Rattle.layout.specs.Layout.{tableLength, dimensionAt}
 use Rattle.table.specs.TableContracts.{ArmsFit}
 use Rattle.circuit_hops.specs.Marks.{markCount}
@@ -13,12 +13,12 @@ use Rattle.circuit_hops.specs.Marks.{markCount}
 pub record Usable (b : List ℕ) (dimension : ℕ) : Type 0 where
   pub bytes : length b ≡ tableLength
   pub stored : dimension ≡ dimensionAt b
-  pub most : dimension < 9
+  pub most : dimension ≤ largestDimension
 
 -- what the parts that look at receive channels ask: the bytes of a table, how many nodes its cube has, no channel armed at any other, and marks
 pub record ReceivePre (b : List ℕ) (nodes : ℕ) (m : List ℕ) : Type 0 where
   pub bytes : length b ≡ tableLength
   pub fits : dimensionAt b ≤ largestDimension
-  pub count : nodes ≡ 2 ^ dimensionAt b
+  pub count : nodes ≡ cubeNodes (dimensionAt b)
   pub arms : ArmsFit b (dimensionAt b)
   pub size : length m ≡ markCount

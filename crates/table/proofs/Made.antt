@@ -9,6 +9,7 @@ use native.Mathlib.Numerals.{one-add}
 use lib.Dec.{ltb, lit≤}
 use lib.ListN.{length, getD, set, replicate, length-append, length-replicate, getD-replicate, List·getD-append}
 use borrow.Author.Tests.{ltb-true, ltb-false, le-ltb}
+use Rattle.cube.specs.Cube.{largestDimension, portCount}
 use Rattle.common.proofs.Every.{at₂}
 use Rattle.cube.specs.Bits.{has}
 use Rattle.cube.proofs.Bits.{zero-has}
@@ -41,9 +42,9 @@ same-test false true e = e
 same-test false false e = refl
 
 -- all D bits, and no other
-pub ones : (D p : ℕ) → D < 9 → p < 8 → has (2 ^ D - 1) p ≡ ltb p D
+pub ones : (D p : ℕ) → D ≤ largestDimension → p < portCount → has (2 ^ D - 1) p ≡ ltb p D
 unfolding has
-ones D p h l = same-test _ _ (at₂ 9 8 (λ D p. Bool·beq (has (2 ^ D - 1) p) (ltb p D)) refl D p h l)
+ones D p h l = same-test _ _ (at₂ 9 8 (λ D p. Bool·beq (has (2 ^ D - 1) p) (ltb p D)) refl D p (omega arith) l)
 
 -- two fills and the first byte: with as many nodes as the dimension has, and all their bits
 pub made-of : (b : List ℕ) (D n : ℕ) → length b ≡ tableLength → n ≡ 2 ^ D → 0 < n → n ≤ 256 → set (filled (filled b (1 + n) tableLength 0) 1 (1 + n) ((n - 1) % 256)) 0 D ≡ made D
@@ -52,7 +53,7 @@ made-of b D n h e s l =
     let x : (n - 1) % 256 ≡ n - 1 = omega arith in
     rw x (made-is b D n (n - 1) h l ∙ rw e)
 
-module _ (D : ℕ) (h : D < 9) where
+module _ (D : ℕ) (h : D ≤ largestDimension) where
   byte-of : (j : ℕ) → getD (made D) (suc j) 0 ≡ cond (ltb j (2 ^ D)) (2 ^ D - 1) 0
   unfolding made
   byte-of j = go (ltb j (2 ^ D)) refl
@@ -95,7 +96,7 @@ module _ (D : ℕ) (h : D < 9) where
   made-armed n k = rw (byte-zero (armPlace n) (omega arith), zero-has k) (and-false (inTable n k))
 
 -- A made table is one of bytes,
-pub made-bytes : (D : ℕ) → D < 9 → Bytes (made D)
+pub made-bytes : (D : ℕ) → D ≤ largestDimension → Bytes (made D)
 made-bytes D h = record { long = long; small = small }
   where
     nodes : 2 ^ D ≤ 256
@@ -116,7 +117,7 @@ made-bytes D h = record { long = long; small = small }
     small (suc j) = rw (byte-of D h j) (either (ltb j (2 ^ D)))
 
 -- and shows its dimension, every link of its cube enabled, nothing held and none armed.
-pub view-made : (D : ℕ) → D < 9 → view (made D) ≡ fresh D
+pub view-made : (D : ℕ) → D ≤ largestDimension → view (made D) ≡ fresh D
 unfolding view fresh ownerAt receiverAt dimensionAt made
 view-made D h = λ i.
     record {

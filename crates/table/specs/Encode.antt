@@ -6,7 +6,7 @@ use mathlib.Core.Path.{_≡_}
 use Prim.Native.Nat.{ℕ, zero, suc, _+_, _-_, _/_, _%_, _^_, _<_}
 use lib.ListN.{length, getD, replicate}
 use Rattle.common.specs.Lists.{from}
-use Rattle.cube.specs.Cube.{portCount}
+use Rattle.cube.specs.Cube.{portCount, cubeNodes}
 use Rattle.layout.specs.Layout.{tableLength, inTable}
 use Rattle.table.specs.View.{View}
 
@@ -34,7 +34,7 @@ encode v = v .dimension ∷ maskBytes (v .enabled) ++ entryBytes (v .owner) 0 20
 -- "Making a table gives dimension D, all its links enabled, nothing held", and "A made table has none armed": D, the D bits of each of its 2^D nodes,
 -- and nothing else
 unfoldable pub made : ℕ → List ℕ
-made D = D ∷ replicate (2 ^ D) (2 ^ D - 1) ++ replicate (tableLength - 1 - 2 ^ D) 0
+made D = D ∷ replicate (cubeNodes D) (2 ^ D - 1) ++ replicate (tableLength - 1 - cubeNodes D) 0
 
 -- every number of a list is a byte
 abbrev pub AllBytes : List ℕ → Type 0

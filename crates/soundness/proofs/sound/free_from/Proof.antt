@@ -7,6 +7,7 @@ use Prim.Native.Nat.{ℕ, _+_, _-_, _≤_, _<_}
 use native.Mathlib.Omega.{arith}
 use lib.Dec.{lit<}
 use borrow.Author.Tests.{not-true, not-false}
+use Rattle.cube.specs.Cube.{portCount}
 use Rattle.common.proofs.Tests.{below-or}
 use Rattle.table.specs.View.{view}
 use Rattle.soundness.proofs.Free.{frees-none, frees-all}
@@ -14,7 +15,7 @@ use Rattle.soundness.proofs.sound.free_from.Statement.{statement}
 use Rattle.soundness.proofs.sound.free_from.Tie as tie
 
 abbrev Inv-loop : tie.InvT-loop
-Inv-loop t from first i₀ i = (i ≤ 16) × ((n p : ℕ) → first ≤ n → n < first + i → p < 8 → view t .owner n p ≢ 0 → view t .enabled n p ≡ true)
+Inv-loop t from first i₀ i = (i ≤ 16) × ((n p : ℕ) → first ≤ n → n < first + i → p < portCount → view t .owner n p ≢ 0 → view t .enabled n p ≡ true)
 
 abbrev μ-loop : tie.MeasureT-loop
 μ-loop t from first i₀ i = 16 - i
