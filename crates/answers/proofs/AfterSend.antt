@@ -31,7 +31,7 @@ use Rattle.table.specs.Encode.{encode, Bytes}
 use Rattle.table.specs.View.{View, view, setReceiver, receive, shapeOf}
 use Rattle.table.proofs.Encoded.{encode-shown}
 use Rattle.table.proofs.Views.{view-put-owner, view-put-receiver}
-use Rattle.answers.specs.SendOnTable.{freeIn, sendOf, holdLinks, viewAfterSend}
+use Rattle.answers.specs.SendOnTable.{freeIn, sendIn, holdLinks, viewAfterSend}
 use Rattle.answers.specs.PassAnswer.{holdPath}
 use Rattle.answers.specs.SendAnswer.{bytesAfterSend}
 use Rattle.answers.proofs.PassAnswer.{receive-small, owner-length}
@@ -91,10 +91,10 @@ module _ (c : ℕ) (small : c < 65536) (D : ℕ) (fits : D ≤ largestDimension)
   view-after-send b l s t i j receive-rejected h = refl
 
 -- An acknowledged send's ports are below the dimension, and its receive channel is one of eight.
-pub sent-fits : (v : View) (s t y vector : ℕ) → v .dimension ≤ largestDimension → NodeOf (v .dimension) s → NodeOf (v .dimension) t → Fits (v .dimension) (sendOf v s t y vector .outcome)
-sent-fits v s t y vector h i j = go (sendOf v s t y vector .outcome) refl
+pub sent-fits : (v : View) (s t y vector : ℕ) → v .dimension ≤ largestDimension → NodeOf (v .dimension) s → NodeOf (v .dimension) t → Fits (v .dimension) (sendIn v s t y vector .outcome)
+sent-fits v s t y vector h i j = go (sendIn v s t y vector .outcome) refl
   where
-    go : (o : Outcome) → sendOf v s t y vector .outcome ≡ o → Fits (v .dimension) o
+    go : (o : Outcome) → sendIn v s t y vector .outcome ≡ o → Fits (v .dimension) o
     go (acknowledged w k) e =
         let r = send-taken (shapeOf v) (freeIn v) (receive v t) s t vector h i j w k y e in
         unfold Fits PortsBelow in (permitted-below (shapeOf v) h refl s t w (r .permitted), receive-small v t k (r .receives))

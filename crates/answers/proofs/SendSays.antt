@@ -19,7 +19,7 @@ use Rattle.table.specs.View.{View, view, receive, available, net, shapeOf}
 use Rattle.table.proofs.Receives.{chosen, none-chosen}
 use Rattle.paths.proofs.Words.{free-link}
 use Rattle.paths.proofs.Waiting.{waiting-exactly, blocked-exactly, found-waits}
-use Rattle.answers.specs.SendOnTable.{stateIn, freeIn, pass-answer, waitingHelps, answerOfOutcome, sendOf}
+use Rattle.answers.specs.SendOnTable.{stateIn, freeIn, pass-answer, waitingHelps, answerOfOutcome, sendIn}
 use Rattle.answers.specs.SendAnswer.{bytesAfterSend, sendAnswer, sends, MaySend}
 use Rattle.answers.specs.SendSays.{SomeRoute, CouldRoute, BlockedRoutes, Available, Lowest, SendSays}
 use Rattle.answers.proofs.Sent.{sent-leaves, sent-bytes, sent-numbers, sent-scouts}
@@ -116,7 +116,7 @@ module _ (b : List ℕ) (s t type vector : ℕ) (fits : shapeOf (view b) .dimens
   unfolding waitingHelps
   routes-blocked = blocked-exactly (shapeOf (view b)) fits s t type vector source target (view b .enabled)
 
-  found-helps : sendOf (view b) s t type vector .outcome ≢ route-rejected → waitingHelps (view b) s t type vector ≡ true
+  found-helps : sendIn (view b) s t type vector .outcome ≢ route-rejected → waitingHelps (view b) s t type vector ≡ true
   unfolding waitingHelps
   found-helps = found-waits (shapeOf (view b)) fits s t type vector source target (freeIn (view b)) (view b .enabled) (free-enabled (view b)) (receive (view b) t)
 

@@ -12,7 +12,7 @@ use Rattle.paths.specs.Send.{Outcome, acknowledged, route-rejected, receive-rej
 use Rattle.layout.specs.Layout.{tableLength, dimensionAt}
 use Rattle.entries.specs.EntryContracts.{putReceiver}
 use Rattle.table.specs.View.{view}
-use Rattle.answers.specs.SendOnTable.{waitingHelps, sendOf, PassAnswer, answerOfOutcome}
+use Rattle.answers.specs.SendOnTable.{waitingHelps, sendIn, PassAnswer, answerOfOutcome}
 use Rattle.answers.specs.PassAnswer.{holdPath}
 
 -- the marks of an acknowledged send, written one after another: the circuit is c, its source s, its target t
@@ -26,10 +26,10 @@ sendAnswer helps b c s t x = answerOfOutcome helps (x .outcome) (x .scouts) (byt
 
 -- What it answers on the bytes of a table, and the bytes afterwards; and what the search alone answers, before it is asked whether waiting helps
 unfoldable pub sends : List ℕ → ℕ → ℕ → ℕ → ℕ → ℕ → PassAnswer
-sends b s t c type vector = sendAnswer (waitingHelps (view b) s t type vector) b c s t (sendOf (view b) s t type vector)
+sends b s t c type vector = sendAnswer (waitingHelps (view b) s t type vector) b c s t (sendIn (view b) s t type vector)
 
 unfoldable pub searched : List ℕ → ℕ → ℕ → ℕ → ℕ → ℕ → PassAnswer
-searched b s t c type vector = sendAnswer true b c s t (sendOf (view b) s t type vector)
+searched b s t c type vector = sendAnswer true b c s t (sendIn (view b) s t type vector)
 
 -- what a send asks: a table of a cube up to dimension 8, a source and a target of it, a vector of its ports, a circuit
 pub record MaySend (b : List ℕ) (s t c vector : ℕ) : Type 0 where

@@ -8,7 +8,7 @@ use lib.ListN.{length}
 use Rattle.table.specs.Encode.{made}
 use Rattle.ownership.specs.Calls.{Call, After}
 use Rattle.ownership.specs.OnTable.{tableStep}
-use Rattle.ownership.specs.History.{historyStep}
+use Rattle.ownership.specs.History.{historyStep, newHistory}
 use Rattle.text.specs.Lines.{lines}
 use Rattle.text.specs.Row.{Row, ended, rowsText}
 use Rattle.input_line.specs.Line.{asks}
@@ -52,4 +52,4 @@ unfoldable pub printed : List ℕ → List ℕ
 printed input = listing tableStep (made 1) input
 
 unfoldable pub recorded : List ℕ → List ℕ
-recorded input = listing historyStep (record { dimension = 1; blocked = []; circuits = []; armed = [] }) input
+recorded input = listing historyStep (newHistory 1) input

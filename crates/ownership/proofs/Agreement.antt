@@ -23,9 +23,9 @@ use Rattle.table.specs.Encode.{encode}
 use Rattle.table.proofs.Encode.{encode-view}
 use Rattle.table.proofs.Encoded.{encode-bytes, view-encode}
 use Rattle.ownership.specs.Calls.{Call, making, blocking, unblocking, opening, closing, tracing, arming, disarming, CallResult, refusedWith, answered, callTests, resultOf}
-use Rattle.ownership.specs.Update.{sendIn, updated}
+use Rattle.ownership.specs.Update.{updated}
 use Rattle.ownership.specs.OnTable.{factsOf, stoppedAt, tableStep}
-use Rattle.ownership.specs.History.{History, factsOn, stoppedOn, listed, applied, historyStep}
+use Rattle.ownership.specs.History.{History, factsOn, stoppedOn, listed, applied, historyStep, newHistory}
 use Rattle.ownership.specs.Agrees.{tableAfter, tableResults, historyAfter, historyResults, Agrees, Accepted, leaves, answers}
 use Rattle.ownership.specs.Invariant.{Valid, Represents}
 use Rattle.ownership.specs.HistoryView.{viewOf, bytesOf}
@@ -41,7 +41,7 @@ use Rattle.ownership.proofs.Stopped.{path-listed, stopped-same}
 use Rattle.ownership.proofs.ValidAfter.{made-valid, follows-valid}
 use Rattle.ownership.proofs.Applied.{made-view, follows-view}
 use Rattle.ownership.proofs.Steps.{table-step, history-step}
-use Rattle.answers.specs.SendOnTable.{waitingHelps}
+use Rattle.answers.specs.SendOnTable.{waitingHelps, sendIn}
 
 -- The bytes of a valid history represent it.
 bytes-represent : (h : History) → Valid h → Represents (bytesOf h) h
@@ -157,7 +157,7 @@ module _ (b : List ℕ) (h : History) (D : ℕ) (e : Accepted b (making D)) wher
   unfolding resultOf
   made-result = table-step b (making D) .result (table-step b (making D) .passed e) ∙ sym (history-step h (making D) .result making-passes)
 
-  made-history : historyStep h (making D) .state ≡ record { dimension = D; blocked = []; circuits = []; armed = [] }
+  made-history : historyStep h (making D) .state ≡ newHistory D
   unfolding applied
   made-history = history-step h (making D) .accepted (sym (ap (λ (g : CallResult). g .number) made-result) ∙ e)
 

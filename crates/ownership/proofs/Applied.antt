@@ -12,7 +12,7 @@ use Rattle.paths.specs.Send.{Outcome, acknowledged, route-rejected, receive-rej
 use Rattle.paths.specs.CubeNetwork.{Shape, network}
 use Rattle.table.specs.View.{View, setAt, setOwner, setReceiver, setEnabled, setArmed, withoutCircuit, fresh}
 use Rattle.ownership.specs.Calls.{Call, making, blocking, unblocking, opening, closing, tracing, arming, disarming}
-use Rattle.ownership.specs.History.{Circuit, History, shapeOn, netOn, holdsLink, holdsReceive, belongs, enabledOn, armedOn, stoppedOn, sendOn, withOpened, applied}
+use Rattle.ownership.specs.History.{Circuit, History, shapeOn, netOn, holdsLink, holdsReceive, belongs, enabledOn, armedOn, stoppedOn, sendOn, withOpened, applied, newHistory}
 use Rattle.ownership.specs.Invariant.{Valid}
 use Rattle.ownership.specs.HistoryView.{numberOf, viewOf}
 use Rattle.answers.specs.SendOnTable.{holdLinks, viewAfterSend}
@@ -25,7 +25,7 @@ use Rattle.ownership.proofs.Enabled.{block-enabled, unblock-enabled}
 use Rattle.ownership.proofs.Armed.{arm-armed, disarm-armed, close-armed}
 
 -- a made table shows the history that a making begins
-pub made-view : (D : ℕ) → viewOf (record { dimension = D; blocked = []; circuits = []; armed = [] }) ≡ fresh D
+pub made-view : (D : ℕ) → viewOf (newHistory D) ≡ fresh D
 unfolding viewOf fresh numberOf enabledOn armedOn hasLink
 made-view D = λ i.
     record { dimension = D; enabled = λ n p. and-true (ltb n (2 ^ D) && ltb p D) i; owner = λ n p. 0; receiver = λ n k. 0; armed = λ n k. false }

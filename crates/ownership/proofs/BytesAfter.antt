@@ -5,6 +5,7 @@ use mathlib.Core.Bool.{Bool, true, false}
 use mathlib.Core.List.{List}
 use Prim.Native.Nat.{ℕ, _≤_, _<_}
 use native.Mathlib.Omega.{arith}
+use Rattle.answers.specs.SendOnTable.{sendIn}
 use Rattle.cube.specs.Cube.{largestDimension, channels, circuitOf}
 use Rattle.cube.proofs.Bits.{with-bit-inside}
 use Rattle.cube.proofs.Ports.{most-nodes, below-256}
@@ -19,7 +20,7 @@ use Rattle.table.proofs.Made.{made-bytes, view-made}
 use Rattle.answers.specs.SendAnswer.{bytesAfterSend}
 use Rattle.ownership.specs.Calls.{Call, making, blocking, unblocking, opening, closing, tracing, arming, disarming, form}
 use Rattle.ownership.specs.Allowed.{Allowed}
-use Rattle.ownership.specs.Update.{sendIn, updated}
+use Rattle.ownership.specs.Update.{updated}
 use Rattle.ownership.specs.OnTable.{factsOf, stoppedAt, tableStep}
 use Rattle.ownership.proofs.Allowed.{allowed}
 use Rattle.answers.proofs.AfterSend.{sent-fits, set-bytes, send-encoded}
@@ -57,7 +58,7 @@ module _ (b : List ℕ) (small : AllBytes b) (a : Call) (e : stoppedAt b a ≡ 0
   bytes = record { long = none-stops-length b a e; small = small }
 
   encoded : (x : Call) → (form x .isMaking ≡ false → dimensionAt b ≤ largestDimension) → Allowed (factsOf (view b)) x → writtenBy b x ≡ encode (updated (view b) x)
-  unfolding writtenBy updated Allowed factsOf view sendIn
+  unfolding writtenBy updated Allowed factsOf view
   encoded (making D) most r = encode-shown (made D) (fresh D) (made-bytes D (omega (arith, r .1))) (view-made D (omega (arith, r .1)))
   encoded (blocking n p) most r =
       let m = most refl in

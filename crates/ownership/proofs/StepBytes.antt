@@ -18,8 +18,8 @@ use Rattle.table.proofs.Encoded.{encode-bytes, view-encode}
 use Rattle.soundness.proofs.Soundness.{fresh-sound}
 use Rattle.ownership.specs.Calls.{Call, making, blocking, unblocking, opening, closing, tracing, arming, disarming, CallResult, answered, resultOf}
 use Rattle.ownership.specs.Allowed.{Allowed}
-use Rattle.ownership.specs.Update.{sendIn, updated}
-use Rattle.answers.specs.SendOnTable.{viewAfterSend, waitingHelps}
+use Rattle.ownership.specs.Update.{updated}
+use Rattle.answers.specs.SendOnTable.{viewAfterSend, waitingHelps, sendIn}
 use Rattle.ownership.specs.OnTable.{factsOf, stoppedAt, tableStep}
 use Rattle.ownership.proofs.Allowed.{allowed}
 use Rattle.ownership.proofs.Range.{sound-fits}

@@ -50,7 +50,7 @@ none-stops-lent b a h e =
 
 -- A table that passes the tests of a lent table is 8,705 bytes long, has a dimension from 1 to 8, and is sound.
 pub pass-tests : (b : List ℕ) → refusal (tableTests b) ≡ 0 → (length b ≡ tableLength) × (1 ≤ dimensionAt b) × (dimensionAt b ≤ largestDimension) × Sound (view b)
-unfolding tableTests
+unfolding tableTests view
 pass-tests b e =
     let x = first-passed _ 1 _ (λ z. omega arith) e in
     let y = first-passed _ 2 _ (λ z. omega arith) (x .1) in

@@ -13,10 +13,9 @@ use Rattle.paths.proofs.Inclusion.{fixed-route, helix-route}
 use Rattle.paths.proofs.Send.{fixed-bounded, helix-bounded}
 use Rattle.layout.specs.Layout.{dimensionAt}
 use Rattle.table.specs.View.{view, receive, shapeOf}
-use Rattle.answers.specs.SendOnTable.{freeIn, waitingHelps}
+use Rattle.answers.specs.SendOnTable.{freeIn, waitingHelps, sendIn}
 use Rattle.answers.specs.SendSays.{SomeRoute}
 use Rattle.ownership.specs.Calls.{opening, scoutsOf, answered, resultOf}
-use Rattle.ownership.specs.Update.{sendIn}
 use Rattle.ownership.specs.OnTable.{factsOf, stoppedAt, tableStep}
 use Rattle.ownership.specs.Allowed.{Allowed}
 use Rattle.ownership.proofs.Allowed.{allowed, allowed-passes}
@@ -65,10 +64,10 @@ module _ (b : List ℕ) (s c t v : ℕ) where
 
   -- A type 3 open reports at most 9 scouts, a type 1 open at most 72.
   pub fixed-open-scouts : scoutsOf (tableStep b (opening s c t 3 v) .result) ≤ 9
-  fixed-open-scouts = scouts-most 3 9 (λ h. unfold sendIn view in fixed-bounded (shapeOf (view b)) (freeIn (view b)) (receive (view b) t) s v t h)
+  fixed-open-scouts = scouts-most 3 9 (λ h. unfold view in fixed-bounded (shapeOf (view b)) (freeIn (view b)) (receive (view b) t) s v t h)
 
   pub helix-open-scouts : scoutsOf (tableStep b (opening s c t 1 v) .result) ≤ 72
-  helix-open-scouts = scouts-most 1 72 (λ h. unfold sendIn view in helix-bounded (shapeOf (view b)) (freeIn (view b)) (receive (view b) t) s v t h refl)
+  helix-open-scouts = scouts-most 1 72 (λ h. unfold view in helix-bounded (shapeOf (view b)) (freeIn (view b)) (receive (view b) t) s v t h refl)
 
   -- "for one table and sends alike but for type, type 1 acknowledges all that type 3 does,
   pub fixed-open-in-helix : numberOf 3 ≡ 0 → numberOf 1 ≡ 0

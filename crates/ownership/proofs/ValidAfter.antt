@@ -17,7 +17,7 @@ use Rattle.paths.specs.CubeNetwork.{send}
 use Rattle.paths.proofs.Words.{free-link}
 use Rattle.table.specs.View.{setAt}
 use Rattle.ownership.specs.Calls.{Call, making, blocking, unblocking, opening, closing, tracing, arming, disarming}
-use Rattle.ownership.specs.History.{Circuit, History, shapeOn, netOn, linksOf, holdsLink, holdsReceive, belongs, enabledOn, heldOn, freeOn, takenOn, openOn, armedOn, receiveOn, factsOn, stoppedOn, sendOn, withBlocked, withCircuits, withArmed, without, withOpened, applied}
+use Rattle.ownership.specs.History.{Circuit, History, shapeOn, netOn, linksOf, holdsLink, holdsReceive, belongs, enabledOn, heldOn, freeOn, takenOn, openOn, armedOn, receiveOn, factsOn, stoppedOn, sendOn, withBlocked, withCircuits, withArmed, without, withOpened, applied, newHistory}
 use Rattle.ownership.specs.Invariant.{CircuitValid, Disjoint, Valid}
 use Rattle.ownership.proofs.Circuits.{parts-belong, belongs-number}
 use Rattle.ownership.proofs.CircuitValid.{link-holds, receive-holds, receiver-of}
@@ -42,7 +42,7 @@ unfolding openOn
 open-send h x m s c e f = some-any (belongs s c) (h .circuits) m (parts-belong s c x e f)
 
 -- the history that a making begins, whatever was before it, is valid
-pub made-valid : (D : ℕ) → 1 ≤ D → D ≤ largestDimension → Valid (record { dimension = D; blocked = []; circuits = []; armed = [] })
+pub made-valid : (D : ℕ) → 1 ≤ D → D ≤ largestDimension → Valid (newHistory D)
 unfolding Pairwise
 made-valid D l m =
     record {

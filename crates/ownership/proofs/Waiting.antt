@@ -23,10 +23,10 @@ use Rattle.paths.proofs.Words.{free-link, free-links}
 use Rattle.table.specs.View.{View, view, net, shapeOf, heldIn, heldBy, setArmed, withoutCircuit, available, setAt, setEnabled, setOwner, setReceiver}
 use Rattle.table.specs.Encode.{AllBytes}
 use Rattle.soundness.specs.TableTests.{tableTests}
-use Rattle.answers.specs.SendOnTable.{stateIn, freeIn, holdLinks, viewAfterSend}
+use Rattle.answers.specs.SendOnTable.{stateIn, freeIn, holdLinks, viewAfterSend, sendIn}
 use Rattle.answers.specs.SendSays.{SomeRoute, CouldRoute, BlockedRoutes, Available}
 use Rattle.ownership.specs.Calls.{Call, opening, closing, arming, callTests, blocking, tracing, disarming}
-use Rattle.ownership.specs.Update.{updated, sendIn}
+use Rattle.ownership.specs.Update.{updated}
 use Rattle.ownership.specs.OnTable.{openIn, isOpenIn, factsOf, lentTests, stoppedAt, tableStep, takenIn}
 use Rattle.ownership.specs.Agrees.{tableAfter, leaves}
 use Rattle.ownership.specs.Closing.{Each, no-call, call-more, ClosesOrArms, closes, arms, RepairsNothing, a-block, an-open, a-close, a-trace, an-arming, a-disarming, Idle}

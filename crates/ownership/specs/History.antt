@@ -28,6 +28,10 @@ pub record History : Type 0 where
   pub circuits : List Circuit
   pub armed : List (ℕ × ℕ)
 
+-- "a making sets the dimension and clears the rest"
+abbrev pub newHistory : ℕ → History
+newHistory D = record { dimension = D; blocked = []; circuits = []; armed = [] }
+
 abbrev pub shapeOn : History → Shape
 shapeOn h = unfolded (h .dimension)
 
@@ -71,9 +75,12 @@ openOn h s c = any (belongs s c) (h .circuits)
 unfoldable pub armedOn : History → ℕ → ℕ → Bool
 armedOn h n k = hasLink (h .armed) n k
 
--- "its lowest channel that is armed and not held"
+-- a receive channel "that is armed and not held", and the lowest one
+abbrev pub availableOn : History → ℕ → ℕ → Bool
+availableOn h n k = armedOn h n k && not (takenOn h n k)
+
 unfoldable pub receiveOn : History → ℕ → Receive
-receiveOn h t = lowestOf (λ k. armedOn h t k && not (takenOn h t k))
+receiveOn h t = lowestOf (availableOn h t)
 
 -- the ports of the circuit listed for a send channel
 unfoldable pub listed : List Circuit → ℕ → ℕ → Path
@@ -126,7 +133,7 @@ withOpened h s c t receive-rejected = h
 
 -- "Else a making sets the dimension and clears the rest; a block adds a link, an unblock drops it; an open adds its circuit ..; a close drops its circuit."
 unfoldable pub applied : History → Call → History
-applied h (making D) = record { dimension = D; blocked = []; circuits = []; armed = [] }
+applied h (making D) = newHistory D
 applied h (blocking n p) = withBlocked h ((n, p) ∷ h .blocked)
 applied h (unblocking n p) = withBlocked h (without n p (h .blocked))
 applied h (opening s c t y v) = withOpened h s c t (sendOn h s t y v .outcome)

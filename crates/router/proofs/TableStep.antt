@@ -19,9 +19,8 @@ use Rattle.table.specs.View.{view, withoutCircuit}
 use Rattle.circuit_path.specs.PathOf.{pathOf}
 use Rattle.circuit_path.specs.Traced.{tracedInto}
 use Rattle.ownership.specs.Calls.{Call, making, blocking, unblocking, opening, closing, tracing, arming, disarming, CallResult, refusedWith, answered, callTests, resultOf, After}
-use Rattle.answers.specs.SendOnTable.{PassAnswer, pass-answer, answerOfOutcome, waitingHelps}
+use Rattle.answers.specs.SendOnTable.{PassAnswer, pass-answer, answerOfOutcome, waitingHelps, sendIn}
 use Rattle.answers.specs.SendAnswer.{sendAnswer, sends}
-use Rattle.ownership.specs.Update.{sendIn}
 use Rattle.ownership.specs.OnTable.{factsOf, lentTests, stoppedAt, tableStep, done}
 use Rattle.ownership.proofs.Stops.{making-stopped}
 use Rattle.ownership.proofs.Steps.{table-step}
@@ -88,7 +87,7 @@ module _ (b : List ℕ) where
   -- an open: what the search comes to is what it gives
   pub call-opens : (s c t y v : ℕ) {m : ℕ} → m ≡ stoppedAt b (opening s c t y v) → m ≡ 0 → AllBytes b → {k : ℕ} → k ≡ circuitOf s c → {x h r n : ℕ} {b₁ : List ℕ} → pass-answer x h r n b₁ ≡ sends b s t k y v
       → done b₁ x (h ∷ r ∷ n ∷ []) [] ≡ tableStep b (opening s c t y v)
-  unfolding writtenBy resultOf factsOf sends sendAnswer sendIn
+  unfolding writtenBy resultOf factsOf sends sendAnswer
   call-opens s c t y v e z small q g =
       ap shown (g ∙ ap (λ i. sends b s t i y v) q) ∙ shown-same (waitingHelps (view b) s t y v) (sendIn (view b) s t y v .outcome) _ _ ∙ call-passed b (opening s c t y v) e z small refl refl
     where

@@ -97,7 +97,7 @@ module _ (b : List ℕ) where
   second : length b ≡ tableLength → not (leb 1 (dimensionAt b) && leb (dimensionAt b) 8) ≡ true → TableAnswer b 2
   second l e =
       record {
-        tests = unfold tableTests in sym (passed 1 _ (rw (eq-eqb (length b) tableLength l)) ∙ refused 2 _ e);
+        tests = unfold tableTests view in sym (passed 1 _ (rw (eq-eqb (length b) tableLength l)) ∙ refused 2 _ e);
         sound = λ e. absurd (omega arith);
         not-sound = λ e. absurd (omega arith);
       }
@@ -110,7 +110,7 @@ module _ (b : List ℕ) where
 
   module _ (l : length b ≡ tableLength) (k : 1 ≤ dimensionAt b) (h : dimensionAt b ≤ largestDimension) where
     third : refusal (tableTests b) ≡ refusal (test (not (soundTest (view b))) 3 ∷ [])
-    unfolding tableTests
+    unfolding tableTests view
     third = passed 1 _ (rw (eq-eqb (length b) tableLength l)) ∙ passed 2 _ (rw (le-leb 1 (dimensionAt b) k, le-leb (dimensionAt b) 8 h))
 
     pub not-sound : soundTest (view b) ≡ false → TableAnswer b 3
@@ -123,13 +123,13 @@ module _ (b : List ℕ) where
   pub answers : TableAnswer b (refusal (tableTests b))
   answers = go (same? (length b) tableLength) (below-or 1 (dimensionAt b)) (below-or 9 (dimensionAt b)) (soundTest (view b)) refl
     where
-      settled : {n : ℕ} → TableAnswer b n → TableAnswer b (refusal (tableTests b))
-      settled a = subst (TableAnswer b) (a .tests) a
+      first-applies : {n : ℕ} → TableAnswer b n → TableAnswer b (refusal (tableTests b))
+      first-applies a = subst (TableAnswer b) (a .tests) a
 
       go : (length b ≡ tableLength) ⊎ (length b ≢ tableLength) → (dimensionAt b < 1) ⊎ (1 ≤ dimensionAt b) → (dimensionAt b < 9) ⊎ (9 ≤ dimensionAt b)
           → (x : Bool) → soundTest (view b) ≡ x → TableAnswer b (refusal (tableTests b))
-      go (inr f) d m x e = settled (wrong-length f)
-      go (inl l) (inl d) m x e = settled (no-dimension l d)
-      go (inl l) (inr d) (inr m) x e = settled (large-dimension l d (omega arith))
-      go (inl l) (inr d) (inl m) false e = settled (not-sound l d (omega arith) e)
-      go (inl l) (inr d) (inl m) true e = settled (usable l d (omega arith) e)
+      go (inr f) d m x e = first-applies (wrong-length f)
+      go (inl l) (inl d) m x e = first-applies (no-dimension l d)
+      go (inl l) (inr d) (inr m) x e = first-applies (large-dimension l d (omega arith))
+      go (inl l) (inr d) (inl m) false e = first-applies (not-sound l d (omega arith) e)
+      go (inl l) (inr d) (inl m) true e = first-applies (usable l d (omega arith) e)
