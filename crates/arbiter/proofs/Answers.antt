@@ -10,13 +10,14 @@ use lib.Dec.{leb, ltb}
 use lib.ListN.{getD}
 use lib.Count.{trailingZeros}
 use borrow.Author.Tests.{lt-ltb, le-ltb, le-leb, lt-leb, ltb-false, leb-false, ne-eqb}
-use Rattle.common.specs.Tests.{test, refusal}
+use Rattle.common.specs.Tests.{refusal}
 use Rattle.common.proofs.Lists.{keep-none}
 use Rattle.common.proofs.Tests.{refused, passed, accepted, or-left, or-right, neither, below-or, clash}
 use Rattle.arbiter.specs.declared.Choice.{Choice}
 use Rattle.arbiter.specs.Arbiter as A
 use Rattle.arbiter.specs.Arbiter.{asks, order, chosen, arbiterTests, arbitrated}
-use Rattle.arbiter.specs.Chosen.{Chosen, CallSays, bad-request, bad-record, nobody-asks, one-served, Requested}
+use Rattle.arbiter.specs.ArbiterContracts.{Requested}
+use Rattle.arbiter.specs.Chosen.{Chosen, CallSays, bad-request, bad-record, nobody-asks, one-served}
 use Rattle.arbiter.proofs.Order.{chosen-says, chosen-is}
 use Rattle.arbiter.proofs.Requests.{asks-zero, asks-high, asks-below, lowest-asks, high-asks, none-asks}
 

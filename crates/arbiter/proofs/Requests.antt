@@ -11,7 +11,8 @@ use lib.Pow.{pow-pos, pow-mono, shr-shr, shr-le}
 use lib.Count.{trailingZeros, under}
 use Rattle.common.proofs.Tests.{below-or, clash}
 use Rattle.arbiter.specs.Arbiter.{asks}
-use Rattle.arbiter.specs.Chosen.{steps, Chosen, Requested}
+use Rattle.arbiter.specs.ArbiterContracts.{Requested}
+use Rattle.arbiter.specs.Chosen.{steps, Chosen}
 use Rattle.arbiter.proofs.Order.{steps-above, steps-round}
 
 -- the requests behind the first k of them

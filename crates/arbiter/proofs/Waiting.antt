@@ -17,7 +17,8 @@ use Rattle.common.proofs.Lists.{keep-yes, keep-no}
 use Rattle.common.proofs.Tests.{both, neither, clash, same?, below-or}
 use Rattle.arbiter.specs.declared.Choice.{Choice}
 use Rattle.arbiter.specs.Arbiter.{asks, order, chosen, arbiterTests, accepted, arbitrated}
-use Rattle.arbiter.specs.Chosen.{steps, Requested}
+use Rattle.arbiter.specs.ArbiterContracts.{Requested}
+use Rattle.arbiter.specs.Chosen.{steps}
 use Rattle.arbiter.specs.Calls.{Call, made, calls, acceptedCalls, servedBy, KeepsAsking, ServedWithin, ServedLast, limit}
 use Rattle.arbiter.proofs.Order.{steps-above, steps-round}
 use Rattle.arbiter.proofs.Requests.{asks-below, asks-zero}

@@ -16,7 +16,8 @@ use Rattle.common.proofs.Lists.{mem-keep, length-keep}
 use Rattle.common.proofs.From.{mem-from, length-from}
 use Rattle.common.proofs.Tests.{same?, below-or, clash, is-false, both, and}
 use Rattle.cube.specs.Bits.{bitAt, has, flip}
-use Rattle.cube.specs.Cube.{largestDimension, portCount, NodeOf, next, uphill, UphillVector}
+use Rattle.cube.specs.CubeContracts.{UphillVector}
+use Rattle.cube.specs.Cube.{largestDimension, portCount, NodeOf, next, uphill}
 use Rattle.cube.proofs.Axes.{axis-low, next-inside}
 use Rattle.cube.proofs.Bits.{has-and, has-bit, has-no-bit, bit-power, bit-power-other, bit-high, flip-xor, no-ports, same-bits, zero-has}
 use Rattle.paths.specs.Network.{Path, offered}

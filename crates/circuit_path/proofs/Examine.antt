@@ -15,7 +15,8 @@ use Rattle.common.proofs.Every.{decide}
 use Rattle.common.proofs.Lists.{keep-same, keep-all}
 use Rattle.common.proofs.From.{keep-wider, length-from, from-below}
 use Rattle.cube.specs.Bits.{has}
-use Rattle.cube.specs.Cube.{largestDimension, portCount, NodeCount, next, sourceOf}
+use Rattle.cube.specs.CubeContracts.{NodeCount}
+use Rattle.cube.specs.Cube.{largestDimension, portCount, next, sourceOf}
 use Rattle.cube.specs.Helical.{portsOf}
 use Rattle.cube.proofs.Bits.{has-and, zero-has, no-ports}
 use Rattle.cube.proofs.Ports.{count-of}

@@ -12,7 +12,8 @@ use Rattle.common.specs.Lists.{_∈_, keep, from, lowest}
 use Rattle.common.proofs.Lists.{mem-keep, keep-none, keep-yes, keep-no, keep-nil, keep-mem, keep-keep, keep-same}
 use Rattle.common.proofs.From.{mem-from, from-below}
 use Rattle.cube.specs.Bits.{bitAt, has}
-use Rattle.cube.specs.Cube.{portCount, next, Without}
+use Rattle.cube.specs.CubeContracts.{Without}
+use Rattle.cube.specs.Cube.{portCount, next}
 use Rattle.cube.specs.Helical.{portsOf, firstOr}
 use Rattle.cube.proofs.Order.{ports-mem, length-ports}
 use Rattle.paths.specs.Network.{end}

@@ -12,7 +12,8 @@ use lib.Seq.{sets, sets-eq}
 use borrow.Author.Tests.{ltb-true}
 use Rattle.common.specs.Lists.{keep, lowest}
 use Rattle.cube.specs.Bits.{has}
-use Rattle.cube.specs.Cube.{largestDimension, portCount, next, sourceOf, NodeCount, Without}
+use Rattle.cube.specs.CubeContracts.{NodeCount, Without}
+use Rattle.cube.specs.Cube.{largestDimension, portCount, next, sourceOf}
 use Rattle.cube.proofs.Axes.{next-inside}
 use Rattle.cube.proofs.Ports.{without-power}
 use Rattle.paths.specs.Network.{Network, Path, takeFirst}

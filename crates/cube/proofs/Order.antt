@@ -17,8 +17,9 @@ use Rattle.common.proofs.Lists.{all-append, keep-no, keep-mem, mem-keep, keep-a
 use Rattle.common.proofs.From.{length-from, keep-wider, from-pairwise, kept-below, below-kept}
 use Rattle.common.proofs.Every.{everyEntry, table-rule}
 use Rattle.cube.specs.Bits.{has}
-use Rattle.cube.specs.Cube.{largestDimension, portCount, Without}
-use Rattle.cube.specs.Helical.{portsOf, helical, firstOr, firstPort, FirstPorts, FirstTried}
+use Rattle.cube.specs.CubeContracts.{Without, FirstTried}
+use Rattle.cube.specs.Cube.{largestDimension, portCount}
+use Rattle.cube.specs.Helical.{portsOf, helical, firstOr, firstPort, FirstPorts}
 use Rattle.cube.proofs.Bits.{no-ports, zero-has, high-has}
 use Rattle.cube.proofs.Ports.{without-power}
 
@@ -141,7 +142,7 @@ pub byte-vector : {D x : ℕ} → D ≤ largestDimension → x < 2 ^ D → x < 2
 byte-vector h l = lt-of-lt-of-le l (pow-mono h)
 
 -- the port tried first
-pub port-tried : (D v a p : ℕ) → D ≤ largestDimension → v < 2 ^ D → v ≢ 0 → p ≡ firstPort v a → FirstTried 8 v a p
+pub port-tried : (D v a p : ℕ) → D ≤ largestDimension → v < 2 ^ D → v ≢ 0 → p ≡ firstPort v a → FirstTried portCount v a p
 unfolding firstPort
 port-tried D v a p h l z e = rw e (first-tried 8 8 v a (byte-vector h l) z)
 

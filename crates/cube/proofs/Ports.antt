@@ -13,7 +13,8 @@ use borrow.Author.Tests.{eqb-true, eqb-false}
 use Rattle.common.specs.Lists.{lowest}
 use Rattle.common.proofs.Every.{at}
 use Rattle.cube.specs.Bits.{bitAt, has, flip}
-use Rattle.cube.specs.Cube.{NodeOf, largestDimension, NodeCount, uphill, UphillVector, Without}
+use Rattle.cube.specs.CubeContracts.{NodeCount, UphillVector, Without}
+use Rattle.cube.specs.Cube.{NodeOf, largestDimension, uphill}
 use Rattle.cube.proofs.Bits.{bit-lt, bit-xor, bit-flipped, bit-kept, has-bit, flip-drops}
 
 -- `1 << p` of w bits

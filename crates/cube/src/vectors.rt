@@ -5,7 +5,8 @@ ghost use Prim.Native.Nat.{_≤_, _<_};
 ghost use Rattle.common.specs.Lists.{lowest};
 ghost use Rattle.cube.specs.Bits.{has};
 ghost use Rattle.cube.specs.Axes.{ownAxes};
-ghost use Rattle.cube.specs.Cube.{largestDimension, portCount, NodeCount, next, UphillVector, Without};
+ghost use Rattle.cube.specs.CubeContracts.{NodeCount, UphillVector, Without};
+ghost use Rattle.cube.specs.Cube.{largestDimension, portCount, next};
 use crate::kinds::Node;
 use crate::kinds::Port;
 

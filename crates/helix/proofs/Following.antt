@@ -9,7 +9,8 @@ use native.Mathlib.Omega.{arith}
 use lib.ListN.{length}
 use lib.Bits.{bitXor, xor-lt}
 use Rattle.cube.specs.Cube.{largestDimension, portCount, NodeOf, next}
-use Rattle.cube.specs.Helical.{helical, portsOf, firstPort, FirstTried}
+use Rattle.cube.specs.CubeContracts.{FirstTried}
+use Rattle.cube.specs.Helical.{helical, portsOf, firstPort}
 use Rattle.cube.proofs.Order.{helical-mem, ports-mem, byte-vector, port-tried, low-port}
 use Rattle.cube.proofs.Axes.{next-inside}
 use Rattle.cube.proofs.Bits.{zero-has}
@@ -52,7 +53,7 @@ goes-on S h z n t a v q i l off up first =
         let p = cube-leading S h t l .leads n i off in
         clash (ports-mem 8 v (rw offers at (p .1)) .1) (rw e (zero-has (p .0)))
 
-    tried : FirstTried 8 v a q
+    tried : FirstTried portCount v a q
     tried = port-tried (S .dimension) v a q h small some first
 
     order : helical a (offered (network S) t n) ≡ q ∷ helical a (portsOf portCount (v - 2 ^ q))

@@ -13,8 +13,9 @@ use lib.Pow.{pow-pos, pow-lt}
 use borrow.Author.Tests.{eq-eqb, ne-eqb}
 use Rattle.common.proofs.Tests.{clash, same?}
 use Rattle.cube.specs.Bits.{has}
-use Rattle.cube.specs.Cube.{largestDimension, portCount, channels, VectorOf, next, Without}
-use Rattle.cube.specs.Helical.{helical, portsOf, firstPort, noPort, FirstTried}
+use Rattle.cube.specs.CubeContracts.{Without, FirstTried}
+use Rattle.cube.specs.Cube.{largestDimension, portCount, channels, VectorOf, next}
+use Rattle.cube.specs.Helical.{helical, portsOf, firstPort, noPort}
 use Rattle.cube.proofs.Bits.{bit-power-other}
 use Rattle.cube.proofs.Order.{length-helical, length-ports, helical-zero, port-tried, low-port}
 use Rattle.paths.specs.Pass.{PassResult, none, found, scouts}
@@ -32,7 +33,7 @@ use Rattle.table.specs.TableContracts.{lowestChannel}
 use Rattle.answers.specs.SendOnTable.{freeIn, pass-answer, answerOfOutcome}
 use Rattle.answers.specs.PassAnswer.{holdPath}
 use Rattle.answers.specs.SendAnswer.{bytesAfterSend, sendAnswer, searched, MaySend}
-use Rattle.helix.specs.HelixContracts.{MayFollow, frontIn, freeAll, helixIn, FrontOf, triedIn, MayTryPaths, FirstFree}
+use Rattle.helix.specs.HelixContracts.{MayFollow, freeAll, helixIn, FrontOf, triedIn, MayTryPaths, FirstFree}
 use Rattle.answers.proofs.PassAnswer.{receive-small}
 use Rattle.answers.proofs.Sent.{ports-in-turn}
 
@@ -65,7 +66,7 @@ path-turns-over {b} {s} {t} {vector} {left} {sent} inv z =
     nothing-left = unfold tryPaths in rw (helical-zero 8 7)
 
 module _ {b : List ℕ} {s t vector left sent p : ℕ} (may : MayTryPaths b s t vector) (inv : PathTurn b s t vector left sent) (some : left ≢ 0) (first : p ≡ firstPort left 7) where
-  pub turn-port : FirstTried 8 left 7 p
+  pub turn-port : FirstTried portCount left 7 p
   turn-port = port-tried (dimensionAt b) left 7 p (may .fits) (inv .ports) some first
 
   pub turn-follows : MayFollow b s t p
@@ -163,7 +164,7 @@ power-off p q off = ap (λ x. eqb x 1) (bit-power-other p q off)
 
 one-port : (p : ℕ) → p < portCount → helical 7 (portsOf portCount (2 ^ p)) ≡ p ∷ []
 one-port p l =
-    let tried : FirstTried 8 (2 ^ p) 7 q = port-tried 8 (2 ^ p) 7 q (le-refl 8) (pow-lt l) (λ e. omega (arith, e, pow-pos p)) refl in
+    let tried : FirstTried portCount (2 ^ p) 7 q = port-tried 8 (2 ^ p) 7 q (le-refl 8) (pow-lt l) (λ e. omega (arith, e, pow-pos p)) refl in
     let same : q ≡ p = is-p (tried .offered) in
     let nothing : 2 ^ p - 2 ^ q ≡ 0 = rw same (omega arith) in
     tried .rest ∙ ap (λ v. q ∷ helical 7 (portsOf portCount v)) nothing ∙ ap (q ∷_) (helical-zero 8 7) ∙ ap (_∷ []) same
@@ -176,7 +177,7 @@ one-port p l =
 
 -- A send of routing type 3 is one of type 1 with the lowest port of its vector alone.
 module _ {b : List ℕ} {s t c vector p others : ℕ} (may : MaySend b s t c vector) (some : vector ≢ 0) (first : p ≡ firstPort vector 7) (less : Without vector p others) where
-  pub lowest-tried : FirstTried 8 vector 7 p
+  pub lowest-tried : FirstTried portCount vector 7 p
   lowest-tried = port-tried (dimensionAt b) vector 7 p (may .fits) (may .ports) some first
 
   alone : vector - others ≡ 2 ^ p

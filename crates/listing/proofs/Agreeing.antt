@@ -7,7 +7,8 @@ use mathlib.Core.Option.{Option, none, some}
 use Prim.Native.Nat.{ℕ, suc}
 use lib.Dec.{ltb, lit≤}
 use lib.ListN.{length, take}
-use Rattle.table.specs.Encode.{made}
+use Rattle.table.specs.View.{fresh}
+use Rattle.table.specs.Encode.{encode}
 use Rattle.ownership.specs.Calls.{Call, tracing, CallResult, hopsOf, bufferOf}
 use Rattle.ownership.specs.OnTable.{tableStep}
 use Rattle.ownership.specs.History.{History, historyStep, newHistory}
@@ -15,7 +16,7 @@ use Rattle.ownership.specs.Invariant.{Represents}
 use Rattle.ownership.proofs.Agreement.{represents-step}
 use Rattle.ownership.proofs.ValidAfter.{made-valid}
 use Rattle.ownership.proofs.Applied.{made-view}
-use Rattle.table.proofs.Made.{made-bytes, view-made}
+use Rattle.table.proofs.Made.{fresh-bytes, view-made}
 use Rattle.listing.specs.Examples.{input, output, printed-example}
 use Rattle.text.specs.Lines.{lines}
 use Rattle.input_line.specs.Line.{asks}
@@ -55,14 +56,14 @@ unfolding listing
 list-alike b h input k =
     ap (λ (rs : List Row). cond (ltb inputLimit (length input)) tooLong (header ++ rowsText rs)) (rows-alike (lines input) b h 1 k)
 
-start-represents : Represents (made 1) (newHistory 1)
+start-represents : Represents (encode (fresh 1)) (newHistory 1)
 start-represents =
-    record { bytes = made-bytes 1 (lit≤ tt); shows = view-made 1 (lit≤ tt) ∙ sym (made-view 1); valid = made-valid 1 (lit≤ tt) (lit≤ tt) }
+    record { bytes = fresh-bytes 1 (lit≤ tt); shows = view-made 1 (lit≤ tt) ∙ sym (made-view 1); valid = made-valid 1 (lit≤ tt) (lit≤ tt) }
 
 -- Demand 3, of the list: what is printed is what the ownership history says.
 pub prints-history : (input : List ℕ) → printed input ≡ recorded input
 unfolding printed recorded
-prints-history input = list-alike (made 1) (newHistory 1) input start-represents
+prints-history input = list-alike (encode (fresh 1)) (newHistory 1) input start-represents
 
 -- So the printed example of document 01 is what the function writes.
 pub example-printed : printed input ≡ output

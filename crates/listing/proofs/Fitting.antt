@@ -16,8 +16,8 @@ use Rattle.cube.specs.Cube.{circuitOf}
 use Rattle.paths.specs.Network.{Path}
 use Rattle.paths.proofs.Apart.{permitted-below}
 use Rattle.paths.proofs.CubeNetwork.{path-hops}
-use Rattle.table.specs.Encode.{made}
-use Rattle.table.specs.View.{view, shapeOf}
+use Rattle.table.specs.Encode.{encode}
+use Rattle.table.specs.View.{view, shapeOf, fresh}
 use Rattle.circuit_path.specs.PathOf.{pathOf}
 use Rattle.circuit_path.specs.Traced.{tracedInto}
 use Rattle.circuit_path.proofs.Stands.{path-is}
@@ -230,10 +230,10 @@ unfolding printed listing
 text-fits input = go (ltb inputLimit (length input)) refl
   where
     go : (x : Bool) → ltb inputLimit (length input) ≡ x
-        → length (cond x tooLong (header ++ rowsText (rows tableStep (made 1) 1 (lines input)))) ≤ outputBytes
+        → length (cond x tooLong (header ++ rowsText (rows tableStep (encode (fresh 1)) 1 (lines input)))) ≤ outputBytes
     go true e = unfold tooLong ended spaced in lit≤ tt
     go false e =
         let long : length header ≡ 51 = unfold header ended spaced in refl in
         let few = ltb-false inputLimit (length input) e in
         let most = taken-lines input in
-        omega (arith, length-append header (rowsText (rows tableStep (made 1) 1 (lines input))), rows-length (lines input) (made 1) 1 (omega arith))
+        omega (arith, length-append header (rowsText (rows tableStep (encode (fresh 1)) 1 (lines input))), rows-length (lines input) (encode (fresh 1)) 1 (omega arith))

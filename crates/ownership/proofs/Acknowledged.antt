@@ -1,19 +1,12 @@
 -- A send that is acknowledged found a free permitted path, and took the target's receive channel.
 -- Assumes nothing.
 use mathlib.Core.Path.{_≡_}
-use mathlib.Core.Bool.{Bool, true, false, not}
-use Prim.Native.Nat.{ℕ, _≤_, _<_}
+use mathlib.Core.Bool.{true, false, not}
+use Prim.Native.Nat.{ℕ, _<_}
 use borrow.Author.Tests.{not-true}
 use Rattle.cube.specs.Cube.{channels}
-use Rattle.common.specs.Lists.{_∈_}
 use Rattle.common.proofs.Tests.{both}
-use Rattle.paths.specs.Network.{Path, Link, links}
-use Rattle.paths.specs.Permitted.{Permitted}
-use Rattle.paths.specs.Send.{Receive, channel, acknowledged}
-use Rattle.paths.specs.CubeNetwork.{Shape, Node, ports, network, attempts, send}
-use Rattle.paths.proofs.Attempts.{said-by, acknowledged-says}
-use Rattle.paths.proofs.Send.{tries-permitted, send-says}
-use Rattle.paths.proofs.Words.{free-links}
+use Rattle.paths.specs.Send.{channel}
 use Rattle.table.proofs.Receives.{chosen}
 use Rattle.ownership.specs.History.{History, takenOn, armedOn, receiveOn}
 

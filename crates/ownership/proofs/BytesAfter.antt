@@ -11,12 +11,11 @@ use Rattle.cube.proofs.Bits.{with-bit-inside}
 use Rattle.cube.proofs.Ports.{most-nodes, below-256}
 use Rattle.layout.specs.Layout.{dimensionAt, maskPlace}
 use Rattle.entries.specs.EntryContracts.{putMask, putEnabled, putArmed, Within}
-use Rattle.table.specs.Encode.{made, encode, AllBytes, Bytes}
+use Rattle.table.specs.Encode.{encode, AllBytes, Bytes}
 use Rattle.table.specs.View.{view, setEnabled, setArmed, withoutCircuit, fresh}
 use Rattle.table.proofs.Encode.{encode-view}
 use Rattle.table.proofs.Encoded.{encode-shown}
 use Rattle.table.proofs.Views.{view-put-enabled, view-put-armed}
-use Rattle.table.proofs.Made.{made-bytes, view-made}
 use Rattle.answers.specs.SendAnswer.{bytesAfterSend}
 use Rattle.ownership.specs.Calls.{Call, making, blocking, unblocking, opening, closing, tracing, arming, disarming, form}
 use Rattle.ownership.specs.Allowed.{Allowed}
@@ -44,7 +43,7 @@ module _ (b : List ℕ) (bytes : Bytes b) where
 
 -- What the functions below leave of the bytes: `table::make`, `disable` and `enable`, `send::send`, `release::release`, `table::arm` and `disarm`.
 unfoldable pub writtenBy : List ℕ → Call → List ℕ
-writtenBy b (making D) = made D
+writtenBy b (making D) = encode (fresh D)
 writtenBy b (blocking n p) = putEnabled b n p false
 writtenBy b (unblocking n p) = putEnabled b n p true
 writtenBy b (opening s c t y v) = bytesAfterSend b (circuitOf s c) s t (sendIn (view b) s t y v .outcome)
@@ -59,7 +58,7 @@ module _ (b : List ℕ) (small : AllBytes b) (a : Call) (e : stoppedAt b a ≡ 0
 
   encoded : (x : Call) → (form x .isMaking ≡ false → dimensionAt b ≤ largestDimension) → Allowed (factsOf (view b)) x → writtenBy b x ≡ encode (updated (view b) x)
   unfolding writtenBy updated Allowed factsOf view
-  encoded (making D) most r = encode-shown (made D) (fresh D) (made-bytes D (omega (arith, r .1))) (view-made D (omega (arith, r .1)))
+  encoded (making D) most r = refl
   encoded (blocking n p) most r =
       let m = most refl in
       enabled-encoded b bytes n p false record { bytes = bytes .long; node = below-256 m (r .0); port = omega (arith, r .1) }

@@ -6,7 +6,7 @@ use mathlib.Core.List.{List, [], _∷_}
 use Prim.Native.Nat.{ℕ, _^_, _<_}
 use lib.Dec.{eqb, ltb}
 use borrow.Author.Tests.{eqb-true, lt-ltb}
-use Rattle.cube.specs.Cube.{channels, NodeOf}
+use Rattle.cube.specs.Cube.{NodeOf}
 use Rattle.common.specs.Lists.{keep}
 use Rattle.common.proofs.Tests.{both}
 use Rattle.common.proofs.Lists.{keep-nil, keep-yes, keep-no}

@@ -4,24 +4,22 @@ use mathlib.Core.Path.{_≡_, refl, ap, sym, _∙_}
 use mathlib.Core.Logic.{⊎-elim, _≢_, _↔_}
 use mathlib.Core.Bool.{true, false, not, Bool}
 use mathlib.Core.List.{List, []}
-use Prim.Native.Nat.{ℕ, _^_, _<_}
+use Prim.Native.Nat.{ℕ, _<_}
 use native.Mathlib.Omega.{arith}
-use lib.Dec.{eqb}
-use lib.ListN.{length}
 use borrow.Author.Tests.{eq-eqb}
-use Rattle.common.specs.Tests.{test, refusal}
+use Rattle.common.specs.Tests.{refusal}
 use Rattle.common.proofs.Tests.{clash, same?, refusal-before, refusal-after, Avoids, avoids, avoiding, never-answered}
 use Rattle.cube.specs.Cube.{channels, NodeOf, circuitOf}
 use Rattle.cube.proofs.Bits.{no-bit-above}
 use Rattle.paths.specs.Send.{Outcome, acknowledged, route-rejected, receive-rejected}
-use Rattle.layout.specs.Layout.{tableLength, dimensionAt, enabledAt, ownerAt, receiverAt, armedAt}
+use Rattle.layout.specs.Layout.{dimensionAt, enabledAt, ownerAt, receiverAt, armedAt}
 use Rattle.table.specs.View.{View, view, heldIn}
 use Rattle.table.specs.Encode.{AllBytes, Bytes}
 use Rattle.circuit_path.specs.CircuitSound.{CircuitSound}
 use Rattle.soundness.specs.Sound.{Sound}
 use Rattle.soundness.specs.TableTests.{tableTests}
 use Rattle.soundness.proofs.Passing.{answers}
-use Rattle.answers.specs.SendOnTable.{pass-answer, answerOfOutcome, sendIn}
+use Rattle.answers.specs.SendOnTable.{pass-answer, answerOfOutcome}
 use Rattle.answers.specs.SendAnswer.{sendAnswer, sends, MaySend}
 use Rattle.answers.specs.SendSays.{SendSays}
 use Rattle.answers.proofs.SendSays.{demand-2}

@@ -29,7 +29,6 @@ use Rattle.paths.proofs.CubeNetwork.{unfolded-port}
 use Rattle.paths.proofs.Attempts.{said-by, receive-rejected-says}
 use Rattle.paths.proofs.Send.{tries-permitted}
 use Rattle.paths.proofs.Words.{free-links}
-use Rattle.layout.specs.Layout.{dimensionAt, armedAt}
 use Rattle.table.specs.View.{View, view, available, receive, shapeOf, net, heldBy}
 use Rattle.table.proofs.Receives.{none-chosen}
 use Rattle.circuit_path.specs.CircuitSound.{CircuitSound}

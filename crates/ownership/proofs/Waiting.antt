@@ -8,15 +8,14 @@ use mathlib.Core.List.{List, [], _∷_, map}
 use Prim.Native.Nat.{ℕ, _<_}
 use native.Mathlib.Omega.{arith}
 use lib.Dec.{eqb}
-use borrow.Author.Tests.{eq-eqb, ne-eqb, eqb-true, not-false}
+use borrow.Author.Tests.{eqb-true, not-false}
 use Rattle.common.specs.Tests.{refusal}
-use Rattle.common.specs.Lists.{_∈_, any}
+use Rattle.common.specs.Lists.{any}
 use Rattle.common.proofs.Tests.{is-false, same?, avoids, avoiding, never-answered, and, clash}
 use Rattle.common.proofs.Lists.{any-some}
 use Rattle.cube.specs.Cube.{circuitOf, sourceOf, next, channels}
-use Rattle.paths.specs.Network.{Path, linkState, isFree}
-use Rattle.paths.specs.Send.{Attempt, Outcome, acknowledged, route-rejected, receive-rejected}
-use Rattle.paths.specs.Sentences.{Tries}
+use Rattle.paths.specs.Network.{Path}
+use Rattle.paths.specs.Send.{Outcome, acknowledged, route-rejected, receive-rejected}
 use Rattle.paths.specs.Waiting.{AllEnabled, SomePathEnabled, EveryPathBlocked, CrossesBlocked}
 use Rattle.paths.specs.CubeNetwork.{attempts, ports}
 use Rattle.paths.proofs.Words.{free-link, free-links}
@@ -25,7 +24,7 @@ use Rattle.table.specs.Encode.{AllBytes}
 use Rattle.soundness.specs.TableTests.{tableTests}
 use Rattle.answers.specs.SendOnTable.{stateIn, freeIn, holdLinks, viewAfterSend, sendIn}
 use Rattle.answers.specs.SendSays.{SomeRoute, CouldRoute, BlockedRoutes, Available}
-use Rattle.ownership.specs.Calls.{Call, opening, closing, arming, callTests, blocking, tracing, disarming}
+use Rattle.ownership.specs.Calls.{Call, opening, callTests}
 use Rattle.ownership.specs.Update.{updated}
 use Rattle.ownership.specs.OnTable.{openIn, isOpenIn, factsOf, lentTests, stoppedAt, tableStep, takenIn}
 use Rattle.ownership.specs.Agrees.{tableAfter, leaves}
@@ -39,7 +38,7 @@ use Rattle.ownership.proofs.Agreement.{represents-step}
 use Rattle.ownership.proofs.FromTable.{sound-represents, keeps-sound, shows-update}
 use Rattle.ownership.proofs.Sameness.{held-same, taken-same}
 use Rattle.ownership.specs.FromTable.{openNumbers, circuitAt, historyOf}
-use Rattle.ownership.specs.History.{Circuit, netOn, holdsLink, holdsReceive, heldOn, takenOn}
+use Rattle.ownership.specs.History.{netOn, holdsLink, holdsReceive, heldOn, takenOn}
 
 -- two tables of one dimension with the same links enabled
 record SameEnabled (v w : View) : Type 0 where

@@ -1,9 +1,9 @@
 -- The calls of document 01 and of document 02: what each is lent, how it is tested, and what it gives.
 -- Assumes nothing.
-use mathlib.Core.Bool.{Bool, true, false, cond, not, _&&_, _||_}
+use mathlib.Core.Bool.{Bool, true, false, cond, not, _||_}
 use mathlib.Core.List.{List, [], _∷_}
 use Prim.Native.Nat.{ℕ, _^_}
-use lib.Dec.{eqb, ltb, leb}
+use lib.Dec.{eqb, ltb}
 use lib.ListN.{length, getD, replicate}
 use Rattle.common.specs.Tests.{Test, test}
 use Rattle.paths.specs.Network.{Path}

@@ -12,7 +12,8 @@ use Rattle.common.proofs.Tests.{clash, is-false, both, and, below-or}
 use Rattle.common.proofs.Lists.{any-some, some-any}
 use Rattle.common.proofs.Lowest.{lowest-passes, lowest-before}
 use Rattle.cube.specs.Bits.{has}
-use Rattle.cube.specs.Cube.{portCount, next, Without}
+use Rattle.cube.specs.CubeContracts.{Without}
+use Rattle.cube.specs.Cube.{portCount, next}
 use Rattle.cube.specs.Helical.{portsOf}
 use Rattle.cube.proofs.Bits.{flip-inside, high-has, zero-has, no-ports}
 use Rattle.cube.proofs.Axes.{axis-low}

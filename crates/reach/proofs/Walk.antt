@@ -11,7 +11,8 @@ use lib.Bits.{bitXor, xor-lt, xor-zero-l}
 use Rattle.common.specs.Lists.{_∈_, any, keep, from}
 use Rattle.cube.specs.Bits.{has}
 use Rattle.cube.specs.Cube.{largestDimension, portCount, NodeOf, next}
-use Rattle.cube.specs.Helical.{helical, portsOf, firstPort, FirstTried}
+use Rattle.cube.specs.CubeContracts.{FirstTried}
+use Rattle.cube.specs.Helical.{helical, portsOf, firstPort}
 use Rattle.cube.proofs.Bits.{flip-inside}
 use Rattle.cube.proofs.Order.{helical-mem, helical-last, ports-mem, first-tried}
 use Rattle.cube.proofs.Ports.{below-256}
@@ -27,7 +28,7 @@ use Rattle.reach.proofs.Marks.{bit-below}
 use Rattle.reach.proofs.Sweep.{xor-back, leads-to, offered-there}
 
 -- the port that is tried first of a vector that is not 0
-first-of : (v a : ℕ) → v < 256 → v ≢ 0 → FirstTried 8 v a (firstPort v a)
+first-of : (v a : ℕ) → v < 256 → v ≢ 0 → FirstTried portCount v a (firstPort v a)
 unfolding firstPort
 first-of v a h z = first-tried 8 8 v a h z
 
@@ -92,7 +93,7 @@ module _ {b : List ℕ} {t n p m : ℕ} (hop : Hop b t n p m) where
     uphill-small = below-256 (hop .may .fits) vector-small
 
     module _ {q : ℕ} (chosen : q ≡ firstPort v p) where
-      tried : FirstTried 8 v p q
+      tried : FirstTried portCount v p q
       tried = rw chosen (first-of v p uphill-small vector-some)
 
       pub port-there : q < D

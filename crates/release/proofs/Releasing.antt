@@ -15,7 +15,7 @@ use borrow.Author.Tests.{eqb-true, eqb-false, eq-eqb}
 use Rattle.common.specs.Lists.{_∈_, lowest}
 use Rattle.common.proofs.Tests.{below-or, clash, is-false, both, and}
 use Rattle.common.proofs.Lowest.{lowest-passes, lowest-before}
-use Rattle.cube.specs.Cube.{portCount, channels, NodeOf, next, sourceOf}
+use Rattle.cube.specs.Cube.{portCount, NodeOf, next, sourceOf}
 use Rattle.cube.proofs.Axes.{next-inside}
 use Rattle.cube.proofs.Ports.{below-256}
 use Rattle.paths.specs.Network.{Network, Path, end, links, hasLink}

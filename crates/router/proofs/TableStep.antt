@@ -13,9 +13,9 @@ use Rattle.common.proofs.Tests.{refused, passed, accepted}
 use Rattle.cube.specs.Cube.{largestDimension, circuitOf}
 use Rattle.paths.specs.Send.{Outcome, acknowledged, route-rejected, receive-rejected}
 use Rattle.layout.specs.Layout.{tableLength}
-use Rattle.table.specs.Encode.{made, encode, AllBytes}
+use Rattle.table.specs.Encode.{encode, AllBytes}
 use Rattle.entries.specs.EntryContracts.{putEnabled, putArmed}
-use Rattle.table.specs.View.{view, withoutCircuit}
+use Rattle.table.specs.View.{view, withoutCircuit, fresh}
 use Rattle.circuit_path.specs.PathOf.{pathOf}
 use Rattle.circuit_path.specs.Traced.{tracedInto}
 use Rattle.ownership.specs.Calls.{Call, making, blocking, unblocking, opening, closing, tracing, arming, disarming, CallResult, refusedWith, answered, callTests, resultOf, After}
@@ -57,7 +57,7 @@ module _ (b : List ℕ) where
     unfolding callTests
     make-dimension e f = call-stopped b (making D) {n = 2} (sym (making-stopped b e D ∙ refused 2 [] (ap not f))) (λ z. omega arith)
 
-    pub make-made : length b ≡ tableLength → AllBytes b → (leb 1 D && leb D 8) ≡ true → {b₁ : List ℕ} → b₁ ≡ made D → done b₁ 0 [] [] ≡ tableStep b (making D)
+    pub make-made : length b ≡ tableLength → AllBytes b → (leb 1 D && leb D 8) ≡ true → {b₁ : List ℕ} → b₁ ≡ encode (fresh D) → done b₁ 0 [] [] ≡ tableStep b (making D)
     unfolding callTests writtenBy resultOf
     make-made e small f q = call-passed b (making D) {n = 0} (sym (making-stopped b e D ∙ passed 2 [] (ap not f) ∙ accepted)) refl small q refl
 

@@ -3,13 +3,14 @@
 use mathlib.Core.Path.{_≡_, refl, ap, ap₂, sym, _∙_}
 use mathlib.Core.Logic.{_≢_}
 use mathlib.Core.List.{List, []}
-use Prim.Native.Nat.{ℕ, zero, suc, _+_, _*_, _^_, _≤_, _<_}
+use Prim.Native.Nat.{ℕ, zero, suc, _+_, _*_, _≤_, _<_}
 use native.Mathlib.Omega.{arith}
 use native.Mathlib.Nat.{mul-le-mul}
 use lib.ListN.{length}
 use lib.Bits.{xor-lt}
 use Rattle.common.specs.Lists.{_∈_}
-use Rattle.cube.specs.Cube.{portCount, NodeOf, next, UphillVector}
+use Rattle.cube.specs.CubeContracts.{UphillVector}
+use Rattle.cube.specs.Cube.{portCount, NodeOf, next}
 use Rattle.cube.specs.Helical.{helical, portsOf}
 use Rattle.paths.specs.Network.{offered}
 use Rattle.paths.specs.CubeNetwork.{network}

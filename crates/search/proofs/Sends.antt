@@ -2,7 +2,7 @@
 -- Assumes nothing.
 use mathlib.Core.Path.{_≡_, refl, ap, ap₂, sym, _∙_}
 use mathlib.Core.Logic.{_≢_}
-use mathlib.Core.Bool.{Bool, true, false, not}
+use mathlib.Core.Bool.{true, not}
 use mathlib.Core.List.{List}
 use Prim.Native.Nat.{ℕ, _+_, _-_, _^_, _≤_, _<_}
 use native.Mathlib.Omega.{arith}
@@ -11,24 +11,25 @@ use lib.Dec.{eqb, lit<}
 use lib.ListN.{length}
 use lib.Pow.{pow-pos}
 use lib.Bits.{bitXor, xor-lt}
-use borrow.Author.Tests.{lt-ltb, ne-eqb}
+use borrow.Author.Tests.{lt-ltb}
 use Rattle.cube.specs.Bits.{bitAt, has}
-use Rattle.cube.specs.Cube.{largestDimension, portCount, channels, NodeCount}
+use Rattle.cube.specs.CubeContracts.{NodeCount}
+use Rattle.cube.specs.Cube.{largestDimension, portCount, channels}
 use Rattle.cube.proofs.Bits.{one-bit, bit-lt, bit-xor, has-bit}
-use Rattle.cube.specs.Helical.{helical, portsOf}
-use Rattle.cube.proofs.Order.{helical-last, ports-wider, ports-mem, length-ports}
+use Rattle.cube.specs.Helical.{portsOf}
+use Rattle.cube.proofs.Order.{length-ports}
 use Rattle.paths.specs.Pass.{PassResult, none, found, pass, scouts}
 use Rattle.paths.specs.Search.{trying, sending}
-use Rattle.paths.specs.Send.{Receive, channel, none-available, Outcome, acknowledged, route-rejected, receive-rejected, oneResult, received, outcome, goesOn}
-use Rattle.paths.specs.CubeNetwork.{Shape, network, sendPorts, otherPorts, attempts, send}
+use Rattle.paths.specs.Send.{Receive, channel, none-available, oneResult, received, outcome}
+use Rattle.paths.specs.CubeNetwork.{Shape, network, sendPorts, otherPorts}
 use Rattle.paths.proofs.Depth.{search-is-pass}
-use Rattle.paths.proofs.CubeNetwork.{distance-within, unfolded-send-ports, scouts-bound, other-vector}
+use Rattle.paths.proofs.CubeNetwork.{distance-within, scouts-bound, other-vector}
 use Rattle.paths.proofs.Send.{maze-answers, alternate-stops, alternate-goes-on}
 use Rattle.paths.specs.Bound.{waysFrom}
 use Rattle.paths.proofs.Bound.{ways-more}
 use Rattle.layout.specs.Layout.{dimensionAt}
 use Rattle.entries.specs.EntryContracts.{putReceiver}
-use Rattle.table.specs.View.{View, view, receive, available, net, shapeOf}
+use Rattle.table.specs.View.{view, receive, net, shapeOf}
 use Rattle.table.proofs.Made.{ones}
 use Rattle.answers.specs.SendOnTable.{freeIn, pass-answer, answerOfOutcome}
 use Rattle.answers.specs.PassAnswer.{holdPath, answerOfPass, arrivalAfter}

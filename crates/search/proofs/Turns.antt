@@ -9,8 +9,9 @@ use native.Mathlib.Omega.{arith}
 use native.Mathlib.Numerals.{add-one}
 use lib.ListN.{length}
 use Rattle.common.specs.Lists.{_∈_}
-use Rattle.cube.specs.Cube.{portCount, VectorOf, next, Without}
-use Rattle.cube.specs.Helical.{helical, portsOf, firstPort, FirstTried}
+use Rattle.cube.specs.CubeContracts.{Without, FirstTried}
+use Rattle.cube.specs.Cube.{portCount, VectorOf, next}
+use Rattle.cube.specs.Helical.{helical, portsOf, firstPort}
 use Rattle.cube.proofs.Order.{byte-vector, port-tried, low-port, mem-ports, ports-mem, length-helical, helical-mem, mem-helical, helical-zero}
 use Rattle.cube.proofs.Axes.{next-inside}
 use Rattle.paths.specs.Network.{offered}
@@ -70,7 +71,7 @@ tried b t c n h ps s = answerOfPass b c n h (receive (view b) t) (trying (freeIn
 
 -- what a node trying its ports may do with the first of those left
 module _ {b now : List ℕ} {t c n a h v left p sent s : ℕ} (may : MayTry b t c n v a h s) (inv : Turn b t c n v a h s now left sent) (some : left ≢ 0) (first : p ≡ firstPort left a) where
-  pub here-tried : FirstTried 8 left a p
+  pub here-tried : FirstTried portCount left a p
   here-tried = port-tried (dimensionAt b) left a p (may .here .fits) (inv .ports) some first
 
   here-port : p < dimensionAt b

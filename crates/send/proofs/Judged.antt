@@ -12,7 +12,7 @@ use Rattle.paths.specs.Waiting.{someAttempt}
 use Rattle.paths.specs.CubeNetwork.{attempts, send}
 use Rattle.table.specs.View.{view, net, shapeOf}
 use Rattle.reach.specs.Marks.{MayAsk}
-use Rattle.answers.specs.SendOnTable.{pass-answer, waitingHelps, answerOfOutcome, sendOf}
+use Rattle.answers.specs.SendOnTable.{pass-answer, waitingHelps, answerOfOutcome, sendIn}
 use Rattle.answers.specs.SendAnswer.{bytesAfterSend, sendAnswer, sends, searched, MaySend}
 use Rattle.answers.proofs.Sent.{sent-leaves, other-kept, rejected-as}
 

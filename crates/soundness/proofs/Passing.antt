@@ -24,7 +24,8 @@ use Rattle.table.specs.View.{View, view}
 use Rattle.layout.proofs.Entries.{inside}
 use Rattle.soundness.specs.Sound.{Sound}
 use Rattle.soundness.specs.SoundTest.{linkTest, receiveTest, soundTest}
-use Rattle.soundness.specs.TableTests.{tableTests, TableAnswer}
+use Rattle.soundness.specs.TestContracts.{TableAnswer}
+use Rattle.soundness.specs.TableTests.{tableTests}
 use Rattle.soundness.proofs.Soundness.{Framed, EntriesPass, sound-entries, entries-sound}
 
 -- a link that the cube lacks is off where the enable bits of its node are below their limit

@@ -18,14 +18,13 @@ use Rattle.paths.proofs.Apart.{apart-permitted}
 use Rattle.paths.proofs.Walks.{path-owned, path-apart}
 use Rattle.layout.specs.Layout.{inTable}
 use Rattle.table.specs.View.{View, fresh, shapeOf, net, heldBy}
-use Rattle.table.specs.TableContracts.{channelsHeld}
 use Rattle.paths.specs.CubeNetwork.{ports}
 use Rattle.circuit_path.specs.CircuitSound.{endFor, CircuitSound}
 use Rattle.circuit_path.specs.PathOf.{pathOf, isEmpty}
 use Rattle.circuit_path.proofs.Stands.{not-empty, some-hop, path-is}
 use Rattle.circuit_hops.proofs.OneKept.{one-kept, kept-one}
 use Rattle.soundness.specs.Sound.{Nowhere, Sound}
-use Rattle.soundness.specs.SoundTest.{reaches, linkTest, receiveTest, onPathOf}
+use Rattle.soundness.specs.SoundTest.{reaches, linkTest, receiveTest, onPathOf, channelsHeld}
 
 -- a table shows nothing at a place that it has no room for
 pub record Framed (v : View) : Type 0 where

@@ -4,14 +4,18 @@
 use mathlib.Core.Bool.{Bool, cond, _&&_, _||_, not}
 use Prim.Native.Nat.{ℕ}
 use lib.Dec.{eqb, leb}
-use Rattle.common.specs.Lists.{every}
+use lib.ListN.{length}
+use Rattle.common.specs.Lists.{every, keep, from}
 use Rattle.cube.specs.Cube.{portCount, channels, sourceOf}
 use Rattle.paths.specs.Network.{links, hasLink}
 use Rattle.paths.specs.CubeNetwork.{isNode, isLinkOf, circuitCount}
 use Rattle.table.specs.View.{View, shapeOf, net}
-use Rattle.table.specs.TableContracts.{channelsHeld}
 use Rattle.circuit_path.specs.PathOf.{pathOf, isEmpty}
 use Rattle.circuit_path.specs.CircuitSound.{endFor}
+
+-- how many receive channels of node n circuit c holds
+unfoldable pub channelsHeld : View → ℕ → ℕ → ℕ
+channelsHeld v c n = length (keep (λ k. eqb (v .receiver n k) c) (from 0 channels))
 
 -- The number is in range, its path is not empty, and it holds one channel where that ends. This is weaker than `CircuitSound`: a link off the path, or a
 -- channel elsewhere, fails at its own entry.

@@ -38,12 +38,9 @@ linkCount f i = length (keep (λ l. f (l / portCount) (l % portCount)) (from 0 i
 unfoldable pub freeCount : List ℕ → ℕ → ℕ
 freeCount b i = linkCount (λ n p. eqb (ownerAt b n p) 0) i
 
--- how many links, or receive channels, of node n circuit c holds
+-- how many links of node n circuit c holds
 unfoldable pub linksHeld : View → ℕ → ℕ → ℕ
 linksHeld v c n = length (keep (λ p. eqb (v .owner n p) c) (from 0 portCount))
-
-unfoldable pub channelsHeld : View → ℕ → ℕ → ℕ
-channelsHeld v c n = length (keep (λ k. eqb (v .receiver n k) c) (from 0 channels))
 
 -- "its lowest channel that is armed and not held"; the number of channels where there is none
 unfoldable pub lowestChannel : View → ℕ → ℕ

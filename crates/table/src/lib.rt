@@ -10,8 +10,8 @@ ghost use Rattle.common.specs.Lists.{lowest};
 ghost use Rattle.cube.specs.Cube.{largestDimension, portCount, channels};
 ghost use Rattle.layout.specs.Layout.{tableLength, enabledAt, ownerAt, receiverAt, armedAt};
 ghost use Rattle.entries.specs.EntryContracts.{Within};
-ghost use Rattle.table.specs.View.{view};
-ghost use Rattle.table.specs.Encode.{made};
+ghost use Rattle.table.specs.View.{view, fresh};
+ghost use Rattle.table.specs.Encode.{encode};
 ghost use Rattle.table.specs.TableContracts.{HeldBy, linksHeld, EnablesFit, ArmsFit, freeCount, lowestChannel};
 use cube::Circuit;
 use cube::Node;
@@ -139,7 +139,7 @@ pub fn free_channel(t: &[u8], n: Node) -> u16
 // Writes a table of a dimension: all its links enabled, nothing held, no channel armed.
 pub fn make(t: &mut [u8], dimension: u8)
     requires { ⌜ (length (now t) ≡ tableLength) × (dimension ≤ largestDimension) ⌝ }
-    ensures { λ _. ⌜ now (t .exit) ≡ made dimension ⌝ }
+    ensures { λ _. ⌜ now (t .exit) ≡ encode (fresh dimension) ⌝ }
 {
     let nodes = cube::node_count(layout::wide(dimension));
     let end = layout::ENABLE + nodes as usize;

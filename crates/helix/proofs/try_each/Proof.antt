@@ -1,7 +1,6 @@
 -- `helix::try_each` meets its contract: the first free path, and the receive channel that the target has for it.
 -- Assumes nothing.
 use mathlib.Core.Path.{_∙_}
-use native.Mathlib.Omega.{arith}
 use lib.Dec.{lit<}
 use Rattle.cube.proofs.Order.{byte-vector}
 use Rattle.helix.proofs.HelixSends.{helix-none, path-follows, helix-full, channel-small, helix-taken}

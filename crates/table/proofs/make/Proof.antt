@@ -21,7 +21,7 @@ returns c =
     let D = s .args .dimension in
     let n = k .node-count .result in
     ap (λ l. set l 0 D) (g .fill2 .ensures ∙ ap (λ l. filled l 1 (1 + n) ((n - 1) % 256)) (f .fill .ensures))
-    ∙ made-of (s .args .t .now) D n (s .pre .0) (k .node-count .ensures .value ∙ ap (2 ^_) (k .before .wide .ensures .0)) (k .node-count .ensures .some) (k .node-count .ensures .most)
+    ∙ made-of (s .args .t .now) D n (s .pre .1) (s .pre .0) (k .node-count .ensures .value ∙ ap (2 ^_) (k .before .wide .ensures .0)) (k .node-count .ensures .some) (k .node-count .ensures .most)
 
 pub make-spec : {M : Type 1} → statement M
 make-spec =

@@ -1,6 +1,6 @@
 -- `maze_check::calls::arm_all` meets its contract: it ends, and the table keeps its length.
 -- Assumes nothing.
-use mathlib.Core.Path.{_≡_, refl, _∙_}
+use mathlib.Core.Path.{_≡_, refl}
 use Prim.Native.Nat.{_-_}
 use native.Mathlib.Omega.{arith}
 use lib.ListN.{length}
