@@ -16,12 +16,12 @@ use Rattle.arbiter.specs.Chosen.{steps, Chosen}
 use Rattle.arbiter.proofs.Order.{steps-above, steps-round}
 
 -- the requests behind the first k of them
-asks-behind : (q k j : ℕ) → asks (q / 2 ^ k) j ≡ asks q (k + j)
+asks-after : (q k j : ℕ) → asks (q / 2 ^ k) j ≡ asks q (k + j)
 unfolding asks
-asks-behind q k j = rw (shr-shr q k j)
+asks-after q k j = rw (shr-shr q k j)
 
 asks-half : (q j : ℕ) → asks q (suc j) ≡ asks (q / 2) j
-asks-half q j = let one : 1 + j ≡ suc j = omega arith in sym (rw one at (asks-behind q 1 j))
+asks-half q j = let one : 1 + j ≡ suc j = omega arith in sym (rw one at (asks-after q 1 j))
 
 -- requester 0, by the remainder
 asks-odd : (q : ℕ) → q % 2 ≡ 1 → asks q 0 ≡ true
@@ -74,7 +74,7 @@ pub high-asks : (k q : ℕ) → 2 ^ k ≤ q → (r : ℕ) × (k ≤ r) × (asks 
 high-asks k q h =
     let t : ℕ = trailingZeros (q / 2 ^ k) (q / 2 ^ k) in
     let some : 1 ≤ q / 2 ^ k = le-div-iff-mul-le (pow-pos k) .1 (omega arith) in
-    (k + t, omega arith, sym (asks-behind q k t) ∙ lowest-asks (q / 2 ^ k) (q / 2 ^ k) (λ e. omega arith) (power-above (q / 2 ^ k)))
+    (k + t, omega arith, sym (asks-after q k t) ∙ lowest-asks (q / 2 ^ k) (q / 2 ^ k) (λ e. omega arith) (power-above (q / 2 ^ k)))
 
 -- a number with no request is 0
 pub none-asks : (q : ℕ) → ((r : ℕ) → asks q r ≡ false) → q ≡ 0
@@ -83,8 +83,8 @@ none-asks q h = ⊎-elim (λ l. absurd (let a = lowest-asks q q (λ e. omega ari
 -- what the code finds
 module _ (last q : ℕ) (h : Requested last q) where
   -- whoever asks above the record asks in what is left behind it
-  left-behind : (j : ℕ) → last < j → asks q j ≡ true → asks (q / 2 ^ (last + 1)) (j - (last + 1)) ≡ true
-  left-behind j l e = let back : last + 1 + (j - (last + 1)) ≡ j = omega arith in asks-behind q (last + 1) (j - (last + 1)) ∙ ap (asks q) back ∙ e
+  left-after : (j : ℕ) → last < j → asks q j ≡ true → asks (q / 2 ^ (last + 1)) (j - (last + 1)) ≡ true
+  left-after j l e = let back : last + 1 + (j - (last + 1)) ≡ j = omega arith in asks-after q (last + 1) (j - (last + 1)) ∙ ap (asks q) back ∙ e
 
   pub found-above : q / 2 ^ (last + 1) ≢ 0 → Chosen last q (trailingZeros 32 (q / 2 ^ (last + 1)) + (last + 1))
   found-above z = record { requester = asks-below 26 q _ (h .inside) on; requested = on; nearest = near }
@@ -95,14 +95,14 @@ module _ (last q : ℕ) (h : Requested last q) where
       on : asks q (t + (last + 1)) ≡ true
       on =
           let other : t + (last + 1) ≡ last + 1 + t = omega arith in
-          ap (asks q) other ∙ sym (asks-behind q (last + 1) t) ∙ lowest-asks 32 (q / 2 ^ (last + 1)) z (omega (arith, shr-le q (last + 1), h .inside))
+          ap (asks q) other ∙ sym (asks-after q (last + 1) t) ∙ lowest-asks 32 (q / 2 ^ (last + 1)) z (omega (arith, shr-le q (last + 1), h .inside))
 
       near : (j : ℕ) → j < 26 → asks q j ≡ true → steps last (t + (last + 1)) ≤ steps last j
       near j l e =
           let here : steps last (t + (last + 1)) ≡ t + (last + 1) - last = steps-above last (t + (last + 1)) (omega arith) in
           let small : t + (last + 1) < 26 = asks-below 26 q _ (h .inside) on in
           ⊎-elim (λ g. omega (arith, steps-round last j (omega arith)))
-          (λ g. omega (arith, steps-above last j (omega arith), lowest-least 32 (q / 2 ^ (last + 1)) (j - (last + 1)) (left-behind j (omega arith) e))) (below-or (last + 1) j)
+          (λ g. omega (arith, steps-above last j (omega arith), lowest-least 32 (q / 2 ^ (last + 1)) (j - (last + 1)) (left-after j (omega arith) e))) (below-or (last + 1) j)
 
   pub found-round : q / 2 ^ (last + 1) ≡ 0 → Chosen last q (trailingZeros 32 q)
   found-round z = record { requester = asks-below 26 q _ (h .inside) on; requested = on; nearest = near }
@@ -112,7 +112,7 @@ module _ (last q : ℕ) (h : Requested last q) where
 
       -- nobody above the record asks
       low : (j : ℕ) → asks q j ≡ true → j ≤ last
-      low j e = ⊎-elim (λ l. omega arith) (λ l. absurd (clash (rw z at (left-behind j (omega arith) e)) (asks-zero _))) (below-or (last + 1) j)
+      low j e = ⊎-elim (λ l. omega arith) (λ l. absurd (clash (rw z at (left-after j (omega arith) e)) (asks-zero _))) (below-or (last + 1) j)
 
       near : (j : ℕ) → j < 26 → asks q j ≡ true → steps last (trailingZeros 32 q) ≤ steps last j
       near j l e = omega (arith, steps-round last (trailingZeros 32 q) (low _ on), steps-round last j (low j e), lowest-least 32 q j e)

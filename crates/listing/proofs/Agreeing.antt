@@ -21,14 +21,14 @@ use Rattle.listing.specs.Examples.{input, output, printed-example}
 use Rattle.text.specs.Lines.{lines}
 use Rattle.input_line.specs.Line.{asks}
 use Rattle.text.specs.Row.{Row, rowsText}
-use Rattle.printed_line.specs.PrintedLine.{callRow, traced, rowFor, stateAfter, empty}
+use Rattle.printed_line.specs.PrintedLine.{callRow, traced, rowFor, stateAfter, zeroBuffer}
 use Rattle.listing.specs.Listing.{rows, header, inputLimit, tooLong, listing, printed, recorded}
 
 -- The list says what the ownership history says: on a table that represents a history, the printed lines are those of the history.
 traced-alike : (b : List ℕ) (h : History) → Represents b h → (n c : ℕ) → traced tableStep b n c ≡ traced historyStep h n c
 unfolding traced
 traced-alike b h k n c =
-    ap (λ (g : CallResult). take (hopsOf g) (bufferOf g)) (represents-step b h k (tracing n c empty) .result)
+    ap (λ (g : CallResult). take (hopsOf g) (bufferOf g)) (represents-step b h k (tracing n c zeroBuffer) .result)
 
 row-alike : (b : List ℕ) (h : History) → Represents b h → (n : ℕ) (a : Option Call) → rowFor tableStep b n a ≡ rowFor historyStep h n a
 unfolding rowFor

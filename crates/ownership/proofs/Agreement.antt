@@ -38,8 +38,8 @@ use Rattle.ownership.proofs.Refused.{refused-within}
 use Rattle.ownership.proofs.Sameness.{send-same, waiting-same}
 use Rattle.ownership.proofs.CircuitValid.{armed-inside, valid-sound}
 use Rattle.ownership.proofs.Stopped.{path-listed, stopped-same}
-use Rattle.ownership.proofs.ValidAfter.{made-valid, follows-valid}
-use Rattle.ownership.proofs.Applied.{made-view, follows-view}
+use Rattle.ownership.proofs.ValidAfter.{made-valid, applied-valid}
+use Rattle.ownership.proofs.Applied.{made-view, applied-view}
 use Rattle.ownership.proofs.Steps.{table-step, history-step}
 use Rattle.answers.specs.SendOnTable.{waitingHelps, sendIn}
 
@@ -113,9 +113,9 @@ module _ (b : List ℕ) (h : History) (k : Represents b h) where
       accepts : historyStep h a .result .number ≡ 0 → Represents (tableStep b a .state) (historyStep h a .state)
       accepts e =
           let passes = history-step h a .passed e in
-          let shown : bytesOf (applied h a) ≡ encode (updated (viewOf h) a) = unfold bytesOf in ap encode (follows-view h (k .valid) a passes) in
+          let shown : bytesOf (applied h a) ≡ encode (updated (viewOf h) a) = unfold bytesOf in ap encode (applied-view h (k .valid) a passes) in
           let bytes = table-step b a .accepted (number ∙ e) ∙ ap (λ v. encode (updated v a)) (k .shows) ∙ sym shown in
-          rw (bytes, history-step h a .accepted e) (bytes-represent (applied h a) (follows-valid h (k .valid) a passes))
+          rw (bytes, history-step h a .accepted e) (bytes-represent (applied h a) (applied-valid h (k .valid) a passes))
 
       refuses : historyStep h a .result .number ≢ 0 → Represents (tableStep b a .state) (historyStep h a .state)
       refuses f = rw (table-step b a .refused (λ z. f (sym number ∙ z)), history-step h a .refused f) k

@@ -10,7 +10,7 @@ use Rattle.cube.specs.Cube.{channels, circuitOf}
 use Rattle.paths.specs.Network.{hasLink}
 use Rattle.table.specs.View.{setAt}
 use Rattle.ownership.specs.Calls.{closing}
-use Rattle.ownership.specs.History.{History, netOn, holdsReceive, belongs, armedOn, withArmed, without, applied}
+use Rattle.ownership.specs.History.{History, netOn, holdsReceive, belongs, armedOn, withArmed, withoutEntry, applied}
 use Rattle.ownership.specs.Invariant.{Valid}
 use Rattle.ownership.specs.HistoryView.{viewOf}
 use Rattle.ownership.proofs.Circuits.{number-belongs}
@@ -29,7 +29,7 @@ arm-armed h n k m q = go (eqb m n && eqb q k)
     go true = refl
     go false = refl
 
-pub disarm-armed : (h : History) (n k m q : ℕ) → armedOn (withArmed h (without n k (h .armed))) m q ≡ setAt (armedOn h) n k false m q
+pub disarm-armed : (h : History) (n k m q : ℕ) → armedOn (withArmed h (withoutEntry n k (h .armed))) m q ≡ setAt (armedOn h) n k false m q
 unfolding armedOn setAt
 disarm-armed h n k m q = dropped n k (h .armed) m q ∙ off-where (eqb m n && eqb q k) (hasLink (h .armed) m q)
 

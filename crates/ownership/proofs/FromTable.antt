@@ -21,7 +21,7 @@ use Rattle.ownership.specs.Invariant.{Represents}
 use Rattle.ownership.specs.HistoryView.{viewOf}
 use Rattle.ownership.specs.FromTable.{historyOf}
 use Rattle.ownership.proofs.Stops.{pass-tests}
-use Rattle.ownership.proofs.Applied.{follows-view}
+use Rattle.ownership.proofs.Applied.{applied-view}
 use Rattle.ownership.proofs.Steps.{table-step, history-step}
 use Rattle.ownership.proofs.StepBytes.{rejected-same}
 use Rattle.ownership.proofs.Agreement.{represents-not-stopped, represents-step, represents-agrees}
@@ -63,4 +63,4 @@ shows-update b small e a z =
         let s = represents-step b h k a in
         let g = history-step h a in
         let accepted : historyStep h a .result .number ≡ 0 = rw (s .result) at n in
-        s .represented .shows ∙ ap viewOf (g .accepted accepted) ∙ follows-view h (k .valid) a (g .passed accepted) ∙ ap (λ v. updated v a) (sym (k .shows))
+        s .represented .shows ∙ ap viewOf (g .accepted accepted) ∙ applied-view h (k .valid) a (g .passed accepted) ∙ ap (λ v. updated v a) (sym (k .shows))

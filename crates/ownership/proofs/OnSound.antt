@@ -60,16 +60,16 @@ answer-same helps receive-rejected n b = refl
 
 module _ (b : List ℕ) (s c t y v : ℕ) (e : stoppedAt b (opening s c t y v) ≡ 0) where
   -- what the open gives
-  abbrev gives : CallResult
-  gives = tableStep b (opening s c t y v) .result
+  abbrev openResult : CallResult
+  openResult = tableStep b (opening s c t y v) .result
 
   -- What an open that no test stops before the search answers is what a send answers, whatever the bytes are.
-  pub open-answers : SendSays b s t (circuitOf s c) y v (gives .number) (hopsOf gives) (receiveOf gives) (scoutsOf gives) (writtenBy b (opening s c t y v))
+  pub open-answers : SendSays b s t (circuitOf s c) y v (openResult .number) (hopsOf openResult) (receiveOf openResult) (scoutsOf openResult) (writtenBy b (opening s c t y v))
   unfolding resultOf factsOf writtenBy sends sendAnswer
   open-answers = rw (table-step b (opening s c t y v) .result e) (demand-2 b s t (circuitOf s c) y v (may-open b s c t y v e) _ _ _ _ _ (answer-same _ _ _ _))
 
   -- The users' second demand of the open call: it says what a send says, in its answer and in every byte.
-  pub open-says : AllBytes b → SendSays b s t (circuitOf s c) y v (gives .number) (hopsOf gives) (receiveOf gives) (scoutsOf gives) (tableStep b (opening s c t y v) .state)
+  pub open-says : AllBytes b → SendSays b s t (circuitOf s c) y v (openResult .number) (hopsOf openResult) (receiveOf openResult) (scoutsOf openResult) (tableStep b (opening s c t y v) .state)
   open-says small = rw (sym (written-bytes b small (opening s c t y v) e)) at open-answers
 
 -- On a sound table a send channel has an open circuit exactly where its number stands on a path and a receive channel.
@@ -109,10 +109,10 @@ module _ (b : List ℕ) (small : AllBytes b) (pass : refusal (tableTests b) ≡ 
 
   leaves-all : (a : Call) → Allowed (factsOf (view b)) a → resultOf (factsOf (view b)) a ≡ only 0 → tableStep b a .state ≡ b
       → tableStep b a ≡ done b 0 [] []
-  leaves-all a may gives same =
+  leaves-all a may openResult same =
       let r = pass-tests b pass in
       let z : stoppedAt b a ≡ 0 = stopped-is b (r .0) (r .1) (r .2) (r .3) a ∙ allowed-passes (factsOf (view b)) a may in
-      λ i. record { state = same i; result = (table-step b a .result z ∙ gives) i }
+      λ i. record { state = same i; result = (table-step b a .result z ∙ openResult) i }
 
   module _ (n p : ℕ) (i : NodeOf (dimensionAt b) n) (l : p < dimensionAt b) where
     idle : enabledAt b n p ≡ false → heldIn (view b) n p ≡ false

@@ -17,7 +17,7 @@ use Rattle.paths.specs.CubeNetwork.{send}
 use Rattle.paths.proofs.Words.{free-link}
 use Rattle.table.specs.View.{setAt}
 use Rattle.ownership.specs.Calls.{Call, making, blocking, unblocking, opening, closing, tracing, arming, disarming}
-use Rattle.ownership.specs.History.{Circuit, History, shapeOn, netOn, linksOf, holdsLink, holdsReceive, belongs, enabledOn, heldOn, freeOn, takenOn, openOn, armedOn, receiveOn, factsOn, stoppedOn, sendOn, withBlocked, withCircuits, withArmed, without, withOpened, applied, newHistory}
+use Rattle.ownership.specs.History.{Circuit, History, shapeOn, netOn, linksOf, holdsLink, holdsReceive, belongs, enabledOn, heldOn, freeOn, takenOn, openOn, armedOn, receiveOn, factsOn, stoppedOn, sendOn, withBlocked, withCircuits, withArmed, withoutEntry, withOpened, applied, newHistory}
 use Rattle.ownership.specs.Invariant.{CircuitValid, Disjoint, Valid}
 use Rattle.ownership.proofs.Circuits.{parts-belong, belongs-number}
 use Rattle.ownership.proofs.CircuitValid.{link-holds, receive-holds, receiver-of}
@@ -150,22 +150,22 @@ module _ (h : History) (valid : Valid h) where
   opened-valid s c t y v r receive-rejected e = valid
 
   -- A call that no test stops keeps the history valid.
-  pub follows-valid : (a : Call) → stoppedOn h a ≡ 0 → Valid (applied h a)
+  pub applied-valid : (a : Call) → stoppedOn h a ≡ 0 → Valid (applied h a)
   unfolding applied
-  follows-valid (making D) e = let r = made-facts h D e in made-valid D (r .0) (r .1)
-  follows-valid (blocking n p) e =
+  applied-valid (making D) e = let r = made-facts h D e in made-valid D (r .0) (r .1)
+  applied-valid (blocking n p) e =
       let r = block-facts h n p e in
       blocked-valid ((n, p) ∷ h .blocked)
       (λ l m.
       ⊎-elim (λ q. subst (λ (x : Link). (x .0 < 2 ^ h .dimension) × (x .1 < h .dimension)) (sym q) (r .0, r .1)) (λ k. valid .blocked l k)
       (List·Memᴰ·cases-cons m))
       (λ m q held on. block-enabled h n p m q ∙ other-cleared (enabledOn h) n p m q on (λ x y. clash held (rw (x, y) (r .2))))
-  follows-valid (unblocking n p) e =
+  applied-valid (unblocking n p) e =
       let r = unblock-facts h n p e in
-      blocked-valid (without n p (h .blocked)) (λ l m. valid .blocked l (unfold without in keep-mem _ (h .blocked) m .0))
+      blocked-valid (withoutEntry n p (h .blocked)) (λ l m. valid .blocked l (unfold withoutEntry in keep-mem _ (h .blocked) m .0))
       (λ m q held on. unblock-enabled h n p (r .0) (r .1) m q ∙ set-again (enabledOn h) n p m q on)
-  follows-valid (opening s c t y v) e = opened-valid s c t y v (allowed-on h (opening s c t y v) e) (sendOn h s t y v .outcome) refl
-  follows-valid (closing s c) e =
+  applied-valid (opening s c t y v) e = opened-valid s c t y v (allowed-on h (opening s c t y v) e) (sendOn h s t y v .outcome) refl
+  applied-valid (closing s c) e =
       circuits-valid (keep other (h .circuits)) (applied h (closing s c) .armed) (λ l m. valid .armed l (keep-mem _ (h .armed) m .0))
       (λ x m. let k = keep-mem other (h .circuits) m in (valid .stands x (k .0), unfold armedOn in still-armed x (k .0) (not-true _ (k .1))))
       (keep-pairwise other (Disjoint (netOn h)) (h .circuits) (valid .apart))
@@ -180,15 +180,15 @@ module _ (h : History) (valid : Valid h) where
           let stands = valid .stands x m in
           close-armed h valid s c small (x .target) (x .receive)
           ∙ (rw (receiver-of h valid x m, belongs-number s c x small (stands .channel), f) (stands .armed))
-  follows-valid (tracing s c buffer) e = valid
-  follows-valid (arming n k) e =
+  applied-valid (tracing s c buffer) e = valid
+  applied-valid (arming n k) e =
       circuits-valid (h .circuits) ((n, k) ∷ h .armed)
       (λ l m.
       ⊎-elim (λ q. subst (λ (x : ℕ × ℕ). (x .0 < 2 ^ h .dimension) × (x .1 < 8)) (sym q) (arm-facts h n k e)) (λ i. valid .armed l i)
       (List·Memᴰ·cases-cons m))
       (λ x m. let s = valid .stands x m in (s, arm-armed h n k _ _ ∙ set-again (armedOn h) n k _ _ (s .armed))) (valid .apart)
-  follows-valid (disarming n k) e =
-      circuits-valid (h .circuits) (without n k (h .armed)) (λ l m. valid .armed l (unfold without in keep-mem _ (h .armed) m .0))
+  applied-valid (disarming n k) e =
+      circuits-valid (h .circuits) (withoutEntry n k (h .armed)) (λ l m. valid .armed l (unfold withoutEntry in keep-mem _ (h .armed) m .0))
       (λ x m.
       let s = valid .stands x m in
       let other : x .target ≡ n → x .receive ≡ k → ⊥ = λ i j. clash (taken-receive h x m n k (sym i) (sym j)) (disarm-facts h n k e) in

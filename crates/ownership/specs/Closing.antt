@@ -27,5 +27,5 @@ pub data RepairsNothing : Call → Type 0 where
   a-disarming : {n k : ℕ} → RepairsNothing (disarming n k)
 
 -- no link is held
-abbrev pub Idle : View → Type 0
-Idle v = (n p : ℕ) → heldIn v n p ≡ false
+abbrev pub NoneHeld : View → Type 0
+NoneHeld v = (n p : ℕ) → heldIn v n p ≡ false

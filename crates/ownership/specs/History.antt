@@ -122,8 +122,8 @@ abbrev pub withArmed : History → List (ℕ × ℕ) → History
 withArmed h ls = record { dimension = h .dimension; blocked = h .blocked; circuits = h .circuits; armed = ls }
 
 -- a list of links, or of receive channels, without one of them
-unfoldable pub without : ℕ → ℕ → List (ℕ × ℕ) → List (ℕ × ℕ)
-without n p ls = keep (λ l. not (eqb (l .0) n && eqb (l .1) p)) ls
+unfoldable pub withoutEntry : ℕ → ℕ → List (ℕ × ℕ) → List (ℕ × ℕ)
+withoutEntry n p ls = keep (λ l. not (eqb (l .0) n && eqb (l .1) p)) ls
 
 -- "an open adds its circuit with path and channel"
 unfoldable pub withOpened : History → ℕ → ℕ → ℕ → Outcome → History
@@ -135,7 +135,7 @@ withOpened h s c t receive-rejected = h
 unfoldable pub applied : History → Call → History
 applied h (making D) = newHistory D
 applied h (blocking n p) = withBlocked h ((n, p) ∷ h .blocked)
-applied h (unblocking n p) = withBlocked h (without n p (h .blocked))
+applied h (unblocking n p) = withBlocked h (withoutEntry n p (h .blocked))
 applied h (opening s c t y v) = withOpened h s c t (sendOn h s t y v .outcome)
 -- and document 02, (a): "Closing a circuit disarms its channel"
 applied h (closing s c) =
@@ -143,7 +143,7 @@ applied h (closing s c) =
     (keep (λ l. not (any (λ x. belongs s c x && holdsReceive (l .0) (l .1) x) (h .circuits))) (h .armed))
 applied h (tracing s c buffer) = h
 applied h (arming n k) = withArmed h ((n, k) ∷ h .armed)
-applied h (disarming n k) = withArmed h (without n k (h .armed))
+applied h (disarming n k) = withArmed h (withoutEntry n k (h .armed))
 
 -- a call entered in the history; "A refused call and a trace change nothing."
 unfoldable pub historyStep : History → Call → After History

@@ -28,7 +28,7 @@ use Rattle.table.proofs.Views.{view-put-owner}
 use Rattle.answers.specs.SendOnTable.{freeIn, PassAnswer, pass-answer}
 use Rattle.answers.specs.PassAnswer.{answerOfPass, arrivalAfter, hopsLeft}
 use Rattle.search.specs.SearchContracts.{farthestAfter, answerIn, Packed, tryAnswer, arriveAnswer, Enabled, SearchPre, MayTry, MayArrive}
-use Rattle.answers.proofs.PassAnswer.{owner-length, behind, receive-same, given-back, free-owner, port-busy, port-acknowledged, port-receive-rejected, port-route-rejected, answer-scouts, ports-over}
+use Rattle.answers.proofs.PassAnswer.{owner-length, arrival-after, receive-same, given-back, free-owner, port-busy, port-acknowledged, port-receive-rejected, port-route-rejected, answer-scouts, ports-over}
 use Rattle.search.proofs.PackedAnswer.{in-route, in-receive, in-acknowledged}
 use Rattle.search.proofs.Narrow.{farthest-mem}
 
@@ -51,7 +51,7 @@ handed-on b t c n p h s w small z e q =
     rw (e, q)
     (ap₂ (λ N r. answerOfPass B c m (h + 1) r (arriving (N .distance t m) N (freeIn (view B)) t m p (s + 1))) (held-net b n p c w small) (receive-same (net (view b)) t near b n p c w small z t)
     ∙ ap (answerOfPass B c m (h + 1) (receive (view b) t))
-    (ap (arriving (net (view b) .distance t m) (net (view b)) (freeIn (view B)) t m p) (add-one s) ∙ behind (net (view b)) t near b n p c w small z (net (view b) .distance t m) (suc s)))
+    (ap (arriving (net (view b) .distance t m) (net (view b)) (freeIn (view B)) t m p) (add-one s) ∙ arrival-after (net (view b)) t near b n p c w small z (net (view b) .distance t m) (suc s)))
 
 -- what holds at each turn of the trying of ports: the bytes are those at the start, the ports left are ports of the vector, there is room for
 -- the scouts still to be sent, and what is left to do gives the whole

@@ -33,7 +33,7 @@ use Rattle.layout.proofs.Entries.{enabled-has, mask-has}
 use Rattle.circuit_path.specs.CircuitSound.{endFor, CircuitSound}
 use Rattle.soundness.specs.Sound.{Nowhere, Sound}
 use Rattle.soundness.specs.SoundTest.{soundTest}
-use Rattle.soundness.specs.Counting.{Earlier, ReceivedBefore, Standing, Counting, Counts, Frees}
+use Rattle.soundness.specs.Counting.{Earlier, ReceivedBefore, CircuitFollowed, Counting, Counts, Frees}
 use Rattle.soundness.proofs.Soundness.{placed, link-stands}
 use Rattle.soundness.proofs.LinkCount.{links-same, links-more, links-parts}
 use Rattle.soundness.proofs.Passing.{off, unarmed, view-framed, decided, same-answer}
@@ -91,7 +91,7 @@ module _ (b : List ℕ) (d : dimensionAt b ≤ largestDimension) (fit : EnablesF
   in-table : (n k : ℕ) → view b .receiver n k ≢ 0 → Earlier 2048 n k
   in-table n k h = ⊎-elim (λ i. earlier n k (i .0) (i .1)) (λ o. absurd (h (view-framed b .no-receive n k o))) (placed n k)
 
-  stands : (n k : ℕ) → view b .receiver n k ≢ 0 → Standing (view b) (x .on) n k
+  stands : (n k : ℕ) → view b .receiver n k ≢ 0 → CircuitFollowed (view b) (x .on) n k
   stands n k h = x .stands n k (in-table n k h) h
 
   -- in a sound table every held link is on
@@ -151,7 +151,7 @@ module _ (b : List ℕ) (d : dimensionAt b ≤ largestDimension) (fit : EnablesF
         c : ℕ
         c = view b .receiver n k
 
-        t : Standing (view b) (x .on) n k
+        t : CircuitFollowed (view b) (x .on) n k
         t = stands n k h
 
         there : endFor (view b) c (t .path) ≡ n

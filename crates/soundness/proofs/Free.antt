@@ -30,10 +30,10 @@ count-run f i (suc k) h =
     omega (arith, one, ap (λ x. length (keep f (from 0 x))) on)
 
 -- what a node's links are asked
-abbrev Covers : View → ℕ → Type 0
-Covers v n = (p : ℕ) → p < portCount → v .owner n p ≢ 0 → v .enabled n p ≡ true
+abbrev HeldEnabled : View → ℕ → Type 0
+HeldEnabled v n = (p : ℕ) → p < portCount → v .owner n p ≢ 0 → v .enabled n p ≡ true
 
-pub frees-none : {v : View} {n₀ n₁ : ℕ} (n : ℕ) → n₀ < n₁ → (Covers v n → ⊥) → Frees v n₀ n₁ 4096
+pub frees-none : {v : View} {n₀ n₁ : ℕ} (n : ℕ) → n₀ < n₁ → (HeldEnabled v n → ⊥) → Frees v n₀ n₁ 4096
 frees-none n l h =
     record {
       enabled = λ k. absurd (omega arith);

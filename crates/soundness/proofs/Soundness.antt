@@ -24,7 +24,7 @@ use Rattle.circuit_path.specs.PathOf.{pathOf, isEmpty}
 use Rattle.circuit_path.proofs.Stands.{not-empty, some-hop, path-is}
 use Rattle.circuit_hops.proofs.OneKept.{one-kept, kept-one}
 use Rattle.soundness.specs.Sound.{Nowhere, Sound}
-use Rattle.soundness.specs.SoundTest.{reaches, linkTest, receiveTest, onPathOf, channelsHeld}
+use Rattle.soundness.specs.SoundTest.{circuitTest, linkTest, receiveTest, onPathOf, channelsHeld}
 
 -- a table shows nothing at a place that it has no room for
 pub record Framed (v : View) : Type 0 where
@@ -55,8 +55,8 @@ passing true e = e
 passing false e = absurd (false≢true e)
 
 module _ (v : View) where
-  reaches-passes : (c : ℕ) → c ≤ channels * cubeNodes (v .dimension) → CircuitSound v c → reaches v c ≡ true
-  unfolding reaches channelsHeld
+  reaches-passes : (c : ℕ) → c ≤ channels * cubeNodes (v .dimension) → CircuitSound v c → circuitTest v c ≡ true
+  unfolding circuitTest channelsHeld
   reaches-passes c h s =
       and (le-leb c _ h)
       (rw (path-is v c s)
@@ -138,8 +138,8 @@ module _ (v : View) where
     pub receives : v .receiver (endFor v c (pathOf v c)) channel ≡ c
     pub once : (k : ℕ) → k < channels → v .receiver (endFor v c (pathOf v c)) k ≡ c → k ≡ channel
 
-  pub reach-facts : (c : ℕ) → reaches v c ≡ true → ReachFacts c
-  unfolding reaches channelsHeld
+  pub reach-facts : (c : ℕ) → circuitTest v c ≡ true → ReachFacts c
+  unfolding circuitTest channelsHeld
   reach-facts c e =
       let a = both (leb c (channels * cubeNodes (v .dimension))) _ e in
       let b = both (not (isEmpty (pathOf v c))) _ (a .1) in
@@ -149,7 +149,7 @@ module _ (v : View) where
   -- what the test of a link says of the circuit that holds it
   record LinkFacts (n p c : ℕ) : Type 0 where
     on : v .enabled n p ≡ true
-    reaches-end : reaches v c ≡ true
+    reaches-end : circuitTest v c ≡ true
     passed : (n, p) ∈ links (net v) (sourceOf c) (pathOf v c)
 
   module _ (links-pass : (n p : ℕ) → linkTest v n p ≡ true) (receives-pass : (n k : ℕ) → receiveTest v n k ≡ true) (framed : Framed v) (c : ℕ) (some : c ≢ 0) where
@@ -157,20 +157,20 @@ module _ (v : View) where
     unfolding linkTest onPathOf
     held-link n p x =
         let a = both (v .enabled n p) _ (passing (ltb n (2 ^ v .dimension) && ltb p (v .dimension)) (rw (x, ne-eqb c 0 some, and-false (not (v .enabled n p))) at (links-pass n p))) in
-        let b = both (reaches v c) _ (a .1) in
+        let b = both (circuitTest v c) _ (a .1) in
         record { on = a .0; reaches-end = b .0; passed = true-link _ n p (b .1) }
 
     -- and that of a receive channel: it is armed, and its path ends there
-    held-receive : (n k : ℕ) → v .receiver n k ≡ c → (v .armed n k ≡ true) × (reaches v c ≡ true) × (n ≡ endFor v c (pathOf v c))
+    held-receive : (n k : ℕ) → v .receiver n k ≡ c → (v .armed n k ≡ true) × (circuitTest v c ≡ true) × (n ≡ endFor v c (pathOf v c))
     unfolding receiveTest
     held-receive n k x =
         let t = rw (x, ne-eqb c 0 some, and-false (not (v .armed n k))) at (receives-pass n k) in
         let a = both (v .armed n k) _ (passing (ltb n (2 ^ v .dimension)) t) in
-        let b = both (reaches v c) _ (a .1) in
+        let b = both (circuitTest v c) _ (a .1) in
         (a .0, b .0, eqb-true n _ (b .1))
 
     -- a number that reaches its end stands
-    reached-stands : reaches v c ≡ true → CircuitSound v c
+    reached-stands : circuitTest v c ≡ true → CircuitSound v c
     reached-stands e =
         let r = reach-facts c e in
         record {

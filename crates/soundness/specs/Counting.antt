@@ -25,7 +25,7 @@ unfoldable pub ReceivedBefore : View → ℕ → ℕ → Type 0
 ReceivedBefore v i c = (n : ℕ) × (k : ℕ) × Earlier i n k × (v .receiver n k ≡ c)
 
 -- what is known of the circuit on channel k of node n once it was followed: its path has exactly those of its links that are on
-pub record Standing (v : View) (on : ℕ → ℕ → Bool) (n k : ℕ) : Type 0 where
+pub record CircuitFollowed (v : View) (on : ℕ → ℕ → Bool) (n k : ℕ) : Type 0 where
   pub node : NodeOf (v .dimension) n
   pub armed : v .armed n k ≡ true
   pub in-range : v .receiver n k ≤ circuitCount (shapeOf v)
@@ -40,7 +40,7 @@ pub record Counting (v : View) (i hops : ℕ) (seen : List ℕ) : Type 0 where
   pub on : ℕ → ℕ → Bool
   pub count : linkCount on 2048 ≡ hops
   pub passed : (m q : ℕ) → on m q ≡ true → (m < 256) × (q < portCount) × (v .owner m q ≢ 0) × ReceivedBefore v i (v .owner m q)
-  pub stands : (n k : ℕ) → Earlier i n k → v .receiver n k ≢ 0 → Standing v on n k
+  pub stands : (n k : ℕ) → Earlier i n k → v .receiver n k ≢ 0 → CircuitFollowed v on n k
   pub once : (n k m j : ℕ) → Earlier i n k → Earlier i m j → v .receiver n k ≡ v .receiver m j → v .receiver n k ≢ 0 → (n ≡ m) × (k ≡ j)
   pub marks : (n k : ℕ) → Earlier i n k → v .receiver n k ≢ 0 → Seen v seen (v .receiver n k)
   pub marks-received : (s p : ℕ) → s < 256 → p < portCount → seenAt seen s p ≡ true → ReceivedBefore v i (v .owner s p)

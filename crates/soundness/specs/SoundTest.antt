@@ -19,8 +19,8 @@ channelsHeld v c n = length (keep (λ k. eqb (v .receiver n k) c) (from 0 channe
 
 -- The number is in range, its path is not empty, and it holds one channel where that ends. This is weaker than `CircuitSound`: a link off the path, or a
 -- channel elsewhere, fails at its own entry.
-unfoldable pub reaches : View → ℕ → Bool
-reaches v c = leb c (circuitCount (shapeOf v)) && (not (isEmpty (pathOf v c)) && eqb (channelsHeld v c (endFor v c (pathOf v c))) 1)
+unfoldable pub circuitTest : View → ℕ → Bool
+circuitTest v c = leb c (circuitCount (shapeOf v)) && (not (isEmpty (pathOf v c)) && eqb (channelsHeld v c (endFor v c (pathOf v c))) 1)
 
 -- the path of circuit c passes the link out of port p of node n
 unfoldable pub onPathOf : View → ℕ → ℕ → ℕ → Bool
@@ -29,13 +29,13 @@ onPathOf v c n p = hasLink (links (net v) (sourceOf c) (pathOf v c)) n p
 unfoldable pub linkTest : View → ℕ → ℕ → Bool
 linkTest v n p =
     cond (isLinkOf (shapeOf v) n p)
-    (eqb (v .owner n p) 0 || (v .enabled n p && (reaches v (v .owner n p) && onPathOf v (v .owner n p) n p)))
+    (eqb (v .owner n p) 0 || (v .enabled n p && (circuitTest v (v .owner n p) && onPathOf v (v .owner n p) n p)))
     (not (v .enabled n p) && eqb (v .owner n p) 0)
 
 unfoldable pub receiveTest : View → ℕ → ℕ → Bool
 receiveTest v n k =
     cond (isNode (shapeOf v) n)
-    (eqb (v .receiver n k) 0 || (v .armed n k && (reaches v (v .receiver n k) && eqb n (endFor v (v .receiver n k) (pathOf v (v .receiver n k))))))
+    (eqb (v .receiver n k) 0 || (v .armed n k && (circuitTest v (v .receiver n k) && eqb n (endFor v (v .receiver n k) (pathOf v (v .receiver n k))))))
     (not (v .armed n k) && eqb (v .receiver n k) 0)
 
 -- the test of a whole table

@@ -48,7 +48,7 @@ returns-7 c =
 
 returns-8 : tie.Need-returns-8
 unfolding unreadable
-returns-8 c = rw (c .before .enum-told .given .1) (unread-line (c .lone .ensures _))
+returns-8 c = rw (c .before .enum-told .given .1) (unread-line (c .answer-alone .ensures _))
 
 pub carry-out-spec : {M : Type 1} → statement M
 carry-out-spec =
