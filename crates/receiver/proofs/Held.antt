@@ -1,18 +1,17 @@
 -- What holds of the machine and of the channel together, and that each packet keeps it.
 -- Assumes nothing.
-use mathlib.Core.Path.{_≡_, refl, ap, ap₂, sym, _∙_}
+use mathlib.Core.Path.{_≡_, refl, ap, sym, _∙_}
 use mathlib.Core.Logic.{_≢_}
-use mathlib.Core.Bool.{Bool, true, false, cond, not, _&&_, _||_, or-false, or-assoc}
-use mathlib.Core.List.{List, [], _∷_}
+use mathlib.Core.Bool.{Bool, true, false, cond, _&&_, _||_}
 use Prim.Native.Nat.{ℕ, suc, _+_, _*_, _-_, _%_, _^_, _≤_, _<_, min}
-use native.Mathlib.Nat.{zero-min, min-eq-left, min-eq-right}
+use native.Mathlib.Nat.{min-eq-left, min-eq-right}
 use native.Mathlib.Omega.{arith}
 use lib.Dec.{eqb, ltb}
 use borrow.Author.Tests.{eqb-true, eqb-false, eq-eqb, ne-eqb, ltb-true, ltb-false, lt-ltb, le-ltb}
 use Rattle.command_word.specs.Word.{readWord}
 use Rattle.receiver.specs.declared.Channel.{Channel}
-use Rattle.receiver.specs.Receive.{Packet, dataPacket, commandWord, started, eightMore, oneLess, overflows, afterData, stops, afterCommand, unread, numbered, taken, received, overshoot, after, numbers}
-use Rattle.receiver.specs.Machine.{Start, Machine, atStart, isEnd, isData, number, next, machineAfter, machineNumbers, dataAccepted, endAccepted, Shows, AgreesAfter}
+use Rattle.receiver.specs.Receive.{Packet, dataPacket, commandWord, eightMore, oneLess, overflows, afterData, stops, afterCommand, unread, numbered, taken, received}
+use Rattle.receiver.specs.Machine.{Start, Machine, isEnd, number, next, Shows}
 use Rattle.receiver.proofs.Steps.{unread-number, stopped-number, taken-number}
 
 -- what holds of machine and channel after every packet

@@ -1,19 +1,18 @@
 -- What a send makes of the answer of its search: a route rejection is judged by whether waiting helps, and everything else is handed on.
 -- Assumes nothing.
 use borrow.Author.Tests.{ne-eqb}
-use mathlib.Core.Path.{_≡_, refl, ap, sym, _∙_}
+use mathlib.Core.Path.{_≡_, sym, _∙_}
 use mathlib.Core.Logic.{_≢_}
 use mathlib.Core.Bool.{Bool, true, false}
 use mathlib.Core.List.{List}
 use Prim.Native.Nat.{ℕ}
 use native.Mathlib.Omega.{arith}
-use Rattle.paths.specs.Send.{Outcome, acknowledged, route-rejected, receive-rejected}
 use Rattle.paths.specs.Waiting.{someAttempt}
 use Rattle.paths.specs.CubeNetwork.{attempts, send}
 use Rattle.table.specs.View.{view, net, shapeOf}
 use Rattle.reach.specs.Marks.{MayAsk}
-use Rattle.answers.specs.SendOnTable.{pass-answer, waitingHelps, answerOfOutcome, sendIn}
-use Rattle.answers.specs.SendAnswer.{bytesAfterSend, sendAnswer, sends, searched, MaySend}
+use Rattle.answers.specs.SendOnTable.{pass-answer, waitingHelps}
+use Rattle.answers.specs.SendAnswer.{sends, searched, MaySend}
 use Rattle.answers.proofs.Sent.{sent-leaves, other-kept, rejected-as}
 
 -- what is asked after a search that leaves each byte as it was
