@@ -32,9 +32,9 @@ use Rattle.table.specs.View.{View, view, setReceiver, receive, shapeOf}
 use Rattle.table.proofs.Encoded.{encode-shown}
 use Rattle.table.proofs.Views.{view-put-owner, view-put-receiver}
 use Rattle.answers.specs.SendOnTable.{freeIn, sendIn, holdLinks, viewAfterSend}
-use Rattle.answers.specs.PassAnswer.{holdPath}
+use Rattle.answers.specs.PassOnBytes.{holdPath}
 use Rattle.answers.specs.SendAnswer.{bytesAfterSend}
-use Rattle.answers.proofs.PassAnswer.{receive-small, owner-length}
+use Rattle.answers.proofs.PassOnBytes.{receive-small, owner-length}
 
 module _ (S : Shape) (free : ℕ → ℕ → Bool) (r : Receive) (s t : ℕ) where
   -- what an acknowledgement with path w and receive channel k says

@@ -20,9 +20,9 @@ use Rattle.table.proofs.Receives.{chosen, none-chosen}
 use Rattle.paths.proofs.Words.{free-link}
 use Rattle.paths.proofs.Waiting.{waiting-exactly, blocked-exactly, found-waits}
 use Rattle.answers.specs.SendOnTable.{stateIn, freeIn, pass-answer, waitingHelps, answerOfOutcome, sendIn}
-use Rattle.answers.specs.SendAnswer.{bytesAfterSend, sendAnswer, sends, MaySend}
+use Rattle.answers.specs.SendAnswer.{bytesAfterSend, sendAnswer, sentOnBytes, MaySend}
 use Rattle.answers.specs.SendSays.{SomeRoute, CouldRoute, BlockedRoutes, Available, Lowest, SendSays}
-use Rattle.answers.proofs.Sent.{sent-leaves, sent-bytes, sent-numbers, sent-scouts}
+use Rattle.answers.proofs.SendAnswer.{sent-leaves, sent-bytes, sent-numbers, sent-scouts}
 use Rattle.answers.proofs.AfterSend.{Fits, view-after-send, sent-fits, send-encoded}
 
 -- what the choice of a receive channel says
@@ -122,8 +122,8 @@ module _ (b : List ℕ) (s t type vector : ℕ) (fits : shapeOf (view b) .dimens
 
 -- The users' second demand: of any answer that the contract of `send::send` allows.
 pub demand-2 : (b : List ℕ) (s t c type vector : ℕ) → MaySend b s t c vector → (x h k n : ℕ) (b′ : List ℕ)
-    → pass-answer x h k n b′ ≡ sends b s t c type vector → SendSays b s t c type vector x h k n b′
-unfolding sends
+    → pass-answer x h k n b′ ≡ sentOnBytes b s t c type vector → SendSays b s t c type vector x h k n b′
+unfolding sentOnBytes
 demand-2 b s t c type vector may x h k n b′ q =
     record {
       outcome = o;

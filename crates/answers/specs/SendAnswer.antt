@@ -13,7 +13,7 @@ use Rattle.layout.specs.Layout.{tableLength, dimensionAt}
 use Rattle.entries.specs.EntryContracts.{putReceiver}
 use Rattle.table.specs.View.{view}
 use Rattle.answers.specs.SendOnTable.{waitingHelps, sendIn, PassAnswer, answerOfOutcome}
-use Rattle.answers.specs.PassAnswer.{holdPath}
+use Rattle.answers.specs.PassOnBytes.{holdPath}
 
 -- the marks of an acknowledged send, written one after another: the circuit is c, its source s, its target t
 unfoldable pub bytesAfterSend : List ℕ → ℕ → ℕ → ℕ → Outcome → List ℕ
@@ -25,8 +25,8 @@ unfoldable pub sendAnswer : (helps : Bool) → List ℕ → ℕ → ℕ → ℕ 
 sendAnswer helps b c s t x = answerOfOutcome helps (x .outcome) (x .scouts) (bytesAfterSend b c s t (x .outcome))
 
 -- What it answers on the bytes of a table, and the bytes afterwards; and what the search alone answers, before it is asked whether waiting helps
-unfoldable pub sends : List ℕ → ℕ → ℕ → ℕ → ℕ → ℕ → PassAnswer
-sends b s t c type vector = sendAnswer (waitingHelps (view b) s t type vector) b c s t (sendIn (view b) s t type vector)
+unfoldable pub sentOnBytes : List ℕ → ℕ → ℕ → ℕ → ℕ → ℕ → PassAnswer
+sentOnBytes b s t c type vector = sendAnswer (waitingHelps (view b) s t type vector) b c s t (sendIn (view b) s t type vector)
 
 unfoldable pub searched : List ℕ → ℕ → ℕ → ℕ → ℕ → ℕ → PassAnswer
 searched b s t c type vector = sendAnswer true b c s t (sendIn (view b) s t type vector)

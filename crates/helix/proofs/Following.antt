@@ -24,9 +24,9 @@ use Rattle.layout.specs.Layout.{dimensionAt}
 use Rattle.entries.specs.EntryContracts.{putOwner, Within}
 use Rattle.table.specs.View.{view, net, shapeOf}
 use Rattle.answers.specs.SendOnTable.{freeIn}
-use Rattle.answers.specs.PassAnswer.{holdPath, hopsLeft}
+use Rattle.answers.specs.PassOnBytes.{holdPath, hopsLeft}
 use Rattle.helix.specs.HelixContracts.{MayFollow, frontIn, freeAll, helixIn, FrontOf}
-use Rattle.answers.proofs.PassAnswer.{owner-length}
+use Rattle.answers.proofs.PassOnBytes.{owner-length}
 
 -- What a node off the target does after an arrival on port a: it goes on over the port that the table of first ports gives, one hop nearer.
 record GoesOn (S : Shape) (t n a v q : ℕ) : Type 0 where

@@ -31,11 +31,11 @@ use Rattle.entries.specs.EntryContracts.{putReceiver}
 use Rattle.table.specs.View.{view, net, shapeOf, receive}
 use Rattle.table.specs.TableContracts.{lowestChannel}
 use Rattle.answers.specs.SendOnTable.{freeIn, pass-answer, answerOfOutcome}
-use Rattle.answers.specs.PassAnswer.{holdPath}
+use Rattle.answers.specs.PassOnBytes.{holdPath}
 use Rattle.answers.specs.SendAnswer.{bytesAfterSend, sendAnswer, searched, MaySend}
 use Rattle.helix.specs.HelixContracts.{MayFollow, freeAll, helixIn, FrontOf, triedIn, MayTryPaths, FirstFree}
-use Rattle.answers.proofs.PassAnswer.{receive-small}
-use Rattle.answers.proofs.Sent.{ports-in-turn}
+use Rattle.answers.proofs.PassOnBytes.{receive-small}
+use Rattle.answers.proofs.SendAnswer.{ports-in-turn}
 
 -- what trying the helix paths of some ports comes to, after some scouts
 abbrev triedAfter : List ℕ → ℕ → ℕ → ℕ → List ℕ → PassResult

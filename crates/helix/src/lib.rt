@@ -5,7 +5,7 @@ ghost use mathlib.Core.Logic.{_≢_};
 ghost use Rattle.table.specs.View.{view, net};
 ghost use Rattle.cube.specs.Helical.{FirstPorts};
 ghost use Rattle.paths.specs.Helix.{helixPath};
-ghost use Rattle.answers.specs.PassAnswer.{holdPath};
+ghost use Rattle.answers.specs.PassOnBytes.{holdPath};
 ghost use Rattle.answers.specs.SendOnTable.{pass-answer};
 ghost use Rattle.answers.specs.SendAnswer.{MaySend, searched};
 ghost use Rattle.helix.specs.HelixContracts.{MayFollow, FrontOf, MayTryPaths, FirstFree};

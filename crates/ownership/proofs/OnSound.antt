@@ -20,7 +20,7 @@ use Rattle.soundness.specs.Sound.{Sound}
 use Rattle.soundness.specs.TableTests.{tableTests}
 use Rattle.soundness.proofs.Passing.{answers}
 use Rattle.answers.specs.SendOnTable.{pass-answer, answerOfOutcome}
-use Rattle.answers.specs.SendAnswer.{sendAnswer, sends, MaySend}
+use Rattle.answers.specs.SendAnswer.{sendAnswer, sentOnBytes, MaySend}
 use Rattle.answers.specs.SendSays.{SendSays}
 use Rattle.answers.proofs.SendSays.{demand-2}
 use Rattle.ownership.specs.Calls.{Call, making, blocking, unblocking, opening, closing, tracing, arming, disarming, callTests, CallResult, hopsOf, receiveOf, scoutsOf, only, answered, resultOf}
@@ -65,7 +65,7 @@ module _ (b : List ℕ) (s c t y v : ℕ) (e : stoppedAt b (opening s c t y v) �
 
   -- What an open that no test stops before the search answers is what a send answers, whatever the bytes are.
   pub open-answers : SendSays b s t (circuitOf s c) y v (openResult .number) (hopsOf openResult) (receiveOf openResult) (scoutsOf openResult) (writtenBy b (opening s c t y v))
-  unfolding resultOf factsOf writtenBy sends sendAnswer
+  unfolding resultOf factsOf writtenBy sentOnBytes sendAnswer
   open-answers = rw (table-step b (opening s c t y v) .result e) (demand-2 b s t (circuitOf s c) y v (may-open b s c t y v e) _ _ _ _ _ (answer-same _ _ _ _))
 
   -- The users' second demand of the open call: it says what a send says, in its answer and in every byte.

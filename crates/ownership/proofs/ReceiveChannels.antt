@@ -39,7 +39,7 @@ use Rattle.circuit_path.proofs.Stands.{path-is}
 use Rattle.soundness.proofs.Soundness.{receive-stands}
 use Rattle.answers.specs.SendOnTable.{freeIn, PassAnswer, pass-answer, answerOfOutcome}
 use Rattle.answers.specs.SendAnswer.{sendAnswer}
-use Rattle.answers.proofs.PassAnswer.{free-owner}
+use Rattle.answers.proofs.PassOnBytes.{free-owner}
 use Rattle.ownership.specs.Calls.{Call, making, blocking, unblocking, opening, closing, tracing, arming, disarming, callTests, resultOf}
 use Rattle.ownership.specs.OnTable.{factsOf, lentTests, stoppedAt, tableStep}
 use Rattle.ownership.specs.AllArmed.{AllArmed, CubeArmed}

@@ -33,9 +33,9 @@ use Rattle.circuit_path.specs.PathOf.{pathOf, isEmpty}
 use Rattle.circuit_path.specs.Traced.{tracedInto}
 use Rattle.circuit_path.specs.Follow.{HasSource}
 use Rattle.circuit_path.proofs.Stands.{path-is}
-use Rattle.answers.specs.PassAnswer.{holdPath}
+use Rattle.answers.specs.PassOnBytes.{holdPath}
 use Rattle.answers.specs.SendAnswer.{bytesAfterSend}
-use Rattle.answers.proofs.PassAnswer.{owner-length}
+use Rattle.answers.proofs.PassOnBytes.{owner-length}
 use Rattle.answers.specs.SendOnTable.{holdLinks, viewAfterSend}
 use Rattle.answers.proofs.AfterSend.{PortsBelow, Fits, hold-length, view-hold, view-after-send, send-bytes}
 use Rattle.ownership.proofs.BytesAfter.{armed-encoded}

@@ -8,7 +8,7 @@ ghost use Rattle.table.specs.Encode.{encode};
 ghost use Rattle.soundness.specs.Sound.{Sound};
 ghost use Rattle.circuit_path.specs.PathOf.{pathOf, isEmpty};
 ghost use Rattle.circuit_path.specs.Follow.{HasSource};
-ghost use Rattle.answers.specs.PassAnswer.{holdPath};
+ghost use Rattle.answers.specs.PassOnBytes.{holdPath};
 ghost use Rattle.release.specs.Release.{MayFree};
 use cube::Circuit;
 use cube::Node;

@@ -20,7 +20,7 @@ use Rattle.circuit_path.specs.PathOf.{pathOf}
 use Rattle.circuit_path.specs.Traced.{tracedInto}
 use Rattle.ownership.specs.Calls.{Call, making, blocking, unblocking, opening, closing, tracing, arming, disarming, CallResult, refusedWith, answered, callTests, resultOf, After}
 use Rattle.answers.specs.SendOnTable.{PassAnswer, pass-answer, answerOfOutcome, waitingHelps, sendIn}
-use Rattle.answers.specs.SendAnswer.{sendAnswer, sends}
+use Rattle.answers.specs.SendAnswer.{sendAnswer, sentOnBytes}
 use Rattle.ownership.specs.OnTable.{factsOf, lentTests, stoppedAt, tableStep, done}
 use Rattle.ownership.proofs.Stops.{making-stopped}
 use Rattle.ownership.proofs.Steps.{table-step}
@@ -85,11 +85,11 @@ module _ (b : List ℕ) where
   call-closes s c e z small q r = call-passed b (closing s c) e z small (r ∙ ap (λ i. encode (withoutCircuit (view b) i)) q) refl
 
   -- an open: what the search comes to is what it gives
-  pub call-opens : (s c t y v : ℕ) {m : ℕ} → m ≡ stoppedAt b (opening s c t y v) → m ≡ 0 → AllBytes b → {k : ℕ} → k ≡ circuitOf s c → {x h r n : ℕ} {b₁ : List ℕ} → pass-answer x h r n b₁ ≡ sends b s t k y v
+  pub call-opens : (s c t y v : ℕ) {m : ℕ} → m ≡ stoppedAt b (opening s c t y v) → m ≡ 0 → AllBytes b → {k : ℕ} → k ≡ circuitOf s c → {x h r n : ℕ} {b₁ : List ℕ} → pass-answer x h r n b₁ ≡ sentOnBytes b s t k y v
       → done b₁ x (h ∷ r ∷ n ∷ []) [] ≡ tableStep b (opening s c t y v)
-  unfolding writtenBy resultOf factsOf sends sendAnswer
+  unfolding writtenBy resultOf factsOf sentOnBytes sendAnswer
   call-opens s c t y v e z small q g =
-      ap shown (g ∙ ap (λ i. sends b s t i y v) q) ∙ shown-same (waitingHelps (view b) s t y v) (sendIn (view b) s t y v .outcome) _ _ ∙ call-passed b (opening s c t y v) e z small refl refl
+      ap shown (g ∙ ap (λ i. sentOnBytes b s t i y v) q) ∙ shown-same (waitingHelps (view b) s t y v) (sendIn (view b) s t y v .outcome) _ _ ∙ call-passed b (opening s c t y v) e z small refl refl
     where
       shown : PassAnswer → After (List ℕ)
       shown (pass-answer x h r n b₁) = done b₁ x (h ∷ r ∷ n ∷ []) []

@@ -23,9 +23,9 @@ use Rattle.layout.specs.Layout.{dimensionAt}
 use Rattle.table.specs.TableContracts.{lowestChannel}
 use Rattle.table.specs.View.{view, receive, net, shapeOf}
 use Rattle.answers.specs.SendOnTable.{freeIn}
-use Rattle.answers.specs.PassAnswer.{answerOfPass, arrivalAfter, hopsLeft}
+use Rattle.answers.specs.PassOnBytes.{answerOfPass, arrivalAfter, hopsLeft}
 use Rattle.search.specs.SearchContracts.{farthestAfter, Packed, tryAnswer, arriveAnswer, Narrowed, MayTry, MayArrive}
-use Rattle.answers.proofs.PassAnswer.{at-target, arrives, target-receives, target-full, lowest-small}
+use Rattle.answers.proofs.PassOnBytes.{at-target, arrives, target-receives, target-full, lowest-small}
 use Rattle.search.proofs.PackedAnswer.{of-receive, of-acknowledged}
 use Rattle.search.proofs.Narrow.{farthest-most, narrow-reach, narrow-may, narrow-tries}
 

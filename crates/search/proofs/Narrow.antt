@@ -20,9 +20,9 @@ use Rattle.entries.specs.EntryContracts.{enableBits, Within}
 use Rattle.table.specs.View.{View, view, receive, net}
 use Rattle.layout.proofs.Entries.{enabled-has}
 use Rattle.answers.specs.SendOnTable.{freeIn}
-use Rattle.answers.specs.PassAnswer.{answerOfPass, arrivalAfter}
+use Rattle.answers.specs.PassOnBytes.{answerOfPass, arrivalAfter}
 use Rattle.search.specs.SearchContracts.{Narrowed, Enabled, tryAnswer, farthest, farthestAfter, MayTry}
-use Rattle.answers.proofs.PassAnswer.{free-off}
+use Rattle.answers.proofs.PassOnBytes.{free-off}
 use mathlib.Core.Logic.{⊎-elim}
 use native.Mathlib.Omega.{arith}
 use native.Mathlib.Nat.{le-trans, le-refl, mul-le-mul}

@@ -32,11 +32,11 @@ use Rattle.entries.specs.EntryContracts.{putReceiver}
 use Rattle.table.specs.View.{view, receive, net, shapeOf}
 use Rattle.table.proofs.Made.{ones}
 use Rattle.answers.specs.SendOnTable.{freeIn, pass-answer, answerOfOutcome}
-use Rattle.answers.specs.PassAnswer.{holdPath, answerOfPass, arrivalAfter}
+use Rattle.answers.specs.PassOnBytes.{holdPath, answerOfPass, arrivalAfter}
 use Rattle.search.specs.SearchContracts.{farthestAfter, tryAnswer, Narrowed, MayTry}
 use Rattle.answers.specs.SendAnswer.{bytesAfterSend, sendAnswer, searched, MaySend}
-use Rattle.answers.proofs.PassAnswer.{receive-small}
-use Rattle.answers.proofs.Sent.{ports-in-turn, sent-stops, sent-goes-on, sent-leaves, sent-scouts, sent-counted}
+use Rattle.answers.proofs.PassOnBytes.{receive-small}
+use Rattle.answers.proofs.SendAnswer.{ports-in-turn, sent-stops, sent-goes-on, sent-leaves, sent-scouts, sent-counted}
 use Rattle.search.proofs.Narrow.{narrow-tries, farthest-most}
 
 -- the pass of a send over the ports of a vector

@@ -16,7 +16,7 @@ use Rattle.paths.specs.Search.{trying, arriving}
 use Rattle.layout.specs.Layout.{tableLength, dimensionAt}
 use Rattle.table.specs.View.{View, view, receive, net}
 use Rattle.answers.specs.SendOnTable.{freeIn, PassAnswer, pass-answer}
-use Rattle.answers.specs.PassAnswer.{answerOfPass, arrivalAfter, hopsLeft}
+use Rattle.answers.specs.PassOnBytes.{answerOfPass, arrivalAfter, hopsLeft}
 
 -- the largest distance to a target among the nodes behind the ports of a list
 unfoldable pub farthest : Network → ℕ → ℕ → List ℕ → ℕ

@@ -3,7 +3,7 @@
 use mathlib.Core.Path.{sym, _∙_}
 use borrow.Author.Needs.{needs}
 use Rattle.table.specs.View.{view}
-use Rattle.answers.proofs.PassAnswer.{state-blocked, state-free, state-held}
+use Rattle.answers.proofs.PassOnBytes.{state-blocked, state-free, state-held}
 use Rattle.answers.proofs.link_state.Statement.{statement}
 use Rattle.answers.proofs.link_state.Tie as tie
 

@@ -6,9 +6,9 @@ use borrow.Author.Needs.{needs}
 use Rattle.helix.proofs.free_front.Statement.{statement}
 use Rattle.helix.proofs.free_front.Tie as tie
 use Rattle.cube.specs.Cube.{next}
-use Rattle.answers.specs.PassAnswer.{hopsLeft}
+use Rattle.answers.specs.PassOnBytes.{hopsLeft}
 use Rattle.table.specs.View.{view}
-use Rattle.answers.proofs.PassAnswer.{told-free, told-held, told-blocked}
+use Rattle.answers.proofs.PassOnBytes.{told-free, told-held, told-blocked}
 use Rattle.helix.proofs.Following.{Looking, looking-first, looking-stopped, looking-arrived, looking-nearer, looking-more, hop-within, up-small}
 
 abbrev Inv-loop : tie.InvT-loop

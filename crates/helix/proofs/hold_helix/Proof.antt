@@ -6,7 +6,7 @@ use borrow.Author.Needs.{needs}
 use Rattle.helix.proofs.hold_helix.Statement.{statement}
 use Rattle.helix.proofs.hold_helix.Tie as tie
 use Rattle.cube.specs.Cube.{next}
-use Rattle.answers.specs.PassAnswer.{hopsLeft}
+use Rattle.answers.specs.PassOnBytes.{hopsLeft}
 use Rattle.helix.proofs.Following.{Holding, holding-first, holding-arrived, holding-nearer, holding-more, hop-within, up-small}
 
 abbrev Inv-loop : tie.InvT-loop

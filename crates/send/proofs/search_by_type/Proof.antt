@@ -2,7 +2,7 @@
 -- Assumes nothing.
 use mathlib.Core.Path.{_∙_, ap, sym}
 use Rattle.answers.specs.SendAnswer.{searched}
-use Rattle.send.proofs.Judged.{send-maze}
+use Rattle.send.proofs.ByWaiting.{send-maze}
 use borrow.Author.Needs.{needs}
 use Rattle.send.proofs.search_by_type.Statement.{statement}
 use Rattle.send.proofs.search_by_type.Tie as tie

@@ -3,7 +3,7 @@
 use mathlib.Core.Path.{refl}
 use Rattle.cube.specs.Helical.{firstPort}
 use Rattle.cube.proofs.Order.{table-of}
-use Rattle.send.proofs.Judged.{may-ask-after, judged-kept, judged-helps, judged-blocked}
+use Rattle.send.proofs.ByWaiting.{may-ask-after, judged-kept, judged-helps, judged-blocked}
 use borrow.Author.Needs.{needs}
 use Rattle.send.proofs.send.Statement.{statement}
 use Rattle.send.proofs.send.Tie as tie

@@ -26,9 +26,9 @@ use Rattle.entries.specs.EntryContracts.{putOwner, Within}
 use Rattle.table.specs.View.{view, setOwner, receive, net, shapeOf}
 use Rattle.table.proofs.Views.{view-put-owner}
 use Rattle.answers.specs.SendOnTable.{freeIn, PassAnswer, pass-answer}
-use Rattle.answers.specs.PassAnswer.{answerOfPass, arrivalAfter, hopsLeft}
+use Rattle.answers.specs.PassOnBytes.{answerOfPass, arrivalAfter, hopsLeft}
 use Rattle.search.specs.SearchContracts.{farthestAfter, answerIn, Packed, tryAnswer, arriveAnswer, Enabled, SearchPre, MayTry, MayArrive}
-use Rattle.answers.proofs.PassAnswer.{owner-length, arrival-after, receive-same, given-back, free-owner, port-busy, port-acknowledged, port-receive-rejected, port-route-rejected, answer-scouts, ports-over}
+use Rattle.answers.proofs.PassOnBytes.{owner-length, arrival-after, receive-same, given-back, free-owner, port-busy, port-acknowledged, port-receive-rejected, port-route-rejected, answer-scouts, ports-over}
 use Rattle.search.proofs.PackedAnswer.{in-route, in-receive, in-acknowledged}
 use Rattle.search.proofs.Narrow.{farthest-mem}
 
@@ -55,14 +55,14 @@ handed-on b t c n p h s w small z e q =
 
 -- what holds at each turn of the trying of ports: the bytes are those at the start, the ports left are ports of the vector, there is room for
 -- the scouts still to be sent, and what is left to do gives the whole
-pub record Turn (b : List ℕ) (t c n vector a h s : ℕ) (now : List ℕ) (left sent : ℕ) : Type 0 where
+pub record PortsTried (b : List ℕ) (t c n vector a h s : ℕ) (now : List ℕ) (left sent : ℕ) : Type 0 where
   pub same : now ≡ b
   pub ports : VectorOf (dimensionAt b) left
   pub sub : (p : ℕ) → p ∈ portsOf portCount left → p ∈ portsOf portCount vector
   pub room : sent + length (portsOf portCount left) * (1 + waysFrom 1 (farthestAfter b t n vector)) < 2 ^ 32
   pub rest : tryAnswer b t c n left a h sent ≡ tryAnswer b t c n vector a h s
 
-pub first-turn : {b : List ℕ} {t c n v a h s : ℕ} → MayTry b t c n v a h s → Turn b t c n v a h s b v s
+pub first-turn : {b : List ℕ} {t c n v a h s : ℕ} → MayTry b t c n v a h s → PortsTried b t c n v a h s b v s
 first-turn may = record { same = refl; ports = may .ports; sub = λ p m. m; room = may .room; rest = refl }
 
 -- the answer of a node once it has tried the ports of a list
@@ -70,7 +70,7 @@ abbrev tried : List ℕ → ℕ → ℕ → ℕ → ℕ → List ℕ → ℕ →
 tried b t c n h ps s = answerOfPass b c n h (receive (view b) t) (trying (freeIn (view b) n) (arrivalAfter (net (view b)) (freeIn (view b)) t n) ps s)
 
 -- what a node trying its ports may do with the first of those left
-module _ {b now : List ℕ} {t c n a h v left p sent s : ℕ} (may : MayTry b t c n v a h s) (inv : Turn b t c n v a h s now left sent) (some : left ≢ 0) (first : p ≡ firstPort left a) where
+module _ {b now : List ℕ} {t c n a h v left p sent s : ℕ} (may : MayTry b t c n v a h s) (inv : PortsTried b t c n v a h s now left sent) (some : left ≢ 0) (first : p ≡ firstPort left a) where
   pub here-tried : FirstTried portCount left a p
   here-tried = port-tried (dimensionAt b) left a p (may .here .fits) (inv .ports) some first
 
@@ -150,7 +150,7 @@ module _ {b now : List ℕ} {t c n a h v left p sent s : ℕ} (may : MayTry b t 
   on = arrivalAfter (net (view b)) (freeIn (view b)) t n
 
   -- the link is not free: on with the other ports
-  pub turn-busy : freeIn (view now) n p ≡ false → {r : ℕ} → Without left p r → Turn b t c n v a h s now r sent
+  pub turn-busy : freeIn (view now) n p ≡ false → {r : ℕ} → Without left p r → PortsTried b t c n v a h s now r sent
   unfolding tryAnswer
   turn-busy e less =
       rw (left-over less)
@@ -193,7 +193,7 @@ module _ {b now : List ℕ} {t c n a h v left p sent s : ℕ} (may : MayTry b t 
         let same : x ≡ scouts (on p (suc sent)) = answer-scouts (putOwner b n p c) c (next n p) (h + 1) (receive (view b) t) (on p (suc sent)) 10 0 0 x b₂ (answer (in-route x b₂ l)) in
         omega (arith, all, m, same)
 
-    pub turn-next : x < 4294967296 → {r : ℕ} → Without left p r → {b₃ : List ℕ} → b₃ ≡ putOwner b₂ n p 0 → {d : ℕ} → d ≡ x → Turn b t c n v a h s b₃ r d
+    pub turn-next : x < 4294967296 → {r : ℕ} → Without left p r → {b₃ : List ℕ} → b₃ ≡ putOwner b₂ n p 0 → {d : ℕ} → d ≡ x → PortsTried b t c n v a h s b₃ r d
     unfolding tryAnswer
     turn-next l less u e =
         let w = port-route-rejected (freeIn (view b) n) on b c n h (receive (view b) t) p others sent free 0 0 x b₂ (answer (in-route x b₂ l)) in
@@ -207,7 +207,7 @@ module _ {b now : List ℕ} {t c n a h v left p sent s : ℕ} (may : MayTry b t 
         }
 
 -- no port left
-pub turn-over : {b : List ℕ} {t c n v a h s : ℕ} {now : List ℕ} {left sent : ℕ} → Turn b t c n v a h s now left sent → left ≡ 0 → Packed sent now (tryAnswer b t c n v a h s)
+pub turn-over : {b : List ℕ} {t c n v a h s : ℕ} {now : List ℕ} {left sent : ℕ} → PortsTried b t c n v a h s now left sent → left ≡ 0 → Packed sent now (tryAnswer b t c n v a h s)
 unfolding tryAnswer
 turn-over {b} {t} {c} {n} {v} {a} {h} {s} {now} {left} {sent} inv z =
     let none : helical a (portsOf portCount left) ≡ [] = ap (λ x. helical a (portsOf portCount x)) z ∙ helical-zero 8 a in

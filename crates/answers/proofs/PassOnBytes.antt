@@ -20,7 +20,7 @@ use Rattle.paths.specs.Send.{Receive, channel, none-available, lowestOf}
 use Rattle.paths.specs.Search.{hopOr, trying, arriving, holding}
 use Rattle.paths.proofs.Words.{free-link}
 use Rattle.paths.proofs.Depth.{trying-cons}
-use Rattle.paths.proofs.Cone.{trying-same, holding-after}
+use Rattle.paths.proofs.LinksAhead.{trying-same, holding-after}
 use Rattle.layout.specs.Layout.{entryPlace, linkPart, wordAt, ownerAt, entryAt}
 use Rattle.layout.specs.LayoutContracts.{putWord}
 use Rattle.entries.specs.EntryContracts.{putEntry, putOwner, Within}
@@ -32,7 +32,7 @@ use Rattle.table.proofs.Views.{view-put-owner}
 use Rattle.answers.specs.declared.LinkState as State
 use Rattle.answers.specs.declared.LinkState.the-variants.{Free, Held, Blocked}
 use Rattle.answers.specs.SendOnTable.{stateIn, freeIn, PassAnswer, pass-answer, stateOf}
-use Rattle.answers.specs.PassAnswer.{holdPath, answerOfPass, arrivalAfter}
+use Rattle.answers.specs.PassOnBytes.{holdPath, answerOfPass, arrivalAfter}
 
 -- A hop held and given back leaves each byte as it was.
 given-word : (b : List ℕ) (i c : ℕ) → wordAt b i ≡ 0 → putWord (putWord b i c) i 0 ≡ b
