@@ -11,7 +11,6 @@ use lib.Dec.{eqb, ltb}
 use lib.Pow.{pow-pos, pow-mono, pow-lt, pow-add, shl-shr}
 use lib.Bits.{bitXor, bitAnd, bitOr, or-shr, or-mod, and-high, and-shr, and-mod, xor-add-and, xor-shr, xor-mod, xor-lt, xor-zero-r, and-le-l}
 use borrow.Author.Tests.{ltb-true, ltb-false, eqb-true, eqb-false, ne-eqb}
-use Rattle.cube.specs.Cube.{NodeOf}
 use Rattle.common.proofs.Every.{decide}
 use Rattle.common.proofs.Tests.{below-or}
 use Rattle.cube.specs.Bits.{bitAt, has, flip, withBit}
@@ -30,7 +29,7 @@ pub two-bits : (P : ℕ → ℕ → Type 0) → P 0 0 → P 0 1 → P 1 0 → P 
 two-bits P none second first both x y h l = one-bit (λ x. P x y) (one-bit (P 0) none second y l) (one-bit (P 1) first both y l) x h
 
 -- no bit stands at D or above in a number below 2 ^ D
-pub bit-high : (D n p : ℕ) → NodeOf D n → D ≤ p → bitAt n p ≡ 0
+pub bit-high : (D n p : ℕ) → n < 2 ^ D → D ≤ p → bitAt n p ≡ 0
 unfolding bitAt
 bit-high D n p h l = ap (_% 2) (div-eq-of-lt (lt-of-lt-of-le h (pow-mono l)))
 
@@ -132,7 +131,7 @@ flip-back n p = go (has n p) refl
         let zero′ = has-no-bit n p e in
         set (flip n p) (bit-flipped n p ∙ ap (1 -_) zero′) ∙ rw (clear n zero′) (omega arith)
 
-pub flip-inside : (D n p : ℕ) → NodeOf D n → p < D → flip n p < 2 ^ D
+pub flip-inside : (D n p : ℕ) → n < 2 ^ D → p < D → flip n p < 2 ^ D
 flip-inside D n p h l = rw (← flip-xor n p) (xor-lt D n (2 ^ p) h (pow-lt l))
 
 -- a bit set or cleared is as wanted, and every other as it was
@@ -158,7 +157,7 @@ with-bit-other n p on q h = go (Bool·beq (has n p) on)
     go true = refl
     go false = unfold has in ap (λ x. eqb x 1) (bit-kept n p q h)
 
-pub with-bit-inside : (D n p : ℕ) (on : Bool) → NodeOf D n → p < D → withBit n p on < 2 ^ D
+pub with-bit-inside : (D n p : ℕ) (on : Bool) → n < 2 ^ D → p < D → withBit n p on < 2 ^ D
 unfolding withBit
 with-bit-inside D n p on h l = go (Bool·beq (has n p) on)
   where
@@ -184,7 +183,7 @@ same-bits (suc w) n m h l e =
     omega arith
 
 -- a number below 2 ^ D has no bit at D or above, zero has none, and a number below 2 ^ w that has none of w bits is zero
-pub high-has : (D n p : ℕ) → NodeOf D n → D ≤ p → has n p ≡ false
+pub high-has : (D n p : ℕ) → n < 2 ^ D → D ≤ p → has n p ≡ false
 unfolding has
 high-has D n p h l = ne-eqb (bitAt n p) 1 (λ e. omega (arith, bit-high D n p h l))
 
@@ -200,7 +199,7 @@ below-power : (n : ℕ) → n < 2 ^ n
 below-power zero = pow-pos 0
 below-power (suc n) = omega (arith, pow-succ' 2 n, below-power n)
 
-pub no-bit-above : (D n : ℕ) → ((p : ℕ) → D ≤ p → has n p ≡ false) → NodeOf D n
+pub no-bit-above : (D n : ℕ) → ((p : ℕ) → D ≤ p → has n p ≡ false) → n < 2 ^ D
 unfolding has
 no-bit-above zero n h = omega (arith, no-ports n n (below-power n) (λ p l. h p (omega arith)), pow-pos 0)
 no-bit-above (suc D) n h =
