@@ -11,7 +11,7 @@ ghost use Rattle.soundness.specs.Counting.{Counts, Frees};
 ghost use Rattle.soundness.specs.SoundTest.{soundTest};
 ghost use Rattle.soundness.specs.TestContracts.{Usable, ReceivePre};
 ghost use Rattle.soundness.specs.TableTests.{TableAnswer};
-use circuit_path::NONE;
+use circuit_hops::NONE;
 use common::refusal;
 use cube::Circuit;
 use cube::Node;

@@ -29,7 +29,7 @@ returns-2 c =
     let g = c .before .before in
     let m = g .before .before in
     let o = m .before .before in
-    call-traces _ _ _ _ (o .trace .ensures) (m .before .if1 .left) (λ i. omega (arith, o .before .before .before .shared-slice-known .given i)) (m .circuit-of .ensures) (g .write-path .ensures .0) (g .write-path .ensures .1)
+    call-traces _ _ _ _ (o .trace .ensures) (m .before .if1 .left) (λ i. omega (arith, o .before .before .before .shared-slice-known .given i)) (m .circuit-of .ensures) (g .write-path .ensures .0) (g .write-path .ensures .1 .1)
 
 pub trace-spec : {M : Type 1} → statement M
 trace-spec = tie.close (tie.spec (search needs) (search needs) returns circuit-of-requires write-path-requires (search needs) returns-2)
