@@ -2,7 +2,7 @@
 -- Assumes nothing.
 use mathlib.Core.Path.{_≡_, refl, ap, sym, _∙_, subst}
 use mathlib.Core.Logic.{⊎-elim, _≢_}
-use mathlib.Core.Bool.{true, false, not}
+use mathlib.Core.Bool.{true, false}
 use mathlib.Core.List.{List, [], _∷_}
 use Prim.Native.Nat.{ℕ, _+_, _≤_, _<_}
 use native.Mathlib.Omega.{arith}
@@ -27,9 +27,10 @@ use Rattle.layout.specs.Layout.{dimensionAt}
 use Rattle.table.specs.TableContracts.{HeldBy, linksHeld}
 use Rattle.table.specs.View.{View, view, shapeOf, net, heldBy}
 use Rattle.circuit_path.specs.CircuitSound.{endFor, CircuitSound}
-use Rattle.circuit_path.specs.PathOf.{pathOf, isEmpty}
+use Rattle.circuit_path.specs.PathOf.{pathOf}
+use Rattle.circuit_path.specs.OpenCircuit.{isOpenIn}
 use Rattle.circuit_hops.specs.CountHops.{Sole, SoleWay, Walks, TakePre, FollowedPath, Followed}
-use Rattle.circuit_path.proofs.Stands.{path-is, some-hop, not-empty}
+use Rattle.circuit_path.proofs.Stands.{path-is, not-empty, open-path, sound-open}
 use Rattle.circuit_hops.proofs.Ways.{way-onward, way-owned, way-only, onward-way, onward-once, sole-port, shown}
 
 -- a circuit that holds one link at its source: its port, and the node that it leads to
@@ -143,20 +144,16 @@ module _ {b : List ℕ} {c s t p start hops : ℕ} (pre : TakePre b c s t) (one 
 
 -- a circuit that comes through its source again: it has no path, or one that ends elsewhere, or one that ends at t
 module _ (v : View) (c t : ℕ) where
-  pub back-none : not (isEmpty (pathOf v c)) ≡ false → Followed v c t 4096
+  pub back-none : isOpenIn v c ≡ false → Followed v c t 4096
   back-none e =
-      record {
-        found = λ k. absurd (omega arith);
-        forced = λ z q. absurd (clash (rw (path-is v c z) (some-hop (net v) (sourceOf c) (ports (shapeOf v)) (endFor v c (z .path)) (z .path) (z .permitted))) e);
-        most = omega arith;
-      }
+      record { found = λ k. absurd (omega arith); forced = λ z q. absurd (clash (sound-open v c z) e); most = omega arith }
 
   module _ {n : ℕ} (ends : n ≡ endFor v c (pathOf v c)) where
     pub back-elsewhere : n ≢ t → Followed v c t 4096
     back-elsewhere h =
         record { found = λ k. absurd (omega arith); forced = λ z q. absurd (h (ends ∙ ap (endFor v c) (path-is v c z) ∙ q)); most = omega arith }
 
-    pub back-followed : v .dimension ≤ largestDimension → not (isEmpty (pathOf v c)) ≡ true → {hops : ℕ} → hops ≡ length (pathOf v c) → n ≡ t → Followed v c t hops
+    pub back-followed : v .dimension ≤ largestDimension → isOpenIn v c ≡ true → {hops : ℕ} → hops ≡ length (pathOf v c) → n ≡ t → Followed v c t hops
     back-followed d some k e =
         record {
           found = λ l.
@@ -174,7 +171,7 @@ module _ (v : View) (c t : ℕ) where
         permitted : Permitted (net v) (sourceOf c) (ports (shapeOf v)) t (pathOf v c)
         permitted =
             subst (λ (x : ℕ). Permitted (net v) (sourceOf c) (ports (shapeOf v)) x (pathOf v c)) (sym ends ∙ e)
-            (apart-permitted (shapeOf v) (sourceOf c) (pathOf v c) (unfold pathOf in path-apart (shapeOf v) (heldBy v c) (sourceOf c) (not-empty (pathOf v c) some)))
+            (apart-permitted (shapeOf v) (sourceOf c) (pathOf v c) (unfold pathOf in path-apart (shapeOf v) (heldBy v c) (sourceOf c) (not-empty (pathOf v c) (sym (open-path v c) ∙ some))))
 
         short : length (pathOf v c) ≤ 9
         short = omega (arith, path-hops (shapeOf v) (sourceOf c) (ports (shapeOf v)) t (pathOf v c) permitted)

@@ -1,7 +1,7 @@
 -- Tracing: what is followed fits the buffer, what is written hop after hop is the path, with what was there behind it, and the last node is its end.
 -- Assumes nothing.
 use mathlib.Core.Path.{_≡_, refl, ap, sym, _∙_}
-use mathlib.Core.Bool.{Bool, true, not}
+use mathlib.Core.Bool.{Bool, true}
 use mathlib.Core.List.{List, [], _∷_, _++_}
 use Prim.Native.Nat.{ℕ, zero, suc, _+_, _-_, _^_, _≤_, _<_}
 use native.Mathlib.Omega.{arith}
@@ -9,7 +9,6 @@ use native.Mathlib.Nat.{zero-add}
 use native.Mathlib.Numerals.{add-one}
 use lib.ListN.{length, set, drop, length-set}
 use lib.Seq.{sets, sets-eq}
-use borrow.Author.Tests.{ltb-true}
 use Rattle.common.specs.Lists.{keep, lowest}
 use Rattle.cube.specs.Bits.{has}
 use Rattle.cube.specs.Cube.{largestDimension, portCount, next, sourceOf, NodeCount, Without}
@@ -21,11 +20,12 @@ use Rattle.paths.specs.Recover.{dropAxis, walkFrom}
 use Rattle.layout.specs.Layout.{dimensionAt}
 use Rattle.table.specs.View.{View, view, net}
 use Rattle.circuit_path.specs.CircuitSound.{endFor}
-use Rattle.circuit_path.specs.PathOf.{pathOf, isEmpty}
+use Rattle.circuit_path.specs.PathOf.{pathOf}
+use Rattle.circuit_path.specs.OpenCircuit.{isOpenIn}
 use Rattle.circuit_path.specs.Traced.{tracedInto}
 use Rattle.circuit_path.specs.Follow.{takes, linksFollowed, firstHop, HasSource}
 use Rattle.circuit_path.proofs.Hops.{follow-on, follow-end, follow-port}
-use Rattle.circuit_path.proofs.Examine.{opened, path-after, source-within}
+use Rattle.circuit_path.proofs.Examine.{hop-below, path-after, source-within}
 
 -- a walk is no longer than its fuel
 take-short : (k : ℕ) (ps : List ℕ) (on : ℕ → Path) → ((p : ℕ) → length (on p) ≤ k) → length (takeFirst ps on) ≤ suc k
@@ -81,7 +81,7 @@ module _ {v : View} {c left₀ n₀ left n hops q : ℕ} {buffer₀ buffer : Lis
       }
 
 -- the whole path, of the numbers that the code has: the dimension, the count of nodes, the source and the first hop
-module _ {b : List ℕ} {c D nodes s a : ℕ} (known : HasSource b c) (d : D ≡ dimensionAt b) (m : NodeCount D nodes) (q : s ≡ sourceOf c) (e : a ≡ firstHop (view b) c s (nodes - 1)) (some : not (isEmpty (pathOf (view b) c)) ≡ true) where
+module _ {b : List ℕ} {c D nodes s a : ℕ} (known : HasSource b c) (d : D ≡ dimensionAt b) (m : NodeCount D nodes) (q : s ≡ sourceOf c) (e : a ≡ firstHop (view b) c s (nodes - 1)) (some : isOpenIn (view b) c ≡ true) where
   shown : D ≡ view b .dimension
   unfolding view
   shown = d
@@ -90,7 +90,7 @@ module _ {b : List ℕ} {c D nodes s a : ℕ} (known : HasSource b c) (d : D ≡
   fits = omega (arith, known .fits)
 
   pub first-below : a < portCount
-  first-below = ltb-true a 8 (opened (view b) c shown fits (m .value) q e ∙ some)
+  first-below = hop-below (view b) c shown fits (m .value) some q e
 
   module _ {start : ℕ} (to : start ≡ next s a) where
     path-is : pathOf (view b) c ≡ a ∷ linksFollowed (view b) c start (nodes - 1)

@@ -1,6 +1,6 @@
 // The path of a circuit, recovered from the links that it holds.
 ghost use mathlib.Core.Path.{_≡_};
-ghost use mathlib.Core.Bool.{true, cond, not};
+ghost use mathlib.Core.Bool.{true, cond};
 ghost use lib.Dec.{ltb};
 ghost use Prim.Native.Nat.{_≤_, _<_};
 ghost use lib.ListN.{length};
@@ -9,7 +9,8 @@ ghost use Rattle.common.specs.Lists.{lowest};
 ghost use Rattle.cube.specs.Cube.{portCount};
 ghost use Rattle.table.specs.View.{view, heldBy};
 ghost use Rattle.circuit_path.specs.CircuitSound.{endFor};
-ghost use Rattle.circuit_path.specs.PathOf.{pathOf, isEmpty};
+ghost use Rattle.circuit_path.specs.PathOf.{pathOf};
+ghost use Rattle.circuit_path.specs.OpenCircuit.{isOpenIn};
 ghost use Rattle.circuit_path.specs.Traced.{tracedInto};
 ghost use Rattle.circuit_path.specs.Follow.{takes, comesBack, firstHop, HasSource};
 use cube::Circuit;
@@ -96,10 +97,10 @@ fn first_hop(t: &[u8], c: Circuit, s: Node, vector: u16) -> Port
     found
 }
 
-// Whether a circuit is open: whether its path has a first hop. Only the links at its source are looked at.
+// Whether a circuit is open.
 pub fn is_open(t: &[u8], c: Circuit) -> bool
     requires { ⌜ HasSource (now t) (c .0) ⌝ }
-    ensures { λ r. ⌜ r ≡ not (isEmpty (pathOf (view (now (t .entry))) (c .0))) ⌝ }
+    ensures { λ r. ⌜ r ≡ isOpenIn (view (now (t .entry))) (c .0) ⌝ }
 {
     let nodes = cube::node_count(table::dimension(t));
     table::held_by(t, c, cube::source_of(c)) & (nodes - 1) != 0
@@ -108,7 +109,7 @@ pub fn is_open(t: &[u8], c: Circuit) -> bool
 // Writes the ports of an open circuit from the start of a buffer, one byte a hop in path order.
 pub fn write_path(t: &[u8], c: Circuit, buffer: &mut [u8]) -> WrittenPath
     requires { ⌜ HasSource (now t) (c .0) ⌝ }
-    requires { ⌜ not (isEmpty (pathOf (view (now t)) (c .0))) ≡ true ⌝ }
+    requires { ⌜ isOpenIn (view (now t)) (c .0) ≡ true ⌝ }
     requires { ⌜ 9 ≤ length (now buffer) ⌝ }
     ensures { λ r. ⌜ r .hops ≡ length (pathOf (view (now (t .entry))) (c .0)) ⌝ }
     ensures { λ r. ⌜ r .end .0 ≡ endFor (view (now (t .entry))) (c .0) (pathOf (view (now (t .entry))) (c .0)) ⌝ }

@@ -27,7 +27,8 @@ use Rattle.answers.specs.SendOnTable.{stateIn, freeIn, holdLinks, viewAfterSend
 use Rattle.answers.specs.SendSays.{SomeRoute, CouldRoute, BlockedRoutes, Available}
 use Rattle.ownership.specs.Calls.{Call, opening, closing, arming, callTests, blocking, tracing, disarming}
 use Rattle.ownership.specs.Update.{updated, sendIn}
-use Rattle.ownership.specs.OnTable.{openIn, isOpenIn, factsOf, lentTests, stoppedAt, tableStep, takenIn}
+use Rattle.circuit_path.specs.OpenCircuit.{isOpenIn}
+use Rattle.ownership.specs.OnTable.{openIn, factsOf, lentTests, stoppedAt, tableStep, takenIn}
 use Rattle.ownership.specs.Agrees.{tableAfter, leaves}
 use Rattle.ownership.specs.Closing.{Each, no-call, call-more, ClosesOrArms, closes, arms, RepairsNothing, a-block, an-open, a-close, a-trace, an-arming, a-disarming, Idle}
 use Rattle.ownership.specs.Allowed.{Allowed}

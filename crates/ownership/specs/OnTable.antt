@@ -5,22 +5,17 @@ use mathlib.Core.List.{List, [], _∷_, _++_}
 use Prim.Native.Nat.{ℕ}
 use lib.Dec.{eqb}
 use lib.ListN.{length}
-use Rattle.common.specs.Lists.{any}
 use Rattle.common.specs.Tests.{Test, test, refusal}
-use Rattle.cube.specs.Cube.{circuitOf, sourceOf}
-use Rattle.paths.specs.CubeNetwork.{ports}
+use Rattle.cube.specs.Cube.{circuitOf}
 use Rattle.layout.specs.Layout.{tableLength}
-use Rattle.table.specs.View.{View, view, shapeOf, heldIn, heldBy}
+use Rattle.table.specs.View.{View, view, heldIn}
 use Rattle.table.specs.Encode.{encode}
+use Rattle.circuit_path.specs.OpenCircuit.{isOpenIn}
 use Rattle.circuit_path.specs.PathOf.{pathOf}
 use Rattle.soundness.specs.TableTests.{tableTests}
 use Rattle.answers.specs.SendOnTable.{waitingHelps}
 use Rattle.ownership.specs.Calls.{Call, form, CallFacts, callTests, After, callOn}
 use Rattle.ownership.specs.Update.{sendIn, updated}
-
--- circuit number c is open: it holds a link out of its source
-unfoldable pub isOpenIn : View → ℕ → Bool
-isOpenIn v c = any (heldBy v c (sourceOf c)) (ports (shapeOf v))
 
 -- "this send channel has an open circuit"
 unfoldable pub openIn : View → ℕ → ℕ → Bool

@@ -3,7 +3,7 @@
 -- Assumes nothing.
 use mathlib.Core.Path.{_≡_, refl, ap, sym, _∙_, subst}
 use mathlib.Core.Logic.{⊎-elim}
-use mathlib.Core.Bool.{Bool, true, false, cond, not, _&&_}
+use mathlib.Core.Bool.{Bool, true, false, cond, _&&_}
 use mathlib.Core.List.{List, [], _∷_, List·Memᴰ·head, List·Memᴰ·tail}
 use Prim.Native.Nat.{ℕ, zero, suc, _+_, _/_, _%_, _^_, _≤_, _<_}
 use native.Mathlib.Omega.{arith}
@@ -28,7 +28,8 @@ use Rattle.table.specs.View.{View, view, setReceiver, setArmed, setAt, withoutC
 use Rattle.table.specs.Encode.{encode, Bytes}
 use Rattle.circuit_path.specs.CircuitSound.{endFor, CircuitSound}
 use Rattle.soundness.specs.Sound.{Sound}
-use Rattle.circuit_path.specs.PathOf.{pathOf, isEmpty}
+use Rattle.circuit_path.specs.PathOf.{pathOf}
+use Rattle.circuit_path.specs.OpenCircuit.{isOpenIn}
 use Rattle.circuit_path.specs.Traced.{tracedInto}
 use Rattle.circuit_path.specs.Follow.{HasSource}
 use Rattle.circuit_path.proofs.Stands.{path-is}
@@ -39,7 +40,7 @@ use Rattle.answers.specs.SendOnTable.{holdLinks, viewAfterSend}
 use Rattle.answers.proofs.AfterSend.{PortsBelow, Fits, hold-length, view-hold, view-after-send, send-bytes}
 use Rattle.ownership.proofs.BytesAfter.{armed-encoded}
 use Rattle.ownership.proofs.Applied.{held-path}
-use Rattle.ownership.proofs.OpenCircuits.{open-path, open-sound}
+use Rattle.ownership.proofs.OnSound.{open-sound}
 use Rattle.release.specs.Release.{MayFree}
 
 -- i of the links are freed, and the next is one of node `at`
@@ -79,9 +80,9 @@ receiver-length b n k c =
     length-set (set b (entryPlace receivePart n k) (c % 256)) (entryPlace receivePart n k + 1) (c / 256) ∙ length-set b (entryPlace receivePart n k) (c % 256)
 
 -- An open circuit of a sound table.
-module _ {b : List ℕ} {c : ℕ} (known : HasSource b c) (some : not (isEmpty (pathOf (view b) c)) ≡ true) (sound : Sound (view b)) where
+module _ {b : List ℕ} {c : ℕ} (known : HasSource b c) (some : isOpenIn (view b) c ≡ true) (sound : Sound (view b)) where
   stands : CircuitSound (view b) c
-  stands = open-sound (view b) sound c (λ z. omega (arith, z, known .circuit)) (open-path (view b) c ∙ some)
+  stands = open-sound (view b) sound c (λ z. omega (arith, z, known .circuit)) some
 
   abbrev pub path : Path
   path = pathOf (view b) c

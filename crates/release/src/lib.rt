@@ -1,11 +1,11 @@
 // Freeing a circuit: the links of its path one after another, and then the receive channel at its end, which is disarmed too.
 ghost use mathlib.Core.Path.{_≡_};
-ghost use mathlib.Core.Bool.{true, not};
+ghost use mathlib.Core.Bool.{true};
 ghost use lib.ListN.{take};
 ghost use Rattle.table.specs.View.{view, withoutCircuit};
 ghost use Rattle.table.specs.Encode.{encode};
 ghost use Rattle.soundness.specs.Sound.{Sound};
-ghost use Rattle.circuit_path.specs.PathOf.{pathOf, isEmpty};
+ghost use Rattle.circuit_path.specs.OpenCircuit.{isOpenIn};
 ghost use Rattle.circuit_path.specs.Follow.{HasSource};
 ghost use Rattle.answers.specs.PassAnswer.{holdPath};
 ghost use Rattle.release.specs.Release.{MayFree};
@@ -32,7 +32,7 @@ fn free_links(t: &mut [u8], source: Node, ports: &[u8], hops: u16)
 // Frees every link and the receive channel of an open circuit, and disarms the channel. In a sound table its path has all of them.
 pub fn release(t: &mut [u8], c: Circuit)
     requires { ⌜ HasSource (now t) (c .0) ⌝ }
-    requires { ⌜ not (isEmpty (pathOf (view (now t)) (c .0))) ≡ true ⌝ }
+    requires { ⌜ isOpenIn (view (now t)) (c .0) ≡ true ⌝ }
     requires { ⌜ Sound (view (now t)) ⌝ }
     ensures { λ _. ⌜ now (t .exit) ≡ encode (withoutCircuit (view (now (t .entry))) (c .0)) ⌝ }
 {

@@ -1,7 +1,9 @@
 -- `router::calls::trace` meets its contract: its tests, then the path of the circuit written.
 -- Assumes nothing.
-use mathlib.Core.Path.{_∙_}
-use Rattle.call_tests.proofs.Stopping.{trace-passed, small-source, has-source, channel-path}
+use mathlib.Core.Path.{ap, _∙_}
+use Rattle.circuit_path.specs.OpenCircuit.{isOpenIn}
+use Rattle.ownership.specs.OnTable.{openIn}
+use Rattle.call_tests.proofs.Stopping.{trace-passed, small-source, has-source}
 use Rattle.router.proofs.TableStep.{call-stopped, call-traces}
 use native.Mathlib.Omega.{arith}
 use borrow.Author.Needs.{needs}
@@ -17,11 +19,12 @@ circuit-of-requires c κs =
     small-source (r .0 .0) (r .0 .1)
 
 write-path-requires : tie.Need-write-path-requires
+unfolding openIn
 write-path-requires c κs =
     let m = c .before in
     let r = trace-passed _ (m .before .before .trace .ensures) (m .before .if1 .left) in (
       has-source (r .0 .0) (r .0 .1) (m .circuit-of .ensures),
-      (channel-path _ _ _ (m .circuit-of .ensures) ∙ r .0 .2, r .1),
+      (ap (isOpenIn _) (m .circuit-of .ensures) ∙ r .0 .2, r .1),
     )
 
 returns-2 : tie.Need-returns-2
