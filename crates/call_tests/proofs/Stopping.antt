@@ -20,14 +20,12 @@ use Rattle.cube.proofs.Bits.{no-bit-above}
 use Rattle.cube.proofs.Circuits.{source-of-circuit}
 use Rattle.cube.proofs.Ports.{most-nodes, below-256}
 use Rattle.soundness.specs.Sound.{Sound}
-use Rattle.circuit_path.specs.PathOf.{pathOf, isEmpty}
 use Rattle.soundness.specs.TableTests.{tableTests}
 use Rattle.circuit_path.specs.Follow.{HasSource}
 use Rattle.ownership.specs.Calls.{Call, form, absent, blocking, unblocking, opening, closing, tracing, arming, disarming}
 use Rattle.ownership.specs.Allowed.{Allowed}
-use Rattle.ownership.specs.OnTable.{isOpenIn, openIn, factsOf, stoppedAt}
+use Rattle.ownership.specs.OnTable.{openIn, factsOf, stoppedAt}
 use Rattle.ownership.proofs.Allowed.{below, allowed}
-use Rattle.ownership.proofs.OpenCircuits.{open-path}
 use Rattle.ownership.proofs.Stops.{pass-tests, table-numbered, none-stops, none-stops-lent}
 
 -- What a call answers at each return of its tests: a test of the lent table stops it;
@@ -173,8 +171,3 @@ module _ {b : List ℕ} {s t c : ℕ} (h : Inside b s t) (l : c < channels) wher
 
   pub has-source : {k : ℕ} → k ≡ circuitOf s c → HasSource b k
   has-source e = rw e record { bytes = h .long; fits = h .most; circuit = omega arith; source = rw (source-of-circuit s c l) (h .source) }
-
--- That circuit has a path where the channel has an open circuit.
-pub channel-path : (b : List ℕ) (s c : ℕ) {k : ℕ} → k ≡ circuitOf s c → not (isEmpty (pathOf (view b) k)) ≡ openIn (view b) s c
-unfolding openIn
-channel-path b s c q = sym (open-path (view b) _) ∙ ap (isOpenIn (view b)) q

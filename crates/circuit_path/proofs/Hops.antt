@@ -2,21 +2,18 @@
 -- Assumes nothing.
 use mathlib.Core.Path.{_≡_, refl, ap, ap₂, sym, _∙_}
 use mathlib.Core.Bool.{Bool, true, false, cond}
-use mathlib.Core.Logic.{_⊎_, ⊎-elim}
-use mathlib.Core.List.{List, [], _∷_, _++_, Memᴰ·append-right, List·Memᴰ·head, List·Memᴰ·not-nil, List·Memᴰ·append-cases}
+use mathlib.Core.List.{List, [], _∷_, _++_, List·Memᴰ·head}
 use Prim.Native.Nat.{ℕ, zero, suc, _+_, _/_, _%_, _^_, _≤_, _<_}
 use native.Mathlib.Omega.{arith}
 use native.Mathlib.Numerals.{add-one}
 use borrow.Author.Tests.{eq-eqb, ne-eqb}
 use Rattle.common.specs.Lists.{_∈_, keep, from, lowest}
-use Rattle.common.proofs.Lists.{mem-keep, keep-none, keep-yes, keep-no, keep-nil, keep-mem, keep-keep, keep-same}
-use Rattle.common.proofs.From.{mem-from, from-below}
+use Rattle.common.proofs.Lists.{keep-yes, keep-no, keep-nil, keep-mem, keep-keep, keep-same}
 use Rattle.cube.specs.Bits.{bitAt, has}
 use Rattle.cube.specs.CubeContracts.{Without}
 use Rattle.cube.specs.Cube.{portCount, next}
 use Rattle.cube.specs.Helical.{portsOf, firstOr}
 use Rattle.cube.proofs.Order.{ports-mem, length-ports}
-use Rattle.paths.specs.Network.{end}
 use Rattle.paths.specs.CubeNetwork.{network}
 use Rattle.paths.specs.Recover.{dropAxis, walkFrom, wayBack, firstHopChoices}
 use Rattle.paths.proofs.Recover.{first-choice}
@@ -106,26 +103,6 @@ module _ (v : View) (c n vector : ℕ) where
   unfolding firstHop firstHopChoices taken
   hop-is = ap (λ xs. firstOr 8 (xs ++ taken)) back-is
 
-  -- there is a first hop where a link is taken, and none where none is
-  pub first-there : (p : ℕ) → p < portCount → takes v c n vector p ≡ true → firstHop v c n vector < 8
-  first-there p h e = rw hop-is (go (back ++ taken) refl)
-    where
-      there : p ∈ taken
-      there = rw takes-kept at (mem-keep (takes v c n vector) (from 0 8) (mem-from 0 8 p (omega arith) (omega arith)) e)
-
-      go : (xs : List ℕ) → back ++ taken ≡ xs → firstOr 8 xs < 8
-      go [] f = absurd (List·Memᴰ·not-nil (rw f at (Memᴰ·append-right back there)))
-      go (x ∷ xs) f = unfold firstOr in port (List·Memᴰ·append-cases back (rw f (List·Memᴰ·head refl)))
-        where
-          port : (x ∈ back) ⊎ (x ∈ taken) → x < 8
-          port m = ⊎-elim (λ k. back-port x k) (λ k. taken-port x k .0) m
-
-  pub first-nowhere : ((p : ℕ) → p < portCount → takes v c n vector p ≡ false) → firstHop v c n vector ≡ 8
-  unfolding back
-  first-nowhere h =
-      let none : taken ≡ [] = sym takes-kept ∙ keep-none (takes v c n vector) (from 0 8) (λ p m. h p (from-below 8 p m)) in
-      hop-is ∙ ap (λ xs. firstOr 8 (keep (λ a. heldBy v c (next n a) a) xs ++ xs)) none ∙ (unfold firstOr keep in refl)
-
   pub first-back : (p : ℕ) → p ≡ lowest (comesBack v c n vector) 8 0 → p < portCount → p ≡ firstHop v c n vector
   first-back p e h = let q : p ≡ firstOr 8 back = e ∙ lowest-back in q ∙ sym (hop-is ∙ first-some back taken (omega arith))
 
@@ -151,16 +128,6 @@ module _ (v : View) (c n vector : ℕ) where
   follow-end q e h =
       let z : q ≡ firstOr 8 taken = e ∙ lowest-taken in
       walk-none (net v) (heldBy v c) 8 (portsOf portCount vector) n (first-none taken (λ p m. taken-port p m .0) (omega arith))
-
--- one hop of the walk: what is left ends where all of it ends
-module _ (v : View) (c n vector q rest m : ℕ) (e : q ≡ lowest (takes v c n vector) 8 0) (h : q < portCount) (w : Without vector q rest) (to : m ≡ next n q) where
-  pub hop-ends : end (net v) m (linksFollowed v c m rest) ≡ end (net v) n (linksFollowed v c n vector)
-  unfolding end network
-  hop-ends = rw (follow-on v c n vector q rest e h w, to)
-
-pub walk-ends : (v : View) (c n vector q : ℕ) → q ≡ lowest (takes v c n vector) 8 0 → 8 ≤ q → n ≡ end (net v) n (linksFollowed v c n vector)
-unfolding end
-walk-ends v c n vector q e h = rw (follow-end v c n vector q e h)
 
 pub hop-port : (v : View) (c n vector p : ℕ) → p ∈ firstHopChoices (net v) (portsOf portCount vector) (heldBy v c) n → p < portCount
 hop-port v c n vector p m = ports-mem 8 vector (first-choice (net v) (portsOf portCount vector) (heldBy v c) n p m .0) .0

@@ -1,16 +1,20 @@
--- A circuit that stands on a path: the path recovered from its links is that one.
+-- A circuit that stands on a path: the path recovered from its links is that one. And an open circuit: its links make a path.
 -- Assumes nothing.
 use mathlib.Core.Path.{_≡_, refl, sym, _∙_, ap}
 use mathlib.Core.Logic.{_≢_}
-use mathlib.Core.Bool.{true, not, false≢true}
-use mathlib.Core.List.{List, [], _∷_}
+use mathlib.Core.Bool.{Bool, true, false, not, false≢true, Bool·not-not}
+use mathlib.Core.List.{List, [], _∷_, _++_}
 use Prim.Native.Nat.{ℕ}
+use Rattle.common.specs.Lists.{keep, any}
 use Rattle.cube.specs.Cube.{sourceOf}
-use Rattle.paths.specs.Network.{Network, Path}
+use Rattle.paths.specs.Network.{Network, Path, takeFirst}
+use Rattle.paths.specs.CubeNetwork.{ports}
+use Rattle.paths.specs.Recover.{firstHopChoices, pathOfLinks}
 use Rattle.paths.specs.Permitted.{Permitted}
 use Rattle.paths.proofs.Recover.{path-found}
-use Rattle.table.specs.View.{View, shapeOf, heldBy}
+use Rattle.table.specs.View.{View, shapeOf, net, heldBy}
 use Rattle.circuit_path.specs.CircuitSound.{endFor, CircuitSound}
+use Rattle.circuit_path.specs.OpenCircuit.{isOpenIn}
 use Rattle.circuit_path.specs.PathOf.{pathOf, isEmpty}
 
 pub not-empty : (w : Path) → not (isEmpty w) ≡ true → w ≢ []
@@ -31,3 +35,30 @@ module _ (v : View) where
   -- so it has exactly one path and one receive channel
   pub stands-once : (c : ℕ) (s r : CircuitSound v c) → (s .path ≡ r .path) × (s .channel ≡ r .channel)
   stands-once c s r = (sym (path-is c s) ∙ path-is c r, r .once (endFor v c (s .path)) (s .channel) (s .receives) .1)
+
+kept-empty : (f : ℕ → Bool) (xs : List ℕ) → isEmpty (keep f xs) ≡ not (any f xs)
+unfolding isEmpty keep any
+kept-empty f [] = refl
+kept-empty f (x ∷ xs) = go (f x) refl (kept-empty f xs)
+  where
+    go : (b : Bool) → f x ≡ b → isEmpty (keep f xs) ≡ not (any f xs) → isEmpty (keep f (x ∷ xs)) ≡ not (any f (x ∷ xs))
+    go true e ih = rw e
+    go false e ih = rw e ih
+
+first-empty : (g : ℕ → Bool) (ys : List ℕ) (on : ℕ → Path) → isEmpty (takeFirst (keep g ys ++ ys) on) ≡ isEmpty ys
+unfolding isEmpty takeFirst keep
+first-empty g [] on = refl
+first-empty g (y ∷ ys) on = go (keep g (y ∷ ys))
+  where
+    go : (zs : List ℕ) → isEmpty (takeFirst (zs ++ y ∷ ys) on) ≡ false
+    go [] = refl
+    go (z ∷ zs) = refl
+
+-- The first hop of a circuit's path is taken among the links that it holds out of its source, so it has a path where it holds one.
+pub open-path : (v : View) (c : ℕ) → isOpenIn v c ≡ not (isEmpty (pathOf v c))
+unfolding isOpenIn pathOf pathOfLinks firstHopChoices
+open-path v c = sym (Bool·not-not _) ∙ ap not (sym (first-empty _ _ _ ∙ kept-empty (heldBy v c (sourceOf c)) (ports (shapeOf v))))
+
+-- and one that stands is open
+pub sound-open : (v : View) (c : ℕ) → CircuitSound v c → isOpenIn v c ≡ true
+sound-open v c k = open-path v c ∙ rw (path-is v c k) (some-hop (net v) (sourceOf c) _ _ (k .path) (k .permitted))

@@ -22,10 +22,10 @@ use Rattle.table.specs.View.{View}
 use Rattle.circuit_path.specs.CircuitSound.{endFor, CircuitSound}
 use Rattle.soundness.specs.Sound.{Sound}
 use Rattle.circuit_path.specs.PathOf.{pathOf}
-use Rattle.circuit_path.proofs.Stands.{path-is}
+use Rattle.circuit_path.proofs.Stands.{path-is, sound-open}
 use Rattle.soundness.proofs.Soundness.{link-stands, receive-stands}
 use Rattle.paths.specs.CubeNetwork.{ports}
-use Rattle.ownership.specs.OnTable.{isOpenIn}
+use Rattle.circuit_path.specs.OpenCircuit.{isOpenIn}
 use Rattle.ownership.specs.History.{Circuit, History, shapeOn, netOn, linksOf, holdsLink, holdsReceive, enabledOn, armedOn}
 use Rattle.ownership.specs.Invariant.{CircuitValid, Disjoint, Valid}
 use Rattle.ownership.specs.HistoryView.{numberOf, viewOf}
@@ -33,7 +33,7 @@ use Rattle.ownership.specs.FromTable.{linksOut, circuitAt, openNumbers, 
 use Rattle.ownership.proofs.Circuits.{numberFor, number-none, Once, number-at}
 use Rattle.ownership.proofs.CircuitValid.{holds-link, link-holds, holds-receive, receive-holds, links-once, receives-once}
 use Rattle.ownership.proofs.Enabled.{kept-link}
-use Rattle.ownership.proofs.OpenCircuits.{open-sound, sound-open}
+use Rattle.ownership.proofs.OnSound.{open-sound}
 
 -- the links out of some ports of some nodes
 out-mem : (ns ps : List ℕ) (n p : ℕ) → (n, p) ∈ linksOut ns ps → (n ∈ ns) × (p ∈ ps)

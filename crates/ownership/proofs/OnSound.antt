@@ -1,23 +1,27 @@
 -- What the calls say of any table that passes the tests of a lent table, whether it represents a history or not.
 -- Assumes nothing.
-use mathlib.Core.Path.{_≡_, refl, ap, sym, _∙_}
+use mathlib.Core.Path.{_≡_, refl, ap, sym, _∙_, subst}
 use mathlib.Core.Logic.{⊎-elim, _≢_, _↔_}
 use mathlib.Core.Bool.{true, false, not, Bool}
 use mathlib.Core.List.{List, []}
 use Prim.Native.Nat.{ℕ, _<_}
 use native.Mathlib.Omega.{arith}
-use borrow.Author.Tests.{eq-eqb}
+use borrow.Author.Tests.{eq-eqb, eqb-true}
 use Rattle.common.specs.Tests.{refusal}
 use Rattle.common.proofs.Tests.{clash, same?, refusal-before, refusal-after, Avoids, avoids, avoiding, never-answered}
-use Rattle.cube.specs.Cube.{channels, NodeOf, circuitOf}
+use Rattle.common.proofs.Lists.{any-some}
+use Rattle.cube.specs.Cube.{channels, NodeOf, sourceOf, circuitOf}
 use Rattle.cube.proofs.Bits.{no-bit-above}
+use Rattle.paths.specs.CubeNetwork.{ports}
 use Rattle.paths.specs.Send.{Outcome, acknowledged, route-rejected, receive-rejected}
 use Rattle.layout.specs.Layout.{dimensionAt, enabledAt, ownerAt, receiverAt, armedAt}
-use Rattle.table.specs.View.{View, view, heldIn}
+use Rattle.table.specs.View.{View, view, shapeOf, heldIn, heldBy}
 use Rattle.table.specs.Encode.{AllBytes, Bytes}
 use Rattle.circuit_path.specs.CircuitSound.{CircuitSound}
+use Rattle.circuit_path.specs.OpenCircuit.{isOpenIn}
 use Rattle.soundness.specs.Sound.{Sound}
 use Rattle.soundness.specs.TableTests.{tableTests}
+use Rattle.soundness.proofs.Soundness.{link-stands}
 use Rattle.soundness.proofs.Passing.{answers}
 use Rattle.answers.specs.SendOnTable.{pass-answer, answerOfOutcome}
 use Rattle.answers.specs.SendAnswer.{sendAnswer, sentOnBytes, MaySend}
@@ -28,7 +32,7 @@ use Rattle.ownership.specs.OnTable.{openIn, takenIn, factsOf, lentTests,
 use Rattle.ownership.specs.Allowed.{Allowed}
 use Rattle.ownership.proofs.Allowed.{allowed, allowed-passes}
 use Rattle.ownership.proofs.Stops.{lent-both, lent-numbered, none-stops, none-stops-lent, pass-tests, stopped-is}
-use Rattle.ownership.proofs.OpenCircuits.{open-sound, sound-open}
+use Rattle.circuit_path.proofs.Stands.{sound-open}
 use Rattle.ownership.proofs.Steps.{table-step}
 use Rattle.cube.proofs.Ports.{most-nodes}
 use Rattle.ownership.proofs.StepBytes.{blocking-again, unblocking-again, arming-again, disarming-again}
@@ -71,6 +75,14 @@ module _ (b : List ℕ) (s c t y v : ℕ) (e : stoppedAt b (opening s c t y v) �
   -- The users' second demand of the open call: it says what a send says, in its answer and in every byte.
   pub open-says : AllBytes b → SendSays b s t (circuitOf s c) y v (openResult .number) (hopsOf openResult) (receiveOf openResult) (scoutsOf openResult) (tableStep b (opening s c t y v) .state)
   open-says small = rw (sym (written-bytes b small (opening s c t y v) e)) at open-answers
+
+-- In a sound table an open circuit stands, since a link that it holds tells so.
+pub open-sound : (v : View) → Sound v → (c : ℕ) → c ≢ 0 → isOpenIn v c ≡ true → CircuitSound v c
+unfolding isOpenIn
+open-sound v sound c some e =
+    let r = any-some (heldBy v c (sourceOf c)) (ports (shapeOf v)) e in
+    let q = eqb-true _ c (r .2) in
+    subst (CircuitSound v) q (link-stands v sound (sourceOf c) (r .0) (λ z. some (sym q ∙ z)))
 
 -- On a sound table a send channel has an open circuit exactly where its number stands on a path and a receive channel.
 pub open-stands : (w : View) → Sound w → (s c : ℕ) → (openIn w s c ≡ true) ↔ CircuitSound w (circuitOf s c)

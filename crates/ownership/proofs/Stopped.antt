@@ -16,16 +16,16 @@ use Rattle.cube.specs.Cube.{channels, circuitOf, sourceOf}
 use Rattle.paths.specs.CubeNetwork.{ports}
 use Rattle.table.specs.View.{shapeOf, heldBy}
 use Rattle.circuit_path.specs.PathOf.{pathOf}
-use Rattle.circuit_path.proofs.Stands.{path-is}
+use Rattle.circuit_path.proofs.Stands.{path-is, sound-open}
 use Rattle.ownership.specs.Calls.{Call, making, blocking, unblocking, opening, closing, tracing, arming, disarming, channelNumber, callTests}
-use Rattle.ownership.specs.OnTable.{isOpenIn, openIn, factsOf}
+use Rattle.circuit_path.specs.OpenCircuit.{isOpenIn}
+use Rattle.ownership.specs.OnTable.{openIn, factsOf}
 use Rattle.ownership.specs.History.{Circuit, History, belongs, openOn, listed, factsOn, stoppedOn}
 use Rattle.ownership.specs.Invariant.{Valid}
 use Rattle.ownership.specs.HistoryView.{viewOf}
 use Rattle.ownership.proofs.Allowed.{channel-small}
 use Rattle.ownership.proofs.Circuits.{numberFor, circuit-parts, parts-belong, number-is}
 use Rattle.ownership.proofs.Sameness.{held-same, taken-same}
-use Rattle.ownership.proofs.OpenCircuits.{sound-open}
 use Rattle.ownership.proofs.CircuitValid.{link-held, valid-stands, stands-path}
 
 -- the listed path is that of a circuit that belongs to the send channel

@@ -24,9 +24,10 @@ use Rattle.table.specs.Encode.{AllBytes}
 use Rattle.soundness.specs.TableTests.{tableTests}
 use Rattle.answers.specs.SendOnTable.{stateIn, freeIn, holdLinks, viewAfterSend, sendIn}
 use Rattle.answers.specs.SendSays.{SomeRoute, CouldRoute, BlockedRoutes, Available}
+use Rattle.circuit_path.specs.OpenCircuit.{isOpenIn}
 use Rattle.ownership.specs.Calls.{Call, opening, callTests}
 use Rattle.ownership.specs.Update.{updated}
-use Rattle.ownership.specs.OnTable.{openIn, isOpenIn, factsOf, lentTests, stoppedAt, tableStep, takenIn}
+use Rattle.ownership.specs.OnTable.{openIn, factsOf, lentTests, stoppedAt, tableStep, takenIn}
 use Rattle.ownership.specs.Agrees.{tableAfter, leaves}
 use Rattle.ownership.specs.Closing.{Each, no-call, call-more, ClosesOrArms, closes, arms, RepairsNothing, a-block, an-open, a-close, a-trace, an-arming, a-disarming, NoneHeld}
 use Rattle.ownership.specs.Allowed.{Allowed}

@@ -10,7 +10,7 @@ use Rattle.paths.specs.Network.{Link}
 use Rattle.table.specs.View.{View, shapeOf}
 use Rattle.circuit_path.specs.CircuitSound.{endFor}
 use Rattle.circuit_path.specs.PathOf.{pathOf}
-use Rattle.ownership.specs.OnTable.{isOpenIn}
+use Rattle.circuit_path.specs.OpenCircuit.{isOpenIn}
 use Rattle.ownership.specs.History.{Circuit, History}
 use Rattle.paths.specs.CubeNetwork.{circuitCount}
 

@@ -4,21 +4,16 @@ use mathlib.Core.Bool.{Bool, cond, not}
 use mathlib.Core.List.{List, [], _∷_, _++_}
 use Prim.Native.Nat.{ℕ}
 use lib.Dec.{eqb}
-use Rattle.common.specs.Lists.{any}
 use Rattle.common.specs.Tests.{Test, refusal}
-use Rattle.cube.specs.Cube.{circuitOf, sourceOf}
-use Rattle.paths.specs.CubeNetwork.{ports}
-use Rattle.table.specs.View.{View, view, shapeOf, heldIn, heldBy}
+use Rattle.cube.specs.Cube.{circuitOf}
+use Rattle.table.specs.View.{View, view, heldIn}
 use Rattle.table.specs.Encode.{encode}
+use Rattle.circuit_path.specs.OpenCircuit.{isOpenIn}
 use Rattle.circuit_path.specs.PathOf.{pathOf}
 use Rattle.soundness.specs.TableTests.{lengthTest, tableTests}
 use Rattle.answers.specs.SendOnTable.{waitingHelps, sendIn}
 use Rattle.ownership.specs.Calls.{Call, form, CallFacts, callTests, After, callOn}
 use Rattle.ownership.specs.Update.{updated}
-
--- circuit number c is open: it holds a link out of its source
-unfoldable pub isOpenIn : View → ℕ → Bool
-isOpenIn v c = any (heldBy v c (sourceOf c)) (ports (shapeOf v))
 
 -- "this send channel has an open circuit"
 unfoldable pub openIn : View → ℕ → ℕ → Bool

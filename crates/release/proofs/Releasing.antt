@@ -3,7 +3,7 @@
 -- Assumes nothing.
 use mathlib.Core.Path.{_≡_, refl, ap, sym, _∙_, subst}
 use mathlib.Core.Logic.{⊎-elim}
-use mathlib.Core.Bool.{Bool, true, false, cond, not, _&&_}
+use mathlib.Core.Bool.{Bool, true, false, cond, _&&_}
 use mathlib.Core.List.{List, [], _∷_, List·Memᴰ·head, List·Memᴰ·tail}
 use Prim.Native.Nat.{ℕ, zero, suc, _+_, _/_, _%_, _^_, _≤_, _<_}
 use native.Mathlib.Omega.{arith}
@@ -18,9 +18,8 @@ use Rattle.common.proofs.Lowest.{lowest-passes, lowest-before}
 use Rattle.cube.specs.Cube.{portCount, NodeOf, next, sourceOf}
 use Rattle.cube.proofs.Axes.{next-inside}
 use Rattle.cube.proofs.Ports.{below-256}
-use Rattle.paths.specs.Network.{Network, Path, end, links, hasLink}
+use Rattle.paths.specs.Network.{Path, links, hasLink}
 use Rattle.paths.specs.Send.{acknowledged}
-use Rattle.paths.specs.CubeNetwork.{Shape, network}
 use Rattle.paths.proofs.Links.{link-true, true-link}
 use Rattle.paths.proofs.Apart.{permitted-below, permitted-inside}
 use Rattle.layout.specs.Layout.{dimensionAt, entryPlace, receivePart, receiverAt}
@@ -29,7 +28,8 @@ use Rattle.table.specs.View.{View, view, setReceiver, setArmed, setAt, withoutC
 use Rattle.table.specs.Encode.{encode, Bytes}
 use Rattle.circuit_path.specs.CircuitSound.{endFor, CircuitSound}
 use Rattle.soundness.specs.Sound.{Sound}
-use Rattle.circuit_path.specs.PathOf.{pathOf, isEmpty}
+use Rattle.circuit_path.specs.PathOf.{pathOf}
+use Rattle.circuit_path.specs.OpenCircuit.{isOpenIn}
 use Rattle.circuit_path.specs.Traced.{tracedInto}
 use Rattle.circuit_path.specs.Follow.{HasSource}
 use Rattle.circuit_path.proofs.Stands.{path-is}
@@ -40,44 +40,33 @@ use Rattle.answers.specs.SendOnTable.{holdLinks, viewAfterSend}
 use Rattle.answers.proofs.AfterSend.{PortsBelow, Fits, hold-length, view-hold, view-after-send, send-bytes}
 use Rattle.ownership.proofs.BytesAfter.{armed-encoded}
 use Rattle.ownership.proofs.Applied.{held-path}
-use Rattle.ownership.proofs.OpenCircuits.{open-path, open-sound}
+use Rattle.ownership.proofs.OnSound.{open-sound}
 use Rattle.release.specs.Release.{MayFree}
 
 -- i of the links are freed, and the next is one of node `at`
-pub record Freeing (N : Network) (b ports : List ℕ) (s hops : ℕ) (now : List ℕ) (at i : ℕ) : Type 0 where
+pub record Freeing (b ports : List ℕ) (s hops : ℕ) (now : List ℕ) (at i : ℕ) : Type 0 where
   pub most : i ≤ hops
   pub node : at < 256
   pub long : length now ≡ length b
-  pub ends : end N at (slice i hops ports) ≡ end N s (take hops ports)
   pub holds : holdPath now 0 at (slice i hops ports) ≡ holdPath b 0 s (take hops ports)
 
-module _ (S : Shape) {b ports : List ℕ} {s hops : ℕ} where
-  pub without-start : s < 256 → Freeing (network S) b ports s hops b s 0
-  without-start h = record { most = omega arith; node = h; long = refl; ends = refl; holds = refl }
-
-  pub without-on : {now after : List ℕ} {at to i p : ℕ} → Freeing (network S) b ports s hops now at i → i < hops → hops ≤ length ports → p ≡ getD ports i 0 → p < portCount
-      → after ≡ putOwner now at p 0 → to ≡ next at p → Freeing (network S) b ports s hops after to (i + 1)
+module _ {b ports : List ℕ} {s hops : ℕ} where
+  pub without-on : {now after : List ℕ} {at to i p : ℕ} → Freeing b ports s hops now at i → i < hops → hops ≤ length ports → p ≡ getD ports i 0 → p < portCount
+      → after ≡ putOwner now at p 0 → to ≡ next at p → Freeing b ports s hops after to (i + 1)
   without-on {now} {after} {at} {to} {i} {p} f h room e l q t =
+      let split : slice i hops ports ≡ p ∷ slice (suc i) hops ports = slice-cons i hops ports 0 h room ∙ ap (_∷ slice (suc i) hops ports) (sym e) in
       record {
         most = omega arith;
         node = rw t (next-inside 8 at p (omega arith) (f .node) l);
         long = ap length q ∙ owner-length now at p 0 ∙ f .long;
-        ends = rw (t, add-one i) (sym (ap (end (network S) at) split ∙ (unfold end network in refl)) ∙ f .ends);
         holds = rw (q, t, add-one i) (sym (ap (holdPath now 0 at) split ∙ (unfold holdPath in refl)) ∙ f .holds);
       }
-    where
-      split : slice i hops ports ≡ p ∷ slice (suc i) hops ports
-      split = slice-cons i hops ports 0 h room ∙ ap (_∷ slice (suc i) hops ports) (sym e)
 
-  module _ {now : List ℕ} {at i : ℕ} (f : Freeing (network S) b ports s hops now at i) (h : hops ≤ i) where
-    none : slice i hops ports ≡ []
-    none = let e : i ≡ hops = omega (arith, f .most) in rw e (slice-empty hops ports)
-
-    pub freed-end : at ≡ end (network S) s (take hops ports)
-    freed-end = sym (ap (end (network S) at) none ∙ (unfold end in refl)) ∙ f .ends
-
-    pub freed-bytes-are : now ≡ holdPath b 0 s (take hops ports)
-    freed-bytes-are = sym (ap (holdPath now 0 at) none ∙ (unfold holdPath in refl)) ∙ f .holds
+  pub freed-bytes-are : {now : List ℕ} {at i : ℕ} → Freeing b ports s hops now at i → hops ≤ i → now ≡ holdPath b 0 s (take hops ports)
+  freed-bytes-are {now} {at} {i} f h =
+      let e : i ≡ hops = omega (arith, f .most) in
+      let none : slice i hops ports ≡ [] = rw e (slice-empty hops ports) in
+      sym (ap (holdPath now 0 at) none ∙ (unfold holdPath in refl)) ∙ f .holds
 
 -- the member at a place
 at-member : (w : List ℕ) (i : ℕ) → i < length w → getD w i 0 ∈ w
@@ -91,9 +80,9 @@ receiver-length b n k c =
     length-set (set b (entryPlace receivePart n k) (c % 256)) (entryPlace receivePart n k + 1) (c / 256) ∙ length-set b (entryPlace receivePart n k) (c % 256)
 
 -- An open circuit of a sound table.
-module _ {b : List ℕ} {c : ℕ} (known : HasSource b c) (some : not (isEmpty (pathOf (view b) c)) ≡ true) (sound : Sound (view b)) where
+module _ {b : List ℕ} {c : ℕ} (known : HasSource b c) (some : isOpenIn (view b) c ≡ true) (sound : Sound (view b)) where
   stands : CircuitSound (view b) c
-  stands = open-sound (view b) sound c (λ z. omega (arith, z, known .circuit)) (open-path (view b) c ∙ some)
+  stands = open-sound (view b) sound c (λ z. omega (arith, z, known .circuit)) some
 
   abbrev pub path : Path
   path = pathOf (view b) c
@@ -184,10 +173,7 @@ module _ {b : List ℕ} {c : ℕ} (known : HasSource b c) (some : not (isEmpty (
               omega (arith, p, known .fits);
         }
 
-    module _ {t : ℕ} {b₁ : List ℕ} (ends : t ≡ end (net (view b)) s (take hops ports)) (holds : b₁ ≡ holdPath b 0 s (take hops ports)) where
-      at-target : t ≡ target
-      at-target = ends ∙ rw (taken, q)
-
+    module _ {t : ℕ} {b₁ : List ℕ} (at-target : t ≡ target) (holds : b₁ ≡ holdPath b 0 s (take hops ports)) where
       held : b₁ ≡ holdPath b 0 (sourceOf c) path
       held = holds ∙ rw (taken, q)
 

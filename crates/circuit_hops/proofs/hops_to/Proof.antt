@@ -1,7 +1,7 @@
 -- `circuit_hops::hops_to` meets its contract: a number in range whose links at its source are the cube's is followed.
 -- Assumes nothing.
 use mathlib.Core.Path.{subst, ap}
-use Prim.Native.Nat.{ℕ, _^_, _<_}
+use Prim.Native.Nat.{ℕ, _^_}
 use native.Mathlib.Omega.{arith}
 use lib.Dec.{lit<}
 use Rattle.table.specs.TableContracts.{HeldBy}
@@ -48,6 +48,10 @@ returns-2 c =
       vector-inside b n (s .pre .0 .fits) (omega (arith, i .if1 .left, s .pre .0 .count, s .pre .1)) z (subst (λ (x : ℕ). HeldBy b n x (h .held-by .result)) (g .source-of .ensures) (h .held-by .ensures)),
     ))
 
+-- by itself, since must-fail/marked_by_the_way_to_its_end falls here
+several-links-requires : tie.Need-several-links-requires
+several-links-requires c κs = search needs
+
 returns-4 : tie.Need-returns-4
 returns-4 c =
     let h = c .before .before .before in
@@ -75,11 +79,10 @@ one-link-requires c κs =
         record {
           known = record { bytes = s .pre .0 .bytes; fits = s .pre .0 .fits; circuit = s .pre .1; source = omega (arith, i .if1 .left, s .pre .0 .count, s .pre .1) };
           source = g .source-of .ensures;
-          count = s .pre .0 .count;
-          target = s .pre .2;
+          target = omega (arith, s .pre .0 .count);
         },
         h .held-by .ensures,
-        omega (arith, e .if4 .left),
+        omega (arith, e .if4 .left, s .pre .0 .count),
         s .pre .0 .size,
       ),
       omega (arith, k .links-held .ensures, e .before .if2 .left),
@@ -95,7 +98,7 @@ hops-to-spec =
     held-by-requires
     links-held-requires
     returns-2
-    (λ c κs. search needs)
+    several-links-requires
     (λ c. search needs)
     (λ c. search needs)
     returns-4

@@ -1,7 +1,7 @@
--- `circuit_path::is_open` meets its contract: a path is empty where no link of the source is held.
+-- `circuit_path::is_open` meets its contract: whether a port of the cube is in the vector of the links that it holds at its source.
 -- Assumes nothing.
 use native.Mathlib.Omega.{arith}
-use Rattle.circuit_path.proofs.Examine.{opened-vector, source-within}
+use Rattle.circuit_path.proofs.Examine.{open-vector, source-within}
 use borrow.Author.Needs.{needs}
 use Rattle.circuit_path.proofs.is_open.Statement.{statement}
 use Rattle.circuit_path.proofs.is_open.Tie as tie
@@ -17,7 +17,7 @@ returns c =
     let g = c .before in
     let m = g .before in
     let d = m .before in
-    opened-vector (d .dimension .ensures) (omega (arith, d .dimension .ensures, d .before .before .pre .fits)) (m .node-count .ensures .value) (g .source-of .ensures) (c .held-by .ensures)
+    open-vector (d .dimension .ensures) (omega (arith, d .dimension .ensures, d .before .before .pre .fits)) (m .node-count .ensures .value) (g .source-of .ensures) (c .held-by .ensures)
 
 pub is-open-spec : {M : Type 1} → statement M
 is-open-spec =

@@ -8,7 +8,7 @@ use lib.ListN.{length-set}
 use lib.Pow.{pow-pos}
 use Rattle.table.specs.View.{view}
 use Rattle.circuit_path.proofs.Examine.{source-within}
-use Rattle.circuit_path.proofs.Tracing.{Tracing, first-below, start-tracing, end-count, end-bytes, port-left, on-place, on-tracing, whole-count, whole-bytes}
+use Rattle.circuit_path.proofs.Tracing.{Tracing, first-below, start-tracing, port-left, on-place, on-tracing, end-tracing}
 use borrow.Author.Needs.{needs}
 use Rattle.circuit_path.proofs.write_path.Statement.{statement}
 use Rattle.circuit_path.proofs.write_path.Tie as tie
@@ -74,12 +74,9 @@ returns c =
     let g = h .before in
     let m = g .before in
     let d = m .before in
-    let s = d .before .before .before in (
-      whole-count (s .pre .0) (d .dimension .ensures) (m .node-count .ensures) (g .source-of .ensures) (h .first-hop .ensures) (s .pre .1 .0) (n .neighbour .ensures)
-          (end-count (l .loop .inv) (e .held-port .ensures) (c .if1 .taken)),
-      whole-bytes (s .pre .0) (d .dimension .ensures) (m .node-count .ensures) (g .source-of .ensures) (h .first-hop .ensures) (s .pre .1 .0) (n .neighbour .ensures) _ (s .pre .1 .1)
-          (end-bytes (l .loop .inv) (e .held-port .ensures) (c .if1 .taken)),
-    )
+    let s = d .before .before .before in
+    end-tracing (s .pre .0) (d .dimension .ensures) (m .node-count .ensures) (g .source-of .ensures) (h .first-hop .ensures) (s .pre .1 .0) (n .neighbour .ensures) _ (s .pre .1 .1)
+    (l .loop .inv) (e .held-port .ensures) (c .if1 .taken)
 
 cast-buffer-2 : tie.Need-cast-buffer-2 Inv-loop μ-loop
 cast-buffer-2 c = omega (arith, c .before .if1 .left)

@@ -1,7 +1,9 @@
 -- `router::calls::close` meets its contract: its tests, then every entry of the circuit freed.
 -- Assumes nothing.
-use mathlib.Core.Path.{_∙_}
-use Rattle.call_tests.proofs.Stopping.{close-passed, small-source, has-source, channel-path}
+use mathlib.Core.Path.{ap, _∙_}
+use Rattle.circuit_path.specs.OpenCircuit.{isOpenIn}
+use Rattle.ownership.specs.OnTable.{openIn}
+use Rattle.call_tests.proofs.Stopping.{close-passed, small-source, has-source}
 use Rattle.router.proofs.TableStep.{call-stopped, call-closes}
 use native.Mathlib.Omega.{arith}
 use borrow.Author.Needs.{needs}
@@ -17,11 +19,12 @@ circuit-of-requires c κs =
     small-source (r .0) (r .1)
 
 release-requires : tie.Need-release-requires
+unfolding openIn
 release-requires c κs =
     let e = c .before .before in
     let r = close-passed (e .before .close .ensures) (e .if1 .left) in (
       has-source (r .0) (r .1) (c .circuit-of .ensures),
-      (channel-path _ _ _ (c .circuit-of .ensures) ∙ r .2, r .0 .sound),
+      (ap (isOpenIn _) (c .circuit-of .ensures) ∙ r .2, r .0 .sound),
     )
 
 returns-2 : tie.Need-returns-2
