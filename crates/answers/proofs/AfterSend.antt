@@ -38,14 +38,14 @@ use Rattle.answers.proofs.PassOnBytes.{receive-small, owner-length}
 
 module _ (S : Shape) (free : ℕ → ℕ → Bool) (r : Receive) (s t : ℕ) where
   -- what an acknowledgement with path w and receive channel k says
-  pub record Taken (w : Path) (k : ℕ) : Type 0 where
+  pub record SendTakes (w : Path) (k : ℕ) : Type 0 where
     pub permitted : Permitted (network S) s (ports S) t w
     pub is-free : (l : Link) → l ∈ links (network S) s w → free (l .0) (l .1) ≡ true
     pub receives : r ≡ channel k
 
   -- A send that is acknowledged:
   pub send-taken : (vector : ℕ) → S .dimension ≤ largestDimension → Node S s → Node S t → (w : Path) (k type : ℕ)
-      → send type S free r s vector t .outcome ≡ acknowledged w k → Taken w k
+      → send type S free r s vector t .outcome ≡ acknowledged w k → SendTakes w k
   send-taken vector fits i l w k type e =
       let says = send-says S free r s vector t type fits i l in
       let x = said-by (network S) s t free r (attempts S type vector) _ _ (rw e at says) in

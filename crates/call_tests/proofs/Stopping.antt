@@ -92,7 +92,7 @@ not-found e f = sym e ∙ f
 -- With these `search` proves what each return of a call's tests answers, in whatever order they stand, and what a test asks of those before it.
 pub ruleset stops = (by-table, by-call, here, past, here-not, past-not, above, past-above, nonzero, past-zero, first-here, second-here, past-both, none)
 
-pub ruleset onPathOf = (table-passed, not-found)
+pub ruleset passed-before = (table-passed, not-found)
 
 -- What is known of a table and the nodes of a call that no test stops.
 pub record Inside (b : List ℕ) (s t : ℕ) : Type 0 where

@@ -29,8 +29,8 @@ use Rattle.table.specs.View.{View, view, shapeOf, net, heldBy}
 use Rattle.circuit_path.specs.CircuitSound.{endFor, CircuitSound}
 use Rattle.circuit_path.specs.PathOf.{pathOf}
 use Rattle.circuit_path.specs.OpenCircuit.{isOpenIn}
-use Rattle.circuit_hops.specs.CountHops.{Sole, SoleWay, Walks, TakePre, FollowedPath, Followed}
-use Rattle.circuit_path.proofs.Stands.{path-is, not-empty, open-path, sound-open}
+use Rattle.circuit_hops.specs.CountHops.{Sole, SoleWay, Walks, TakePre, FollowedPath, HopsFollowed}
+use Rattle.circuit_path.proofs.CircuitSound.{path-is, not-empty, open-path, sound-open}
 use Rattle.circuit_hops.proofs.Ways.{way-onward, way-owned, way-only, onward-way, onward-once, sole-port, shown}
 
 -- a circuit that holds one link at its source: its port, and the node that it leads to
@@ -119,7 +119,7 @@ module _ {b : List ℕ} {c s t p start hops : ℕ} (pre : TakePre b c s t) (one 
   standing : (z : CircuitSound v c) → endFor v c (z .path) ≡ t → Unrolled (z .path)
   standing z e = unroll (z .path) (subst (λ (y : ℕ). Permitted (net v) (sourceOf c) (ports (shapeOf v)) y (z .path)) e (z .permitted)) (z .exactly)
 
-  pub one-followed : Followed (view b) c t hops
+  pub one-followed : HopsFollowed (view b) c t hops
   one-followed =
       record {
         found = λ l. let w = walks .way l in path-of (w .0) (subst (λ (y : ℕ). SoleWay (view b) c t y (w .0)) begins (w .1)) (w .2);
@@ -144,16 +144,16 @@ module _ {b : List ℕ} {c s t p start hops : ℕ} (pre : TakePre b c s t) (one 
 
 -- a circuit that comes through its source again: it has no path, or one that ends elsewhere, or one that ends at t
 module _ (v : View) (c t : ℕ) where
-  pub back-none : isOpenIn v c ≡ false → Followed v c t 4096
+  pub back-none : isOpenIn v c ≡ false → HopsFollowed v c t 4096
   back-none e =
       record { found = λ k. absurd (omega arith); forced = λ z q. absurd (clash (sound-open v c z) e); most = omega arith }
 
   module _ {n : ℕ} (ends : n ≡ endFor v c (pathOf v c)) where
-    pub back-elsewhere : n ≢ t → Followed v c t 4096
+    pub back-elsewhere : n ≢ t → HopsFollowed v c t 4096
     back-elsewhere h =
         record { found = λ k. absurd (omega arith); forced = λ z q. absurd (h (ends ∙ ap (endFor v c) (path-is v c z) ∙ q)); most = omega arith }
 
-    pub back-followed : v .dimension ≤ largestDimension → isOpenIn v c ≡ true → {hops : ℕ} → hops ≡ length (pathOf v c) → n ≡ t → Followed v c t hops
+    pub back-followed : v .dimension ≤ largestDimension → isOpenIn v c ≡ true → {hops : ℕ} → hops ≡ length (pathOf v c) → n ≡ t → HopsFollowed v c t hops
     back-followed d some k e =
         record {
           found = λ l.

@@ -18,7 +18,7 @@ use Rattle.cube.specs.Cube.{portCount, sourceOf}
 use Rattle.cube.proofs.Bits.{has-and, has-or, no-ports, zero-has}
 use Rattle.table.specs.TableContracts.{HeldBy}
 use Rattle.table.specs.View.{view, heldBy}
-use Rattle.circuit_hops.specs.Marks.{seenAt, withMarks, Seen}
+use Rattle.circuit_hops.specs.Seen.{seenAt, withMarks, Seen}
 
 module _ {b : List ℕ} {c held : ℕ} (m : List ℕ) (f : HeldBy b c (sourceOf c) held) where
   -- a circuit of which no link at its source was marked is new

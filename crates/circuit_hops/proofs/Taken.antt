@@ -25,8 +25,8 @@ use Rattle.layout.specs.Layout.{dimensionAt}
 use Rattle.table.specs.TableContracts.{HeldBy}
 use Rattle.table.specs.View.{view, shapeOf, net, heldBy}
 use Rattle.circuit_path.specs.CircuitSound.{endFor, CircuitSound}
-use Rattle.circuit_hops.specs.Marks.{withMarks}
-use Rattle.circuit_hops.specs.CountHops.{TakePre, Followed, Taken}
+use Rattle.circuit_hops.specs.Seen.{withMarks}
+use Rattle.circuit_hops.specs.CountHops.{TakePre, HopsFollowed, Taken}
 use Rattle.circuit_hops.proofs.Marks.{not-seen, seen-before, marks-after}
 use Rattle.circuit_hops.proofs.Ways.{shown}
 
@@ -81,7 +81,7 @@ module _ (b : List ℕ) (c t : ℕ) (before after : List ℕ) where
     marked-at : {x : Bool} → eqb (bitAnd (getD before s 0) held) 0 ≡ x → eqb (bitAnd (getD before (sourceOf c) 0) held) 0 ≡ x
     marked-at e = ap (λ y. eqb (bitAnd (getD before y 0) held) 0) (sym q) ∙ e
 
-    pub taken-new : {hops : ℕ} → eqb (bitAnd (getD before s 0) held) 0 ≡ true → after ≡ withMarks before s held → s < length before → sourceOf c < 2 ^ dimensionAt b → Followed (view b) c t hops
+    pub taken-new : {hops : ℕ} → eqb (bitAnd (getD before s 0) held) 0 ≡ true → after ≡ withMarks before s held → s < length before → sourceOf c < 2 ^ dimensionAt b → HopsFollowed (view b) c t hops
         → Taken (view b) c t before after hops
     taken-new e m small i x =
         record {

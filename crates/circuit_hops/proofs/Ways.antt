@@ -124,7 +124,7 @@ unfolding network
 one-nearer v t n p m = let near = cube-nearing (shapeOf v) t .nearer n p m in omega arith
 
 -- what a turn of the walk finds at node n, towards t: the port of the one link held, uphill, and the node that it leads to
-pub record Turn (b : List ℕ) (c n t to : ℕ) : Type 0 where
+pub record WalkStep (b : List ℕ) (c n t to : ℕ) : Type 0 where
   pub port : ℕ
   pub sole : Sole (view b) c n port
   pub is-offered : port ∈ offered (net (view b)) t n
@@ -166,7 +166,7 @@ module _ (b : List ℕ) (c n t hops : ℕ) (d : dimensionAt b ≤ largestDimensi
   uphill-below h l p u = ⊎-elim (λ k. k) (λ k. absurd (clash u (rw (bit-high _ n p h k, bit-high _ t p l k)))) (below-or (dimensionAt b) p)
 
   pub turn : {held vector : ℕ} → HeldBy b c n held → linksHeld (view b) c n ≤ 1 → UphillVector n t vector → bitAnd held vector ≢ 0 → NodeOf (dimensionAt b) n → NodeOf (dimensionAt b) t
-      → Turn b c n t (bitXor n held)
+      → WalkStep b c n t (bitXor n held)
   turn {held} {vector} f few u h i j =
       let r = sole-in f few vector h in
       let p = r .0 in
@@ -184,7 +184,7 @@ module _ (b : List ℕ) (c n t hops : ℕ) (d : dimensionAt b ≤ largestDimensi
         nearer = one-nearer (view b) t n p mine ∙ ap (λ x. 1 + net (view b) .distance t x) (sym to);
       }
 
-  pub walks-on : {to r : ℕ} → n ≢ t → Turn b c n t to → Walks (view b) c t to (hops + 1) r → Walks (view b) c t n hops r
+  pub walks-on : {to r : ℕ} → n ≢ t → WalkStep b c n t to → Walks (view b) c t to (hops + 1) r → Walks (view b) c t n hops r
   walks-on {to} {r} h x k =
       record {
         way = λ l. let w = k .way l in (x .port ∷ w .0, unfold SoleWay in (h, x .is-offered, x .sole, subst (λ (y : ℕ). SoleWay (view b) c t y (w .0)) (x .there) (w .1)), omega (arith, w .2));

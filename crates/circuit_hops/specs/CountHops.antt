@@ -16,7 +16,7 @@ use Rattle.layout.specs.Layout.{tableLength, dimensionAt}
 use Rattle.table.specs.View.{View, shapeOf, net, heldBy}
 use Rattle.circuit_path.specs.CircuitSound.{endFor, CircuitSound}
 use Rattle.circuit_path.specs.Follow.{HasSource}
-use Rattle.circuit_hops.specs.Marks.{markCount, seenAt, Seen}
+use Rattle.circuit_hops.specs.Seen.{markCount, seenAt, Seen}
 
 -- at node n circuit c holds the link out of port p and no other
 unfoldable pub Sole : View → ℕ → ℕ → ℕ → Type 0
@@ -54,7 +54,7 @@ pub record FollowedPath (v : View) (c t hops : ℕ) : Type 0 where
   pub whole : (s : CircuitSound v c) → endFor v c (s .path) ≡ t → s .path ≡ path
 
 -- what following circuit c to node t comes to
-pub record Followed (v : View) (c t hops : ℕ) : Type 0 where
+pub record HopsFollowed (v : View) (c t hops : ℕ) : Type 0 where
   pub found : hops < 4096 → FollowedPath v c t hops
   pub forced : (s : CircuitSound v c) → endFor v c (s .path) ≡ t → hops < 4096
   pub most : hops < 8192

@@ -10,8 +10,8 @@ ghost use Rattle.layout.specs.Layout.{dimensionAt};
 ghost use Rattle.table.specs.TableContracts.{HeldBy, linksHeld};
 ghost use Rattle.table.specs.View.{view};
 ghost use Rattle.circuit_path.specs.Follow.{HasSource};
-ghost use Rattle.circuit_hops.specs.Marks.{withMarks};
-ghost use Rattle.circuit_hops.specs.CountHops.{Walks, WalkPre, TakePre, Followed, Taken, HopsPre};
+ghost use Rattle.circuit_hops.specs.Seen.{withMarks};
+ghost use Rattle.circuit_hops.specs.CountHops.{Walks, WalkPre, TakePre, HopsFollowed, Taken, HopsPre};
 use cube::Circuit;
 use cube::Node;
 
@@ -43,7 +43,7 @@ fn walk(t: &[u8], c: Circuit, from: Node, end: Node) -> u32
 // The hops of a circuit that holds several links at its source: its path comes through there again.
 fn hops_back(t: &[u8], c: Circuit, end: Node) -> u32
     requires { ⌜ HasSource (now t) (c .0) ⌝ }
-    ensures { λ r. ⌜ Followed (view (now (t .entry))) (c .0) (end .0) r ⌝ }
+    ensures { λ r. ⌜ HopsFollowed (view (now (t .entry))) (c .0) (end .0) r ⌝ }
 {
     if !circuit_path::is_open(t, c) {
         return NONE;

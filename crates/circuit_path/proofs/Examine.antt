@@ -34,7 +34,7 @@ use Rattle.circuit_path.specs.PathOf.{pathOf}
 use Rattle.circuit_path.specs.OpenCircuit.{isOpenIn}
 use Rattle.circuit_path.specs.Follow.{linksFollowed, firstHop, HasSource}
 use Rattle.table.proofs.Made.{ones}
-use Rattle.circuit_path.proofs.Stands.{not-empty, open-path}
+use Rattle.circuit_path.proofs.CircuitSound.{not-empty, open-path}
 use Rattle.circuit_path.proofs.Hops.{first-none, first-is, hop-port}
 
 -- the vector of all ports of a cube

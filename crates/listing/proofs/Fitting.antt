@@ -20,7 +20,7 @@ use Rattle.table.specs.Encode.{encode}
 use Rattle.table.specs.View.{view, shapeOf, fresh}
 use Rattle.circuit_path.specs.PathOf.{pathOf}
 use Rattle.circuit_path.specs.Traced.{tracedInto}
-use Rattle.circuit_path.proofs.Stands.{path-is}
+use Rattle.circuit_path.proofs.CircuitSound.{path-is}
 use Rattle.ownership.specs.Calls.{Call, making, blocking, unblocking, opening, closing, tracing, arming, disarming, CallResult, hopsOf, receiveOf, scoutsOf, bufferOf, carriesScouts, resultOf, After}
 use Rattle.ownership.specs.OnTable.{factsOf, stoppedAt, tableStep}
 use Rattle.ownership.specs.Allowed.{Allowed}

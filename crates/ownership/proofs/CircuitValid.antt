@@ -137,7 +137,7 @@ module _ (h : History) (valid : Valid h) where
                   let r = link-held n p (λ z. some-number x (sym q ∙ z)) in
                   rw (from-number x m) (subst (λ (y : Circuit). (n, p) ∈ linksOf N y) (same-circuit (r .0) x (r .1) m (sym (r .3) ∙ q)) (r .2));
             };
-        channel = x .receive;
+        receive = x .receive;
         small = valid .stands x m .receive;
         receives = rw (ends x m) (receiver-of x m);
         once = λ n k q.
@@ -145,7 +145,7 @@ module _ (h : History) (valid : Valid h) where
             rw (ends x m) (subst (λ (y : Circuit). (n ≡ y .target) × (k ≡ y .receive)) (same-circuit (r .0) x (r .1) m (sym (r .3) ∙ q)) (r .2));
       }
 
-  pub stands-path : (x : Circuit) (m : x ∈ h .circuits) → (valid-stands x m .path ≡ x .ports) × (valid-stands x m .channel ≡ x .receive)
+  pub stands-path : (x : Circuit) (m : x ∈ h .circuits) → (valid-stands x m .path ≡ x .ports) × (valid-stands x m .receive ≡ x .receive)
   unfolding valid-stands
   stands-path x m = (refl, refl)
 

@@ -22,7 +22,7 @@ use Rattle.table.specs.View.{View}
 use Rattle.circuit_path.specs.CircuitSound.{endFor, CircuitSound}
 use Rattle.soundness.specs.Sound.{Sound}
 use Rattle.circuit_path.specs.PathOf.{pathOf}
-use Rattle.circuit_path.proofs.Stands.{path-is, sound-open}
+use Rattle.circuit_path.proofs.CircuitSound.{path-is, sound-open}
 use Rattle.soundness.proofs.Soundness.{link-stands, receive-stands}
 use Rattle.paths.specs.CubeNetwork.{ports}
 use Rattle.circuit_path.specs.OpenCircuit.{isOpenIn}
@@ -98,13 +98,13 @@ module _ (v : View) (sound : Sound v) where
     unfolding circuitAt historyOf
     permitted-is = rw (path-is v c (o .stands)) (o .stands .permitted)
 
-    receive-is : circuitAt v c .receive ≡ o .stands .channel
+    receive-is : circuitAt v c .receive ≡ o .stands .receive
     unfolding circuitAt
     receive-is =
         let f : ℕ → Bool = λ k. eqb (v .receiver (endFor v c (pathOf v c)) k) c in
         let e = path-is v c (o .stands) in
-        let there : f (o .stands .channel) ≡ true = rw e (eq-eqb _ c (o .stands .receives)) in
-        let low : lowest f 8 0 ≤ o .stands .channel = lowest-found f 8 0 (o .stands .channel) (omega arith) there in
+        let there : f (o .stands .receive) ≡ true = rw e (eq-eqb _ c (o .stands .receives)) in
+        let low : lowest f 8 0 ≤ o .stands .receive = lowest-found f 8 0 (o .stands .receive) (omega arith) there in
         let taken : f (lowest f 8 0) ≡ true = lowest-passes f 8 0 (omega (arith, o .stands .small)) in
         o .stands .once _ _ (eqb-true _ c taken) .1
 

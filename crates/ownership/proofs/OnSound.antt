@@ -32,7 +32,7 @@ use Rattle.ownership.specs.OnTable.{openIn, takenIn, factsOf, lentTests,
 use Rattle.ownership.specs.Allowed.{Allowed}
 use Rattle.ownership.proofs.Allowed.{allowed, allowed-passes}
 use Rattle.ownership.proofs.Stops.{lent-both, lent-numbered, none-stops, none-stops-lent, pass-tests, stopped-is}
-use Rattle.circuit_path.proofs.Stands.{sound-open}
+use Rattle.circuit_path.proofs.CircuitSound.{sound-open}
 use Rattle.ownership.proofs.Steps.{table-step}
 use Rattle.cube.proofs.Ports.{most-nodes}
 use Rattle.ownership.proofs.StepBytes.{blocking-again, unblocking-again, arming-again, disarming-again}

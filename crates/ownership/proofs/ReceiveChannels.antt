@@ -35,7 +35,7 @@ use Rattle.circuit_path.specs.CircuitSound.{CircuitSound}
 use Rattle.soundness.specs.Sound.{Sound}
 use Rattle.circuit_path.specs.PathOf.{pathOf}
 use Rattle.soundness.specs.TableTests.{tableTests}
-use Rattle.circuit_path.proofs.Stands.{path-is}
+use Rattle.circuit_path.proofs.CircuitSound.{path-is}
 use Rattle.soundness.proofs.Soundness.{receive-stands}
 use Rattle.answers.specs.SendOnTable.{freeIn, PassAnswer, pass-answer, answerOfOutcome}
 use Rattle.answers.specs.SendAnswer.{sendAnswer}

@@ -16,7 +16,7 @@ use Rattle.cube.specs.Cube.{channels, circuitOf, sourceOf}
 use Rattle.paths.specs.CubeNetwork.{ports}
 use Rattle.table.specs.View.{shapeOf, heldBy}
 use Rattle.circuit_path.specs.PathOf.{pathOf}
-use Rattle.circuit_path.proofs.Stands.{path-is, sound-open}
+use Rattle.circuit_path.proofs.CircuitSound.{path-is, sound-open}
 use Rattle.ownership.specs.Calls.{Call, making, blocking, unblocking, opening, closing, tracing, arming, disarming, channelNumber, callTests}
 use Rattle.circuit_path.specs.OpenCircuit.{isOpenIn}
 use Rattle.ownership.specs.OnTable.{openIn, factsOf}

@@ -21,7 +21,7 @@ use Rattle.ownership.specs.History.{Circuit, History, shapeOn, netOn, li
 use Rattle.ownership.specs.Invariant.{CircuitValid, Disjoint, Valid}
 use Rattle.ownership.proofs.Circuits.{parts-belong, belongs-number}
 use Rattle.ownership.proofs.CircuitValid.{link-holds, receive-holds, receiver-of}
-use Rattle.answers.proofs.AfterSend.{Taken, send-taken}
+use Rattle.answers.proofs.AfterSend.{SendTakes, send-taken}
 use Rattle.ownership.proofs.Acknowledged.{receive-free}
 use Rattle.ownership.specs.Allowed.{Allowed}
 use Rattle.ownership.proofs.Allowed.{allowed-on, made-facts, block-facts, unblock-facts, close-facts, arm-facts, disarm-facts}
@@ -110,7 +110,7 @@ module _ (h : History) (valid : Valid h) where
       }
 
   -- an acknowledged open: its circuit stands, and is separate from each that is listed
-  module _ (s c t : ℕ) (there : NodeOf (h .dimension) s) (small : c < channels) (shut : openOn h s c ≡ false) (w : Path) (k : ℕ) (taken : Taken (shapeOn h) (freeOn h) (receiveOn h t) s t w k) where
+  module _ (s c t : ℕ) (there : NodeOf (h .dimension) s) (small : c < channels) (shut : openOn h s c ≡ false) (w : Path) (k : ℕ) (taken : SendTakes (shapeOn h) (freeOn h) (receiveOn h t) s t w k) where
     abbrev new : Circuit
     new = record { source = s; channel = c; ports = w; target = t; receive = k }
 

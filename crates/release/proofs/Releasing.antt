@@ -32,7 +32,7 @@ use Rattle.circuit_path.specs.PathOf.{pathOf}
 use Rattle.circuit_path.specs.OpenCircuit.{isOpenIn}
 use Rattle.circuit_path.specs.Traced.{tracedInto}
 use Rattle.circuit_path.specs.Follow.{HasSource}
-use Rattle.circuit_path.proofs.Stands.{path-is}
+use Rattle.circuit_path.proofs.CircuitSound.{path-is}
 use Rattle.answers.specs.PassOnBytes.{holdPath}
 use Rattle.answers.specs.SendAnswer.{bytesAfterSend}
 use Rattle.answers.proofs.PassOnBytes.{owner-length}
@@ -114,24 +114,24 @@ module _ {b : List ℕ} {c : ℕ} (known : HasSource b c) (some : isOpenIn (view
       go true e = link-true _ m q (subst (λ (w : Path). (m, q) ∈ links (net (view b)) (sourceOf c) w) same (stands .exactly .only m q e))
       go false e = is-false _ (λ t. clash (stands .exactly .all m q (subst (λ (w : Path). (m, q) ∈ links (net (view b)) (sourceOf c) w) (sym same) (true-link _ m q t))) e)
 
-  receives : view b .receiver target (stands .channel) ≡ c
-  receives = subst (λ (t : ℕ). view b .receiver t (stands .channel) ≡ c) target-is (stands .receives)
+  receives : view b .receiver target (stands .receive) ≡ c
+  receives = subst (λ (t : ℕ). view b .receiver t (stands .receive) ≡ c) target-is (stands .receives)
 
-  channel-held : (m k : ℕ) → (eqb m target && eqb k (stands .channel)) ≡ eqb (view b .receiver m k) c
+  channel-held : (m k : ℕ) → (eqb m target && eqb k (stands .receive)) ≡ eqb (view b .receiver m k) c
   channel-held m k = go (eqb (view b .receiver m k) c) refl
     where
-      go : (x : Bool) → eqb (view b .receiver m k) c ≡ x → (eqb m target && eqb k (stands .channel)) ≡ x
+      go : (x : Bool) → eqb (view b .receiver m k) c ≡ x → (eqb m target && eqb k (stands .receive)) ≡ x
       go true e = let r = stands .once m k (eqb-true _ c e) in and (eq-eqb m target (r .0 ∙ target-is)) (eq-eqb k _ (r .1))
       go false e =
           is-false _ (λ t. let r = both (eqb m target) _ t in
           eqb-false _ c e (subst (λ (x : ℕ). view b .receiver x k ≡ c) (sym (eqb-true m target (r .0))) (subst (λ (x : ℕ). view b .receiver target x ≡ c) (sym (eqb-true k _ (r .1))) receives)))
 
   -- so what the table shows once both are nobody's and the channel is disarmed is what it shows once every entry of the circuit is freed
-  shown-freed : setArmed (viewAfterSend (view b) 0 (sourceOf c) target (acknowledged path (stands .channel))) target (stands .channel) false
+  shown-freed : setArmed (viewAfterSend (view b) 0 (sourceOf c) target (acknowledged path (stands .receive))) target (stands .receive) false
       ≡ withoutCircuit (view b) c
   unfolding viewAfterSend withoutCircuit setReceiver setArmed setAt
   shown-freed =
-      ap (λ (v : View). setArmed (setReceiver v target (stands .channel) 0) target (stands .channel) false)
+      ap (λ (v : View). setArmed (setReceiver v target (stands .receive) 0) target (stands .receive) false)
       (held-path (view b) (shapeOf (view b)) 0 (sourceOf c) path) ∙ λ i.
       record {
         dimension = view b .dimension;
@@ -141,17 +141,17 @@ module _ {b : List ℕ} {c : ℕ} (known : HasSource b c) (some : isOpenIn (view
         armed = λ m k. cond (channel-held m k i) false (view b .armed m k);
       }
 
-  bytes-freed : Bytes b → putArmed (putReceiver (holdPath b 0 (sourceOf c) path) target (stands .channel) 0) target (stands .channel) false
+  bytes-freed : Bytes b → putArmed (putReceiver (holdPath b 0 (sourceOf c) path) target (stands .receive) 0) target (stands .receive) false
       ≡ encode (withoutCircuit (view b) c)
   unfolding bytesAfterSend
   bytes-freed bytes =
-      let o = acknowledged path (stands .channel) in
+      let o = acknowledged path (stands .receive) in
       let fits : Fits (dimensionAt b) o = unfold Fits in (ports-below, stands .small) in
       let freed : Bytes (bytesAfterSend b 0 (sourceOf c) target o) = send-bytes b 0 (sourceOf c) target o bytes (lit< tt) in
       let shown = view-after-send 0 (lit< tt) (dimensionAt b) (known .fits) b (known .bytes) (sourceOf c) target (known .source) target-inside o fits in
-      armed-encoded (bytesAfterSend b 0 (sourceOf c) target o) freed target (stands .channel) false
+      armed-encoded (bytesAfterSend b 0 (sourceOf c) target o) freed target (stands .receive) false
       record { bytes = freed .long; node = below-256 (known .fits) target-inside; port = stands .small }
-      ∙ ap encode (ap (λ (v : View). setArmed v target (stands .channel) false) shown ∙ shown-freed)
+      ∙ ap encode (ap (λ (v : View). setArmed v target (stands .receive) false) shown ∙ shown-freed)
 
   -- Of what the code has: the ports of the path in a buffer of nine, how many they are, and the source.
   module _ (buffer : List ℕ) {ports : List ℕ} {hops s : ℕ} (room : 9 ≤ length buffer) (count : hops ≡ length path) (e : ports ≡ tracedInto path buffer) (q : s ≡ sourceOf c) where
@@ -189,11 +189,11 @@ module _ {b : List ℕ} {c : ℕ} (known : HasSource b c) (some : isOpenIn (view
           shown = view-hold 0 (lit< tt) (dimensionAt b) (known .fits) b (known .bytes) (sourceOf c) path (known .source) ports-below
 
       module _ {k : ℕ} (found : k ≡ lowest (λ j. eqb (receiverAt b₁ t j) c) 8 0) where
-        the-channel : k ≡ stands .channel
+        the-channel : k ≡ stands .receive
         the-channel =
             let f : ℕ → Bool = λ j. eqb (receiverAt b₁ t j) c in
-            let yes : f (stands .channel) ≡ true = received (stands .channel) ∙ eq-eqb _ c receives in
-            let most : lowest f 8 0 < 0 + 8 = ⊎-elim (λ l. l) (λ l. absurd (clash yes (lowest-before f 8 0 (stands .channel) (omega arith) (omega (arith, stands .small, l))))) (below-or 8 (lowest f 8 0)) in
+            let yes : f (stands .receive) ≡ true = received (stands .receive) ∙ eq-eqb _ c receives in
+            let most : lowest f 8 0 < 0 + 8 = ⊎-elim (λ l. l) (λ l. absurd (clash yes (lowest-before f 8 0 (stands .receive) (omega arith) (omega (arith, stands .small, l))))) (below-or 8 (lowest f 8 0)) in
             let here = lowest-passes f 8 0 most in
             found ∙ eqb-true _ _ (both (eqb target target) _ (channel-held target (lowest f 8 0) ∙ sym (received (lowest f 8 0)) ∙ here) .1)
 

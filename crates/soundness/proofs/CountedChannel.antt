@@ -22,7 +22,7 @@ use Rattle.table.specs.TableContracts.{linkCount}
 use Rattle.table.specs.View.{View, shapeOf, net, heldBy}
 use Rattle.circuit_path.specs.CircuitSound.{endFor, CircuitSound}
 use Rattle.soundness.specs.Sound.{Sound}
-use Rattle.circuit_hops.specs.Marks.{Seen}
+use Rattle.circuit_hops.specs.Seen.{Seen}
 use Rattle.circuit_hops.specs.CountHops.{FollowedPath, Taken}
 use Rattle.soundness.specs.Counting.{Earlier, ReceivedBefore, CircuitFollowed, Counting, Counts}
 use Rattle.soundness.proofs.LinkCount.{links-added}

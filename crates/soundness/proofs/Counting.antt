@@ -14,7 +14,7 @@ use Rattle.cube.specs.Bits.{has}
 use Rattle.cube.proofs.Bits.{zero-has}
 use Rattle.table.specs.View.{View}
 use Rattle.soundness.specs.Sound.{Sound}
-use Rattle.circuit_hops.specs.Marks.{seenAt}
+use Rattle.circuit_hops.specs.Seen.{seenAt}
 use Rattle.soundness.specs.Counting.{Earlier, ReceivedBefore, Counting, Counts}
 use Rattle.soundness.proofs.LinkCount.{links-most, links-none}
 

@@ -110,7 +110,7 @@ module _ (b : List ℕ) (d : dimensionAt b ≤ largestDimension) (fit : EnablesF
       found : CircuitSound (view b) (view b .owner n p) → x .on n p ≡ true
       found z =
           subst (λ (c : ℕ). (z : CircuitSound (view b) c) → endFor (view b) c (z .path) ≡ endFor (view b) (view b .owner n p) (z₀ .path) → heldBy (view b) c n p ≡ true → x .on n p ≡ true)
-          (z .receives) (on-way (endFor (view b) (view b .owner n p) (z .path)) (z .channel) (λ y. some (sym (z .receives) ∙ y))) z refl (eq-eqb (view b .owner n p) (view b .owner n p) refl)
+          (z .receives) (on-way (endFor (view b) (view b .owner n p) (z .path)) (z .receive) (λ y. some (sym (z .receives) ∙ y))) z refl (eq-eqb (view b .owner n p) (view b .owner n p) refl)
         where
           z₀ : CircuitSound (view b) (view b .owner n p)
           z₀ = z
@@ -142,7 +142,7 @@ module _ (b : List ℕ) (d : dimensionAt b ≤ largestDimension) (fit : EnablesF
           path = t .path;
           permitted = subst (λ (y : ℕ). Permitted (net (view b)) (sourceOf c) (ports (shapeOf (view b))) y (t .path)) (sym there) (t .permitted);
           exactly = record { all = λ m q o. both _ (x .on m q) (t .exactly .all m q o) .0; only = λ m q o. t .exactly .only m q (and o (all m q (λ z. h (sym (eqb-true _ c o) ∙ z)))) };
-          channel = k;
+          receive = k;
           small = in-table n k h .0;
           receives = ap (λ y. view b .receiver y k) there;
           once = λ m j e. let r = x .once m j n k (in-table m j (λ z. h (sym e ∙ z))) (in-table n k h) e (λ z. h (sym e ∙ z)) in (r .0 ∙ sym there, r .1);

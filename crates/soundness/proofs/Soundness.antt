@@ -21,7 +21,7 @@ use Rattle.table.specs.View.{View, fresh, shapeOf, net, heldBy}
 use Rattle.paths.specs.CubeNetwork.{ports}
 use Rattle.circuit_path.specs.CircuitSound.{endFor, CircuitSound}
 use Rattle.circuit_path.specs.PathOf.{pathOf, isEmpty}
-use Rattle.circuit_path.proofs.Stands.{not-empty, some-hop, path-is}
+use Rattle.circuit_path.proofs.CircuitSound.{not-empty, some-hop, path-is}
 use Rattle.circuit_hops.proofs.OneKept.{one-kept, kept-one}
 use Rattle.soundness.specs.Sound.{Nowhere, Sound}
 use Rattle.soundness.specs.SoundTest.{circuitTest, linkTest, receiveTest, onPathOf, channelsHeld}
@@ -61,7 +61,7 @@ module _ (v : View) where
       and (le-leb c _ h)
       (rw (path-is v c s)
       (and (some-hop (net v) (sourceOf c) (ports (shapeOf v)) (endFor v c (s .path)) (s .path) (s .permitted))
-      (eq-eqb _ 1 (one-kept (λ k. eqb (v .receiver (endFor v c (s .path)) k) c) (s .channel) (s .small) (eq-eqb _ c (s .receives)) (λ j l e. s .once (endFor v c (s .path)) j (eqb-true _ c e) .1)))))
+      (eq-eqb _ 1 (one-kept (λ k. eqb (v .receiver (endFor v c (s .path)) k) c) (s .receive) (s .small) (eq-eqb _ c (s .receives)) (λ j l e. s .once (endFor v c (s .path)) j (eqb-true _ c e) .1)))))
 
   -- a number that occurs stands
   pub link-stands : Sound v → (n p : ℕ) → v .owner n p ≢ 0 → CircuitSound v (v .owner n p)
@@ -133,10 +133,10 @@ module _ (v : View) where
   pub record ReachFacts (c : ℕ) : Type 0 where
     pub in-range : c ≤ channels * cubeNodes (v .dimension)
     pub some : not (isEmpty (pathOf v c)) ≡ true
-    pub channel : ℕ
-    pub small : channel < channels
-    pub receives : v .receiver (endFor v c (pathOf v c)) channel ≡ c
-    pub once : (k : ℕ) → k < channels → v .receiver (endFor v c (pathOf v c)) k ≡ c → k ≡ channel
+    pub receive : ℕ
+    pub small : receive < channels
+    pub receives : v .receiver (endFor v c (pathOf v c)) receive ≡ c
+    pub once : (k : ℕ) → k < channels → v .receiver (endFor v c (pathOf v c)) k ≡ c → k ≡ receive
 
   pub reach-facts : (c : ℕ) → circuitTest v c ≡ true → ReachFacts c
   unfolding circuitTest channelsHeld
@@ -144,7 +144,7 @@ module _ (v : View) where
       let a = both (leb c (channels * cubeNodes (v .dimension))) _ e in
       let b = both (not (isEmpty (pathOf v c))) _ (a .1) in
       let j = kept-one (λ k. eqb (v .receiver (endFor v c (pathOf v c)) k) c) (eqb-true _ 1 (b .1)) in
-      record { in-range = leb-true c _ (a .0); some = b .0; channel = j .0; small = j .1; receives = eqb-true _ c (j .2); once = λ k l x. j .3 k l (eq-eqb _ c x) }
+      record { in-range = leb-true c _ (a .0); some = b .0; receive = j .0; small = j .1; receives = eqb-true _ c (j .2); once = λ k l x. j .3 k l (eq-eqb _ c x) }
 
   -- what the test of a link says of the circuit that holds it
   record LinkFacts (n p c : ℕ) : Type 0 where
@@ -181,7 +181,7 @@ module _ (v : View) where
                 all = λ m q o. unfold pathOf On in path-owned (shapeOf v) (heldBy v c) (sourceOf c) m q o;
                 only = λ m q o. held-link m q (eqb-true _ c o) .passed;
               };
-          channel = r .channel;
+          receive = r .receive;
           small = r .small;
           receives = r .receives;
           once = λ n k x.

@@ -14,7 +14,7 @@ use Rattle.table.specs.TableContracts.{linkCount}
 use Rattle.table.specs.View.{View, shapeOf, net, heldBy}
 use Rattle.circuit_path.specs.CircuitSound.{endFor, CircuitSound}
 use Rattle.soundness.specs.Sound.{Sound}
-use Rattle.circuit_hops.specs.Marks.{seenAt, Seen}
+use Rattle.circuit_hops.specs.Seen.{seenAt, Seen}
 
 -- channel k of node n comes before place i, where places run node by node
 abbrev pub Earlier : ℕ → ℕ → ℕ → Type 0

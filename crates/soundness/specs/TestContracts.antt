@@ -9,7 +9,7 @@ use Rattle.cube.specs.Cube.{largestDimension, cubeNodes}
 use Rattle.layout.specs.Layout.{tableLength, dimensionAt}
 use Rattle.table.specs.TableContracts.{ArmsFit}
 use Rattle.table.specs.View.{view}
-use Rattle.circuit_hops.specs.Marks.{markCount}
+use Rattle.circuit_hops.specs.Seen.{markCount}
 use Rattle.soundness.specs.Sound.{Sound}
 use Rattle.soundness.specs.TableTests.{tableTests}
 

@@ -103,7 +103,7 @@ pub fn held_armed(t: &[u8], n: Node) -> bool
 }
 
 // How many links of so many nodes from one on nobody holds.
-pub fn free_links(t: &[u8], n: Node, nodes: u16) -> u32
+pub fn count_free_links(t: &[u8], n: Node, nodes: u16) -> u32
     requires { ⌜ (length (now t) ≡ tableLength) × (n .0 + nodes ≤ 256) × (0 < nodes) ⌝ }
     ensures { λ r. ⌜ (r ≤ portCount * nodes) × (freeCount (now (t .entry)) (portCount * n .0) + r ≡ freeCount (now (t .entry)) (portCount * (n .0 + nodes))) ⌝ }
 {

@@ -5,7 +5,7 @@ use Rattle.table.specs.View.{view, heldIn}
 use Rattle.ownership.specs.Calls.{callTests}
 use Rattle.ownership.specs.OnTable.{factsOf, lentTests, stoppedAt}
 use Rattle.ownership.proofs.Allowed.{below}
-use Rattle.call_tests.proofs.Stopping.{stops, onPathOf, node-passed, link-within}
+use Rattle.call_tests.proofs.Stopping.{stops, passed-before, node-passed, link-within}
 use Rattle.call_tests.proofs.block.Statement.{statement}
 use Rattle.call_tests.proofs.block.Tie as tie
 
@@ -23,7 +23,7 @@ returns-3 c = search stops depth 12
 
 owner-requires : tie.Need-owner-requires
 unfolding factsOf view
-owner-requires c κs = link-within (node-passed _ _ (search onPathOf) (search onPathOf), below _ _ (search onPathOf))
+owner-requires c κs = link-within (node-passed _ _ (search passed-before) (search passed-before), below _ _ (search passed-before))
 
 returns-4 : tie.Need-returns-4
 unfolding stoppedAt lentTests callTests factsOf heldIn view

@@ -3,7 +3,7 @@
 use borrow.Author.Needs.{needs}
 use Rattle.ownership.specs.Calls.{callTests}
 use Rattle.ownership.specs.OnTable.{factsOf, lentTests, stoppedAt}
-use Rattle.call_tests.proofs.Stopping.{stops, onPathOf, below-eight}
+use Rattle.call_tests.proofs.Stopping.{stops, passed-before, below-eight}
 use Rattle.call_tests.proofs.close.Statement.{statement}
 use Rattle.call_tests.proofs.close.Tie as tie
 
@@ -20,7 +20,7 @@ unfolding stoppedAt lentTests callTests factsOf
 returns-3 c = search stops depth 12
 
 has-circuit-requires : tie.Need-has-circuit-requires
-has-circuit-requires c κs = (search onPathOf, (search onPathOf, below-eight (c .if3 .left)))
+has-circuit-requires c κs = (search passed-before, (search passed-before, below-eight (c .if3 .left)))
 
 returns-4 : tie.Need-returns-4
 unfolding stoppedAt lentTests callTests factsOf

@@ -4,7 +4,7 @@ use borrow.Author.Needs.{needs}
 use Rattle.table.specs.View.{view}
 use Rattle.ownership.specs.Calls.{callTests}
 use Rattle.ownership.specs.OnTable.{takenIn, factsOf, lentTests, stoppedAt}
-use Rattle.call_tests.proofs.Stopping.{stops, onPathOf, node-passed, below-eight, receive-within}
+use Rattle.call_tests.proofs.Stopping.{stops, passed-before, node-passed, below-eight, receive-within}
 use Rattle.call_tests.proofs.disarm.Statement.{statement}
 use Rattle.call_tests.proofs.disarm.Tie as tie
 
@@ -21,7 +21,7 @@ unfolding stoppedAt lentTests callTests factsOf
 returns-3 c = search stops depth 12
 
 receiver-requires : tie.Need-receiver-requires
-receiver-requires c κs = receive-within (node-passed _ _ (search onPathOf) (search onPathOf), below-eight (search onPathOf))
+receiver-requires c κs = receive-within (node-passed _ _ (search passed-before) (search passed-before), below-eight (search passed-before))
 
 returns-4 : tie.Need-returns-4
 unfolding stoppedAt lentTests callTests factsOf takenIn view

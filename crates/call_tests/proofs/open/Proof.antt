@@ -3,7 +3,7 @@
 use borrow.Author.Needs.{needs}
 use Rattle.ownership.specs.Calls.{callTests}
 use Rattle.ownership.specs.OnTable.{factsOf, lentTests, stoppedAt}
-use Rattle.call_tests.proofs.Stopping.{stops, onPathOf, not-found, below-eight}
+use Rattle.call_tests.proofs.Stopping.{stops, passed-before, not-found, below-eight}
 use Rattle.call_tests.proofs.open.Statement.{statement}
 use Rattle.call_tests.proofs.open.Tie as tie
 
@@ -35,7 +35,7 @@ has-circuit-requires : tie.Need-has-circuit-requires
 has-circuit-requires c κs =
     let d = c .before .before .before .before in
     let s = d .before .before .before in
-    (search onPathOf, (not-found (s .before .is-absent .ensures) (s .if2 .left), below-eight (d .if4 .left)))
+    (search passed-before, (not-found (s .before .is-absent .ensures) (s .if2 .left), below-eight (d .if4 .left)))
 
 returns-7 : tie.Need-returns-7
 unfolding stoppedAt lentTests callTests factsOf

@@ -7,7 +7,7 @@ use lib.Bits.{bitAnd, bitOr, or-lt}
 use lib.ListN.{set}
 use borrow.Author.Needs.{needs}
 use borrow.Author.Tests.{eq-eqb, ne-eqb}
-use Rattle.circuit_hops.specs.Marks.{withMarks}
+use Rattle.circuit_hops.specs.Seen.{withMarks}
 use Rattle.circuit_hops.proofs.mark_new.Statement.{statement}
 use Rattle.circuit_hops.proofs.mark_new.Tie as tie
 

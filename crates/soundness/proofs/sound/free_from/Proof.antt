@@ -44,14 +44,14 @@ loop-again c =
           (below-or (s .args .from .0 + l .loop .i) n),
     )
 
-free-links-requires : tie.Need-free-links-requires Inv-loop μ-loop
-free-links-requires c κs = let s = c .before .before .before in (s .pre .0, s .pre .1, lit< tt)
+count-free-links-requires : tie.Need-count-free-links-requires Inv-loop μ-loop
+count-free-links-requires c κs = let s = c .before .before .before in (s .pre .0, s .pre .1, lit< tt)
 
 returns-2 : tie.Need-returns-2 Inv-loop μ-loop
 returns-2 c =
     let l = c .before .before in
     let s = l .before .before in
-    frees-all (s .args .t .now) (omega arith) (omega (arith, c .free-links .ensures .0)) (λ n p g h. l .loop .inv .1 n p g (omega arith)) (c .free-links .ensures .1)
+    frees-all (s .args .t .now) (omega arith) (omega (arith, c .count-free-links .ensures .0)) (λ n p g h. l .loop .inv .1 n p g (omega arith)) (c .count-free-links .ensures .1)
 
 pub free-from-spec : {M : Type 1} → statement M
 free-from-spec =
@@ -66,5 +66,5 @@ free-from-spec =
     (λ c. omega arith)
     (λ c. omega arith)
     loop-again
-    free-links-requires
+    count-free-links-requires
     returns-2)

@@ -1,4 +1,4 @@
--- `table::free_links` meets its contract: those before place i are counted.
+-- `table::count_free_links` meets its contract: those before place i are counted.
 -- Assumes nothing.
 use mathlib.Core.Path.{_≡_, _∙_, ap}
 use mathlib.Core.Logic.{⊎-elim}
@@ -8,8 +8,8 @@ use native.Mathlib.Nat.{add-zero}
 use Rattle.layout.specs.Layout.{entryPlace, linkPart}
 use Rattle.table.specs.TableContracts.{freeCount}
 use Rattle.table.proofs.Rows.{free-yes, free-no}
-use Rattle.table.proofs.free_links.Statement.{statement}
-use Rattle.table.proofs.free_links.Tie as tie
+use Rattle.table.proofs.count_free_links.Statement.{statement}
+use Rattle.table.proofs.count_free_links.Tie as tie
 
 abbrev Inv-loop : tie.InvT-loop
 Inv-loop t nodes from count free₀ i₀ free i =
@@ -45,8 +45,8 @@ returns c =
     let all : 8 * s .args .n .0 + l .loop .i ≡ 8 * (s .args .n .0 + s .args .nodes) = omega arith in
     (omega arith, l .loop .inv .2 (s .args .n .0) (p .link-place .ensures .0) (omega arith) ∙ ap (freeCount b) all)
 
-pub free-links-spec : {M : Type 1} → statement M
-free-links-spec =
+pub count-free-links-spec : {M : Type 1} → statement M
+count-free-links-spec =
     tie.close
     (tie.spec
     Inv-loop

@@ -33,8 +33,8 @@ module _ (v : View) where
   path-is c s = path-found (shapeOf v) (heldBy v c) (sourceOf c) (endFor v c (s .path)) (s .path) (s .permitted) (s .exactly)
 
   -- so it has exactly one path and one receive channel
-  pub stands-once : (c : ℕ) (s r : CircuitSound v c) → (s .path ≡ r .path) × (s .channel ≡ r .channel)
-  stands-once c s r = (sym (path-is c s) ∙ path-is c r, r .once (endFor v c (s .path)) (s .channel) (s .receives) .1)
+  pub stands-once : (c : ℕ) (s r : CircuitSound v c) → (s .path ≡ r .path) × (s .receive ≡ r .receive)
+  stands-once c s r = (sym (path-is c s) ∙ path-is c r, r .once (endFor v c (s .path)) (s .receive) (s .receives) .1)
 
 kept-empty : (f : ℕ → Bool) (xs : List ℕ) → isEmpty (keep f xs) ≡ not (any f xs)
 unfolding isEmpty keep any
