@@ -19,7 +19,8 @@ use Rattle.arbiter.specs.Arbiter.{asks, order, chosen, arbiterTests, arb
 use Rattle.arbiter.specs.ArbiterContracts.{Requested}
 use Rattle.arbiter.specs.Chosen.{Chosen, CallSays, bad-request, bad-record, nobody-asks, one-served}
 use Rattle.arbiter.proofs.Order.{chosen-says, chosen-is}
-use Rattle.arbiter.proofs.Requests.{asks-zero, asks-high, asks-below, lowest-asks, high-asks, none-asks}
+use Rattle.common.proofs.LowestBit.{lowest-set}
+use Rattle.arbiter.proofs.Requests.{asks-zero, asks-high, asks-below, high-asks, none-asks}
 
 module _ (last requests : ℕ) where
   -- a call is refused where its one test applies, and accepted where it does not
@@ -65,7 +66,7 @@ nobody last h =
 -- with some, one of them is
 pub served : (last requests : ℕ) → Requested last requests → Chosen last requests (chosen last requests)
 served last requests h =
-    let on : asks requests (trailingZeros 26 requests) ≡ true = lowest-asks 26 requests (λ e. omega (arith, h .some)) (h .inside) in
+    let on : asks requests (trailingZeros 26 requests) ≡ true = unfold asks in lowest-set 26 requests (λ e. omega (arith, h .some)) (h .inside) in
     chosen-says last (h .stored) requests (trailingZeros 26 requests) (asks-below 26 requests _ (h .inside) on) on
 
 -- the record is then the requester
