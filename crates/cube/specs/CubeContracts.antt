@@ -33,3 +33,7 @@ pub record FirstTried (w vector arrival p : ℕ) : Type 0 where
   pub small : p < w
   pub offered : has vector p ≡ true
   pub rest : helical arrival (portsOf w vector) ≡ p ∷ helical arrival (portsOf w (vector - 2 ^ p))
+
+-- the same of the first port by rule, at every width that holds the vector
+pub record FirstByRule (vector arrival p : ℕ) : Type 0 where
+  pub tried : (w : ℕ) → vector < 2 ^ w → FirstTried w vector arrival p

@@ -5,6 +5,7 @@ mod kinds;
 mod vectors;
 
 pub use first_port_table::FIRST_PORTS;
+pub use helical::first_by_rule;
 pub use helical::first_port;
 pub use helical::first_ports;
 pub use kinds::Circuit;
