@@ -104,7 +104,7 @@ pub fn hops_to(t: &[u8], nodes: u16, c: Circuit, end: Node, seen: &mut [u8]) -> 
     requires { ⌜ HopsPre (now t) nodes (now seen) × (0 < c .0) × (end .0 < nodes) ⌝ }
     ensures { λ r. ⌜ Taken (view (now (t .entry))) (c .0) (end .0) (now (seen .entry)) (now (seen .exit)) r ⌝ }
 {
-    if c.0 > 8 * nodes {
+    if c.0 > cube::CHANNELS * nodes {
         return NONE;
     }
     let source = cube::source_of(c);

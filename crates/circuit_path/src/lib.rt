@@ -62,7 +62,7 @@ fn held_port(t: &[u8], c: Circuit, n: Node, vector: u16) -> Port
     ensures { λ r. ⌜ r .0 ≡ lowest (takes (view (now (t .entry))) (c .0) (n .0) vector) portCount 0 ⌝ }
 {
     let mut p = cube::lowest_bit(vector);
-    while p < 8 {
+    while p < cube::PORTS {
         if takes(t, c, n, vector, Port(p)) {
             return Port(p);
         }
@@ -75,7 +75,7 @@ fn held_port(t: &[u8], c: Circuit, n: Node, vector: u16) -> Port
 fn first_of(found: Port, p: Port) -> Port
     ensures { λ r. ⌜ r .0 ≡ cond (ltb (found .0) portCount) (found .0) (p .0) ⌝ }
 {
-    if found.0 < 8 { found } else { p }
+    if found.0 < cube::NO_PORT { found } else { p }
 }
 
 // The first hop of a circuit's path from its source: one whose way back it holds too, or else the lowest. 8 where it holds none.
@@ -83,9 +83,9 @@ fn first_hop(t: &[u8], c: Circuit, s: Node, vector: u16) -> Port
     requires { ⌜ Within (now t) (s .0) 0 ⌝ }
     ensures { λ r. ⌜ r .0 ≡ firstHop (view (now (t .entry))) (c .0) (s .0) vector ⌝ }
 {
-    let mut found = Port(8);
+    let mut found = Port(cube::NO_PORT);
     let mut p: u16 = 0;
-    while p < 8 {
+    while p < cube::PORTS {
         if takes(t, c, s, vector, Port(p)) {
             if comes_back(t, c, s, vector, Port(p)) {
                 return Port(p);
@@ -124,7 +124,7 @@ pub fn write_path(t: &[u8], c: Circuit, buffer: &mut [u8]) -> WrittenPath
     let mut hops: u16 = 1;
     loop {
         let p = held_port(t, c, at, left);
-        if p.0 >= 8 {
+        if p.0 >= cube::NO_PORT {
             return WrittenPath { hops, end: at };
         }
         buffer[hops as usize] = p.0 as u8;

@@ -18,7 +18,7 @@ pub fn make(t: &mut [u8], dimension: u16) -> u16
     if dimension == 0 {
         return refusal::DIMENSION;
     }
-    if dimension > 8 {
+    if dimension > cube::LARGEST_DIMENSION {
         return refusal::DIMENSION;
     }
     table::make(t, dimension as u8);

@@ -31,7 +31,7 @@ fn hops_at(t: &[u8], nodes: u16, n: Node, seen: &mut [u8]) -> u32
 {
     let mut hops: u32 = 0;
     let mut k: u16 = 0;
-    while k < 8 {
+    while k < cube::CHANNELS {
         let c = table::receiver(t, n, k);
         if c.0 != 0 {
             hops += circuit_hops::hops_to(t, nodes, c, n, seen);
@@ -167,7 +167,7 @@ pub fn check(t: &[u8]) -> u16
     if d < 1 {
         return refusal::DIMENSION;
     }
-    if d > 8 {
+    if d > cube::LARGEST_DIMENSION {
         return refusal::DIMENSION;
     }
     if entries_sound(t, d) {
