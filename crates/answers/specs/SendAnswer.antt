@@ -15,7 +15,7 @@ use Rattle.table.specs.View.{view}
 use Rattle.answers.specs.SendOnTable.{waitingHelps, sendIn, PassAnswer, answerOfOutcome}
 use Rattle.answers.specs.PassOnBytes.{holdPath}
 
--- the marks of an acknowledged send, written one after another: the circuit is c, its source s, its target t
+-- the entries of an acknowledged send, written one after another: the circuit is c, its source s, its target t
 unfoldable pub bytesAfterSend : List ℕ → ℕ → ℕ → ℕ → Outcome → List ℕ
 bytesAfterSend b c s t (acknowledged w k) = putReceiver (holdPath b c s w) t k c
 bytesAfterSend b c s t route-rejected = b

@@ -27,7 +27,7 @@ use Rattle.table.specs.View.{view, shapeOf, net, heldBy}
 use Rattle.circuit_path.specs.CircuitSound.{endFor, CircuitSound}
 use Rattle.circuit_hops.specs.Seen.{withMarks}
 use Rattle.circuit_hops.specs.CountHops.{TakePre, HopsFollowed, Taken}
-use Rattle.circuit_hops.proofs.Marks.{not-seen, seen-before, marks-after}
+use Rattle.circuit_hops.proofs.Seen.{not-seen, seen-before, marks-after}
 use Rattle.circuit_hops.proofs.Ways.{shown}
 
 -- a circuit that stands holds links of its cube alone
@@ -58,7 +58,7 @@ module _ (b : List ℕ) (c : ℕ) (d : dimensionAt b ≤ largestDimension) (i : 
   pub vector-inside : {held : ℕ} → HeldBy b c (sourceOf c) held → VectorOf (dimensionAt b) held
   vector-inside {held} f = no-bit-above (dimensionAt b) held (λ p l. is-false (has held p) (λ t. go p l t (below-or 8 p)))
     where
-      go : (p : ℕ) → dimensionAt b ≤ p → has held p ≡ true → (p < portCount) ⊎ (8 ≤ p) → ⊥
+      go : (p : ℕ) → dimensionAt b ≤ p → has held p ≡ true → (p < portCount) ⊎ (portCount ≤ p) → ⊥
       go p l t (inl k) = let r = held-inside (sourceOf c) p (unfold view in sym (f .held p k) ∙ t) in omega arith
       go p l t (inr k) = clash t (high-has 8 held p (f .small) k)
 

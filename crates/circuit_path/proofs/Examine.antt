@@ -10,6 +10,7 @@ use lib.Dec.{eqb, ltb, lit<}
 use lib.ListN.{length}
 use lib.Bits.{bitAnd, and-le-l}
 use borrow.Author.Tests.{ltb-true, lt-ltb, le-ltb, eqb-true, eqb-false}
+use Rattle.cube.specs.Axes.{positions}
 use Rattle.common.specs.Lists.{any, from}
 use Rattle.common.proofs.Tests.{below-or, clash, is-false, both, and}
 use Rattle.common.proofs.Every.{decide}
@@ -53,10 +54,10 @@ module _ (v : View) (h : v .dimension ≤ largestDimension) (c : ℕ) where
   hops : List ℕ
   hops = firstHopChoices (net v) (portsOf portCount (allPorts v)) (heldBy v c) (sourceOf c)
 
-  path-over : pathOf v c ≡ takeFirst hops (λ a. walkFrom 18 (net v) (portsOf portCount (allPorts v)) (heldBy v c) (net v .next (sourceOf c) a))
+  path-over : pathOf v c ≡ takeFirst hops (λ a. walkFrom positions (net v) (portsOf portCount (allPorts v)) (heldBy v c) (net v .next (sourceOf c) a))
   unfolding pathOf pathOfLinks hops
   path-over =
-      ap (λ ps. takeFirst (firstHopChoices (net v) ps (heldBy v c) (sourceOf c)) (λ a. walkFrom 18 (net v) ps (heldBy v c) (net v .next (sourceOf c) a))) (unfolded-ports (shapeOf v) (omega arith) refl ∙ sym (ports-of-cube (v .dimension) h))
+      ap (λ ps. takeFirst (firstHopChoices (net v) ps (heldBy v c) (sourceOf c)) (λ a. walkFrom positions (net v) ps (heldBy v c) (net v .next (sourceOf c) a))) (unfolded-ports (shapeOf v) (omega arith) refl ∙ sym (ports-of-cube (v .dimension) h))
 
   -- the path that the code follows: its first hop, and what is followed behind it
   pub path-first : {a : ℕ} → a ≡ firstHop v c (sourceOf c) (allPorts v) → a < portCount → pathOf v c ≡ a ∷ linksFollowed v c (next (sourceOf c) a) (allPorts v)
@@ -64,13 +65,13 @@ module _ (v : View) (h : v .dimension ≤ largestDimension) (c : ℕ) where
   path-first {a} e l =
       let r = first-is hops a (sym e) l in
       let short : length (portsOf portCount (allPorts v)) ≡ v .dimension = ap length (ports-of-cube (v .dimension) h) ∙ length-from 0 (v .dimension) in
-      path-over ∙ ap (λ ps. takeFirst ps (λ a. walkFrom 18 (net v) (portsOf portCount (allPorts v)) (heldBy v c) (net v .next (sourceOf c) a))) (r .1)
+      path-over ∙ ap (λ ps. takeFirst ps (λ a. walkFrom positions (net v) (portsOf portCount (allPorts v)) (heldBy v c) (net v .next (sourceOf c) a))) (r .1)
       ∙ ap (a ∷_) (walk-fuel (net v) (heldBy v c) 18 8 (portsOf portCount (allPorts v)) (next (sourceOf c) a) (omega arith) (omega arith))
 
   pub path-none : {a : ℕ} → a ≡ firstHop v c (sourceOf c) (allPorts v) → 8 ≤ a → pathOf v c ≡ []
   unfolding firstHop takeFirst hops
   path-none e l =
-      path-over ∙ ap (λ ps. takeFirst ps (λ a. walkFrom 18 (net v) (portsOf portCount (allPorts v)) (heldBy v c) (net v .next (sourceOf c) a))) (first-none hops (λ p m. hop-port v c (sourceOf c) (allPorts v) p m) (omega arith))
+      path-over ∙ ap (λ ps. takeFirst ps (λ a. walkFrom positions (net v) (portsOf portCount (allPorts v)) (heldBy v c) (net v .next (sourceOf c) a))) (first-none hops (λ p m. hop-port v c (sourceOf c) (allPorts v) p m) (omega arith))
 
 -- the same, of the numbers that the code has: the dimension, the count of nodes and the source
 module _ (v : View) (c : ℕ) {D nodes : ℕ} (d : D ≡ v .dimension) (h : D ≤ largestDimension) (m : nodes ≡ 2 ^ D) where

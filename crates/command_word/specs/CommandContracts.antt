@@ -1,4 +1,4 @@
--- What the function that gives the code's own table of commands answers. Nobody has to believe it.
+-- What the function that gives the code's table of how many numbers each command carries answers. Nobody has to believe it.
 -- Assumes nothing.
 use mathlib.Core.Path.{_≡_}
 use mathlib.Core.List.{List}

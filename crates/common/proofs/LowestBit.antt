@@ -3,15 +3,18 @@
 -- Assumes nothing.
 use mathlib.Core.Path.{_≡_, refl, ap, sym, _∙_}
 use mathlib.Core.Logic.{_≢_, ⊎-elim}
-use mathlib.Core.Bool.{true, false}
+use mathlib.Core.Bool.{Bool, true, false}
 use Prim.Native.Nat.{ℕ, zero, suc, _+_, _-_, _/_, _%_, _^_, _≤_, _<_}
 use native.Mathlib.Omega.{arith}
 use native.Mathlib.Nat.{div-one, div-eq-of-lt, lt-of-lt-of-le, pow-succ'}
 use lib.Dec.{eqb}
 use lib.Pow.{pow-mono, shr-shr, shr-le}
 use lib.Count.{trailingZeros, under}
-use Rattle.common.specs.Bits.{bitSet}
 use Rattle.common.proofs.Tests.{below-or, clash}
+
+-- bit j of n is set
+abbrev pub bitSet : ℕ → ℕ → Bool
+bitSet n j = eqb (n / 2 ^ j % 2) 1
 
 -- the bits of what is left of a number behind its first k bits, and of its half
 pub bit-after : (n k j : ℕ) → bitSet (n / 2 ^ k) j ≡ bitSet n (k + j)

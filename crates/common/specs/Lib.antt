@@ -1,5 +1,4 @@
 -- Definitions that belong to no one layer.
 pub mod Tests
 pub mod Lists
-pub mod Bits
 pub mod Decides

@@ -5,14 +5,15 @@ use Prim.Native.Nat.{ℕ, _-_}
 use lib.Dec.{eqb, ltb}
 use Rattle.cube.specs.Bits.{has}
 
--- "The helical order then runs over 18 positions": every cube is looked at over as many, whatever its table has room for.
+-- Document 02, (h): "The helical order then runs over 18 positions": every cube is looked at over as many, whatever its table has room for.
 abbrev pub positions : ℕ
 positions = 18
 
--- Document 02, (h): "port 17 - p leads where port p leads". A port in the lower half is its own axis, and the axis of port q above is 17 - q.
+-- the ports below this are their own axes
 abbrev pub ownAxes : ℕ
 ownAxes = 9
 
+-- Document 02, (h): "port 17 - p leads where port p leads". A port in the lower half is its own axis, and the axis of port q above is 17 - q.
 unfoldable pub axis : ℕ → ℕ
 axis q = cond (ltb q ownAxes) q (17 - q)
 

@@ -1,4 +1,4 @@
-// The choice of port: the entry of the table of first ports at a vector and an arrival port.
+// The choice of port: the entry of the table of first ports at a vector and an arrival port, and the same choice by rule.
 ghost use mathlib.Core.Path.{_≡_};
 ghost use Prim.Native.Nat.{_<_};
 ghost use Rattle.cube.specs.Cube.{portCount};

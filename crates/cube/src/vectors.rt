@@ -18,7 +18,7 @@ pub fn node_count(dimension: u16) -> u16
     1 << dimension
 }
 
-// The node that a port leads to which is its own axis.
+// The node that a port leads to, for a port that is its own axis.
 pub fn neighbour(node: Node, port: Port) -> Node
     requires { ⌜ port .0 < ownAxes ⌝ }
     ensures { λ r. ⌜ r .0 ≡ next (node .0) (port .0) ⌝ }

@@ -28,7 +28,7 @@ pairwise-one R (z ∷ xs) o x y (List·Memᴰ·tail m) (List·Memᴰ·tail k) f 
 abbrev pub numberFor : Circuit → ℕ
 numberFor x = circuitOf (x .source) (x .channel)
 
-pub circuit-parts : (s c a b : ℕ) → c < channels → b < 8 → circuitOf s c ≡ circuitOf a b → (s ≡ a) × (c ≡ b)
+pub circuit-parts : (s c a b : ℕ) → c < channels → b < channels → circuitOf s c ≡ circuitOf a b → (s ≡ a) × (c ≡ b)
 circuit-parts s c a b h l e = (
   sym (source-of-circuit s c h) ∙ ap sourceOf e ∙ source-of-circuit a b l,
   sym (channel-of-circuit s c h) ∙ ap channelOf e ∙ channel-of-circuit a b l,

@@ -121,10 +121,10 @@ module _ (b : List ℕ) (small : AllBytes b) (pass : refusal (tableTests b) ≡ 
 
   leaves-all : (a : Call) → Allowed (factsOf (view b)) a → resultOf (factsOf (view b)) a ≡ only 0 → tableStep b a .state ≡ b
       → tableStep b a ≡ done b 0 [] []
-  leaves-all a may openResult same =
+  leaves-all a may gives same =
       let r = pass-tests b pass in
       let z : stoppedAt b a ≡ 0 = stopped-is b (r .0) (r .1) (r .2) (r .3) a ∙ allowed-passes (factsOf (view b)) a may in
-      λ i. record { state = same i; result = (table-step b a .result z ∙ openResult) i }
+      λ i. record { state = same i; result = (table-step b a .result z ∙ gives) i }
 
   module _ (n p : ℕ) (i : NodeOf (dimensionAt b) n) (l : p < dimensionAt b) where
     idle : enabledAt b n p ≡ false → heldIn (view b) n p ≡ false

@@ -26,8 +26,8 @@ use mathlib.Core.Bool.{Bool}
 
 module _ (b : List ℕ) (s c t v : ℕ) where
   -- what an open of a routing type answers
-  abbrev pub answerOfType : ℕ → ℕ
-  answerOfType y = tableStep b (opening s c t y v) .result .number
+  abbrev pub numberOfType : ℕ → ℕ
+  numberOfType y = tableStep b (opening s c t y v) .result .number
 
   -- no test but that of the type looks at the type
   another-type : (y z : ℕ) → (z ≡ 0) ⊎ (z ≡ 1) ⊎ (z ≡ 3) ⊎ (z ≡ 4) → stoppedAt b (opening s c t y v) ≡ 0 → stoppedAt b (opening s c t z v) ≡ 0
@@ -41,7 +41,7 @@ module _ (b : List ℕ) (s c t v : ℕ) where
   abbrev RouteOf : ℕ → Type 0
   RouteOf y = SomeRoute (view b) s t (attempts (shapeOf (view b)) y v)
 
-  more-routes : (y z : ℕ) → (z ≡ 0) ⊎ (z ≡ 1) ⊎ (z ≡ 3) ⊎ (z ≡ 4) → (RouteOf y → RouteOf z) → answerOfType y ≡ 0 → answerOfType z ≡ 0
+  more-routes : (y z : ℕ) → (z ≡ 0) ⊎ (z ≡ 1) ⊎ (z ≡ 3) ⊎ (z ≡ 4) → (RouteOf y → RouteOf z) → numberOfType y ≡ 0 → numberOfType z ≡ 0
   more-routes y z k more n =
       let e = table-step b (opening s c t y v) .passed n in
       let h = open-answers b s c t y v e .exactly .0 n in
@@ -70,9 +70,9 @@ module _ (b : List ℕ) (s c t v : ℕ) where
   helix-open-scouts = scouts-most 1 72 (λ h. unfold view in helix-bounded (shapeOf (view b)) (freeIn (view b)) (receive (view b) t) s v t h refl)
 
   -- "for one table and sends alike but for type, type 1 acknowledges all that type 3 does,
-  pub fixed-open-in-helix : answerOfType 3 ≡ 0 → answerOfType 1 ≡ 0
+  pub fixed-open-in-helix : numberOfType 3 ≡ 0 → numberOfType 1 ≡ 0
   fixed-open-in-helix = more-routes 3 1 (inr (inl refl)) (fixed-route (shapeOf (view b)) (freeIn (view b)) (receive (view b) t) s v t)
 
   -- and type 0 all that type 1 does."
-  pub helix-open-in-maze : answerOfType 1 ≡ 0 → answerOfType 0 ≡ 0
+  pub helix-open-in-maze : numberOfType 1 ≡ 0 → numberOfType 0 ≡ 0
   helix-open-in-maze = more-routes 1 0 (inl refl) (helix-route (shapeOf (view b)) (freeIn (view b)) (receive (view b) t) s v t)

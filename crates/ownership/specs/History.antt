@@ -75,7 +75,7 @@ openOn h s c = any (belongs s c) (h .circuits)
 unfoldable pub armedOn : History → ℕ → ℕ → Bool
 armedOn h n k = hasLink (h .armed) n k
 
--- a receive channel "that is armed and not held", and the lowest one
+-- "its lowest channel that is armed and not held": which are, and the lowest
 abbrev pub availableOn : History → ℕ → ℕ → Bool
 availableOn h n k = armedOn h n k && not (takenOn h n k)
 

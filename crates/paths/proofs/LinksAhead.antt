@@ -1,4 +1,4 @@
--- An arrival looks only at the links in its cone, those offered at nodes no farther from the target: so the hop that a scout came by, held
+-- An arrival looks only at the links ahead of it, those offered at nodes no farther from the target: so the hop that a scout came by, held
 -- behind it, changes nothing that it meets.
 -- Assumes nothing.
 use mathlib.Core.Path.{_≡_, refl, ap, fun-ext}

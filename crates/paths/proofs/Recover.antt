@@ -13,7 +13,7 @@ use Rattle.common.specs.Lists.{_∈_, keep}
 use Rattle.common.proofs.Tests.{same?, clash, both, and}
 use Rattle.common.proofs.Lists.{all-append, keep-mem, mem-keep, keep-shorter, any-some, some-any}
 use Rattle.cube.specs.Bits.{bitAt, flip}
-use Rattle.cube.specs.Axes.{axis}
+use Rattle.cube.specs.Axes.{axis, positions}
 use Rattle.cube.proofs.Bits.{bit-flipped, bit-kept, bit-lt}
 use Rattle.paths.specs.Network.{Network, Path, takeFirst, links, hasLink, Exactly}
 use Rattle.paths.specs.Permitted.{Permitted, SameLinks}
@@ -154,7 +154,7 @@ module _ (S : Shape) (own : ℕ → ℕ → Bool) (s a : ℕ) (w : Path) (apart 
   path-is h = go (wayBack (network S) (ports S) own s a) refl ∙ ap (a ∷_) rest
     where
       on : ℕ → Path
-      on b = walkFrom 18 (network S) (ports S) own (flip s (axis b))
+      on b = walkFrom positions (network S) (ports S) own (flip s (axis b))
 
       mine : a ∈ keep (own s) (ports S)
       mine = mem-keep (own s) (ports S) h (x .all s a (on-first (network S) s a w))

@@ -55,9 +55,9 @@ passing true e = e
 passing false e = absurd (false≢true e)
 
 module _ (v : View) where
-  reaches-passes : (c : ℕ) → c ≤ channels * cubeNodes (v .dimension) → CircuitSound v c → circuitTest v c ≡ true
+  circuit-passes : (c : ℕ) → c ≤ channels * cubeNodes (v .dimension) → CircuitSound v c → circuitTest v c ≡ true
   unfolding circuitTest channelsHeld
-  reaches-passes c h s =
+  circuit-passes c h s =
       and (le-leb c _ h)
       (rw (path-is v c s)
       (and (some-hop (net v) (sourceOf c) (ports (shapeOf v)) (endFor v c (s .path)) (s .path) (s .permitted))
@@ -100,7 +100,7 @@ module _ (v : View) where
       go true e (inr h) =
           let s = link-stands sound n p h in
           rw e
-          (or-right (eqb (v .owner n p) 0) (and (sound .held-enabled n p h) (and (reaches-passes _ (sound .link-number n p) s)
+          (or-right (eqb (v .owner n p) 0) (and (sound .held-enabled n p h) (and (circuit-passes _ (sound .link-number n p) s)
           (unfold onPathOf in rw (path-is v _ s) (link-true _ n p (s .exactly .only n p (eq-eqb (v .owner n p) _ refl)))))))
       go false e z = let h = beyond e in absent-passes n p h (sound .absent-link n p h)
 
@@ -123,14 +123,14 @@ module _ (v : View) where
       held h true e =
           let s = receive-stands sound n k h in
           rw e
-          (or-right (eqb (v .receiver n k) 0) (and (sound .held-armed n k h) (and (reaches-passes _ (sound .receive-number n k) s)
+          (or-right (eqb (v .receiver n k) 0) (and (sound .held-armed n k h) (and (circuit-passes _ (sound .receive-number n k) s)
           (rw (path-is v _ s) (eq-eqb n _ (s .once n k refl .0))))))
 
   pub sound-entries : Sound v → EntriesPass v
   sound-entries sound = record { links-pass = λ n p h l. sound-link sound n p; receives-pass = λ n k h l. sound-receive sound n k }
 
-  -- what it says that a number reaches its end: it is in range, its path is not empty, and it holds one receive channel there
-  pub record ReachFacts (c : ℕ) : Type 0 where
+  -- what the test of a circuit says: it is in range, its path is not empty, and it holds one receive channel there
+  pub record CircuitFacts (c : ℕ) : Type 0 where
     pub in-range : c ≤ channels * cubeNodes (v .dimension)
     pub some : not (isEmpty (pathOf v c)) ≡ true
     pub receive : ℕ
@@ -138,9 +138,9 @@ module _ (v : View) where
     pub receives : v .receiver (endFor v c (pathOf v c)) receive ≡ c
     pub once : (k : ℕ) → k < channels → v .receiver (endFor v c (pathOf v c)) k ≡ c → k ≡ receive
 
-  pub reach-facts : (c : ℕ) → circuitTest v c ≡ true → ReachFacts c
+  pub circuit-facts : (c : ℕ) → circuitTest v c ≡ true → CircuitFacts c
   unfolding circuitTest channelsHeld
-  reach-facts c e =
+  circuit-facts c e =
       let a = both (leb c (channels * cubeNodes (v .dimension))) _ e in
       let b = both (not (isEmpty (pathOf v c))) _ (a .1) in
       let j = kept-one (λ k. eqb (v .receiver (endFor v c (pathOf v c)) k) c) (eqb-true _ 1 (b .1)) in
@@ -149,7 +149,7 @@ module _ (v : View) where
   -- what the test of a link says of the circuit that holds it
   record LinkFacts (n p c : ℕ) : Type 0 where
     on : v .enabled n p ≡ true
-    reaches-end : circuitTest v c ≡ true
+    circuit-passed : circuitTest v c ≡ true
     passed : (n, p) ∈ links (net v) (sourceOf c) (pathOf v c)
 
   module _ (links-pass : (n p : ℕ) → linkTest v n p ≡ true) (receives-pass : (n k : ℕ) → receiveTest v n k ≡ true) (framed : Framed v) (c : ℕ) (some : c ≢ 0) where
@@ -158,7 +158,7 @@ module _ (v : View) where
     held-link n p x =
         let a = both (v .enabled n p) _ (passing (ltb n (2 ^ v .dimension) && ltb p (v .dimension)) (rw (x, ne-eqb c 0 some, and-false (not (v .enabled n p))) at (links-pass n p))) in
         let b = both (circuitTest v c) _ (a .1) in
-        record { on = a .0; reaches-end = b .0; passed = true-link _ n p (b .1) }
+        record { on = a .0; circuit-passed = b .0; passed = true-link _ n p (b .1) }
 
     -- and that of a receive channel: it is armed, and its path ends there
     held-receive : (n k : ℕ) → v .receiver n k ≡ c → (v .armed n k ≡ true) × (circuitTest v c ≡ true) × (n ≡ endFor v c (pathOf v c))
@@ -170,9 +170,9 @@ module _ (v : View) where
         (a .0, b .0, eqb-true n _ (b .1))
 
     -- a number that reaches its end stands
-    reached-stands : circuitTest v c ≡ true → CircuitSound v c
-    reached-stands e =
-        let r = reach-facts c e in
+    circuit-sound : circuitTest v c ≡ true → CircuitSound v c
+    circuit-sound e =
+        let r = circuit-facts c e in
         record {
           path = pathOf v c;
           permitted = apart-permitted (shapeOf v) (sourceOf c) (pathOf v c) (unfold pathOf in path-apart (shapeOf v) (heldBy v c) (sourceOf c) (not-empty (pathOf v c) (r .some)));
@@ -195,8 +195,8 @@ module _ (v : View) where
       where
         go : ((i : ℕ) × (j : ℕ) × (eqb (v .owner i j) c ≡ true)) ⊎ ((i j : ℕ) → i < 256 → j < 8 → eqb (v .owner i j) c ≡ false)
             → ((i : ℕ) × (j : ℕ) × (eqb (v .receiver i j) c ≡ true)) ⊎ ((i j : ℕ) → i < 256 → j < 8 → eqb (v .receiver i j) c ≡ false) → Nowhere v c ⊎ CircuitSound v c
-        go (inl s) r = inr (reached-stands (held-link (s .0) (s .1) (eqb-true _ c (s .2)) .reaches-end))
-        go (inr f) (inl s) = inr (reached-stands (held-receive (s .0) (s .1) (eqb-true _ c (s .2)) .1))
+        go (inl s) r = inr (circuit-sound (held-link (s .0) (s .1) (eqb-true _ c (s .2)) .circuit-passed))
+        go (inr f) (inl s) = inr (circuit-sound (held-receive (s .0) (s .1) (eqb-true _ c (s .2)) .1))
         go (inr f) (inr g) =
             inl (
               (λ n p x. ⊎-elim (λ i. clash (eq-eqb _ c x) (f n p (i .0) (i .1))) (λ o. some (sym x ∙ framed .no-link n p o .1)) (placed n p)),
@@ -211,8 +211,8 @@ module _ (v : View) where
         absent-armed = λ n k out. receive-absent n k out (receives-pass n k) .0;
         held-enabled = λ n p h. held-link links-pass receives-pass framed _ h n p refl .on;
         held-armed = λ n k h. held-receive links-pass receives-pass framed _ h n k refl .0;
-        link-number = λ n p. ⊎-elim (λ z. omega arith) (λ h. reach-facts _ (held-link links-pass receives-pass framed _ h n p refl .reaches-end) .in-range) (same? (v .owner n p) 0);
-        receive-number = λ n k. ⊎-elim (λ z. omega arith) (λ h. reach-facts _ (held-receive links-pass receives-pass framed _ h n k refl .1) .in-range) (same? (v .receiver n k) 0);
+        link-number = λ n p. ⊎-elim (λ z. omega arith) (λ h. circuit-facts _ (held-link links-pass receives-pass framed _ h n p refl .circuit-passed) .in-range) (same? (v .owner n p) 0);
+        receive-number = λ n k. ⊎-elim (λ z. omega arith) (λ h. circuit-facts _ (held-receive links-pass receives-pass framed _ h n k refl .1) .in-range) (same? (v .receiver n k) 0);
         numbers = number-stands links-pass receives-pass framed;
       }
 

@@ -21,7 +21,7 @@ const GROUP: u16 = 16;
 const GROUPS: u16 = 16;
 
 // All links of a table.
-const LINK_COUNT: u32 = 2048;
+const ALL_LINKS: u32 = 2048;
 
 // The hops of the circuits that hold a node's receive channels.
 fn hops_at(t: &[u8], nodes: u16, n: Node, seen: &mut [u8]) -> u32
@@ -153,7 +153,7 @@ fn entries_sound(t: &[u8], dimension: u16) -> bool
     }
     let free = all_free(t);
     let mut seen = [0u8; 256];
-    all_hops(t, cube::node_count(dimension), &mut seen) + free == LINK_COUNT
+    all_hops(t, cube::node_count(dimension), &mut seen) + free == ALL_LINKS
 }
 
 // Whether a table may be used: 0, or the refusal of the first test that it fails.

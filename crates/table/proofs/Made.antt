@@ -23,7 +23,7 @@ use Rattle.table.specs.Encode.{encode, Bytes}
 use Rattle.table.proofs.Encoded.{encode-shown}
 
 -- the bytes that the code writes: D, the D bits of each of its 2^D nodes, and nothing else
-unfoldable made : ℕ → List ℕ
+unfoldable pub made : ℕ → List ℕ
 made D = D ∷ replicate (cubeNodes D) (2 ^ D - 1) ++ replicate (tableLength - 1 - cubeNodes D) 0
 
 -- a value k times and then zeros
@@ -134,7 +134,7 @@ made-shows D h = λ i.
     }
 
 -- So the bytes that the code writes are those that show a made table;
-made-encoded : (D : ℕ) → D ≤ largestDimension → made D ≡ encode (fresh D)
+pub made-encoded : (D : ℕ) → D ≤ largestDimension → made D ≡ encode (fresh D)
 made-encoded D m = encode-shown (made D) (fresh D) (made-bytes D m) (made-shows D m)
 
 pub made-of : (b : List ℕ) (D n : ℕ) → D ≤ largestDimension → length b ≡ tableLength → n ≡ 2 ^ D → 0 < n → n ≤ 256

@@ -3,7 +3,7 @@
 use mathlib.Core.Bool.{Bool, cond}
 use mathlib.Core.Path.{_≡_}
 use mathlib.Core.List.{List}
-use Prim.Native.Nat.{ℕ, _/_, _%_, _<_, _≤_}
+use Prim.Native.Nat.{ℕ, _/_, _%_, _^_, _<_, _≤_}
 use lib.Dec.{eqb, ltb}
 use lib.ListN.{length}
 use Rattle.common.specs.Lists.{keep, from, lowest}
@@ -16,7 +16,7 @@ use Rattle.table.specs.View.{View, available}
 -- A bound on a node's byte of enable bits in a cube of dimension D: 2^D for a node of the cube, 1 (no bit) for any other. Every node keeps it where no absent
 -- link is enabled.
 unfoldable pub enableLimit : ℕ → ℕ → ℕ
-enableLimit D n = cond (ltb n (cubeNodes D)) (cubeNodes D) 1
+enableLimit D n = cond (ltb n (cubeNodes D)) (2 ^ D) 1
 
 unfoldable pub EnablesFit : List ℕ → ℕ → Type 0
 EnablesFit b D = (n : ℕ) → n < 256 → enableBits b n < enableLimit D n

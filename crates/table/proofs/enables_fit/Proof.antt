@@ -1,4 +1,4 @@
--- `table::enables_fit` meets its contract: no byte of either run is above what was or-bytes of it.
+-- `table::enables_fit` meets its contract: no byte of either run is above the or of it.
 -- Assumes nothing.
 use native.Mathlib.Omega.{arith}
 use borrow.Author.Needs.{needs}

@@ -1,4 +1,4 @@
--- `table::receives_clear` meets its contract: the bytes of the rows are 0 where what was or-bytes of them is.
+-- `table::receives_clear` meets its contract: the bytes of the rows are 0 where the or of them is.
 -- Assumes nothing.
 use mathlib.Core.Path.{_≡_, subst}
 use Prim.Native.Nat.{ℕ, _+_, _*_}
