@@ -2,35 +2,36 @@
 -- Assumes nothing.
 use mathlib.Core.Path.{_≡_, refl, ap, sym, _∙_, subst}
 use mathlib.Core.Logic.{⊎-elim, _≢_}
-use mathlib.Core.Bool.{true, false}
+use mathlib.Core.Bool.{true}
 use mathlib.Core.List.{List, [], _∷_}
-use Prim.Native.Nat.{ℕ, _+_, _≤_, _<_}
+use Prim.Native.Nat.{ℕ, _+_, _-_, _^_, _≤_, _<_}
 use native.Mathlib.Omega.{arith}
 use lib.ListN.{length}
 use lib.Bits.{bitXor}
 use lib.Pow.{pow-mono}
 use Rattle.common.proofs.Every.{decide}
 use Rattle.common.specs.Lists.{_∈_}
-use Rattle.common.proofs.Tests.{below-or, clash}
+use Rattle.common.proofs.Tests.{below-or}
 use Rattle.cube.specs.Bits.{has, flip}
-use Rattle.cube.specs.Cube.{largestDimension, portCount, NodeOf, VectorOf, next, sourceOf}
+use Rattle.cube.specs.Cube.{largestDimension, portCount, NodeOf, next, sourceOf}
 use Rattle.cube.proofs.Bits.{no-ports, has-room, flip-xor}
 use Rattle.cube.proofs.Axes.{axis-low, next-inside}
-use Rattle.paths.specs.Network.{Path, Exactly}
+use Rattle.paths.specs.Network.{Path, end, links, Exactly}
 use Rattle.paths.specs.Permitted.{Onward, Permitted}
 use Rattle.paths.specs.CubeNetwork.{network, ports}
-use Rattle.paths.proofs.Apart.{apart-permitted, permitted-inside}
-use Rattle.paths.proofs.CubeNetwork.{unfolded-port, path-hops}
+use Rattle.paths.proofs.Apart.{LaterApart, apart-permitted, permitted-inside}
+use Rattle.paths.proofs.CubeNetwork.{unfolded-port}
 use Rattle.paths.proofs.Links.{On, on-cases, on-first, on-later}
 use Rattle.paths.proofs.Walks.{path-owned, path-apart}
 use Rattle.layout.specs.Layout.{dimensionAt}
 use Rattle.table.specs.TableContracts.{HeldBy, linksHeld}
 use Rattle.table.specs.View.{View, view, shapeOf, net, heldBy}
 use Rattle.circuit_path.specs.CircuitSound.{endFor, CircuitSound}
-use Rattle.circuit_path.specs.PathOf.{pathOf}
-use Rattle.circuit_path.specs.OpenCircuit.{isOpenIn}
+use Rattle.circuit_path.specs.PathOf.{pathOf, isEmpty}
+use Rattle.circuit_path.specs.Follow.{linksFollowed, firstHop, FollowsTo}
 use Rattle.circuit_hops.specs.CountHops.{Sole, SoleWay, Walks, TakePre, FollowedPath, HopsFollowed}
-use Rattle.circuit_path.proofs.CircuitSound.{path-is, not-empty, open-path, sound-open}
+use Rattle.circuit_path.proofs.CircuitSound.{path-is, not-empty, sound-open}
+use Rattle.circuit_path.proofs.Examine.{hop-below, path-after}
 use Rattle.circuit_hops.proofs.Ways.{way-onward, way-owned, way-only, onward-way, onward-once, sole-port, shown}
 
 -- a circuit that holds one link at its source: its port, and the node that it leads to
@@ -41,13 +42,13 @@ pub record OneLink (b : List ℕ) (c s held : ℕ) : Type 0 where
   pub to : bitXor s held ≡ next s port
   pub inside : NodeOf (dimensionAt b) (bitXor s held)
 
-pub one-link : {b : List ℕ} {c s t held : ℕ} → TakePre b c s t → HeldBy b c s held → linksHeld (view b) c s ≤ 1 → VectorOf (dimensionAt b) held → held ≢ 0 → OneLink b c s held
-one-link {b} {c} {s} {t} {held} pre f few l h = ⊎-elim (λ r. found (r .0) (r .1) (r .2)) (λ r. absurd (h (no-ports 8 held (f .small) r))) (decide 8 (has held))
+pub one-link : {b : List ℕ} {nodes c s t held : ℕ} → TakePre b nodes c s t → HeldBy b c s held → linksHeld (view b) c s ≤ 1 → held < nodes → held ≢ 0 → OneLink b c s held
+one-link {b} {nodes} {c} {s} {t} {held} pre f few l h = ⊎-elim (λ r. found (r .0) (r .1) (r .2)) (λ r. absurd (h (no-ports 8 held (f .small) r))) (decide 8 (has held))
   where
     found : (p : ℕ) → p < portCount → has held p ≡ true → OneLink b c s held
     found p k x =
         let one = sole-port f few k x in
-        let low : p < dimensionAt b = ⊎-elim (λ y. y) (λ y. absurd (omega (arith, has-room held p x, pow-mono {i = dimensionAt b} {j = p} y))) (below-or (dimensionAt b) p) in
+        let low : p < dimensionAt b = ⊎-elim (λ y. y) (λ y. absurd (omega (arith, has-room held p x, pow-mono {i = dimensionAt b} {j = p} y, pre .count))) (below-or (dimensionAt b) p) in
         let to : bitXor s held ≡ next s p = ap (bitXor s) (one .1) ∙ flip-xor s p ∙ ap (flip s) (sym (axis-low p (omega arith))) in
         record {
           port = p;
@@ -58,7 +59,7 @@ one-link {b} {c} {s} {t} {held} pre f few l h = ⊎-elim (λ r. found (r .0) (r 
         }
 
 -- the walk of a circuit that holds one link at its source, over port p
-module _ {b : List ℕ} {c s t p start hops : ℕ} (pre : TakePre b c s t) (one : Sole (view b) c s p) (low : p < dimensionAt b) (to : start ≡ next s p) (walks : Walks (view b) c t start 1 hops) where
+module _ {b : List ℕ} {nodes c s t p start hops : ℕ} (pre : TakePre b nodes c s t) (one : Sole (view b) c s p) (low : p < dimensionAt b) (to : start ≡ next s p) (walks : Walks (view b) c t start 1 hops) where
   v : View
   v = view b
 
@@ -142,36 +143,51 @@ module _ {b : List ℕ} {c s t p start hops : ℕ} (pre : TakePre b c s t) (one 
             whole = λ z e. let r = standing z e in r .cut ∙ ap (p ∷_) (way-only (view b) c t fits _ w (r .rest) x (r .onward) (r .owned));
           }
 
--- a circuit that comes through its source again: it has no path, or one that ends elsewhere, or one that ends at t
-module _ (v : View) (c t : ℕ) where
-  pub back-none : isOpenIn v c ≡ false → HopsFollowed v c t 4096
-  back-none e =
-      record { found = λ k. absurd (omega arith); forced = λ z q. absurd (clash (sound-open v c z) e); most = omega arith }
+-- a circuit that comes through its source again: a is the first hop of its path
+module _ {b : List ℕ} {nodes c s t a : ℕ} (pre : TakePre b nodes c s t) (e : a ≡ firstHop (view b) c s (nodes - 1)) where
+  count : nodes ≡ 2 ^ view b .dimension
+  count = pre .count ∙ ap (2 ^_) (sym (shown b))
 
-  module _ {n : ℕ} (ends : n ≡ endFor v c (pathOf v c)) where
-    pub back-elsewhere : n ≢ t → HopsFollowed v c t 4096
-    back-elsewhere h =
-        record { found = λ k. absurd (omega arith); forced = λ z q. absurd (h (ends ∙ ap (endFor v c) (path-is v c z) ∙ q)); most = omega arith }
+  most : view b .dimension ≤ largestDimension
+  most = omega (arith, shown b, pre .known .fits)
 
-    pub back-followed : v .dimension ≤ largestDimension → isOpenIn v c ≡ true → {hops : ℕ} → hops ≡ length (pathOf v c) → n ≡ t → HopsFollowed v c t hops
-    back-followed d some k e =
+  stands-open : CircuitSound (view b) c → a < portCount
+  stands-open z = hop-below (view b) c refl most count (sound-open (view b) c z) (pre .source) e
+
+  pub back-none : 8 ≤ a → HopsFollowed (view b) c t 4096
+  back-none l = record { found = λ k. absurd (omega arith); forced = λ z q. absurd (omega (arith, stands-open z)); most = omega arith }
+
+  module _ {start hops : ℕ} (l : a < portCount) (to : start ≡ next s a) (f : FollowsTo (view b) c start (nodes - 1) t hops) where
+    path-is-followed : pathOf (view b) c ≡ a ∷ linksFollowed (view b) c start (nodes - 1)
+    path-is-followed = path-after (view b) c refl most count (pre .source) e l to
+
+    path-end : endFor (view b) c (pathOf (view b) c) ≡ end (net (view b)) start (linksFollowed (view b) c start (nodes - 1))
+    path-end = ap (endFor (view b) c) path-is-followed ∙ (unfold end network in ap (λ x. end (net (view b)) x (linksFollowed (view b) c start (nodes - 1))) (sym (to ∙ ap (λ x. next x a) (pre .source))))
+
+    pub back-followed : HopsFollowed (view b) c t hops
+    back-followed =
         record {
-          found = λ l.
-              record {
-                path = pathOf v c;
-                permitted = permitted;
-                owned = λ m r o. unfold pathOf On in path-owned (shapeOf v) (heldBy v c) (sourceOf c) m r o;
-                hop-count = k;
-                whole = λ z x. sym (path-is v c z);
-              };
-          forced = λ z q. omega (arith, short);
-          most = omega (arith, short);
+          found = λ k. path-of (f .ends k .0) (f .ends k .1);
+          forced = λ z q. f .forced (sym q ∙ ap (endFor (view b) c) (sym (path-is (view b) c z)) ∙ path-end);
+          most = f .most;
         }
       where
-        permitted : Permitted (net v) (sourceOf c) (ports (shapeOf v)) t (pathOf v c)
-        permitted =
-            subst (λ (x : ℕ). Permitted (net v) (sourceOf c) (ports (shapeOf v)) x (pathOf v c)) (sym ends ∙ e)
-            (apart-permitted (shapeOf v) (sourceOf c) (pathOf v c) (unfold pathOf in path-apart (shapeOf v) (heldBy v c) (sourceOf c) (not-empty (pathOf v c) (sym (open-path v c) ∙ some))))
+        there : pathOf (view b) c ≢ []
+        there q = not-empty (a ∷ linksFollowed (view b) c start (nodes - 1)) (unfold isEmpty in refl) (sym path-is-followed ∙ q)
 
-        short : length (pathOf v c) ≤ 9
-        short = omega (arith, path-hops (shapeOf v) (sourceOf c) (ports (shapeOf v)) t (pathOf v c) permitted)
+        path-of : t ≡ end (net (view b)) start (linksFollowed (view b) c start (nodes - 1)) → hops ≡ 1 + length (linksFollowed (view b) c start (nodes - 1)) → FollowedPath (view b) c t hops
+        path-of q k =
+            record {
+              path = pathOf (view b) c;
+              permitted = subst (λ (x : ℕ). Permitted (net (view b)) (sourceOf c) (ports (shapeOf (view b))) x (pathOf (view b) c)) (path-end ∙ sym q)
+                  (apart-permitted (shapeOf (view b)) (sourceOf c) (pathOf (view b) c) (apart there));
+              owned = λ m r o. owns m r o;
+              hop-count = omega (arith, ap length path-is-followed);
+              whole = λ z x. sym (path-is (view b) c z);
+            }
+          where
+            apart : pathOf (view b) c ≢ [] → LaterApart (shapeOf (view b)) (pathOf (view b) c)
+            apart h = unfold pathOf in path-apart (shapeOf (view b)) (heldBy (view b) c) (sourceOf c) h
+
+            owns : (m r : ℕ) → (m, r) ∈ links (net (view b)) (sourceOf c) (pathOf (view b) c) → heldBy (view b) c m r ≡ true
+            owns m r o = unfold pathOf On in path-owned (shapeOf (view b)) (heldBy (view b) c) (sourceOf c) m r o

@@ -69,7 +69,7 @@ nodes-most d m = omega (arith, most-nodes d)
 pub positive : {c : ℕ} → c ≢ 0 → 0 < c
 positive {c} h = ⊎-elim (λ z. absurd (h (omega arith))) (λ z. z) (below-or 1 c)
 
-pub source-small : {b : List ℕ} {c s t : ℕ} → TakePre b c s t → s < 256
+pub source-small : {b : List ℕ} {nodes c s t : ℕ} → TakePre b nodes c s t → s < 256
 source-small pre = omega (arith, pre .source, pre .known .source, most-nodes (pre .known .fits))
 
 -- a circuit that is followed and marked; one that was marked before; and one that cannot stand on a path to t

@@ -40,10 +40,11 @@ pub record WalkPre (b : List ℕ) (n t : ℕ) : Type 0 where
   pub target : NodeOf (dimensionAt b) t
 
 -- what looking for the path of circuit c from its source s to node t asks
-pub record TakePre (b : List ℕ) (c s t : ℕ) : Type 0 where
+pub record TakePre (b : List ℕ) (nodes c s t : ℕ) : Type 0 where
   pub known : HasSource b c
   pub source : s ≡ sourceOf c
-  pub target : NodeOf (dimensionAt b) t
+  pub count : nodes ≡ cubeNodes (dimensionAt b)
+  pub target : t < nodes
 
 -- a permitted path to node t over links of circuit c, and the circuit's own if it stands on one that ends there
 pub record FollowedPath (v : View) (c t hops : ℕ) : Type 0 where

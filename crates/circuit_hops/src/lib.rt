@@ -5,18 +5,13 @@ ghost use Prim.Native.Nat.{_<_, _≤_};
 ghost use lib.Dec.{eqb};
 ghost use lib.Bits.{bitAnd};
 ghost use lib.ListN.{length, getD};
-ghost use Rattle.cube.specs.Cube.{VectorOf};
-ghost use Rattle.layout.specs.Layout.{dimensionAt};
 ghost use Rattle.table.specs.TableContracts.{HeldBy, linksHeld};
 ghost use Rattle.table.specs.View.{view};
-ghost use Rattle.circuit_path.specs.Follow.{HasSource};
 ghost use Rattle.circuit_hops.specs.Seen.{withMarks};
 ghost use Rattle.circuit_hops.specs.CountHops.{Walks, WalkPre, TakePre, HopsFollowed, Taken, HopsPre};
+use circuit_path::NONE;
 use cube::Circuit;
 use cube::Node;
-
-// More hops than there are links: the answer where a circuit does not lead where it should.
-pub const NONE: u32 = 4096;
 
 // The hops of a circuit that has made one, to a node: at each node the one link that it holds there, and uphill. NONE or more where it does not lead there.
 fn walk(t: &[u8], c: Circuit, from: Node, end: Node) -> u32
@@ -41,20 +36,15 @@ fn walk(t: &[u8], c: Circuit, from: Node, end: Node) -> u32
 }
 
 // The hops of a circuit that holds several links at its source: its path comes through there again.
-fn hops_back(t: &[u8], c: Circuit, end: Node) -> u32
-    requires { ⌜ HasSource (now t) (c .0) ⌝ }
+fn hops_back(t: &[u8], nodes: u16, c: Circuit, source: Node, end: Node) -> u32
+    requires { ⌜ TakePre (now t) nodes (c .0) (source .0) (end .0) ⌝ }
     ensures { λ r. ⌜ HopsFollowed (view (now (t .entry))) (c .0) (end .0) r ⌝ }
 {
-    if !circuit_path::is_open(t, c) {
+    let first = circuit_path::first_hop(t, c, source, nodes - 1);
+    if first.0 >= cube::NO_PORT {
         return NONE;
     }
-    let mut ports = [0u8; 9];
-    let path = circuit_path::write_path(t, c, &mut ports);
-    if path.end.0 == end.0 {
-        path.hops as u32
-    } else {
-        NONE
-    }
+    circuit_path::follow(t, c, cube::neighbour(source, first), nodes - 1, end)
 }
 
 // Marks the links that a circuit holds at its source. No other circuit holds one of them: so where one was marked before, the circuit was.
@@ -73,8 +63,16 @@ fn mark_new(source: Node, held: u16, seen: &mut [u8]) -> bool
 }
 
 // The hops of a circuit to a node, where it holds at most one link at its source, and where it holds several.
-fn one_link(t: &[u8], c: Circuit, source: Node, held: u16, end: Node, seen: &mut [u8]) -> u32
-    requires { ⌜ TakePre (now t) (c .0) (source .0) (end .0) × HeldBy (now t) (c .0) (source .0) held × VectorOf (dimensionAt (now t)) held × (length (now seen) ≡ 256) ⌝ }
+fn one_link(
+    t: &[u8],
+    nodes: u16,
+    c: Circuit,
+    source: Node,
+    held: u16,
+    end: Node,
+    seen: &mut [u8],
+) -> u32
+    requires { ⌜ TakePre (now t) nodes (c .0) (source .0) (end .0) × HeldBy (now t) (c .0) (source .0) held × (held < nodes) × (length (now seen) ≡ 256) ⌝ }
     requires { ⌜ linksHeld (view (now t)) (c .0) (source .0) ≤ 1 ⌝ }
     ensures { λ r. ⌜ Taken (view (now (t .entry))) (c .0) (end .0) (now (seen .entry)) (now (seen .exit)) r ⌝ }
 {
@@ -88,12 +86,20 @@ fn one_link(t: &[u8], c: Circuit, source: Node, held: u16, end: Node, seen: &mut
     }
 }
 
-fn several_links(t: &[u8], c: Circuit, source: Node, held: u16, end: Node, seen: &mut [u8]) -> u32
-    requires { ⌜ TakePre (now t) (c .0) (source .0) (end .0) × HeldBy (now t) (c .0) (source .0) held × (length (now seen) ≡ 256) ⌝ }
+fn several_links(
+    t: &[u8],
+    nodes: u16,
+    c: Circuit,
+    source: Node,
+    held: u16,
+    end: Node,
+    seen: &mut [u8],
+) -> u32
+    requires { ⌜ TakePre (now t) nodes (c .0) (source .0) (end .0) × HeldBy (now t) (c .0) (source .0) held × (length (now seen) ≡ 256) ⌝ }
     ensures { λ r. ⌜ Taken (view (now (t .entry))) (c .0) (end .0) (now (seen .entry)) (now (seen .exit)) r ⌝ }
 {
     if mark_new(source, held, seen) {
-        hops_back(t, c, end)
+        hops_back(t, nodes, c, source, end)
     } else {
         NONE
     }
@@ -113,10 +119,10 @@ pub fn hops_to(t: &[u8], nodes: u16, c: Circuit, end: Node, seen: &mut [u8]) -> 
         if nodes <= held {
             return NONE;
         }
-        return several_links(t, c, source, held, end, seen);
+        return several_links(t, nodes, c, source, held, end, seen);
     }
     if held >= nodes {
         return NONE;
     }
-    one_link(t, c, source, held, end, seen)
+    one_link(t, nodes, c, source, held, end, seen)
 }

@@ -1,36 +1,48 @@
--- `circuit_hops::hops_back` meets its contract: the circuit has no path, or one that ends at the node, or one that ends elsewhere.
+-- `circuit_hops::hops_back` meets its contract: the first hop of its path, and what is followed behind it.
 -- Assumes nothing.
-use mathlib.Core.Path.{sym, _∙_}
+use Prim.Native.Nat.{_<_}
 use native.Mathlib.Omega.{arith}
-use lib.Dec.{lit≤}
-use borrow.Author.Tests.{not-true, not-false}
-use Rattle.circuit_hops.proofs.Ways.{shown}
-use Rattle.circuit_hops.proofs.Following.{back-none, back-elsewhere, back-followed}
+use lib.Dec.{lit<}
+use Rattle.cube.proofs.Axes.{next-inside}
+use Rattle.circuit_hops.proofs.Taken.{nodes-most, source-small}
+use Rattle.circuit_hops.proofs.Following.{back-none, back-followed}
 use borrow.Author.Needs.{needs}
 use Rattle.circuit_hops.proofs.hops_back.Statement.{statement}
 use Rattle.circuit_hops.proofs.hops_back.Tie as tie
 
-returns : tie.Need-returns
-returns c = back-none _ _ _ (sym (c .before .is-open .ensures) ∙ not-true _ (c .if1 .taken))
+first-hop-requires : tie.Need-first-hop-requires
+first-hop-requires c κs = let s = c .before in record { bytes = s .pre .known .bytes; node = source-small (s .pre); port = lit< tt }
 
-write-path-requires : tie.Need-write-path-requires
-write-path-requires c κs =
+returns : tie.Need-returns
+returns c = let h = c .before .before in back-none (h .before .before .pre) (h .first-hop .ensures) (c .if1 .taken)
+
+follow-requires : tie.Need-follow-requires
+follow-requires c κs =
     let i = c .before in
-    (i .before .before .before .pre, (sym (i .before .is-open .ensures) ∙ not-false _ (i .if1 .left), lit≤ tt))
+    let h = i .before .before in
+    let s = h .before .before in (
+      omega (arith, nodes-most (s .pre .known .fits) (s .pre .count), s .pre .target),
+      record {
+        bytes = s .pre .known .bytes;
+        node = rw (c .neighbour .ensures) (next-inside 8 (s .args .source .0) (h .first-hop .result .0) (omega arith) (source-small (s .pre)) (omega (arith, i .if1 .left)));
+        port = lit< tt;
+      },
+    )
 
 returns-2 : tie.Need-returns-2
 returns-2 c =
-    let e = c .before in
-    let w = e .before .before .before .before in
-    let i = w .before .before in
-    let s = i .before .before .before in
-    back-followed _ _ _ (w .write-path .ensures .1 .0) (omega (arith, shown (s .args .t .now), s .pre .fits)) (sym (i .before .is-open .ensures) ∙ not-false _ (i .if1 .left))
-    (w .write-path .ensures .0) (e .if2 .taken)
-
-returns-3 : tie.Need-returns-3
-returns-3 c =
-    let w = c .before .before .before .before in
-    back-elsewhere _ _ _ (w .write-path .ensures .1 .0) (c .if2 .left)
+    let n = c .before in
+    let h = n .before .before .before in
+    back-followed (h .before .before .pre) (h .first-hop .ensures) (omega (arith, n .before .if1 .left)) (n .neighbour .ensures) (c .follow .ensures)
 
 pub hops-back-spec : {M : Type 1} → statement M
-hops-back-spec = tie.close (tie.spec (search needs) returns (search needs) write-path-requires (search needs) returns-2 returns-3)
+hops-back-spec =
+    tie.close
+    (tie.spec
+    (search needs)
+    first-hop-requires
+    returns
+    (search needs)
+    (search needs)
+    follow-requires
+    returns-2)

@@ -1,7 +1,7 @@
 -- `circuit_hops::hops_to` meets its contract: a number in range whose links at its source are the cube's is followed.
 -- Assumes nothing.
 use mathlib.Core.Path.{subst, ap}
-use Prim.Native.Nat.{ℕ, _^_}
+use Prim.Native.Nat.{ℕ, _^_, _<_}
 use native.Mathlib.Omega.{arith}
 use lib.Dec.{lit<}
 use Rattle.table.specs.TableContracts.{HeldBy}
@@ -79,10 +79,11 @@ one-link-requires c κs =
         record {
           known = record { bytes = s .pre .0 .bytes; fits = s .pre .0 .fits; circuit = s .pre .1; source = omega (arith, i .if1 .left, s .pre .0 .count, s .pre .1) };
           source = g .source-of .ensures;
-          target = omega (arith, s .pre .0 .count);
+          count = s .pre .0 .count;
+          target = s .pre .2;
         },
         h .held-by .ensures,
-        omega (arith, e .if4 .left, s .pre .0 .count),
+        omega (arith, e .if4 .left),
         s .pre .0 .size,
       ),
       omega (arith, k .links-held .ensures, e .before .if2 .left),

@@ -26,7 +26,7 @@ walk-requires c κs =
     let e = c .before .before .before .before .before .before in
     let s = e .before .before .before in
     let pre = s .pre .0 .0 in
-    record { bytes = pre .known .bytes; fits = pre .known .fits; start = one-link pre (s .pre .0 .1) (s .pre .1) (s .pre .0 .2) (e .if1 .left) .inside; target = pre .target }
+    record { bytes = pre .known .bytes; fits = pre .known .fits; start = one-link pre (s .pre .0 .1) (s .pre .1) (s .pre .0 .2) (e .if1 .left) .inside; target = omega (arith, pre .target, pre .count) }
 
 returns-2 : tie.Need-returns-2
 returns-2 c =
