@@ -1,5 +1,5 @@
 -- The laws of answers, and the users' second demand.
-pub mod PassAnswer
-pub mod Sent
+pub mod PassOnBytes
+pub mod SendAnswer
 pub mod AfterSend
 pub mod SendSays

@@ -1,11 +1,12 @@
 -- A send says what the users' second demand asks: for every routing type, on any table of a cube up to dimension 8.
 -- Assumes nothing.
-use mathlib.Core.Path.{_≡_, refl, ap, sym, _∙_, subst}
+use mathlib.Core.Path.{_≡_, refl, ap, _∙_, subst}
 use mathlib.Core.Logic.{_≢_, _↔_}
 use mathlib.Core.Bool.{Bool, true, false, cond}
 use mathlib.Core.List.{List}
-use Prim.Native.Nat.{ℕ, _^_, _≤_, _<_}
+use Prim.Native.Nat.{ℕ, _≤_}
 use native.Mathlib.Omega.{arith}
+use Rattle.cube.specs.Cube.{largestDimension, NodeOf}
 use Rattle.common.proofs.Tests.{clash}
 use Rattle.paths.specs.Network.{Path}
 use Rattle.paths.specs.Send.{channel, none-available, Outcome, acknowledged, route-rejected, receive-rejected, Acknowledged, Attempt, SendResult}
@@ -18,10 +19,10 @@ use Rattle.table.specs.View.{View, view, receive, available, net, shapeOf}
 use Rattle.table.proofs.Receives.{chosen, none-chosen}
 use Rattle.paths.proofs.Words.{free-link}
 use Rattle.paths.proofs.Waiting.{waiting-exactly, blocked-exactly, found-waits}
-use Rattle.answers.specs.SendOnTable.{stateIn, freeIn, pass-answer, waitingHelps, answerOfOutcome, sendOf}
-use Rattle.answers.specs.SendAnswer.{bytesAfterSend, sendAnswer, sends, MaySend}
+use Rattle.answers.specs.SendOnTable.{stateIn, freeIn, pass-answer, waitingHelps, answerOfOutcome, sendIn}
+use Rattle.answers.specs.SendAnswer.{bytesAfterSend, sendAnswer, sentOnBytes, MaySend}
 use Rattle.answers.specs.SendSays.{SomeRoute, CouldRoute, BlockedRoutes, Available, Lowest, SendSays}
-use Rattle.answers.proofs.Sent.{sent-leaves, sent-bytes, sent-numbers, sent-scouts}
+use Rattle.answers.proofs.SendAnswer.{sent-leaves, sent-bytes, sent-numbers, sent-scouts}
 use Rattle.answers.proofs.AfterSend.{Fits, view-after-send, sent-fits, send-encoded}
 
 -- what the choice of a receive channel says
@@ -106,7 +107,7 @@ unfolding freeIn stateIn
 free-enabled v n p e = free-link _ _ .0 e .0
 
 -- whether waiting helps, in the words of the request
-module _ (b : List ℕ) (s t type vector : ℕ) (fits : shapeOf (view b) .dimension ≤ 8) (source : s < 2 ^ shapeOf (view b) .dimension) (target : t < 2 ^ shapeOf (view b) .dimension) where
+module _ (b : List ℕ) (s t type vector : ℕ) (fits : shapeOf (view b) .dimension ≤ largestDimension) (source : NodeOf (shapeOf (view b) .dimension) s) (target : NodeOf (shapeOf (view b) .dimension) t) where
   pub could-route : (waitingHelps (view b) s t type vector ≡ true) ↔ CouldRoute (view b) s t (attempts (shapeOf (view b)) type vector)
   unfolding waitingHelps
   could-route = waiting-exactly (shapeOf (view b)) fits s t type vector source target (view b .enabled)
@@ -115,14 +116,14 @@ module _ (b : List ℕ) (s t type vector : ℕ) (fits : shapeOf (view b) .dimens
   unfolding waitingHelps
   routes-blocked = blocked-exactly (shapeOf (view b)) fits s t type vector source target (view b .enabled)
 
-  found-helps : sendOf (view b) s t type vector .outcome ≢ route-rejected → waitingHelps (view b) s t type vector ≡ true
+  found-helps : sendIn (view b) s t type vector .outcome ≢ route-rejected → waitingHelps (view b) s t type vector ≡ true
   unfolding waitingHelps
   found-helps = found-waits (shapeOf (view b)) fits s t type vector source target (freeIn (view b)) (view b .enabled) (free-enabled (view b)) (receive (view b) t)
 
 -- The users' second demand: of any answer that the contract of `send::send` allows.
 pub demand-2 : (b : List ℕ) (s t c type vector : ℕ) → MaySend b s t c vector → (x h k n : ℕ) (b′ : List ℕ)
-    → pass-answer x h k n b′ ≡ sends b s t c type vector → SendSays b s t c type vector x h k n b′
-unfolding sends
+    → pass-answer x h k n b′ ≡ sentOnBytes b s t c type vector → SendSays b s t c type vector x h k n b′
+unfolding sentOnBytes
 demand-2 b s t c type vector may x h k n b′ q =
     record {
       outcome = o;
@@ -167,16 +168,16 @@ demand-2 b s t c type vector may x h k n b′ q =
     ports : Fits (dimensionAt b) o
     ports = unfold view in sent-fits (view b) s t type vector (may .fits) (may .source) (may .target)
 
-    fits : shapeOf (view b) .dimension ≤ 8
+    fits : shapeOf (view b) .dimension ≤ largestDimension
     fits = unfold view in may .fits
 
     said : AttemptsSay (net (view b)) s t (freeIn (view b)) (receive (view b) t) tried o m
     said = send-says (shapeOf (view b)) (freeIn (view b)) (receive (view b) t) s vector t type fits (unfold view in may .source) (unfold view in may .target)
 
-    source : s < 2 ^ shapeOf (view b) .dimension
+    source : NodeOf (shapeOf (view b) .dimension) s
     source = unfold view in may .source
 
-    target : t < 2 ^ shapeOf (view b) .dimension
+    target : NodeOf (shapeOf (view b) .dimension) t
     target = unfold view in may .target
 
     which : Rejections b c s t tried helps (could-route b s t type vector fits source target) (routes-blocked b s t type vector fits source target) x

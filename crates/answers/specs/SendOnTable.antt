@@ -29,8 +29,8 @@ stateOf Held = link-held
 stateOf Blocked = link-blocked
 
 -- the send of a routing type from s to t over the ports of a vector, read on what a table shows
-abbrev pub sendOf : View → ℕ → ℕ → ℕ → ℕ → SendResult
-sendOf v s t type vector = send type (shapeOf v) (freeIn v) (receive v t) s vector t
+abbrev pub sendIn : View → ℕ → ℕ → ℕ → ℕ → SendResult
+sendIn v s t type vector = send type (shapeOf v) (freeIn v) (receive v t) s vector t
 
 -- the links of a path from node n given to circuit c, one after another
 unfoldable pub holdLinks : View → ℕ → ℕ → Path → View

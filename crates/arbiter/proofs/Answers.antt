@@ -10,15 +10,17 @@ use lib.Dec.{leb, ltb}
 use lib.ListN.{getD}
 use lib.Count.{trailingZeros}
 use borrow.Author.Tests.{lt-ltb, le-ltb, le-leb, lt-leb, ltb-false, leb-false, ne-eqb}
-use Rattle.common.specs.Tests.{test, refusal}
+use Rattle.common.specs.Tests.{refusal}
 use Rattle.common.proofs.Lists.{keep-none}
 use Rattle.common.proofs.Tests.{refused, passed, accepted, or-left, or-right, neither, below-or, clash}
 use Rattle.arbiter.specs.declared.Choice.{Choice}
 use Rattle.arbiter.specs.Arbiter as A
 use Rattle.arbiter.specs.Arbiter.{asks, order, chosen, arbiterTests, arbitrated}
-use Rattle.arbiter.specs.Chosen.{Chosen, CallSays, bad-request, bad-record, nobody-asks, one-served, Requested}
+use Rattle.arbiter.specs.ArbiterContracts.{Requested}
+use Rattle.arbiter.specs.Chosen.{Chosen, CallSays, bad-request, bad-record, nobody-asks, one-served}
 use Rattle.arbiter.proofs.Order.{chosen-says, chosen-is}
-use Rattle.arbiter.proofs.Requests.{asks-zero, asks-high, asks-below, lowest-asks, high-asks, none-asks}
+use Rattle.common.proofs.LowestBit.{lowest-set}
+use Rattle.arbiter.proofs.Requests.{asks-zero, asks-high, asks-below, high-asks, none-asks}
 
 module _ (last requests : ℕ) where
   -- a call is refused where its one test applies, and accepted where it does not
@@ -64,7 +66,7 @@ nobody last h =
 -- with some, one of them is
 pub served : (last requests : ℕ) → Requested last requests → Chosen last requests (chosen last requests)
 served last requests h =
-    let on : asks requests (trailingZeros 26 requests) ≡ true = lowest-asks 26 requests (λ e. omega (arith, h .some)) (h .inside) in
+    let on : asks requests (trailingZeros 26 requests) ≡ true = unfold asks in lowest-set 26 requests (λ e. omega (arith, h .some)) (h .inside) in
     chosen-says last (h .stored) requests (trailingZeros 26 requests) (asks-below 26 requests _ (h .inside) on) on
 
 -- the record is then the requester

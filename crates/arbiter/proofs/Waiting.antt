@@ -17,8 +17,9 @@ use Rattle.common.proofs.Lists.{keep-yes, keep-no}
 use Rattle.common.proofs.Tests.{both, neither, clash, same?, below-or}
 use Rattle.arbiter.specs.declared.Choice.{Choice}
 use Rattle.arbiter.specs.Arbiter.{asks, order, chosen, arbiterTests, accepted, arbitrated}
-use Rattle.arbiter.specs.Chosen.{steps, Requested}
-use Rattle.arbiter.specs.Calls.{Call, made, calls, acceptedCalls, servedBy, KeepsAsking, ServedWithin, ServedLast, limit}
+use Rattle.arbiter.specs.ArbiterContracts.{Requested}
+use Rattle.arbiter.specs.Chosen.{steps}
+use Rattle.arbiter.specs.Calls.{Call, callMade, calls, acceptedCalls, servedBy, KeepsAsking, ServedWithin, ServedLast, limit}
 use Rattle.arbiter.proofs.Order.{steps-above, steps-round}
 use Rattle.arbiter.proofs.Requests.{asks-below, asks-zero}
 use Rattle.arbiter.proofs.Answers.{accepted-for, refused-else, served, recorded}
@@ -37,14 +38,14 @@ nearer last c r h k l near other =
 
 -- the accepted calls of a list: its first one is the first of them, or is left out
 module _ (last requests : ℕ) (more : List ℕ) where
-  goes-first : arbitrated last requests .number ≡ 0 → acceptedCalls last (requests ∷ more) ≡ made last requests ∷ acceptedCalls (arbitrated last requests .last) more
+  goes-first : arbitrated last requests .number ≡ 0 → acceptedCalls last (requests ∷ more) ≡ callMade last requests ∷ acceptedCalls (arbitrated last requests .last) more
   unfolding acceptedCalls calls
-  goes-first e = keep-yes _ (made last requests) (calls (arbitrated last requests .last) more) (eq-eqb (arbitrated last requests .number) 0 e)
+  goes-first e = keep-yes _ (callMade last requests) (calls (arbitrated last requests .last) more) (eq-eqb (arbitrated last requests .number) 0 e)
 
   left-out : arbitrated last requests .number ≢ 0 → acceptedCalls last (requests ∷ more) ≡ acceptedCalls last more
   unfolding acceptedCalls calls
   left-out e =
-      keep-no _ (made last requests) (calls (arbitrated last requests .last) more) (ne-eqb (arbitrated last requests .number) 0 e)
+      keep-no _ (callMade last requests) (calls (arbitrated last requests .last) more) (ne-eqb (arbitrated last requests .number) 0 e)
       ∙ ap (λ (c : Choice). acceptedCalls (c .last) more) (refused-else last requests e)
 
 no-calls : (last : ℕ) → acceptedCalls last [] ≡ []
@@ -68,8 +69,8 @@ one-more q more ih zero r last some near k = absurd (omega arith)
 one-more q more ih (suc m) r last some near k = go (same? (arbitrated last q .number) 0)
   where
     -- the call is accepted: it serves r, or the record comes nearer
-    first : arbitrated last q .number ≡ 0 → KeepsAsking (suc m) r (made last q ∷ take m (acceptedCalls (arbitrated last q .last) more))
-        → r ∈ (servedBy (made last q) ∷ map servedBy (take m (acceptedCalls (arbitrated last q .last) more)))
+    first : arbitrated last q .number ≡ 0 → KeepsAsking (suc m) r (callMade last q ∷ take m (acceptedCalls (arbitrated last q .last) more))
+        → r ∈ (servedBy (callMade last q) ∷ map servedBy (take m (acceptedCalls (arbitrated last q .last) more)))
     first e keeps =
         let a = asks-first keeps in
         let b = accepted-for last q e in

@@ -15,13 +15,13 @@ pub record Call : Type 0 where
   pub requests : ℕ
   pub gave : Choice
 
-abbrev pub made : ℕ → ℕ → Call
-made last requests = record { requests = requests; gave = arbitrated last requests }
+abbrev pub callMade : ℕ → ℕ → Call
+callMade last requests = record { requests = requests; gave = arbitrated last requests }
 
 -- the calls of a list, from a record on: the record after each is the record before the next
 unfoldable pub calls : ℕ → List ℕ → List Call
 calls last [] = []
-calls last (requests ∷ more) = made last requests ∷ calls (arbitrated last requests .last) more
+calls last (requests ∷ more) = callMade last requests ∷ calls (arbitrated last requests .last) more
 
 -- those of them that were accepted, in their order: refused ones may stand anywhere between
 unfoldable pub acceptedCalls : ℕ → List ℕ → List Call

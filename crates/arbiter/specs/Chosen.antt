@@ -2,7 +2,7 @@
 -- Assumes nothing.
 use mathlib.Core.Path.{_≡_}
 use mathlib.Core.Bool.{cond, true, false}
-use Prim.Native.Nat.{ℕ, _+_, _-_, _≤_, _<_, _^_}
+use Prim.Native.Nat.{ℕ, _+_, _-_, _≤_, _<_}
 use lib.Dec.{ltb}
 use Rattle.arbiter.specs.declared.Choice.{Choice}
 use Rattle.arbiter.specs.Arbiter.{asks}
@@ -26,9 +26,3 @@ pub data CallSays (last requests : ℕ) : Choice → Type 0 where
   nobody-asks : last ≤ 25 → ((r : ℕ) → asks requests r ≡ false) → CallSays last requests (record { number = 0; requester = 26; last = last })
   -- "A choice answers 0 and the requester", who is then "the last requester served"
   one-served : (r : ℕ) → last ≤ 25 → ((j : ℕ) → 26 ≤ j → asks requests j ≡ false) → Chosen last requests r → CallSays last requests (record { number = 0; requester = r; last = r })
-
--- a call that is accepted and in which somebody asks
-pub record Requested (last requests : ℕ) : Type 0 where
-  pub stored : last < 26
-  pub inside : requests < 2 ^ 26
-  pub some : 0 < requests

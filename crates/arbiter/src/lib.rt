@@ -2,7 +2,7 @@
 // a 32-bit number, from bit 0 on.
 ghost use mathlib.Core.Path.{_≡_};
 ghost use Rattle.arbiter.specs.Arbiter.{chosen, arbitrated, choice};
-ghost use Rattle.arbiter.specs.Chosen.{Requested};
+ghost use Rattle.arbiter.specs.ArbiterContracts.{Requested};
 use common::refusal;
 
 // The requesters: 0 to 17 are the input ports, 18 to 25 the send channels.

@@ -15,19 +15,17 @@ use Rattle.common.proofs.Tests.{or-left, or-right, refused, passed, accepted, r
 use Rattle.layout.specs.Layout.{tableLength, dimensionAt}
 use Rattle.entries.specs.EntryContracts.{Within}
 use Rattle.table.specs.View.{view}
-use Rattle.cube.specs.Cube.{circuitOf}
+use Rattle.cube.specs.Cube.{largestDimension, channels, NodeOf, circuitOf}
 use Rattle.cube.proofs.Bits.{no-bit-above}
 use Rattle.cube.proofs.Circuits.{source-of-circuit}
 use Rattle.cube.proofs.Ports.{most-nodes, below-256}
 use Rattle.soundness.specs.Sound.{Sound}
-use Rattle.circuit_path.specs.PathOf.{pathOf, isEmpty}
 use Rattle.soundness.specs.TableTests.{tableTests}
 use Rattle.circuit_path.specs.Follow.{HasSource}
 use Rattle.ownership.specs.Calls.{Call, form, absent, blocking, unblocking, opening, closing, tracing, arming, disarming}
 use Rattle.ownership.specs.Allowed.{Allowed}
-use Rattle.ownership.specs.OnTable.{isOpenIn, openIn, factsOf, stoppedAt}
+use Rattle.ownership.specs.OnTable.{openIn, factsOf, stoppedAt}
 use Rattle.ownership.proofs.Allowed.{below, allowed}
-use Rattle.ownership.proofs.OpenCircuits.{open-path}
 use Rattle.ownership.proofs.Stops.{pass-tests, table-numbered, none-stops, none-stops-lent}
 
 -- What a call answers at each return of its tests: a test of the lent table stops it;
@@ -94,18 +92,18 @@ not-found e f = sym e ∙ f
 -- With these `search` proves what each return of a call's tests answers, in whatever order they stand, and what a test asks of those before it.
 pub ruleset stops = (by-table, by-call, here, past, here-not, past-not, above, past-above, nonzero, past-zero, first-here, second-here, past-both, none)
 
-pub ruleset onPathOf = (table-passed, not-found)
+pub ruleset passed-before = (table-passed, not-found)
 
 -- What is known of a table and the nodes of a call that no test stops.
 pub record Inside (b : List ℕ) (s t : ℕ) : Type 0 where
   pub long : length b ≡ tableLength
   pub least : 1 ≤ dimensionAt b
-  pub most : dimensionAt b ≤ 8
+  pub most : dimensionAt b ≤ largestDimension
   pub sound : Sound (view b)
-  pub source : s < 2 ^ dimensionAt b
-  pub target : t < 2 ^ dimensionAt b
+  pub source : NodeOf (dimensionAt b) s
+  pub target : NodeOf (dimensionAt b) t
 
-inside : (b : List ℕ) → refusal (tableTests b) ≡ 0 → {s t : ℕ} → s < 2 ^ dimensionAt b → t < 2 ^ dimensionAt b → Inside b s t
+inside : (b : List ℕ) → refusal (tableTests b) ≡ 0 → {s t : ℕ} → NodeOf (dimensionAt b) s → NodeOf (dimensionAt b) t → Inside b s t
 inside b e h l = let r = pass-tests b e in record { long = r .0; least = r .1; most = r .2; sound = r .3; source = h; target = l }
 
 -- a node that the code found not to be absent
@@ -114,7 +112,7 @@ unfolding factsOf view
 node-passed b s e f = let h = below s (2 ^ dimensionAt b) f in inside b e h h
 
 -- a channel that it found not to be above 7
-pub below-eight : {c : ℕ} → c ≤ 7 → c < 8
+pub below-eight : {c : ℕ} → c ≤ 7 → c < channels
 below-eight h = omega (arith, h)
 
 -- a call that no test stops: the table passes its tests, and the arguments are allowed
@@ -131,27 +129,27 @@ module _ {b : List ℕ} {m p n : ℕ} where
   block-passed e z = let r = none-applies b (blocking m p) refl e z in (inside b (r .0) (r .1 .0) (r .1 .0), r .1 .1)
 
 module _ {b : List ℕ} {m k n : ℕ} where
-  pub arm-passed : n ≡ stoppedAt b (arming m k) → n ≡ 0 → Inside b m m × (k < 8)
+  pub arm-passed : n ≡ stoppedAt b (arming m k) → n ≡ 0 → Inside b m m × (k < channels)
   unfolding Allowed factsOf view
   arm-passed e z = let r = none-applies b (arming m k) refl e z in (inside b (r .0) (r .1 .0) (r .1 .0), r .1 .1)
 
-  pub disarm-passed : n ≡ stoppedAt b (disarming m k) → n ≡ 0 → Inside b m m × (k < 8)
+  pub disarm-passed : n ≡ stoppedAt b (disarming m k) → n ≡ 0 → Inside b m m × (k < channels)
   unfolding Allowed factsOf view
   disarm-passed e z = let r = none-applies b (disarming m k) refl e z in (inside b (r .0) (r .1 .0) (r .1 .0), r .1 .1)
 
 pub open-passed : {b : List ℕ} {s c t : ℕ} (y : ℕ) {v n : ℕ} → n ≡ stoppedAt b (opening s c t y v) → n ≡ 0
-    → Inside b s t × (c < 8) × (v < 2 ^ dimensionAt b) × (v ≢ 0)
+    → Inside b s t × (c < channels) × (v < 2 ^ dimensionAt b) × (v ≢ 0)
 unfolding Allowed factsOf view
 open-passed {b} {s} {c} {t} y {v} e z =
     let r = none-applies b (opening s c t y v) refl e z in
     (inside b (r .0) (r .1 .0) (r .1 .1), r .1 .2, no-bit-above (dimensionAt b) v (r .1 .4), r .1 .3)
 
 module _ {b : List ℕ} {s c : ℕ} where
-  pub close-passed : {n : ℕ} → n ≡ stoppedAt b (closing s c) → n ≡ 0 → Inside b s s × (c < 8) × (openIn (view b) s c ≡ true)
+  pub close-passed : {n : ℕ} → n ≡ stoppedAt b (closing s c) → n ≡ 0 → Inside b s s × (c < channels) × (openIn (view b) s c ≡ true)
   unfolding Allowed factsOf view
   close-passed e z = let r = none-applies b (closing s c) refl e z in (inside b (r .0) (r .1 .0) (r .1 .0), r .1 .1, r .1 .2)
 
-  pub trace-passed : (buffer : List ℕ) {n : ℕ} → n ≡ stoppedAt b (tracing s c buffer) → n ≡ 0 → (Inside b s s × (c < 8) × (openIn (view b) s c ≡ true)) × (9 ≤ length buffer)
+  pub trace-passed : (buffer : List ℕ) {n : ℕ} → n ≡ stoppedAt b (tracing s c buffer) → n ≡ 0 → (Inside b s s × (c < channels) × (openIn (view b) s c ≡ true)) × (9 ≤ length buffer)
   unfolding Allowed factsOf view
   trace-passed buffer e z = let r = none-applies b (tracing s c buffer) refl e z in ((inside b (r .0) (r .1 .0) (r .1 .0), r .1 .1, r .1 .2), r .1 .3)
 
@@ -163,18 +161,13 @@ node-room {b} h = (pow-mono {i = 1} {j = dimensionAt b} (h .least), most-nodes (
 pub link-within : {b : List ℕ} {m p : ℕ} → Inside b m m × (p < dimensionAt b) → Within b m p
 link-within h = record { bytes = h .0 .long; node = below-256 (h .0 .most) (h .0 .source); port = omega (arith, h .0 .most, h .1) }
 
-pub receive-within : {b : List ℕ} {m k : ℕ} → Inside b m m × (k < 8) → Within b m k
+pub receive-within : {b : List ℕ} {m k : ℕ} → Inside b m m × (k < channels) → Within b m k
 receive-within h = record { bytes = h .0 .long; node = below-256 (h .0 .most) (h .0 .source); port = h .1 }
 
 -- The channel has a circuit number, whose source is a node of the cube.
-module _ {b : List ℕ} {s t c : ℕ} (h : Inside b s t) (l : c < 8) where
-  pub small-source : (s < 256) × (c < 8)
+module _ {b : List ℕ} {s t c : ℕ} (h : Inside b s t) (l : c < channels) where
+  pub small-source : (s < 256) × (c < channels)
   small-source = (below-256 (h .most) (h .source), l)
 
   pub has-source : {k : ℕ} → k ≡ circuitOf s c → HasSource b k
   has-source e = rw e record { bytes = h .long; fits = h .most; circuit = omega arith; source = rw (source-of-circuit s c l) (h .source) }
-
--- That circuit has a path where the channel has an open circuit.
-pub channel-path : (b : List ℕ) (s c : ℕ) {k : ℕ} → k ≡ circuitOf s c → not (isEmpty (pathOf (view b) k)) ≡ openIn (view b) s c
-unfolding openIn
-channel-path b s c q = sym (open-path (view b) _) ∙ ap (isOpenIn (view b)) q

@@ -9,12 +9,11 @@ use native.Mathlib.Omega.{arith}
 use lib.ListN.{length}
 use lib.Bits.{bitXor}
 use lib.Pow.{pow-mono}
-use borrow.Author.Tests.{ltb-true}
 use Rattle.common.proofs.Every.{decide}
 use Rattle.common.specs.Lists.{_∈_}
 use Rattle.common.proofs.Tests.{below-or}
 use Rattle.cube.specs.Bits.{has, flip}
-use Rattle.cube.specs.Cube.{next, sourceOf}
+use Rattle.cube.specs.Cube.{largestDimension, portCount, NodeOf, next, sourceOf}
 use Rattle.cube.proofs.Bits.{no-ports, has-room, flip-xor}
 use Rattle.cube.proofs.Axes.{axis-low, next-inside}
 use Rattle.paths.specs.Network.{Path, end, links, Exactly}
@@ -30,9 +29,9 @@ use Rattle.table.specs.View.{View, view, shapeOf, net, heldBy}
 use Rattle.circuit_path.specs.CircuitSound.{endFor, CircuitSound}
 use Rattle.circuit_path.specs.PathOf.{pathOf, isEmpty}
 use Rattle.circuit_path.specs.Follow.{linksFollowed, firstHop, FollowsTo}
-use Rattle.circuit_hops.specs.CountHops.{Sole, SoleWay, Walks, TakePre, FollowedPath, Followed}
-use Rattle.circuit_path.proofs.Stands.{path-is, some-hop, not-empty}
-use Rattle.circuit_path.proofs.Examine.{opened, path-after}
+use Rattle.circuit_hops.specs.CountHops.{Sole, SoleWay, Walks, TakePre, FollowedPath, HopsFollowed}
+use Rattle.circuit_path.proofs.CircuitSound.{path-is, not-empty, sound-open}
+use Rattle.circuit_path.proofs.Examine.{hop-below, path-after}
 use Rattle.circuit_hops.proofs.Ways.{way-onward, way-owned, way-only, onward-way, onward-once, sole-port, shown}
 
 -- a circuit that holds one link at its source: its port, and the node that it leads to
@@ -41,12 +40,12 @@ pub record OneLink (b : List ℕ) (c s held : ℕ) : Type 0 where
   pub sole : Sole (view b) c s port
   pub low : port < dimensionAt b
   pub to : bitXor s held ≡ next s port
-  pub inside : bitXor s held < 2 ^ dimensionAt b
+  pub inside : NodeOf (dimensionAt b) (bitXor s held)
 
 pub one-link : {b : List ℕ} {nodes c s t held : ℕ} → TakePre b nodes c s t → HeldBy b c s held → linksHeld (view b) c s ≤ 1 → held < nodes → held ≢ 0 → OneLink b c s held
 one-link {b} {nodes} {c} {s} {t} {held} pre f few l h = ⊎-elim (λ r. found (r .0) (r .1) (r .2)) (λ r. absurd (h (no-ports 8 held (f .small) r))) (decide 8 (has held))
   where
-    found : (p : ℕ) → p < 8 → has held p ≡ true → OneLink b c s held
+    found : (p : ℕ) → p < portCount → has held p ≡ true → OneLink b c s held
     found p k x =
         let one = sole-port f few k x in
         let low : p < dimensionAt b = ⊎-elim (λ y. y) (λ y. absurd (omega (arith, has-room held p x, pow-mono {i = dimensionAt b} {j = p} y, pre .count))) (below-or (dimensionAt b) p) in
@@ -64,7 +63,7 @@ module _ {b : List ℕ} {nodes c s t p start hops : ℕ} (pre : TakePre b nodes 
   v : View
   v = view b
 
-  fits : v .dimension ≤ 8
+  fits : v .dimension ≤ largestDimension
   unfolding v
   fits = omega (arith, shown b, pre .known .fits)
 
@@ -88,7 +87,7 @@ module _ {b : List ℕ} {nodes c s t p start hops : ℕ} (pre : TakePre b nodes 
   unroll [] o x = absurd o
   unroll (a ∷ u) o x = begin same
     where
-      below : (q : ℕ) → q ∈ ports (shapeOf v) → q < 8
+      below : (q : ℕ) → q ∈ ports (shapeOf v) → q < portCount
       below q m = let k = unfolded-port (shapeOf v) fits refl q .0 m in omega (arith, fits)
 
       same : a ≡ p
@@ -110,7 +109,7 @@ module _ {b : List ℕ} {nodes c s t p start hops : ℕ} (pre : TakePre b nodes 
           mine : (m q : ℕ) → On (net v) (next (sourceOf c) a) u m q → heldBy v c m q ≡ true
           mine m q i = unfold On in x .all m q (on-later (net v) (sourceOf c) a u m q i)
 
-          port : (m q : ℕ) → On (net v) (next (sourceOf c) a) u m q → q < 8
+          port : (m q : ℕ) → On (net v) (next (sourceOf c) a) u m q → q < portCount
           port m q i = below q (permitted-inside (shapeOf v) (sourceOf c) t (a ∷ u) (unfold v in rw (shown b) (pre .known .source)) o .0 m q (on-later (net v) (sourceOf c) a u m q i) .1)
 
           other : (m q r : ℕ) → On (net v) (next (sourceOf c) a) u m q → r < 8 → heldBy v c m r ≡ true → r ≡ q
@@ -121,7 +120,7 @@ module _ {b : List ℕ} {nodes c s t p start hops : ℕ} (pre : TakePre b nodes 
   standing : (z : CircuitSound v c) → endFor v c (z .path) ≡ t → Unrolled (z .path)
   standing z e = unroll (z .path) (subst (λ (y : ℕ). Permitted (net v) (sourceOf c) (ports (shapeOf v)) y (z .path)) e (z .permitted)) (z .exactly)
 
-  pub one-followed : Followed (view b) c t hops
+  pub one-followed : HopsFollowed (view b) c t hops
   one-followed =
       record {
         found = λ l. let w = walks .way l in path-of (w .0) (subst (λ (y : ℕ). SoleWay (view b) c t y (w .0)) begins (w .1)) (w .2);
@@ -149,25 +148,23 @@ module _ {b : List ℕ} {nodes c s t a : ℕ} (pre : TakePre b nodes c s t) (e :
   count : nodes ≡ 2 ^ view b .dimension
   count = pre .count ∙ ap (2 ^_) (sym (shown b))
 
-  most : view b .dimension < 9
+  most : view b .dimension ≤ largestDimension
   most = omega (arith, shown b, pre .known .fits)
 
-  stands-open : CircuitSound (view b) c → a < 8
-  stands-open z =
-      ltb-true a 8 (opened (view b) c refl most count (pre .source) e
-      ∙ rw (path-is (view b) c z) (some-hop (net (view b)) (sourceOf c) (ports (shapeOf (view b))) (endFor (view b) c (z .path)) (z .path) (z .permitted)))
+  stands-open : CircuitSound (view b) c → a < portCount
+  stands-open z = hop-below (view b) c refl most count (sound-open (view b) c z) (pre .source) e
 
-  pub back-none : 8 ≤ a → Followed (view b) c t 4096
+  pub back-none : 8 ≤ a → HopsFollowed (view b) c t 4096
   back-none l = record { found = λ k. absurd (omega arith); forced = λ z q. absurd (omega (arith, stands-open z)); most = omega arith }
 
-  module _ {start hops : ℕ} (l : a < 8) (to : start ≡ next s a) (f : FollowsTo (view b) c start (nodes - 1) t hops) where
+  module _ {start hops : ℕ} (l : a < portCount) (to : start ≡ next s a) (f : FollowsTo (view b) c start (nodes - 1) t hops) where
     path-is-followed : pathOf (view b) c ≡ a ∷ linksFollowed (view b) c start (nodes - 1)
     path-is-followed = path-after (view b) c refl most count (pre .source) e l to
 
     path-end : endFor (view b) c (pathOf (view b) c) ≡ end (net (view b)) start (linksFollowed (view b) c start (nodes - 1))
     path-end = ap (endFor (view b) c) path-is-followed ∙ (unfold end network in ap (λ x. end (net (view b)) x (linksFollowed (view b) c start (nodes - 1))) (sym (to ∙ ap (λ x. next x a) (pre .source))))
 
-    pub back-followed : Followed (view b) c t hops
+    pub back-followed : HopsFollowed (view b) c t hops
     back-followed =
         record {
           found = λ k. path-of (f .ends k .0) (f .ends k .1);

@@ -12,7 +12,7 @@ use lib.Bits.{bitAnd}
 use Rattle.common.specs.Lists.{_∈_}
 use Rattle.common.proofs.Tests.{below-or, clash, is-false}
 use Rattle.cube.specs.Bits.{has}
-use Rattle.cube.specs.Cube.{sourceOf}
+use Rattle.cube.specs.Cube.{largestDimension, portCount, NodeOf, VectorOf, sourceOf}
 use Rattle.cube.proofs.Bits.{zero-has, high-has, no-bit-above}
 use Rattle.cube.proofs.Ports.{most-nodes}
 use Rattle.paths.specs.Network.{Path, links}
@@ -25,22 +25,22 @@ use Rattle.layout.specs.Layout.{dimensionAt}
 use Rattle.table.specs.TableContracts.{HeldBy}
 use Rattle.table.specs.View.{view, shapeOf, net, heldBy}
 use Rattle.circuit_path.specs.CircuitSound.{endFor, CircuitSound}
-use Rattle.circuit_hops.specs.Marks.{withMarks}
-use Rattle.circuit_hops.specs.CountHops.{TakePre, Followed, Taken}
-use Rattle.circuit_hops.proofs.Marks.{not-seen, seen-before, marks-after}
+use Rattle.circuit_hops.specs.Seen.{withMarks}
+use Rattle.circuit_hops.specs.CountHops.{TakePre, HopsFollowed, Taken}
+use Rattle.circuit_hops.proofs.Seen.{not-seen, seen-before, marks-after}
 use Rattle.circuit_hops.proofs.Ways.{shown}
 
 -- a circuit that stands holds links of its cube alone
-module _ (b : List ℕ) (c : ℕ) (d : dimensionAt b ≤ 8) (i : sourceOf c < 2 ^ dimensionAt b) (s : CircuitSound (view b) c) where
-  small : view b .dimension ≤ 8
+module _ (b : List ℕ) (c : ℕ) (d : dimensionAt b ≤ largestDimension) (i : sourceOf c < 2 ^ dimensionAt b) (s : CircuitSound (view b) c) where
+  small : view b .dimension ≤ largestDimension
   small = omega (arith, shown b)
 
-  pub link-inside : (m q : ℕ) → On (net (view b)) (sourceOf c) (s .path) m q → (m < 2 ^ dimensionAt b) × (q < dimensionAt b)
+  pub link-inside : (m q : ℕ) → On (net (view b)) (sourceOf c) (s .path) m q → (NodeOf (dimensionAt b) m) × (q < dimensionAt b)
   link-inside m q o =
       let r = permitted-inside (shapeOf (view b)) (sourceOf c) (endFor (view b) c (s .path)) (s .path) (rw (shown b) i) (s .permitted) .0 m q o in
       (rw (shown b) at (r .0), rw (shown b) at (unfolded-port (shapeOf (view b)) small refl q .0 (r .1)))
 
-  pub held-inside : (m q : ℕ) → heldBy (view b) c m q ≡ true → (m < 2 ^ dimensionAt b) × (q < dimensionAt b)
+  pub held-inside : (m q : ℕ) → heldBy (view b) c m q ≡ true → (NodeOf (dimensionAt b) m) × (q < dimensionAt b)
   held-inside m q o = link-inside m q (unfold On in s .exactly .only m q o)
 
   -- so one at its source at least, and all of those in a vector of the cube's ports
@@ -52,18 +52,18 @@ module _ (b : List ℕ) (c : ℕ) (d : dimensionAt b ≤ 8) (i : sourceOf c < 2 
       go (a ∷ u) o all =
           unfold Permitted in
           let k = unfolded-port (shapeOf (view b)) small refl a .0 (o .0) in
-          let l : a < 8 = omega (arith, shown b) in
+          let l : a < portCount = omega (arith, shown b) in
           clash (f .held a l ∙ (unfold view in all (sourceOf c) a (unfold On in on-first (net (view b)) (sourceOf c) a u))) (ap (λ x. has x a) z ∙ zero-has a)
 
-  pub vector-inside : {held : ℕ} → HeldBy b c (sourceOf c) held → held < 2 ^ dimensionAt b
+  pub vector-inside : {held : ℕ} → HeldBy b c (sourceOf c) held → VectorOf (dimensionAt b) held
   vector-inside {held} f = no-bit-above (dimensionAt b) held (λ p l. is-false (has held p) (λ t. go p l t (below-or 8 p)))
     where
-      go : (p : ℕ) → dimensionAt b ≤ p → has held p ≡ true → (p < 8) ⊎ (8 ≤ p) → ⊥
+      go : (p : ℕ) → dimensionAt b ≤ p → has held p ≡ true → (p < portCount) ⊎ (portCount ≤ p) → ⊥
       go p l t (inl k) = let r = held-inside (sourceOf c) p (unfold view in sym (f .held p k) ∙ t) in omega arith
       go p l t (inr k) = clash t (high-has 8 held p (f .small) k)
 
 -- what looking for a path asks, in numbers
-pub nodes-most : {D nodes : ℕ} → D ≤ 8 → nodes ≡ 2 ^ D → nodes ≤ 256
+pub nodes-most : {D nodes : ℕ} → D ≤ largestDimension → nodes ≡ 2 ^ D → nodes ≤ 256
 nodes-most d m = omega (arith, most-nodes d)
 
 pub positive : {c : ℕ} → c ≢ 0 → 0 < c
@@ -81,7 +81,7 @@ module _ (b : List ℕ) (c t : ℕ) (before after : List ℕ) where
     marked-at : {x : Bool} → eqb (bitAnd (getD before s 0) held) 0 ≡ x → eqb (bitAnd (getD before (sourceOf c) 0) held) 0 ≡ x
     marked-at e = ap (λ y. eqb (bitAnd (getD before y 0) held) 0) (sym q) ∙ e
 
-    pub taken-new : {hops : ℕ} → eqb (bitAnd (getD before s 0) held) 0 ≡ true → after ≡ withMarks before s held → s < length before → sourceOf c < 2 ^ dimensionAt b → Followed (view b) c t hops
+    pub taken-new : {hops : ℕ} → eqb (bitAnd (getD before s 0) held) 0 ≡ true → after ≡ withMarks before s held → s < length before → sourceOf c < 2 ^ dimensionAt b → HopsFollowed (view b) c t hops
         → Taken (view b) c t before after hops
     taken-new e m small i x =
         record {

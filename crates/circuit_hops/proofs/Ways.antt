@@ -16,7 +16,8 @@ use Rattle.common.proofs.Lists.{mem-keep, length-keep}
 use Rattle.common.proofs.From.{mem-from, length-from}
 use Rattle.common.proofs.Tests.{same?, below-or, clash, is-false, both, and}
 use Rattle.cube.specs.Bits.{bitAt, has, flip}
-use Rattle.cube.specs.Cube.{next, uphill, UphillVector}
+use Rattle.cube.specs.CubeContracts.{UphillVector}
+use Rattle.cube.specs.Cube.{largestDimension, portCount, NodeOf, next, uphill}
 use Rattle.cube.proofs.Axes.{axis-low, next-inside}
 use Rattle.cube.proofs.Bits.{has-and, has-bit, has-no-bit, bit-power, bit-power-other, bit-high, flip-xor, no-ports, same-bits, zero-has}
 use Rattle.paths.specs.Network.{Path, offered}
@@ -43,11 +44,11 @@ module _ (v : View) (c t : ℕ) where
   way-owned n (p ∷ w) x m q o = ⊎-elim (λ e. rw (e .0, e .1) (x .2 .0)) (λ k. way-owned (next n p) w (x .3) m q k) (on-cases (net v) n p w m q o)
 
   -- a port that is offered is below 8
-  pub offered-below : v .dimension ≤ 8 → (n q : ℕ) → q ∈ offered (net v) t n → q < 8
+  pub offered-below : v .dimension ≤ largestDimension → (n q : ℕ) → q ∈ offered (net v) t n → q < portCount
   offered-below h n q m = let k = unfolded-port (shapeOf v) h refl q .0 (offered-port (shapeOf v) t n q m .0) in omega arith
 
   -- it is the only way of uphill hops over links of the circuit
-  pub way-only : v .dimension ≤ 8 → (n : ℕ) (w u : Path) → SoleWay v c t n w → Onward (net v) t n u → ((m q : ℕ) → On (net v) n u m q → heldBy v c m q ≡ true) → u ≡ w
+  pub way-only : v .dimension ≤ largestDimension → (n : ℕ) (w u : Path) → SoleWay v c t n w → Onward (net v) t n u → ((m q : ℕ) → On (net v) n u m q → heldBy v c m q ≡ true) → u ≡ w
   unfolding SoleWay Sole Onward network
   way-only h n [] [] x o own = refl
   way-only h n [] (p ∷ u) x o own = absurd (o .0 x)
@@ -81,14 +82,14 @@ module _ (v : View) (c t : ℕ) where
 -- one link held, as a vector: it is the bit of its port
 module _ {b : List ℕ} {c n held : ℕ} (f : HeldBy b c n held) (few : linksHeld (view b) c n ≤ 1) where
   -- where some port passes, it is the only one
-  pub sole-port : {p : ℕ} → p < 8 → has held p ≡ true → Sole (view b) c n p × (held ≡ 2 ^ p)
+  pub sole-port : {p : ℕ} → p < portCount → has held p ≡ true → Sole (view b) c n p × (held ≡ 2 ^ p)
   unfolding Sole view
   sole-port {p} l t = ((mine, only), same-bits 8 held (2 ^ p) (f .small) (power-small p l) bits)
     where
       mine : heldBy (view b) c n p ≡ true
       mine = sym (f .held p l) ∙ t
 
-      only : (q : ℕ) → q < 8 → heldBy (view b) c n q ≡ true → q ≡ p
+      only : (q : ℕ) → q < portCount → heldBy (view b) c n q ≡ true → q ≡ p
       only q k o = unfold linksHeld in
           let one = kept-one (heldBy (view b) c n) (exactly-one (keep (heldBy (view b) c n) (from 0 8)) (mem-keep (heldBy (view b) c n) (from 0 8) (mem-from 0 8 p (omega arith) (omega arith)) mine) few) in
           one .3 q k o ∙ sym (one .3 p l mine)
@@ -97,20 +98,20 @@ module _ {b : List ℕ} {c n held : ℕ} (f : HeldBy b c n held) (few : linksHel
           exactly-one [] m h = absurd (List·Memᴰ·not-nil m)
           exactly-one (x ∷ xs) m h = omega arith
 
-      power-small : (p : ℕ) → p < 8 → 2 ^ p < 256
+      power-small : (p : ℕ) → p < portCount → 2 ^ p < 256
       power-small p l = ltb-true _ _ (at 8 (λ p. ltb (2 ^ p) 256) refl p l)
 
-      bits : (q : ℕ) → q < 8 → bitAt held q ≡ bitAt (2 ^ p) q
+      bits : (q : ℕ) → q < portCount → bitAt held q ≡ bitAt (2 ^ p) q
       bits q k = ⊎-elim (λ e. rw e (has-bit held p t ∙ sym (bit-power p)))
           (λ h. has-no-bit held q (is-false (has held q) (λ x. h (only q k (sym (f .held q k) ∙ x)))) ∙ sym (bit-power-other p q h)) (same? q p)
 
   -- where a vector has none of them, no port of it is held; where it has some, the one
-  pub sole-in : (vector : ℕ) → (bitAnd held vector ≡ 0 → ⊥) → (p : ℕ) × (p < 8) × (has held p ≡ true) × (has vector p ≡ true)
+  pub sole-in : (vector : ℕ) → (bitAnd held vector ≡ 0 → ⊥) → (p : ℕ) × (p < portCount) × (has held p ≡ true) × (has vector p ≡ true)
   sole-in vector h =
       ⊎-elim (λ r. let x = both (has held (r .0)) (has vector (r .0)) (sym (has-and held vector (r .0)) ∙ r .2) in (r .0, r .1, x .0, x .1))
       (λ r. absurd (h (no-ports 8 _ (omega (arith, and-le-l held vector, f .small)) r))) (decide 8 (has (bitAnd held vector)))
 
-pub none-in : {b : List ℕ} {c n held : ℕ} → HeldBy b c n held → (vector : ℕ) → bitAnd held vector ≡ 0 → (p : ℕ) → p < 8 → heldBy (view b) c n p ≡ true → has vector p ≡ true → ⊥
+pub none-in : {b : List ℕ} {c n held : ℕ} → HeldBy b c n held → (vector : ℕ) → bitAnd held vector ≡ 0 → (p : ℕ) → p < portCount → heldBy (view b) c n p ≡ true → has vector p ≡ true → ⊥
 unfolding view
 none-in {held = held} f vector z p l o h = clash (has-and held vector p ∙ and (f .held p l ∙ o) h) (ap (λ x. has x p) z ∙ zero-has p)
 
@@ -123,7 +124,7 @@ unfolding network
 one-nearer v t n p m = let near = cube-nearing (shapeOf v) t .nearer n p m in omega arith
 
 -- what a turn of the walk finds at node n, towards t: the port of the one link held, uphill, and the node that it leads to
-pub record Turn (b : List ℕ) (c n t to : ℕ) : Type 0 where
+pub record WalkStep (b : List ℕ) (c n t to : ℕ) : Type 0 where
   pub port : ℕ
   pub sole : Sole (view b) c n port
   pub is-offered : port ∈ offered (net (view b)) t n
@@ -132,8 +133,8 @@ pub record Turn (b : List ℕ) (c n t to : ℕ) : Type 0 where
   pub nearer : net (view b) .distance t n ≡ 1 + net (view b) .distance t to
 
 -- the branches of the walk: at node n, towards t, after some hops
-module _ (b : List ℕ) (c n t hops : ℕ) (d : dimensionAt b ≤ 8) where
-  small : view b .dimension ≤ 8
+module _ (b : List ℕ) (c n t hops : ℕ) (d : dimensionAt b ≤ largestDimension) where
+  small : view b .dimension ≤ largestDimension
   small = omega (arith, shown b)
 
   pub walks-here : n ≡ t → hops < 4096 → Walks (view b) c t n hops hops
@@ -160,12 +161,12 @@ module _ (b : List ℕ) (c n t hops : ℕ) (d : dimensionAt b ≤ 8) where
           none-in f vector z p l (s .2 .0) (u .bits p ∙ rw (axis-low p (omega arith)) at (offered-port (shapeOf (view b)) t n p (s .1) .1))
 
   -- a port is uphill only where the cube has it
-  uphill-below : n < 2 ^ dimensionAt b → t < 2 ^ dimensionAt b → (p : ℕ) → uphill t n p ≡ true → p < dimensionAt b
+  uphill-below : NodeOf (dimensionAt b) n → NodeOf (dimensionAt b) t → (p : ℕ) → uphill t n p ≡ true → p < dimensionAt b
   unfolding uphill
   uphill-below h l p u = ⊎-elim (λ k. k) (λ k. absurd (clash u (rw (bit-high _ n p h k, bit-high _ t p l k)))) (below-or (dimensionAt b) p)
 
-  pub turn : {held vector : ℕ} → HeldBy b c n held → linksHeld (view b) c n ≤ 1 → UphillVector n t vector → bitAnd held vector ≢ 0 → n < 2 ^ dimensionAt b → t < 2 ^ dimensionAt b
-      → Turn b c n t (bitXor n held)
+  pub turn : {held vector : ℕ} → HeldBy b c n held → linksHeld (view b) c n ≤ 1 → UphillVector n t vector → bitAnd held vector ≢ 0 → NodeOf (dimensionAt b) n → NodeOf (dimensionAt b) t
+      → WalkStep b c n t (bitXor n held)
   turn {held} {vector} f few u h i j =
       let r = sole-in f few vector h in
       let p = r .0 in
@@ -183,7 +184,7 @@ module _ (b : List ℕ) (c n t hops : ℕ) (d : dimensionAt b ≤ 8) where
         nearer = one-nearer (view b) t n p mine ∙ ap (λ x. 1 + net (view b) .distance t x) (sym to);
       }
 
-  pub walks-on : {to r : ℕ} → n ≢ t → Turn b c n t to → Walks (view b) c t to (hops + 1) r → Walks (view b) c t n hops r
+  pub walks-on : {to r : ℕ} → n ≢ t → WalkStep b c n t to → Walks (view b) c t to (hops + 1) r → Walks (view b) c t n hops r
   walks-on {to} {r} h x k =
       record {
         way = λ l. let w = k .way l in (x .port ∷ w .0, unfold SoleWay in (h, x .is-offered, x .sole, subst (λ (y : ℕ). SoleWay (view b) c t y (w .0)) (x .there) (w .1)), omega (arith, w .2));
@@ -199,6 +200,6 @@ module _ (b : List ℕ) (c n t hops : ℕ) (d : dimensionAt b ≤ 8) where
           k .forced w (subst (λ (y : ℕ). SoleWay (view b) c t y w) (ap (next n) same ∙ sym (x .there)) (s .3))
 
 -- a target is at most 8 hops away
-pub distance-most : (v : View) (t n : ℕ) → v .dimension ≤ 8 → net v .distance t n ≤ 8
+pub distance-most : (v : View) (t n : ℕ) → v .dimension ≤ largestDimension → net v .distance t n ≤ 8
 unfolding network
 distance-most v t n h = omega (arith, length-keep (uphill t n) (from 0 (v .dimension)), length-from 0 (v .dimension))

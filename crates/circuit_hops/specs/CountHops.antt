@@ -5,10 +5,10 @@ use mathlib.Core.Path.{_≡_}
 use mathlib.Core.Logic.{_⊎_, _≢_}
 use mathlib.Core.Bool.{true}
 use mathlib.Core.List.{List, [], _∷_}
-use Prim.Native.Nat.{ℕ, _+_, _^_, _≤_, _<_}
+use Prim.Native.Nat.{ℕ, _+_, _≤_, _<_}
 use lib.ListN.{length}
 use Rattle.common.specs.Lists.{_∈_}
-use Rattle.cube.specs.Cube.{largestDimension, portCount, next, sourceOf}
+use Rattle.cube.specs.Cube.{largestDimension, portCount, next, sourceOf, NodeOf, cubeNodes}
 use Rattle.paths.specs.Network.{Path, links, offered}
 use Rattle.paths.specs.Permitted.{Permitted}
 use Rattle.paths.specs.CubeNetwork.{ports, circuitCount}
@@ -16,7 +16,7 @@ use Rattle.layout.specs.Layout.{tableLength, dimensionAt}
 use Rattle.table.specs.View.{View, shapeOf, net, heldBy}
 use Rattle.circuit_path.specs.CircuitSound.{endFor, CircuitSound}
 use Rattle.circuit_path.specs.Follow.{HasSource}
-use Rattle.circuit_hops.specs.Marks.{markCount, seenAt, Seen}
+use Rattle.circuit_hops.specs.Seen.{markCount, seenAt, Seen}
 
 -- at node n circuit c holds the link out of port p and no other
 unfoldable pub Sole : View → ℕ → ℕ → ℕ → Type 0
@@ -36,14 +36,14 @@ pub record Walks (v : View) (c t n walked hops : ℕ) : Type 0 where
 pub record WalkPre (b : List ℕ) (n t : ℕ) : Type 0 where
   pub bytes : length b ≡ tableLength
   pub fits : dimensionAt b ≤ largestDimension
-  pub start : n < 2 ^ dimensionAt b
-  pub target : t < 2 ^ dimensionAt b
+  pub start : NodeOf (dimensionAt b) n
+  pub target : NodeOf (dimensionAt b) t
 
 -- what looking for the path of circuit c from its source s to node t asks
 pub record TakePre (b : List ℕ) (nodes c s t : ℕ) : Type 0 where
   pub known : HasSource b c
   pub source : s ≡ sourceOf c
-  pub count : nodes ≡ 2 ^ dimensionAt b
+  pub count : nodes ≡ cubeNodes (dimensionAt b)
   pub target : t < nodes
 
 -- a permitted path to node t over links of circuit c, and the circuit's own if it stands on one that ends there
@@ -55,7 +55,7 @@ pub record FollowedPath (v : View) (c t hops : ℕ) : Type 0 where
   pub whole : (s : CircuitSound v c) → endFor v c (s .path) ≡ t → s .path ≡ path
 
 -- what following circuit c to node t comes to
-pub record Followed (v : View) (c t hops : ℕ) : Type 0 where
+pub record HopsFollowed (v : View) (c t hops : ℕ) : Type 0 where
   pub found : hops < 4096 → FollowedPath v c t hops
   pub forced : (s : CircuitSound v c) → endFor v c (s .path) ≡ t → hops < 4096
   pub most : hops < 8192
@@ -74,5 +74,5 @@ pub record Taken (v : View) (c t : ℕ) (before after : List ℕ) (hops : ℕ) :
 pub record HopsPre (b : List ℕ) (nodes : ℕ) (m : List ℕ) : Type 0 where
   pub bytes : length b ≡ tableLength
   pub fits : dimensionAt b ≤ largestDimension
-  pub count : nodes ≡ 2 ^ dimensionAt b
+  pub count : nodes ≡ cubeNodes (dimensionAt b)
   pub size : length m ≡ markCount

@@ -1,3 +1,3 @@
 -- The hops of one circuit to a node, and the marks of the circuits that were followed.
-pub mod Marks
+pub mod Seen
 pub mod CountHops

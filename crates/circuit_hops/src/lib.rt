@@ -7,8 +7,8 @@ ghost use lib.Bits.{bitAnd};
 ghost use lib.ListN.{length, getD};
 ghost use Rattle.table.specs.TableContracts.{HeldBy, linksHeld};
 ghost use Rattle.table.specs.View.{view};
-ghost use Rattle.circuit_hops.specs.Marks.{withMarks};
-ghost use Rattle.circuit_hops.specs.CountHops.{Walks, WalkPre, TakePre, Followed, Taken, HopsPre};
+ghost use Rattle.circuit_hops.specs.Seen.{withMarks};
+ghost use Rattle.circuit_hops.specs.CountHops.{Walks, WalkPre, TakePre, HopsFollowed, Taken, HopsPre};
 use circuit_path::NONE;
 use cube::Circuit;
 use cube::Node;
@@ -38,10 +38,10 @@ fn walk(t: &[u8], c: Circuit, from: Node, end: Node) -> u32
 // The hops of a circuit that holds several links at its source: its path comes through there again.
 fn hops_back(t: &[u8], nodes: u16, c: Circuit, source: Node, end: Node) -> u32
     requires { ⌜ TakePre (now t) nodes (c .0) (source .0) (end .0) ⌝ }
-    ensures { λ r. ⌜ Followed (view (now (t .entry))) (c .0) (end .0) r ⌝ }
+    ensures { λ r. ⌜ HopsFollowed (view (now (t .entry))) (c .0) (end .0) r ⌝ }
 {
     let first = circuit_path::first_hop(t, c, source, nodes - 1);
-    if first.0 >= 8 {
+    if first.0 >= cube::NO_PORT {
         return NONE;
     }
     circuit_path::follow(t, c, cube::neighbour(source, first), nodes - 1, end)
@@ -110,7 +110,7 @@ pub fn hops_to(t: &[u8], nodes: u16, c: Circuit, end: Node, seen: &mut [u8]) -> 
     requires { ⌜ HopsPre (now t) nodes (now seen) × (0 < c .0) × (end .0 < nodes) ⌝ }
     ensures { λ r. ⌜ Taken (view (now (t .entry))) (c .0) (end .0) (now (seen .entry)) (now (seen .exit)) r ⌝ }
 {
-    if c.0 > 8 * nodes {
+    if c.0 > cube::CHANNELS * nodes {
         return NONE;
     }
     let source = cube::source_of(c);

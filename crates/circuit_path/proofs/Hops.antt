@@ -2,20 +2,19 @@
 -- Assumes nothing.
 use mathlib.Core.Path.{_≡_, refl, ap, ap₂, sym, _∙_}
 use mathlib.Core.Bool.{Bool, true, false, cond}
-use mathlib.Core.Logic.{_⊎_, ⊎-elim}
-use mathlib.Core.List.{List, [], _∷_, _++_, Memᴰ·append-right, List·Memᴰ·head, List·Memᴰ·not-nil, List·Memᴰ·append-cases}
+use mathlib.Core.List.{List, [], _∷_, _++_, List·Memᴰ·head}
 use Prim.Native.Nat.{ℕ, zero, suc, _+_, _/_, _%_, _^_, _≤_, _<_}
 use native.Mathlib.Omega.{arith}
 use native.Mathlib.Numerals.{add-one}
 use borrow.Author.Tests.{eq-eqb, ne-eqb}
+use Rattle.paths.specs.Network.{end}
 use Rattle.common.specs.Lists.{_∈_, keep, from, lowest}
-use Rattle.common.proofs.Lists.{mem-keep, keep-none, keep-yes, keep-no, keep-nil, keep-mem, keep-keep, keep-same}
-use Rattle.common.proofs.From.{mem-from, from-below}
+use Rattle.common.proofs.Lists.{keep-yes, keep-no, keep-nil, keep-mem, keep-keep, keep-same}
 use Rattle.cube.specs.Bits.{bitAt, has}
-use Rattle.cube.specs.Cube.{next, Without}
+use Rattle.cube.specs.CubeContracts.{Without}
+use Rattle.cube.specs.Cube.{portCount, next}
 use Rattle.cube.specs.Helical.{portsOf, firstOr}
 use Rattle.cube.proofs.Order.{ports-mem, length-ports}
-use Rattle.paths.specs.Network.{end}
 use Rattle.paths.specs.CubeNetwork.{network}
 use Rattle.paths.specs.Recover.{dropAxis, walkFrom, wayBack, firstHopChoices}
 use Rattle.paths.proofs.Recover.{first-choice}
@@ -63,14 +62,14 @@ unfolding firstOr
 first-none [] h l = refl
 first-none (x ∷ xs) h l = absurd (omega (arith, h x (List·Memᴰ·head refl)))
 
-pub first-is : (xs : List ℕ) (q : ℕ) → firstOr 8 xs ≡ q → q < 8 → (ps : List ℕ) × (xs ≡ q ∷ ps)
+pub first-is : (xs : List ℕ) (q : ℕ) → firstOr 8 xs ≡ q → q < portCount → (ps : List ℕ) × (xs ≡ q ∷ ps)
 unfolding firstOr
 first-is [] q e h = absurd (omega arith)
 first-is (x ∷ xs) q e h = (xs, ap (_∷ xs) e)
 
 module _ (v : View) (c n vector : ℕ) where
   taken : List ℕ
-  taken = keep (heldBy v c n) (portsOf 8 vector)
+  taken = keep (heldBy v c n) (portsOf portCount vector)
 
   back : List ℕ
   back = keep (λ a. heldBy v c (next n a) a) taken
@@ -83,11 +82,11 @@ module _ (v : View) (c n vector : ℕ) where
   unfolding back comesBack
   back-kept = sym (ap (keep (λ a. heldBy v c (next n a) a)) (sym takes-kept) ∙ keep-keep (λ a. heldBy v c (next n a) a) (takes v c n vector) (from 0 8))
 
-  taken-port : (p : ℕ) → p ∈ taken → (p < 8) × (has vector p ≡ true)
+  taken-port : (p : ℕ) → p ∈ taken → (p < portCount) × (has vector p ≡ true)
   unfolding taken
-  taken-port p m = ports-mem 8 vector (keep-mem (heldBy v c n) (portsOf 8 vector) m .0)
+  taken-port p m = ports-mem 8 vector (keep-mem (heldBy v c n) (portsOf portCount vector) m .0)
 
-  back-port : (p : ℕ) → p ∈ back → p < 8
+  back-port : (p : ℕ) → p ∈ back → p < portCount
   unfolding back
   back-port p m = taken-port p (keep-mem _ taken m .0) .0
 
@@ -97,35 +96,15 @@ module _ (v : View) (c n vector : ℕ) where
   lowest-back : lowest (comesBack v c n vector) 8 0 ≡ firstOr 8 back
   lowest-back = lowest-from (comesBack v c n vector) 8 0 ∙ ap (firstOr 8) back-kept
 
-  back-is : keep (wayBack (net v) (portsOf 8 vector) (heldBy v c) n) taken ≡ back
+  back-is : keep (wayBack (net v) (portsOf portCount vector) (heldBy v c) n) taken ≡ back
   unfolding back taken network
-  back-is = keep-same _ _ taken (λ a m. way-back-one (net v) 8 vector (heldBy v c) n a (omega arith) (keep-mem (heldBy v c n) (portsOf 8 vector) m .0))
+  back-is = keep-same _ _ taken (λ a m. way-back-one (net v) 8 vector (heldBy v c) n a (omega arith) (keep-mem (heldBy v c n) (portsOf portCount vector) m .0))
 
   hop-is : firstHop v c n vector ≡ firstOr 8 (back ++ taken)
   unfolding firstHop firstHopChoices taken
   hop-is = ap (λ xs. firstOr 8 (xs ++ taken)) back-is
 
-  -- there is a first hop where a link is taken, and none where none is
-  pub first-there : (p : ℕ) → p < 8 → takes v c n vector p ≡ true → firstHop v c n vector < 8
-  first-there p h e = rw hop-is (go (back ++ taken) refl)
-    where
-      there : p ∈ taken
-      there = rw takes-kept at (mem-keep (takes v c n vector) (from 0 8) (mem-from 0 8 p (omega arith) (omega arith)) e)
-
-      go : (xs : List ℕ) → back ++ taken ≡ xs → firstOr 8 xs < 8
-      go [] f = absurd (List·Memᴰ·not-nil (rw f at (Memᴰ·append-right back there)))
-      go (x ∷ xs) f = unfold firstOr in port (List·Memᴰ·append-cases back (rw f (List·Memᴰ·head refl)))
-        where
-          port : (x ∈ back) ⊎ (x ∈ taken) → x < 8
-          port m = ⊎-elim (λ k. back-port x k) (λ k. taken-port x k .0) m
-
-  pub first-nowhere : ((p : ℕ) → p < 8 → takes v c n vector p ≡ false) → firstHop v c n vector ≡ 8
-  unfolding back
-  first-nowhere h =
-      let none : taken ≡ [] = sym takes-kept ∙ keep-none (takes v c n vector) (from 0 8) (λ p m. h p (from-below 8 p m)) in
-      hop-is ∙ ap (λ xs. firstOr 8 (keep (λ a. heldBy v c (next n a) a) xs ++ xs)) none ∙ (unfold firstOr keep in refl)
-
-  pub first-back : (p : ℕ) → p ≡ lowest (comesBack v c n vector) 8 0 → p < 8 → p ≡ firstHop v c n vector
+  pub first-back : (p : ℕ) → p ≡ lowest (comesBack v c n vector) 8 0 → p < portCount → p ≡ firstHop v c n vector
   first-back p e h = let q : p ≡ firstOr 8 back = e ∙ lowest-back in q ∙ sym (hop-is ∙ first-some back taken (omega arith))
 
   pub first-taken : (p q : ℕ) → p ≡ lowest (comesBack v c n vector) 8 0 → 8 ≤ p → q ≡ lowest (takes v c n vector) 8 0 → q ≡ firstHop v c n vector
@@ -135,24 +114,24 @@ module _ (v : View) (c n vector : ℕ) where
       f ∙ lowest-taken ∙ sym (hop-is ∙ ap (λ xs. firstOr 8 (xs ++ taken)) none)
 
   -- following: on by the lowest port, or no further
-  pub follow-port : (q : ℕ) → q ≡ lowest (takes v c n vector) 8 0 → q < 8 → has vector q ≡ true
+  pub follow-port : (q : ℕ) → q ≡ lowest (takes v c n vector) 8 0 → q < portCount → has vector q ≡ true
   follow-port q e h = let r = first-is taken q (sym (e ∙ lowest-taken)) h in taken-port q (rw (r .1) (List·Memᴰ·head refl)) .1
 
-  pub follow-on : (q rest : ℕ) → q ≡ lowest (takes v c n vector) 8 0 → q < 8 → Without vector q rest → linksFollowed v c n vector ≡ q ∷ linksFollowed v c (next n q) rest
+  pub follow-on : (q rest : ℕ) → q ≡ lowest (takes v c n vector) 8 0 → q < portCount → Without vector q rest → linksFollowed v c n vector ≡ q ∷ linksFollowed v c (next n q) rest
   unfolding linksFollowed taken network
   follow-on q rest e h w =
       let r = first-is taken q (sym (e ∙ lowest-taken)) h in
-      let drop : dropAxis q (portsOf 8 vector) ≡ portsOf 8 rest = drop-port 8 vector q rest (omega arith) (omega arith) w in
-      walk-some (net v) (heldBy v c) 8 (portsOf 8 vector) n q (r .0) (length-ports 8 vector) (r .1) ∙ ap (λ l. q ∷ walkFrom 8 (net v) l (heldBy v c) (next n q)) drop
+      let drop : dropAxis q (portsOf portCount vector) ≡ portsOf portCount rest = drop-port 8 vector q rest (omega arith) (omega arith) w in
+      walk-some (net v) (heldBy v c) 8 (portsOf portCount vector) n q (r .0) (length-ports 8 vector) (r .1) ∙ ap (λ l. q ∷ walkFrom 8 (net v) l (heldBy v c) (next n q)) drop
 
   pub follow-end : (q : ℕ) → q ≡ lowest (takes v c n vector) 8 0 → 8 ≤ q → linksFollowed v c n vector ≡ []
   unfolding linksFollowed taken
   follow-end q e h =
       let z : q ≡ firstOr 8 taken = e ∙ lowest-taken in
-      walk-none (net v) (heldBy v c) 8 (portsOf 8 vector) n (first-none taken (λ p m. taken-port p m .0) (omega arith))
+      walk-none (net v) (heldBy v c) 8 (portsOf portCount vector) n (first-none taken (λ p m. taken-port p m .0) (omega arith))
 
 -- one hop of the walk: what is left ends where all of it ends
-module _ (v : View) (c n vector q rest m : ℕ) (e : q ≡ lowest (takes v c n vector) 8 0) (h : q < 8) (w : Without vector q rest) (to : m ≡ next n q) where
+module _ (v : View) (c n vector q rest m : ℕ) (e : q ≡ lowest (takes v c n vector) 8 0) (h : q < portCount) (w : Without vector q rest) (to : m ≡ next n q) where
   pub hop-ends : end (net v) m (linksFollowed v c m rest) ≡ end (net v) n (linksFollowed v c n vector)
   unfolding end network
   hop-ends = rw (follow-on v c n vector q rest e h w, to)
@@ -161,5 +140,5 @@ pub walk-ends : (v : View) (c n vector q : ℕ) → q ≡ lowest (takes v c n ve
 unfolding end
 walk-ends v c n vector q e h = rw (follow-end v c n vector q e h)
 
-pub hop-port : (v : View) (c n vector p : ℕ) → p ∈ firstHopChoices (net v) (portsOf 8 vector) (heldBy v c) n → p < 8
-hop-port v c n vector p m = ports-mem 8 vector (first-choice (net v) (portsOf 8 vector) (heldBy v c) n p m .0) .0
+pub hop-port : (v : View) (c n vector p : ℕ) → p ∈ firstHopChoices (net v) (portsOf portCount vector) (heldBy v c) n → p < portCount
+hop-port v c n vector p m = ports-mem 8 vector (first-choice (net v) (portsOf portCount vector) (heldBy v c) n p m .0) .0

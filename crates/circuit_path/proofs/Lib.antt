@@ -1,5 +1,5 @@
 -- The laws of following a circuit's links.
-pub mod Stands
+pub mod CircuitSound
 pub mod Hops
 pub mod Examine
 pub mod Tracing

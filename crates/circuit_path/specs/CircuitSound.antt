@@ -18,7 +18,7 @@ pub record CircuitSound (v : View) (c : ℕ) : Type 0 where
   pub path : Path
   pub permitted : Permitted (net v) (sourceOf c) (ports (shapeOf v)) (endFor v c path) path
   pub exactly : Exactly (net v) (sourceOf c) path (heldBy v c)
-  pub channel : ℕ
-  pub small : channel < channels
-  pub receives : v .receiver (endFor v c path) channel ≡ c
-  pub once : (n k : ℕ) → v .receiver n k ≡ c → (n ≡ endFor v c path) × (k ≡ channel)
+  pub receive : ℕ
+  pub small : receive < channels
+  pub receives : v .receiver (endFor v c path) receive ≡ c
+  pub once : (n k : ℕ) → v .receiver n k ≡ c → (n ≡ endFor v c path) × (k ≡ receive)

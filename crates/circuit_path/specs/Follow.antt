@@ -3,10 +3,10 @@
 use mathlib.Core.Path.{_≡_}
 use mathlib.Core.Bool.{Bool, _&&_}
 use mathlib.Core.List.{List}
-use Prim.Native.Nat.{ℕ, _+_, _^_, _≤_, _<_}
+use Prim.Native.Nat.{ℕ, _+_, _≤_, _<_}
 use lib.ListN.{length}
 use Rattle.cube.specs.Bits.{has}
-use Rattle.cube.specs.Cube.{largestDimension, portCount, next, sourceOf}
+use Rattle.cube.specs.Cube.{largestDimension, portCount, next, sourceOf, NodeOf}
 use Rattle.cube.specs.Helical.{portsOf, firstOr, noPort}
 use Rattle.paths.specs.Network.{Path, end}
 use Rattle.paths.specs.Recover.{walkFrom, firstHopChoices}
@@ -34,7 +34,7 @@ pub record HasSource (b : List ℕ) (c : ℕ) : Type 0 where
   pub bytes : length b ≡ tableLength
   pub fits : dimensionAt b ≤ largestDimension
   pub circuit : 0 < c
-  pub source : sourceOf c < 2 ^ dimensionAt b
+  pub source : NodeOf (dimensionAt b) (sourceOf c)
 
 -- what following the links of circuit c from a node over the ports of a vector comes to, where it should end at node t, after one hop
 pub record FollowsTo (v : View) (c start vector t hops : ℕ) : Type 0 where

@@ -1,4 +1,4 @@
--- The path of a circuit from the links that it holds. That it is the one on which a circuit stands is proved (Stands.path-is).
+-- The path of a circuit from the links that it holds. That it is the one on which a circuit stands is proved (CircuitSound.path-is).
 -- Assumes nothing.
 use mathlib.Core.Bool.{Bool, true, false}
 use mathlib.Core.List.{[], _∷_}

@@ -1,6 +1,6 @@
 // The path of a circuit, recovered from the links that it holds.
 ghost use mathlib.Core.Path.{_≡_};
-ghost use mathlib.Core.Bool.{true, cond, not};
+ghost use mathlib.Core.Bool.{true, cond};
 ghost use lib.Dec.{ltb};
 ghost use Prim.Native.Nat.{_≤_, _<_};
 ghost use lib.ListN.{length};
@@ -8,7 +8,9 @@ ghost use Rattle.entries.specs.EntryContracts.{Within};
 ghost use Rattle.common.specs.Lists.{lowest};
 ghost use Rattle.cube.specs.Cube.{portCount};
 ghost use Rattle.table.specs.View.{view, heldBy};
-ghost use Rattle.circuit_path.specs.PathOf.{pathOf, isEmpty};
+ghost use Rattle.circuit_path.specs.CircuitSound.{endFor};
+ghost use Rattle.circuit_path.specs.PathOf.{pathOf};
+ghost use Rattle.circuit_path.specs.OpenCircuit.{isOpenIn};
 ghost use Rattle.circuit_path.specs.Traced.{tracedInto};
 ghost use Rattle.circuit_path.specs.Follow.{takes, comesBack, firstHop, HasSource, FollowsTo};
 use cube::Circuit;
@@ -17,6 +19,12 @@ use cube::Port;
 
 // More hops than there are links: the answer where a circuit does not lead where it should.
 pub const NONE: u32 = 4096;
+
+// How many hops a path has, and the node where it ends.
+pub struct WrittenPath {
+    pub hops: u16,
+    pub end: Node,
+}
 
 // Whether a circuit holds the link out of a port.
 fn holds(t: &[u8], c: Circuit, n: Node, p: Port) -> bool
@@ -57,7 +65,7 @@ fn held_port(t: &[u8], c: Circuit, n: Node, vector: u16) -> Port
     ensures { λ r. ⌜ r .0 ≡ lowest (takes (view (now (t .entry))) (c .0) (n .0) vector) portCount 0 ⌝ }
 {
     let mut p = cube::lowest_bit(vector);
-    while p < 8 {
+    while p < cube::PORTS {
         if takes(t, c, n, vector, Port(p)) {
             return Port(p);
         }
@@ -70,7 +78,7 @@ fn held_port(t: &[u8], c: Circuit, n: Node, vector: u16) -> Port
 fn first_of(found: Port, p: Port) -> Port
     ensures { λ r. ⌜ r .0 ≡ cond (ltb (found .0) portCount) (found .0) (p .0) ⌝ }
 {
-    if found.0 < 8 { found } else { p }
+    if found.0 < cube::NO_PORT { found } else { p }
 }
 
 // The first hop of a circuit's path from its source: one whose way back it holds too, or else the lowest. 8 where it holds none.
@@ -78,9 +86,9 @@ pub fn first_hop(t: &[u8], c: Circuit, s: Node, vector: u16) -> Port
     requires { ⌜ Within (now t) (s .0) 0 ⌝ }
     ensures { λ r. ⌜ r .0 ≡ firstHop (view (now (t .entry))) (c .0) (s .0) vector ⌝ }
 {
-    let mut found = Port(8);
+    let mut found = Port(cube::NO_PORT);
     let mut p: u16 = 0;
-    while p < 8 {
+    while p < cube::PORTS {
         if takes(t, c, s, vector, Port(p)) {
             if comes_back(t, c, s, vector, Port(p)) {
                 return Port(p);
@@ -92,17 +100,18 @@ pub fn first_hop(t: &[u8], c: Circuit, s: Node, vector: u16) -> Port
     found
 }
 
-// Whether a circuit is open: whether its path has a first hop. Only the links at its source are looked at.
+// Whether a circuit is open.
 pub fn is_open(t: &[u8], c: Circuit) -> bool
     requires { ⌜ HasSource (now t) (c .0) ⌝ }
-    ensures { λ r. ⌜ r ≡ not (isEmpty (pathOf (view (now (t .entry))) (c .0))) ⌝ }
+    ensures { λ r. ⌜ r ≡ isOpenIn (view (now (t .entry))) (c .0) ⌝ }
 {
     let nodes = cube::node_count(table::dimension(t));
     table::held_by(t, c, cube::source_of(c)) & (nodes - 1) != 0
 }
 
 // Follows the links of a circuit from a node over the ports of a vector, each once. Answers how many hops that is, and one before them, where it ends at
-// a known node; NONE where it does not.
+// a known node; NONE where it does not. The test of a lent table asks for it between reads of rows: with a call of `write_path` in its place the compiler keeps
+// less of those in registers, and a full table takes a tenth longer (docs/PERFORMANCE.md).
 pub fn follow(t: &[u8], c: Circuit, start: Node, vector: u16, end: Node) -> u32
     requires { ⌜ (vector < 256) × Within (now t) (start .0) 0 ⌝ }
     ensures { λ r. ⌜ FollowsTo (view (now (t .entry))) (c .0) (start .0) vector (end .0) r ⌝ }
@@ -112,7 +121,7 @@ pub fn follow(t: &[u8], c: Circuit, start: Node, vector: u16, end: Node) -> u32
     let mut count: u32 = 1;
     loop {
         let q = held_port(t, c, at, left);
-        if q.0 >= 8 {
+        if q.0 >= cube::NO_PORT {
             if at.0 == end.0 {
                 return count;
             }
@@ -124,12 +133,13 @@ pub fn follow(t: &[u8], c: Circuit, start: Node, vector: u16, end: Node) -> u32
     }
 }
 
-// Writes the ports of an open circuit from the start of a buffer, one byte a hop in path order, and answers how many hops it has.
-pub fn write_path(t: &[u8], c: Circuit, buffer: &mut [u8]) -> u16
+// Writes the ports of an open circuit from the start of a buffer, one byte a hop in path order.
+pub fn write_path(t: &[u8], c: Circuit, buffer: &mut [u8]) -> WrittenPath
     requires { ⌜ HasSource (now t) (c .0) ⌝ }
-    requires { ⌜ not (isEmpty (pathOf (view (now t)) (c .0))) ≡ true ⌝ }
+    requires { ⌜ isOpenIn (view (now t)) (c .0) ≡ true ⌝ }
     requires { ⌜ 9 ≤ length (now buffer) ⌝ }
-    ensures { λ r. ⌜ r ≡ length (pathOf (view (now (t .entry))) (c .0)) ⌝ }
+    ensures { λ r. ⌜ r .hops ≡ length (pathOf (view (now (t .entry))) (c .0)) ⌝ }
+    ensures { λ r. ⌜ r .end .0 ≡ endFor (view (now (t .entry))) (c .0) (pathOf (view (now (t .entry))) (c .0)) ⌝ }
     ensures { λ _. ⌜ now (buffer .exit) ≡ tracedInto (pathOf (view (now (t .entry))) (c .0)) (now (buffer .entry)) ⌝ }
 {
     let mut left = cube::node_count(table::dimension(t)) - 1;
@@ -141,8 +151,8 @@ pub fn write_path(t: &[u8], c: Circuit, buffer: &mut [u8]) -> u16
     let mut hops: u16 = 1;
     loop {
         let p = held_port(t, c, at, left);
-        if p.0 >= 8 {
-            return hops;
+        if p.0 >= cube::NO_PORT {
+            return WrittenPath { hops, end: at };
         }
         buffer[hops as usize] = p.0 as u8;
         hops += 1;

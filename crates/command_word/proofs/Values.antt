@@ -8,7 +8,8 @@ use lib.Dec.{eqb, leb}
 use lib.ListN.{length}
 use borrow.Author.Tests.{leb-true}
 use Rattle.common.proofs.Every.{at, everyEntry, table-rule}
-use Rattle.command_word.specs.Commands.{commands, valuesIn, values, ValuesTable}
+use Rattle.command_word.specs.CommandContracts.{ValuesTable}
+use Rattle.command_word.specs.Commands.{commands, valuesIn, values}
 
 pub table-of : (xs : List ℕ) → length xs ≡ 16 → everyEntry (λ c x. eqb x (values c)) 0 xs ≡ true → ValuesTable xs
 table-of xs l t = record { entries = l; entry = table-rule values 16 xs l t }

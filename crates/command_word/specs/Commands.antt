@@ -1,11 +1,9 @@
 -- Document 01, "Command words": the fields of a word, and the commands that exist.
 -- Assumes nothing.
-use mathlib.Core.Path.{_≡_}
 use mathlib.Core.Bool.{Bool, cond}
 use mathlib.Core.List.{List, [], _∷_}
-use Prim.Native.Nat.{ℕ, suc, _+_, _*_, _/_, _%_, _<_}
+use Prim.Native.Nat.{ℕ, suc, _+_, _*_, _/_, _%_}
 use lib.Dec.{eqb, leb}
-use lib.ListN.{length, getD}
 
 -- "Here a word is type·1024 + command·64 + status."
 abbrev pub wordOf : ℕ → ℕ → ℕ → ℕ
@@ -108,11 +106,6 @@ valuesIn (x ∷ xs) c = cond (eqb c (x .number)) (suc (x .largest)) (valuesIn xs
 unfoldable pub values : ℕ → ℕ
 unfolding commands valuesIn
 values c = valuesIn commands c
-
--- a table of 16 entries that holds, at each command, how many numbers it carries
-pub record ValuesTable (table : List ℕ) : Type 0 where
-  pub entries : length table ≡ 16
-  pub entry : (c : ℕ) → c < 16 → getD table c 0 ≡ values c
 
 -- a command that is not in the list
 unfoldable pub reserved : ℕ → Bool

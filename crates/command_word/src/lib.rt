@@ -1,7 +1,8 @@
 // Command words: packet type, command and status of source document 001's command packets, stored in one number.
 ghost use mathlib.Core.Path.{_≡_};
 ghost use Prim.Native.Nat.{_<_};
-ghost use Rattle.command_word.specs.Commands.{wordOf, typeOf, commandOf, statusOf, typeFor, values, ValuesTable};
+ghost use Rattle.command_word.specs.CommandContracts.{ValuesTable};
+ghost use Rattle.command_word.specs.Commands.{wordOf, typeOf, commandOf, statusOf, typeFor, values};
 ghost use Rattle.command_word.specs.Word.{readWord, writeWord, noReading, noWriting};
 use common::refusal;
 

@@ -4,3 +4,4 @@ pub mod Every
 pub mod Lists
 pub mod From
 pub mod Lowest
+pub mod LowestBit

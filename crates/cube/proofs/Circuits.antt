@@ -3,16 +3,16 @@
 use mathlib.Core.Path.{_≡_}
 use Prim.Native.Nat.{ℕ, _<_}
 use native.Mathlib.Omega.{arith}
-use Rattle.cube.specs.Cube.{circuitOf, sourceOf, channelOf}
+use Rattle.cube.specs.Cube.{channels, circuitOf, sourceOf, channelOf}
 
-pub source-of-circuit : (s c : ℕ) → c < 8 → sourceOf (circuitOf s c) ≡ s
+pub source-of-circuit : (s c : ℕ) → c < channels → sourceOf (circuitOf s c) ≡ s
 source-of-circuit s c h = omega arith
 
-pub channel-of-circuit : (s c : ℕ) → c < 8 → channelOf (circuitOf s c) ≡ c
+pub channel-of-circuit : (s c : ℕ) → c < channels → channelOf (circuitOf s c) ≡ c
 channel-of-circuit s c h = omega arith
 
 pub circuit-of-parts : (k : ℕ) → 0 < k → circuitOf (sourceOf k) (channelOf k) ≡ k
 circuit-of-parts k h = omega arith
 
-pub channel-below : (k : ℕ) → channelOf k < 8
+pub channel-below : (k : ℕ) → channelOf k < channels
 channel-below k = omega arith

@@ -3,4 +3,5 @@ pub mod Bits
 pub mod Circuits
 pub mod Ports
 pub mod Order
+pub mod FirstPort
 pub mod Axes

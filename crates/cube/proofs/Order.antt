@@ -17,8 +17,9 @@ use Rattle.common.proofs.Lists.{all-append, keep-no, keep-mem, mem-keep, keep-a
 use Rattle.common.proofs.From.{length-from, keep-wider, from-pairwise, kept-below, below-kept}
 use Rattle.common.proofs.Every.{everyEntry, table-rule}
 use Rattle.cube.specs.Bits.{has}
-use Rattle.cube.specs.Cube.{Without}
-use Rattle.cube.specs.Helical.{portsOf, helical, firstOr, firstPort, FirstPorts, FirstTried}
+use Rattle.cube.specs.CubeContracts.{Without, FirstTried}
+use Rattle.cube.specs.Cube.{largestDimension, portCount}
+use Rattle.cube.specs.Helical.{portsOf, helical, firstOr, firstPort, FirstPorts}
 use Rattle.cube.proofs.Bits.{no-ports, zero-has, high-has}
 use Rattle.cube.proofs.Ports.{without-power}
 
@@ -129,7 +130,7 @@ length-ports w v = omega (arith, length-keep (has v) (from 0 w), length-from 0 w
 pub table-of : (xs : List ℕ) → length xs ≡ 2048 → everyEntry (λ k x. eqb x (firstPort (k / 8) (k % 8))) 0 xs ≡ true → FirstPorts xs
 table-of xs l t = record { entries = l; entry = λ v a h k. at v a h k }
   where
-    at : (v a : ℕ) → v < 256 → a < 8 → getD xs (8 * v + a) 0 ≡ firstPort v a
+    at : (v a : ℕ) → v < 256 → a < portCount → getD xs (8 * v + a) 0 ≡ firstPort v a
     at v a h k =
         let i : ℕ = 8 * v + a in
         let row : i / 8 ≡ v = omega arith in
@@ -137,11 +138,11 @@ table-of xs l t = record { entries = l; entry = λ v a h k. at v a h k }
         table-rule (λ k. firstPort (k / 8) (k % 8)) 2048 xs l t i (omega arith) ∙ rw (row, place)
 
 -- a number of a cube of dimension 8 or less is a byte
-pub byte-vector : {D x : ℕ} → D ≤ 8 → x < 2 ^ D → x < 256
+pub byte-vector : {D x : ℕ} → D ≤ largestDimension → x < 2 ^ D → x < 256
 byte-vector h l = lt-of-lt-of-le l (pow-mono h)
 
 -- the port tried first
-pub port-tried : (D v a p : ℕ) → D ≤ 8 → v < 2 ^ D → v ≢ 0 → p ≡ firstPort v a → FirstTried 8 v a p
+pub port-tried : (D v a p : ℕ) → D ≤ largestDimension → v < 2 ^ D → v ≢ 0 → p ≡ firstPort v a → FirstTried portCount v a p
 unfolding firstPort
 port-tried D v a p h l z e = rw e (first-tried 8 8 v a (byte-vector h l) z)
 

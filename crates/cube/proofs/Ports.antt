@@ -13,7 +13,8 @@ use borrow.Author.Tests.{eqb-true, eqb-false}
 use Rattle.common.specs.Lists.{lowest}
 use Rattle.common.proofs.Every.{at}
 use Rattle.cube.specs.Bits.{bitAt, has, flip}
-use Rattle.cube.specs.Cube.{NodeCount, uphill, UphillVector, Without}
+use Rattle.cube.specs.CubeContracts.{NodeCount, UphillVector, Without}
+use Rattle.cube.specs.Cube.{NodeOf, largestDimension, uphill}
 use Rattle.cube.proofs.Bits.{bit-lt, bit-xor, bit-flipped, bit-kept, has-bit, flip-drops}
 
 -- `1 << p` of w bits
@@ -21,17 +22,17 @@ pub port-bit : (w p : ℕ) → p < w → 1 * 2 ^ p % 2 ^ w ≡ 2 ^ p
 port-bit w p h = shl-exact 1 p w (lit< tt) (omega arith) ∙ one-mul (2 ^ p)
 
 -- a cube has at most 256 nodes, so that each of them is below 256
-pub most-nodes : {D : ℕ} → D ≤ 8 → 2 ^ D ≤ 256
+pub most-nodes : {D : ℕ} → D ≤ largestDimension → 2 ^ D ≤ 256
 most-nodes {D} h = pow-mono {i = D} {j = 8} h
 
-pub below-256 : {D n : ℕ} → D ≤ 8 → n < 2 ^ D → n < 256
+pub below-256 : {D n : ℕ} → D ≤ largestDimension → NodeOf D n → n < 256
 below-256 h l = lt-of-lt-of-le l (most-nodes h)
 
 -- their count, where the dimension has another name
 pub count-of : {d e k : ℕ} → d ≡ e → k ≡ 2 ^ d → k ≡ 2 ^ e
 count-of q c = c ∙ ap (2 ^_) q
 
-pub node-count : (D : ℕ) → D < 9 → NodeCount D (1 * 2 ^ D % 65536)
+pub node-count : (D : ℕ) → D ≤ largestDimension → NodeCount D (1 * 2 ^ D % 65536)
 node-count D h = rw (port-bit 16 D (omega arith)) (record { value = refl; some = pow-pos D; most = most-nodes (omega arith) })
 
 -- the ports in which two nodes differ are the uphill ones

@@ -5,10 +5,18 @@ use Prim.Native.Nat.{ℕ, _-_}
 use lib.Dec.{eqb, ltb}
 use Rattle.cube.specs.Bits.{has}
 
--- Document 02, (h): "port 17 - p leads where port p leads". A port below 9 is its own axis, and the axis of port q above is 17 - q.
-unfoldable pub axis : ℕ → ℕ
-axis q = cond (ltb q 9) q (17 - q)
+-- Document 02, (h): "The helical order then runs over 18 positions": every cube is looked at over as many, whatever its table has room for.
+abbrev pub positions : ℕ
+positions = 18
 
--- "Bit p of the fold mask doubles dimension p throughout the cube": of 18 ports, those below D are there, and the partners of the folded ones
+-- the ports below this are their own axes
+abbrev pub ownAxes : ℕ
+ownAxes = 9
+
+-- Document 02, (h): "port 17 - p leads where port p leads". A port in the lower half is its own axis, and the axis of port q above is 17 - q.
+unfoldable pub axis : ℕ → ℕ
+axis q = cond (ltb q ownAxes) q (17 - q)
+
+-- "Bit p of the fold mask doubles dimension p throughout the cube": of all ports, those below D are there, and the partners of the folded ones
 unfoldable pub present : ℕ → ℕ → ℕ → Bool
-present D fold q = ltb q 18 && (ltb (axis q) D && (eqb q (axis q) || has fold (axis q)))
+present D fold q = ltb q positions && (ltb (axis q) D && (eqb q (axis q) || has fold (axis q)))

@@ -1,11 +1,9 @@
 -- Document 01, "The cube and its table": nodes, where a port leads, circuits; and which ports lead towards a target.
 -- Assumes nothing.
-use mathlib.Core.Path.{_≡_}
-use mathlib.Core.Bool.{Bool, not, _&&_}
-use Prim.Native.Nat.{ℕ, _+_, _-_, _*_, _/_, _%_, _^_, _≤_, _<_}
+use mathlib.Core.Bool.{Bool, not}
+use Prim.Native.Nat.{ℕ, _+_, _-_, _*_, _/_, _%_, _^_, _<_}
 use lib.Dec.{eqb}
-use lib.Bits.{bitXor}
-use Rattle.cube.specs.Bits.{bitAt, has, flip}
+use Rattle.cube.specs.Bits.{bitAt, flip}
 use Rattle.cube.specs.Axes.{axis}
 
 -- "a table of one cube, dimension 1 to 8"
@@ -20,11 +18,16 @@ portCount = 8
 abbrev pub channels : ℕ
 channels = 8
 
--- "A cube of dimension D has nodes 0 to 2^D - 1": how many, for a dimension up to 8
-pub record NodeCount (D count : ℕ) : Type 0 where
-  pub value : count ≡ 2 ^ D
-  pub some : 0 < count
-  pub most : count ≤ 256
+-- "A cube of dimension D has nodes 0 to 2^D - 1": how many, and a node of it
+abbrev pub cubeNodes : ℕ → ℕ
+cubeNodes D = 2 ^ D
+
+abbrev pub NodeOf : ℕ → ℕ → Type 0
+NodeOf D n = n < cubeNodes D
+
+-- a vector with no bit "at or above D"
+abbrev pub VectorOf : ℕ → ℕ → Type 0
+VectorOf D vector = vector < 2 ^ D
 
 -- "Port p, below D, of a node leads to the node whose number differs in bit p alone": the bit of the port's axis
 abbrev pub next : ℕ → ℕ → ℕ
@@ -45,13 +48,3 @@ channelOf k = (k - 1) % 8
 unfoldable pub uphill : ℕ → ℕ → ℕ → Bool
 unfolding bitAt
 uphill t n p = not (eqb (bitAt n p) (bitAt t p))
-
--- a vector that has exactly the uphill ports of n towards t
-pub record UphillVector (n t vector : ℕ) : Type 0 where
-  pub bits : (p : ℕ) → has vector p ≡ uphill t n p
-  pub value : vector ≡ bitXor n t
-
--- what a vector is without one of its ports
-pub record Without (vector p rest : ℕ) : Type 0 where
-  pub value : rest + 2 ^ p ≡ vector
-  pub bits : (q : ℕ) → has rest q ≡ (has vector q && not (eqb q p))

@@ -1,9 +1,8 @@
 -- Document 01, "Which paths a scout may walk": the order in which ports are tried, and the table of first ports.
 -- Assumes nothing.
 use mathlib.Core.Path.{_≡_}
-use mathlib.Core.Bool.{true}
 use mathlib.Core.List.{List, [], _∷_, _++_}
-use Prim.Native.Nat.{ℕ, _+_, _-_, _*_, _^_, _<_}
+use Prim.Native.Nat.{ℕ, _+_, _*_, _<_}
 use lib.Dec.{leb, ltb}
 use lib.ListN.{length, getD}
 use Rattle.common.specs.Lists.{keep, from}
@@ -38,10 +37,3 @@ firstPort vector arrival = firstOr noPort (helical arrival (portsOf portCount ve
 pub record FirstPorts (table : List ℕ) : Type 0 where
   pub entries : length table ≡ 2048
   pub entry : (vector arrival : ℕ) → vector < 256 → arrival < portCount → getD table (8 * vector + arrival) 0 ≡ firstPort vector arrival
-
--- what is known of the port p that is tried first of a vector's ports among w positions: it is one of them, and the vector without it
--- has the rest of the order
-pub record FirstTried (w vector arrival p : ℕ) : Type 0 where
-  pub small : p < w
-  pub offered : has vector p ≡ true
-  pub rest : helical arrival (portsOf w vector) ≡ p ∷ helical arrival (portsOf w (vector - 2 ^ p))

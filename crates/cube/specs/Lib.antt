@@ -3,4 +3,5 @@ pub mod Bits
 pub mod Axes
 pub mod Cube
 pub mod Helical
+pub mod CubeContracts
 pub mod Examples

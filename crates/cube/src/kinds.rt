@@ -4,6 +4,21 @@ ghost use mathlib.Core.Path.{_≡_};
 ghost use Prim.Native.Nat.{_<_};
 ghost use Rattle.cube.specs.Cube.{channels, circuitOf, sourceOf, channelOf};
 
+// A cube has dimension 1 to 8, a row of the table eight ports, a node eight send and eight receive channels.
+pub const LARGEST_DIMENSION: u16 = 8;
+
+pub const PORTS: u16 = 8;
+
+pub const CHANNELS: u16 = 8;
+
+// What is answered where there is no port, or no channel.
+pub const NO_PORT: u16 = PORTS;
+
+pub const NO_CHANNEL: u16 = CHANNELS;
+
+// "Sends use arrival port 7": behind it the order begins with port 0.
+pub const SEND_ARRIVAL: u16 = 7;
+
 pub struct Node(pub u16);
 
 pub struct Port(pub u16);

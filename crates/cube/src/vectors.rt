@@ -1,24 +1,26 @@
 // Where a port leads, and vectors of ports: bit p of a vector stands for port p.
 ghost use mathlib.Core.Path.{_≡_};
 ghost use mathlib.Core.Bool.{true};
-ghost use Prim.Native.Nat.{_<_};
+ghost use Prim.Native.Nat.{_≤_, _<_};
 ghost use Rattle.common.specs.Lists.{lowest};
 ghost use Rattle.cube.specs.Bits.{has};
-ghost use Rattle.cube.specs.Cube.{portCount, NodeCount, next, UphillVector, Without};
+ghost use Rattle.cube.specs.Axes.{ownAxes};
+ghost use Rattle.cube.specs.CubeContracts.{NodeCount, UphillVector, Without};
+ghost use Rattle.cube.specs.Cube.{largestDimension, portCount, next};
 use crate::kinds::Node;
 use crate::kinds::Port;
 
 // How many nodes a cube has: 0 up to this are its node numbers, and a vector of its ports is below it.
 pub fn node_count(dimension: u16) -> u16
-    requires { ⌜ dimension < 9 ⌝ }
+    requires { ⌜ dimension ≤ largestDimension ⌝ }
     ensures { λ r. ⌜ NodeCount dimension r ⌝ }
 {
     1 << dimension
 }
 
-// The node that a port below 9 leads to: such a port is its own axis.
+// The node that a port leads to, for a port that is its own axis.
 pub fn neighbour(node: Node, port: Port) -> Node
-    requires { ⌜ port .0 < 9 ⌝ }
+    requires { ⌜ port .0 < ownAxes ⌝ }
     ensures { λ r. ⌜ r .0 ≡ next (node .0) (port .0) ⌝ }
 {
     let n = node.0;

@@ -8,8 +8,9 @@ use Prim.Native.Nat.{ℕ, suc, _+_, _-_, _^_, _≤_, _<_}
 use native.Mathlib.Omega.{arith}
 use lib.ListN.{length}
 use lib.Bits.{bitXor, xor-lt}
-use Rattle.cube.specs.Cube.{next}
-use Rattle.cube.specs.Helical.{helical, portsOf, firstPort, FirstTried}
+use Rattle.cube.specs.Cube.{largestDimension, portCount, NodeOf, next}
+use Rattle.cube.specs.CubeContracts.{FirstTried}
+use Rattle.cube.specs.Helical.{helical, portsOf, firstPort}
 use Rattle.cube.proofs.Order.{helical-mem, ports-mem, byte-vector, port-tried, low-port}
 use Rattle.cube.proofs.Axes.{next-inside}
 use Rattle.cube.proofs.Bits.{zero-has}
@@ -23,17 +24,17 @@ use Rattle.layout.specs.Layout.{dimensionAt}
 use Rattle.entries.specs.EntryContracts.{putOwner, Within}
 use Rattle.table.specs.View.{view, net, shapeOf}
 use Rattle.answers.specs.SendOnTable.{freeIn}
-use Rattle.answers.specs.PassAnswer.{holdPath, hopsLeft}
+use Rattle.answers.specs.PassOnBytes.{holdPath, hopsLeft}
 use Rattle.helix.specs.HelixContracts.{MayFollow, frontIn, freeAll, helixIn, FrontOf}
-use Rattle.answers.proofs.PassAnswer.{owner-length}
+use Rattle.answers.proofs.PassOnBytes.{owner-length}
 
 -- What a node off the target does after an arrival on port a: it goes on over the port that the table of first ports gives, one hop nearer.
 record GoesOn (S : Shape) (t n a v q : ℕ) : Type 0 where
   port : q < S .dimension
   nearer : network S .distance t n ≡ suc (network S .distance t (network S .next n q))
-  order : helical a (offered (network S) t n) ≡ q ∷ helical a (portsOf 8 (v - 2 ^ q))
+  order : helical a (offered (network S) t n) ≡ q ∷ helical a (portsOf portCount (v - 2 ^ q))
 
-goes-on : (S : Shape) → S .dimension ≤ 8 → S .fold ≡ 0 → (n t a v q : ℕ) → Node S n → Node S t → n ≢ t → v ≡ bitXor n t → q ≡ firstPort v a → GoesOn S t n a v q
+goes-on : (S : Shape) → S .dimension ≤ largestDimension → S .fold ≡ 0 → (n t a v q : ℕ) → Node S n → Node S t → n ≢ t → v ≡ bitXor n t → q ≡ firstPort v a → GoesOn S t n a v q
 goes-on S h z n t a v q i l off up first =
     record {
       port = low-port (S .dimension) v q small (tried .offered);
@@ -44,18 +45,18 @@ goes-on S h z n t a v q i l off up first =
     small : v < 2 ^ S .dimension
     small = rw up (xor-lt (S .dimension) n t i l)
 
-    offers : offered (network S) t n ≡ portsOf 8 v
-    offers = unfolded-vector S h z 8 n t h i l ∙ ap (portsOf 8) (sym up)
+    offers : offered (network S) t n ≡ portsOf portCount v
+    offers = unfolded-vector S h z 8 n t h i l ∙ ap (portsOf portCount) (sym up)
 
     some : v ≢ 0
     some e =
         let p = cube-leading S h t l .leads n i off in
         clash (ports-mem 8 v (rw offers at (p .1)) .1) (rw e (zero-has (p .0)))
 
-    tried : FirstTried 8 v a q
+    tried : FirstTried portCount v a q
     tried = port-tried (S .dimension) v a q h small some first
 
-    order : helical a (offered (network S) t n) ≡ q ∷ helical a (portsOf 8 (v - 2 ^ q))
+    order : helical a (offered (network S) t n) ≡ q ∷ helical a (portsOf portCount (v - 2 ^ q))
     order = ap (helical a) offers ∙ tried .rest
 
 -- The same of a table. Both loops below stand at a node n, before the hop over a port p, with the helix path of p from n still to go.
@@ -76,7 +77,7 @@ module _ {b : List ℕ} {t n p : ℕ} (may : MayFollow b n t p) where
 
   -- behind a hop off the target: the port that follows, which may be taken, from one hop nearer
   module _ {m v q : ℕ} (to : m ≡ next n p) (off : m ≢ t) (up : v ≡ bitXor m t) (first : q ≡ firstPort v p) where
-    inside : m < 2 ^ dimensionAt b
+    inside : NodeOf (dimensionAt b) m
     inside = rw to hop-inside
 
     on : GoesOn (shapeOf (view b)) t m p v q
@@ -104,7 +105,7 @@ pub record Looking (b : List ℕ) (s t p n q hops : ℕ) : Type 0 where
 pub looking-first : {b : List ℕ} {s t p : ℕ} → MayFollow b s t p → Looking b s t p s p 0
 unfolding hopsLeft
 looking-first {b} {s} {t} {p} may =
-    let fits : shapeOf (view b) .dimension ≤ 8 = unfold view in may .fits in
+    let fits : shapeOf (view b) .dimension ≤ largestDimension = unfold view in may .fits in
     record { may = may; few = omega (arith, distance-within (shapeOf (view b)) t (next s p), fits); count = omega arith; all = refl }
 
 -- a free hop counts one and leaves the rest, another counts nothing and ends it

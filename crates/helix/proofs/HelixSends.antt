@@ -13,8 +13,9 @@ use lib.Pow.{pow-pos, pow-lt}
 use borrow.Author.Tests.{eq-eqb, ne-eqb}
 use Rattle.common.proofs.Tests.{clash, same?}
 use Rattle.cube.specs.Bits.{has}
-use Rattle.cube.specs.Cube.{next, Without}
-use Rattle.cube.specs.Helical.{helical, portsOf, firstPort, noPort, FirstTried}
+use Rattle.cube.specs.CubeContracts.{Without, FirstTried}
+use Rattle.cube.specs.Cube.{largestDimension, portCount, channels, VectorOf, next}
+use Rattle.cube.specs.Helical.{helical, portsOf, firstPort, noPort}
 use Rattle.cube.proofs.Bits.{bit-power-other}
 use Rattle.cube.proofs.Order.{length-helical, length-ports, helical-zero, port-tried, low-port}
 use Rattle.paths.specs.Pass.{PassResult, none, found, scouts}
@@ -30,11 +31,11 @@ use Rattle.entries.specs.EntryContracts.{putReceiver}
 use Rattle.table.specs.View.{view, net, shapeOf, receive}
 use Rattle.table.specs.TableContracts.{lowestChannel}
 use Rattle.answers.specs.SendOnTable.{freeIn, pass-answer, answerOfOutcome}
-use Rattle.answers.specs.PassAnswer.{holdPath}
+use Rattle.answers.specs.PassOnBytes.{holdPath}
 use Rattle.answers.specs.SendAnswer.{bytesAfterSend, sendAnswer, searched, MaySend}
-use Rattle.helix.specs.HelixContracts.{MayFollow, frontIn, freeAll, helixIn, FrontOf, triedIn, MayTryPaths, FirstFree}
-use Rattle.answers.proofs.PassAnswer.{receive-small}
-use Rattle.answers.proofs.Sent.{ports-in-turn}
+use Rattle.helix.specs.HelixContracts.{MayFollow, freeAll, helixIn, FrontOf, triedIn, MayTryPaths, FirstFree}
+use Rattle.answers.proofs.PassOnBytes.{receive-small}
+use Rattle.answers.proofs.SendAnswer.{ports-in-turn}
 
 -- what trying the helix paths of some ports comes to, after some scouts
 abbrev triedAfter : List ℕ → ℕ → ℕ → ℕ → List ℕ → PassResult
@@ -43,9 +44,9 @@ triedAfter b s t sent ps = tryPaths (net (view b)) (freeIn (view b)) s sent (map
 -- What holds at each turn of the trying of helix paths: the ports left are ports of the cube, no path so far sent more than nine scouts, and what is
 -- left to do gives the whole.
 pub record PathTurn (b : List ℕ) (s t vector left sent : ℕ) : Type 0 where
-  pub ports : left < 2 ^ dimensionAt b
-  pub few : sent + 9 * length (portsOf 8 left) ≤ 72
-  pub rest : triedAfter b s t sent (helical 7 (portsOf 8 left)) ≡ triedIn b s t vector
+  pub ports : VectorOf (dimensionAt b) left
+  pub few : sent + 9 * length (portsOf portCount left) ≤ 72
+  pub rest : triedAfter b s t sent (helical 7 (portsOf portCount left)) ≡ triedIn b s t vector
 
 pub first-path-turn : {b : List ℕ} {s t vector : ℕ} → MayTryPaths b s t vector → PathTurn b s t vector vector 0
 unfolding triedIn
@@ -61,11 +62,11 @@ pub path-turns-over : {b : List ℕ} {s t vector left sent : ℕ} → PathTurn b
 path-turns-over {b} {s} {t} {vector} {left} {sent} inv z =
     record { nothing = λ e. sym (inv .rest) ∙ rw z nothing-left; path = λ f. absurd (f refl); there = λ f. absurd (f refl); long = λ f. absurd (f refl) }
   where
-    nothing-left : triedAfter b s t sent (helical 7 (portsOf 8 0)) ≡ none sent
+    nothing-left : triedAfter b s t sent (helical 7 (portsOf portCount 0)) ≡ none sent
     nothing-left = unfold tryPaths in rw (helical-zero 8 7)
 
 module _ {b : List ℕ} {s t vector left sent p : ℕ} (may : MayTryPaths b s t vector) (inv : PathTurn b s t vector left sent) (some : left ≢ 0) (first : p ≡ firstPort left 7) where
-  pub turn-port : FirstTried 8 left 7 p
+  pub turn-port : FirstTried portCount left 7 p
   turn-port = port-tried (dimensionAt b) left 7 p (may .fits) (inv .ports) some first
 
   pub turn-follows : MayFollow b s t p
@@ -78,21 +79,21 @@ module _ {b : List ℕ} {s t vector left sent p : ℕ} (may : MayTryPaths b s t 
         port = low-port (dimensionAt b) left p (inv .ports) (turn-port .offered);
       }
 
-  fewer : length (portsOf 8 left) ≡ suc (length (portsOf 8 (left - 2 ^ p)))
-  fewer = sym (length-helical 7 (portsOf 8 left)) ∙ ap length (turn-port .rest) ∙ ap suc (length-helical 7 (portsOf 8 (left - 2 ^ p)))
+  fewer : length (portsOf portCount left) ≡ suc (length (portsOf portCount (left - 2 ^ p)))
+  fewer = sym (length-helical 7 (portsOf portCount left)) ∙ ap length (turn-port .rest) ∙ ap suc (length-helical 7 (portsOf portCount (left - 2 ^ p)))
 
   -- the front of its helix path
   module _ {hops : ℕ} {whole : Bool} (front : FrontOf b s t p hops whole) where
     short : hops ≤ 9
     short =
-        let fits : shapeOf (view b) .dimension ≤ 8 = unfold view in may .fits in
+        let fits : shapeOf (view b) .dimension ≤ largestDimension = unfold view in may .fits in
         let most = front-most (net (view b)) (freeIn (view b)) s (helixIn b s t p) in
         omega (arith, front .count, most, helix-short (net (view b)) s t p, distance-within (shapeOf (view b)) t (net (view b) .next s p), fits)
 
-    pub turn-room : sent + hops + 9 * length (portsOf 8 (left - 2 ^ p)) ≤ 72
+    pub turn-room : sent + hops + 9 * length (portsOf portCount (left - 2 ^ p)) ≤ 72
     turn-room = omega (arith, short, fewer, inv .few)
 
-    whole-order : triedAfter b s t sent (p ∷ helical 7 (portsOf 8 (left - 2 ^ p))) ≡ triedIn b s t vector
+    whole-order : triedAfter b s t sent (p ∷ helical 7 (portsOf portCount (left - 2 ^ p))) ≡ triedIn b s t vector
     whole-order = ap (triedAfter b s t sent) (sym (turn-port .rest)) ∙ inv .rest
 
     pub turn-found : whole ≡ true → FirstFree b s t vector p hops (sent + hops)
@@ -113,7 +114,7 @@ module _ {b : List ℕ} {s t vector left sent p : ℕ} (may : MayTryPaths b s t 
         record {
           ports = (let l = inv .ports in omega arith);
           few = turn-room;
-          rest = ap (λ n. triedAfter b s t (sent + n) (helical 7 (portsOf 8 (left - 2 ^ p)))) (front .count) ∙ sym (try-on (net (view b)) (freeIn (view b)) s sent _ _ busy) ∙ whole-order;
+          rest = ap (λ n. triedAfter b s t (sent + n) (helical 7 (portsOf portCount (left - 2 ^ p)))) (front .count) ∙ sym (try-on (net (view b)) (freeIn (view b)) s sent _ _ busy) ∙ whole-order;
         }
 
 -- What becomes of the first free path.
@@ -149,7 +150,7 @@ module _ {b : List ℕ} {s t c vector port hops sent : ℕ} (may : MaySend b s t
       unfolding r receive lowestOf lowestChannel
       channel-is = rw (← low, ne-eqb k 8 g)
 
-      pub channel-small : k < 8
+      pub channel-small : k < channels
       channel-small = receive-small (view b) t k (unfold r in channel-is)
 
       pub helix-taken : {b₁ b₂ : List ℕ} → b₁ ≡ holdPath b c s (helixIn b s t port) → b₂ ≡ putReceiver b₁ t k c → pass-answer 0 hops k sent b₂ ≡ searched b s t c 1 vector
@@ -161,12 +162,12 @@ power-off : (p q : ℕ) → q ≢ p → has (2 ^ p) q ≡ false
 unfolding has
 power-off p q off = ap (λ x. eqb x 1) (bit-power-other p q off)
 
-one-port : (p : ℕ) → p < 8 → helical 7 (portsOf 8 (2 ^ p)) ≡ p ∷ []
+one-port : (p : ℕ) → p < portCount → helical 7 (portsOf portCount (2 ^ p)) ≡ p ∷ []
 one-port p l =
-    let tried : FirstTried 8 (2 ^ p) 7 q = port-tried 8 (2 ^ p) 7 q (le-refl 8) (pow-lt l) (λ e. omega (arith, e, pow-pos p)) refl in
+    let tried : FirstTried portCount (2 ^ p) 7 q = port-tried 8 (2 ^ p) 7 q (le-refl 8) (pow-lt l) (λ e. omega (arith, e, pow-pos p)) refl in
     let same : q ≡ p = is-p (tried .offered) in
     let nothing : 2 ^ p - 2 ^ q ≡ 0 = rw same (omega arith) in
-    tried .rest ∙ ap (λ v. q ∷ helical 7 (portsOf 8 v)) nothing ∙ ap (q ∷_) (helical-zero 8 7) ∙ ap (_∷ []) same
+    tried .rest ∙ ap (λ v. q ∷ helical 7 (portsOf portCount v)) nothing ∙ ap (q ∷_) (helical-zero 8 7) ∙ ap (_∷ []) same
   where
     q : ℕ
     q = firstPort (2 ^ p) 7
@@ -176,7 +177,7 @@ one-port p l =
 
 -- A send of routing type 3 is one of type 1 with the lowest port of its vector alone.
 module _ {b : List ℕ} {s t c vector p others : ℕ} (may : MaySend b s t c vector) (some : vector ≢ 0) (first : p ≡ firstPort vector 7) (less : Without vector p others) where
-  pub lowest-tried : FirstTried 8 vector 7 p
+  pub lowest-tried : FirstTried portCount vector 7 p
   lowest-tried = port-tried (dimensionAt b) vector 7 p (may .fits) (may .ports) some first
 
   alone : vector - others ≡ 2 ^ p

@@ -4,10 +4,10 @@ use mathlib.Core.Path.{_≡_}
 use mathlib.Core.Bool.{Bool}
 use mathlib.Core.Logic.{_≢_}
 use mathlib.Core.List.{List, map}
-use Prim.Native.Nat.{ℕ, _^_, _≤_, _<_}
+use Prim.Native.Nat.{ℕ, _≤_, _<_}
 use lib.ListN.{length}
 use Rattle.paths.specs.Network.{Path, freePath}
-use Rattle.cube.specs.Cube.{largestDimension}
+use Rattle.cube.specs.Cube.{largestDimension, NodeOf, VectorOf}
 use Rattle.cube.specs.Helical.{noPort}
 use Rattle.paths.specs.Pass.{PassResult, none, found}
 use Rattle.paths.specs.Helix.{helixPath, freeFront, tryPaths}
@@ -20,8 +20,8 @@ use Rattle.answers.specs.SendOnTable.{freeIn}
 pub record MayFollow (b : List ℕ) (n t p : ℕ) : Type 0 where
   pub bytes : length b ≡ tableLength
   pub fits : dimensionAt b ≤ largestDimension
-  pub node : n < 2 ^ dimensionAt b
-  pub target : t < 2 ^ dimensionAt b
+  pub node : NodeOf (dimensionAt b) n
+  pub target : NodeOf (dimensionAt b) t
   pub port : p < dimensionAt b
 
 -- the free hops at the front of a path from n, in what a table shows; and whether all of it is free
@@ -46,9 +46,9 @@ triedIn b s t vector = tryPaths (net (view b)) (freeIn (view b)) s 0 (map (helix
 pub record MayTryPaths (b : List ℕ) (s t vector : ℕ) : Type 0 where
   pub bytes : length b ≡ tableLength
   pub fits : dimensionAt b ≤ largestDimension
-  pub source : s < 2 ^ dimensionAt b
-  pub target : t < 2 ^ dimensionAt b
-  pub ports : vector < 2 ^ dimensionAt b
+  pub source : NodeOf (dimensionAt b) s
+  pub target : NodeOf (dimensionAt b) t
+  pub ports : VectorOf (dimensionAt b) vector
 
 -- the first of those paths that is free, by its first port; no port where none is free
 pub record FirstFree (b : List ℕ) (s t vector port hops scouts : ℕ) : Type 0 where

@@ -5,7 +5,7 @@ ghost use mathlib.Core.Logic.{_≢_};
 ghost use Rattle.table.specs.View.{view, net};
 ghost use Rattle.cube.specs.Helical.{FirstPorts};
 ghost use Rattle.paths.specs.Helix.{helixPath};
-ghost use Rattle.answers.specs.PassAnswer.{holdPath};
+ghost use Rattle.answers.specs.PassOnBytes.{holdPath};
 ghost use Rattle.answers.specs.SendOnTable.{pass-answer};
 ghost use Rattle.answers.specs.SendAnswer.{MaySend, searched};
 ghost use Rattle.helix.specs.HelixContracts.{MayFollow, FrontOf, MayTryPaths, FirstFree};
@@ -82,7 +82,7 @@ fn first_free(t: &[u8], source: Node, target: Node, vector: u16, first: &[u8; 20
     let mut left = vector;
     let mut scouts: u32 = 0;
     while left != 0 {
-        let p = cube::first_port(first, left, Port(7));
+        let p = cube::first_port(first, left, Port(cube::SEND_ARRIVAL));
         let front = free_front(t, source, target, p, first);
         scouts += front.hops as u32;
         if front.whole {
@@ -96,7 +96,7 @@ fn first_free(t: &[u8], source: Node, target: Node, vector: u16, first: &[u8; 20
         left = cube::without(left, p);
     }
     FreePath {
-        port: Port(8),
+        port: Port(cube::NO_PORT),
         hops: 0,
         scouts,
     }
@@ -118,7 +118,7 @@ pub fn try_each(
     let found = first_free(t, source, target, vector, first);
     let port = found.port;
     let scouts = found.scouts;
-    if port.0 == 8 {
+    if port.0 == cube::NO_PORT {
         return Opened {
             number: refusal::ROUTE_REJECTED,
             hops: 0,
@@ -127,7 +127,7 @@ pub fn try_each(
         };
     }
     let receive = table::free_channel(t, target);
-    if receive == 8 {
+    if receive == cube::NO_CHANNEL {
         return Opened {
             number: refusal::RECEIVE_REJECTED,
             hops: 0,
@@ -160,7 +160,7 @@ pub fn try_lowest(
     requires { ⌜ vector ≢ 0 ⌝ }
     ensures { λ r. ⌜ pass-answer (r .number) (r .hops) (r .receive) (r .scouts) (now (t .exit)) ≡ searched (now (t .entry)) (source .0) (target .0) (c .0) 3 vector ⌝ }
 {
-    let lowest = cube::first_port(first, vector, Port(7));
+    let lowest = cube::first_port(first, vector, Port(cube::SEND_ARRIVAL));
     let others = cube::without(vector, lowest);
     try_each(t, source, target, c, vector - others, first)
 }

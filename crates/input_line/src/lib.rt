@@ -24,7 +24,7 @@ fn numbers(line: &[u8], from: usize, values: &mut [u16; 5]) -> usize
     while count < 5 {
         let end = text::find(line, at, b' ');
         let n = number::read(&line[at..end]);
-        if n == number::NONE {
+        if n == number::NO_NUMBER {
             return 0;
         }
         values[count] = n as u16;

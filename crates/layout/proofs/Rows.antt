@@ -57,15 +57,15 @@ module _ (b : List ℕ) (i c : ℕ) where
 
 -- a mask that has every entry of the row that is not zero
 module _ {b : List ℕ} {i free mask : ℕ} (r : RowVector b i 0 free) (small : mask < 256) where
-  Covered : Type 0
-  Covered = (k : ℕ) → k < 8 → wordAt b (i + 2 * k) ≢ 0 → has mask k ≡ true
+  MaskHasHeld : Type 0
+  MaskHasHeld = (k : ℕ) → k < 8 → wordAt b (i + 2 * k) ≢ 0 → has mask k ≡ true
 
   every-bit : (k : ℕ) → k < 8 → has 255 k ≡ true
   every-bit k l = at 8 (has 255) (unfold has in refl) k l
 
-  covers : Covered → bitOr free mask ≡ 255
-  unfolding Covered
-  covers h =
+  mask-has-held : MaskHasHeld → bitOr free mask ≡ 255
+  unfolding MaskHasHeld
+  mask-has-held h =
       same-bits 8 (bitOr free mask) 255 (or-lt 8 free mask (r .small) small) (lit< tt)
       (λ k l. has-bit _ k (has-or free mask k ∙ there k l (same? (wordAt b (i + 2 * k)) 0)) ∙ sym (has-bit 255 k (every-bit k l)))
     where
@@ -73,12 +73,12 @@ module _ {b : List ℕ} {i free mask : ℕ} (r : RowVector b i 0 free) (small : 
       there k l (inl z) = or-left _ (r .bits k l ∙ eq-eqb _ 0 z)
       there k l (inr z) = or-right (has free k) (h k l z)
 
-  covered : bitOr free mask ≡ 255 → Covered
-  unfolding Covered
+  covered : bitOr free mask ≡ 255 → MaskHasHeld
+  unfolding MaskHasHeld
   covered e k l z =
       ⊎-elim (λ f. absurd (clash f (r .bits k l ∙ ne-eqb _ 0 z))) (λ f. f)
       (either (has free k) (has mask k) (sym (has-or free mask k) ∙ ap (λ x. has x k) e ∙ every-bit k l))
 
   pub mask-decides : Decides ((k : ℕ) → k < 8 → wordAt b (i + 2 * k) ≢ 0 → has mask k ≡ true) (eqb (bitOr free mask) 255)
-  unfolding Covered
-  mask-decides = record { holds = λ e. covered (eqb-true _ 255 e); fails = λ e h. eqb-false _ 255 e (covers h) }
+  unfolding MaskHasHeld
+  mask-decides = record { holds = λ e. covered (eqb-true _ 255 e); fails = λ e h. eqb-false _ 255 e (mask-has-held h) }

@@ -6,7 +6,7 @@ ghost use Rattle.ownership.specs.OnTable.{tableStep};
 ghost use Rattle.text.specs.Row.{rowText};
 ghost use Rattle.input_line.specs.Line.{asks};
 ghost use Rattle.input_line.specs.ReadLine.{callOf};
-ghost use Rattle.printed_line.specs.PrintedLine.{empty, rowFor};
+ghost use Rattle.printed_line.specs.PrintedLine.{zeroBuffer, rowFor};
 ghost use Rattle.printed_line.specs.LineContracts.{Answered};
 ghost use Rattle.line_answer.specs.LineWritten.{WroteLine};
 use common::refusal;
@@ -16,7 +16,7 @@ use text::row::Field;
 
 // Carries out what a line asks, and gives the fields of its printed line; the ports of a path are left in the buffer.
 fn carry_out(t: &mut [u8], line: u16, asked: Asked, ports: &mut [u8]) -> row::Row
-    requires { ⌜ now ports ≡ empty ⌝ }
+    requires { ⌜ now ports ≡ zeroBuffer ⌝ }
     ensures { λ r. ⌜ Answered (now (t .entry)) line (callOf asked) (now (ports .exit)) r (now (t .exit)) ⌝ }
 {
     let none = Field::Nothing;
@@ -65,7 +65,7 @@ fn carry_out(t: &mut [u8], line: u16, asked: Asked, ports: &mut [u8]) -> row::Ro
             let receive = Field::Number(channel as u32);
             row::of_call(line, b'D', answer, at, receive, none, none, none)
         }
-        Asked::Unreadable => row::lone(line, refusal::UNREADABLE_LINE),
+        Asked::Unreadable => row::answer_alone(line, refusal::UNREADABLE_LINE),
     }
 }
 

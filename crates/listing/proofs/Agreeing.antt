@@ -7,27 +7,28 @@ use mathlib.Core.Option.{Option, none, some}
 use Prim.Native.Nat.{ℕ, suc}
 use lib.Dec.{ltb, lit≤}
 use lib.ListN.{length, take}
-use Rattle.table.specs.Encode.{made}
+use Rattle.table.specs.View.{fresh}
+use Rattle.table.specs.Encode.{encode}
 use Rattle.ownership.specs.Calls.{Call, tracing, CallResult, hopsOf, bufferOf}
 use Rattle.ownership.specs.OnTable.{tableStep}
-use Rattle.ownership.specs.History.{History, historyStep}
+use Rattle.ownership.specs.History.{History, historyStep, newHistory}
 use Rattle.ownership.specs.Invariant.{Represents}
 use Rattle.ownership.proofs.Agreement.{represents-step}
 use Rattle.ownership.proofs.ValidAfter.{made-valid}
 use Rattle.ownership.proofs.Applied.{made-view}
-use Rattle.table.proofs.Made.{made-bytes, view-made}
+use Rattle.table.proofs.Made.{fresh-bytes, view-made}
 use Rattle.listing.specs.Examples.{input, output, printed-example}
 use Rattle.text.specs.Lines.{lines}
 use Rattle.input_line.specs.Line.{asks}
 use Rattle.text.specs.Row.{Row, rowsText}
-use Rattle.printed_line.specs.PrintedLine.{callRow, traced, rowFor, stateAfter, empty}
+use Rattle.printed_line.specs.PrintedLine.{callRow, traced, rowFor, stateAfter, zeroBuffer}
 use Rattle.listing.specs.Listing.{rows, header, inputLimit, tooLong, listing, printed, recorded}
 
 -- The list says what the ownership history says: on a table that represents a history, the printed lines are those of the history.
 traced-alike : (b : List ℕ) (h : History) → Represents b h → (n c : ℕ) → traced tableStep b n c ≡ traced historyStep h n c
 unfolding traced
 traced-alike b h k n c =
-    ap (λ (g : CallResult). take (hopsOf g) (bufferOf g)) (represents-step b h k (tracing n c empty) .result)
+    ap (λ (g : CallResult). take (hopsOf g) (bufferOf g)) (represents-step b h k (tracing n c zeroBuffer) .result)
 
 row-alike : (b : List ℕ) (h : History) → Represents b h → (n : ℕ) (a : Option Call) → rowFor tableStep b n a ≡ rowFor historyStep h n a
 unfolding rowFor
@@ -55,14 +56,14 @@ unfolding listing
 list-alike b h input k =
     ap (λ (rs : List Row). cond (ltb inputLimit (length input)) tooLong (header ++ rowsText rs)) (rows-alike (lines input) b h 1 k)
 
-start-represents : Represents (made 1) (record { dimension = 1; blocked = []; circuits = []; armed = [] })
+start-represents : Represents (encode (fresh 1)) (newHistory 1)
 start-represents =
-    record { bytes = made-bytes 1 (lit≤ tt); shows = view-made 1 (lit≤ tt) ∙ sym (made-view 1); valid = made-valid 1 (lit≤ tt) (lit≤ tt) }
+    record { bytes = fresh-bytes 1 (lit≤ tt); shows = view-made 1 (lit≤ tt) ∙ sym (made-view 1); valid = made-valid 1 (lit≤ tt) (lit≤ tt) }
 
 -- Demand 3, of the list: what is printed is what the ownership history says.
 pub prints-history : (input : List ℕ) → printed input ≡ recorded input
 unfolding printed recorded
-prints-history input = list-alike (made 1) (record { dimension = 1; blocked = []; circuits = []; armed = [] }) input start-represents
+prints-history input = list-alike (encode (fresh 1)) (newHistory 1) input start-represents
 
 -- So the printed example of document 01 is what the function writes.
 pub example-printed : printed input ≡ output

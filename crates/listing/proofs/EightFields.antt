@@ -14,7 +14,7 @@ use Rattle.common.specs.Lists.{from}
 use Rattle.ownership.specs.Calls.{Call, making, blocking, unblocking, opening, closing, tracing, arming, disarming, CallResult, After}
 use Rattle.text.specs.Text.{newline, space}
 use Rattle.text.specs.Lines.{lines, cut, fields}
-use Rattle.text.specs.Row.{Field, nothing, shows, letter, path, bytesOf, Row, inOrder, spaced, ended, rowText, rowsText}
+use Rattle.text.specs.Row.{Field, nothing, shows, letter, path, fieldBytes, Row, inOrder, spaced, ended, rowText, rowsText}
 use Rattle.input_line.specs.Line.{asks}
 use Rattle.printed_line.specs.PrintedLine.{callRow, unreadable, traced, rowFor, stateAfter}
 use Rattle.listing.specs.Listing.{rows, headerWords, header, inputLimit, listing}
@@ -22,31 +22,31 @@ use Rattle.text.specs.Above.{Above, AllAbove}
 use Rattle.text.proofs.Separated.{fields-spaced, above-decimal, above-turn, ended-line}
 
 -- Every field of a printed line is a dash, a number, a call letter or the ports of a path, none of which has a byte up to the space;
-a-dash : Above space (bytesOf nothing)
-unfolding bytesOf Above
+a-dash : Above space (fieldBytes nothing)
+unfolding fieldBytes Above
 a-dash = (lit< tt, tt)
 
-a-number : (n : ℕ) → Above space (bytesOf (shows n))
-unfolding bytesOf
+a-number : (n : ℕ) → Above space (fieldBytes (shows n))
+unfolding fieldBytes
 a-number n = above-decimal n
 
-a-letter : (x : ℕ) → space < x → Above space (bytesOf (letter x))
-unfolding bytesOf Above
+a-letter : (x : ℕ) → space < x → Above space (fieldBytes (letter x))
+unfolding fieldBytes Above
 a-letter x h = (h, tt)
 
-a-path : (w : List ℕ) → Above space (bytesOf (path w))
-unfolding bytesOf Above
+a-path : (w : List ℕ) → Above space (fieldBytes (path w))
+unfolding fieldBytes Above
 a-path [] = (lit< tt, tt)
 a-path (p ∷ w) = above-turn (p ∷ w)
 
 -- or a dash stands in its place.
-or-dash : (b : Bool) (f : Field) → Above space (bytesOf f) → Above space (bytesOf (cond b f nothing))
+or-dash : (b : Bool) (f : Field) → Above space (fieldBytes f) → Above space (fieldBytes (cond b f nothing))
 or-dash true f p = p
 or-dash false f p = a-dash
 
 -- a printed line's eight fields, as bytes
 abbrev pub eight : Row → List (List ℕ)
-eight r = map bytesOf (inOrder r)
+eight r = map fieldBytes (inOrder r)
 
 above-eight : (n : ℕ) (a : Call) (x : CallResult) (way : ℕ → ℕ → List ℕ) → AllAbove space (eight (callRow n a x way))
 unfolding AllAbove inOrder callRow

@@ -16,11 +16,11 @@ use Rattle.cube.specs.Cube.{circuitOf}
 use Rattle.paths.specs.Network.{Path}
 use Rattle.paths.proofs.Apart.{permitted-below}
 use Rattle.paths.proofs.CubeNetwork.{path-hops}
-use Rattle.table.specs.Encode.{made}
-use Rattle.table.specs.View.{view, shapeOf}
+use Rattle.table.specs.Encode.{encode}
+use Rattle.table.specs.View.{view, shapeOf, fresh}
 use Rattle.circuit_path.specs.PathOf.{pathOf}
 use Rattle.circuit_path.specs.Traced.{tracedInto}
-use Rattle.circuit_path.proofs.Stands.{path-is}
+use Rattle.circuit_path.proofs.CircuitSound.{path-is}
 use Rattle.ownership.specs.Calls.{Call, making, blocking, unblocking, opening, closing, tracing, arming, disarming, CallResult, hopsOf, receiveOf, scoutsOf, bufferOf, carriesScouts, resultOf, After}
 use Rattle.ownership.specs.OnTable.{factsOf, stoppedAt, tableStep}
 use Rattle.ownership.specs.Allowed.{Allowed}
@@ -32,8 +32,8 @@ use Rattle.ownership.proofs.OnSound.{open-answers, open-stands}
 use Rattle.text.specs.Text.{newline, decimal}
 use Rattle.text.specs.Lines.{onFirst, cut, lines, fields}
 use Rattle.input_line.specs.Line.{numbers, numbersOf, byLetter, withNumbers, ofFields, longest, asks}
-use Rattle.text.specs.Row.{Field, nothing, shows, path, inTurn, bytesOf, spaced, ended, rowText, rowsText}
-use Rattle.printed_line.specs.PrintedLine.{accepted, callRow, unreadable, empty, traced, rowFor, stateAfter}
+use Rattle.text.specs.Row.{Field, nothing, shows, path, inTurn, fieldBytes, spaced, ended, rowText, rowsText}
+use Rattle.printed_line.specs.PrintedLine.{accepted, callRow, unreadable, zeroBuffer, traced, rowFor, stateAfter}
 use Rattle.listing.specs.Listing.{rows, header, inputLimit, tooLong, listing, printed}
 use Rattle.listing.specs.Printed.{outputBytes}
 use Rattle.text.specs.Written.{width}
@@ -46,7 +46,7 @@ use Rattle.listing.proofs.Refusals.{two-digits}
 
 -- a field that is shown in one case only
 if-fits : (k : ℕ) (b : Bool) (f : Field) → 1 ≤ k → (b ≡ true → width f ≤ k) → width (cond b f nothing) ≤ k
-unfolding bytesOf
+unfolding fieldBytes
 if-fits k true f h l = l refl
 if-fits k false f h l = h
 
@@ -107,19 +107,19 @@ turn-length D (p ∷ w) h b =
     omega (arith, length-append (decimal p) (inTurn w), decimal-length 0 p (omega arith), turn-length D w h (λ q m. b q (List·Memᴰ·tail m)))
 
 path-width : (w : Path) → length w ≤ 9 → length (inTurn w) ≤ length w → width (path w) ≤ 9
-unfolding bytesOf
+unfolding fieldBytes
 path-width [] h l = lit≤ tt
 path-width (p ∷ w) h l = omega arith
 
 module _ (b : List ℕ) (s c : ℕ) where
   abbrev trace : Call
-  trace = tracing s c empty
+  trace = tracing s c zeroBuffer
 
   history-step-path : stoppedAt b trace ≡ 0 → traced tableStep b s c ≡ pathOf (view b) (circuitOf s c)
   unfolding traced resultOf factsOf tracedInto
   history-step-path e =
       ap (λ (x : CallResult). take (hopsOf x) (bufferOf x)) (table-step b trace .result e)
-      ∙ take-append-seam (pathOf (view b) (circuitOf s c)) (drop (length (pathOf (view b) (circuitOf s c))) empty)
+      ∙ take-append-seam (pathOf (view b) (circuitOf s c)) (drop (length (pathOf (view b) (circuitOf s c))) zeroBuffer)
 
   no-path : stoppedAt b trace ≢ 0 → traced tableStep b s c ≡ []
   unfolding traced
@@ -136,7 +136,7 @@ module _ (b : List ℕ) (s c : ℕ) where
       (path-width (stands .path) (omega arith) (turn-length (view b .dimension) (stands .path) (omega arith) below))
 
   traced-width : width (path (traced tableStep b s c)) ≤ 9
-  unfolding bytesOf
+  unfolding fieldBytes
   traced-width = ⊎-elim (λ e. rw (history-step-path e) (found-path e)) (λ e. rw (no-path e) (lit≤ tt)) (same? (stoppedAt b trace) 0)
 
 -- the receive channel and the scouts of an open
@@ -160,7 +160,7 @@ module _ (b : List ℕ) (n : ℕ) (small : n < 65536) where
   answer-digits a = decimal-length 1 _ (let l = two-digits b a in omega arith)
 
   call-length : (a : Call) → ArgumentsFit a → length (rowText (rowFor tableStep b n (some a))) ≤ 72
-  unfolding rowFor callRow bytesOf
+  unfolding rowFor callRow fieldBytes
   call-length (making D) g = rw row-length (omega (arith, five-digits n small, answer-digits (making D)))
   call-length (blocking m p) g =
       rw row-length (omega (arith, five-digits n small, answer-digits (blocking m p), five-digits m (g .0), five-digits p (g .1)))
@@ -188,7 +188,7 @@ module _ (b : List ℕ) (n : ℕ) (small : n < 65536) where
       rw row-length (omega (arith, five-digits n small, answer-digits (disarming m k), five-digits m (g .0), five-digits k (g .1)))
 
   unreadable-length : length (rowText (unreadable n)) ≤ 24
-  unfolding unreadable bytesOf
+  unfolding unreadable fieldBytes
   unreadable-length = rw row-length (omega (arith, five-digits n small, decimal-length 1 20 (lit< tt)))
 
   -- 24 bytes for each byte of a line and its newline: a line with a call has two bytes at least
@@ -230,10 +230,10 @@ unfolding printed listing
 text-fits input = go (ltb inputLimit (length input)) refl
   where
     go : (x : Bool) → ltb inputLimit (length input) ≡ x
-        → length (cond x tooLong (header ++ rowsText (rows tableStep (made 1) 1 (lines input)))) ≤ outputBytes
+        → length (cond x tooLong (header ++ rowsText (rows tableStep (encode (fresh 1)) 1 (lines input)))) ≤ outputBytes
     go true e = unfold tooLong ended spaced in lit≤ tt
     go false e =
         let long : length header ≡ 51 = unfold header ended spaced in refl in
         let few = ltb-false inputLimit (length input) e in
         let most = taken-lines input in
-        omega (arith, length-append header (rowsText (rows tableStep (made 1) 1 (lines input))), rows-length (lines input) (made 1) 1 (omega arith))
+        omega (arith, length-append header (rowsText (rows tableStep (encode (fresh 1)) 1 (lines input))), rows-length (lines input) (encode (fresh 1)) 1 (omega arith))

@@ -13,7 +13,8 @@ use lib.ListN.{length, take, drop, length-drop, length-append, drop-of-length-le
 use lib.Seq.{sets, sets-eq}
 use borrow.Author.Tests.{lt-ltb, le-ltb}
 use Rattle.common.proofs.Tests.{same?}
-use Rattle.table.specs.Encode.{made}
+use Rattle.table.specs.View.{fresh}
+use Rattle.table.specs.Encode.{encode}
 use Rattle.text.specs.Text.{newline}
 use Rattle.text.specs.Lines.{cut, lines}
 use Rattle.input_line.specs.Line.{asks}
@@ -79,12 +80,12 @@ pub printed-long : (input : List ℕ) → inputLimit < length input → tooLong 
 unfolding printed listing
 printed-long input h = rw (lt-ltb inputLimit (length input) h)
 
-pub printed-rows : (input b : List ℕ) → length input ≤ inputLimit → b ≡ made 1 → header ++ rowsText (rows tableStep b 1 (lines input)) ≡ printed input
+pub printed-rows : (input b : List ℕ) → length input ≤ inputLimit → b ≡ encode (fresh 1) → header ++ rowsText (rows tableStep b 1 (lines input)) ≡ printed input
 unfolding printed listing
 printed-rows input b h e = rw (e, le-ltb inputLimit (length input) h)
 
 -- the lines behind the header fit the output
-pub rows-fit : (input b : List ℕ) → length input ≤ inputLimit → b ≡ made 1 → length header + length (rowsText (rows tableStep b 1 (lines input))) ≤ outputBytes
+pub rows-fit : (input b : List ℕ) → length input ≤ inputLimit → b ≡ encode (fresh 1) → length header + length (rowsText (rows tableStep b 1 (lines input))) ≤ outputBytes
 rows-fit input b h e =
     let f = text-fits input in
     let l = ap length (printed-rows input b h e) in

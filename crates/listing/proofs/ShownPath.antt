@@ -19,7 +19,7 @@ use Rattle.ownership.specs.History.{Circuit, History, belongs, openOn, listed, 
 use Rattle.ownership.proofs.Allowed.{allowed-on, allowed-passes}
 use Rattle.ownership.proofs.Steps.{history-step}
 use Rattle.text.specs.Row.{path}
-use Rattle.printed_line.specs.PrintedLine.{callRow, empty, traced, rowFor}
+use Rattle.printed_line.specs.PrintedLine.{callRow, zeroBuffer, traced, rowFor}
 
 module _ (h : History) (s c t y v : ℕ) (w : Path) (k : ℕ) (passes : stoppedOn h (opening s c t y v) ≡ 0) (sends : sendOn h s t y v .outcome ≡ acknowledged w k) where
   new : Circuit
@@ -44,17 +44,17 @@ module _ (h : History) (s c t y v : ℕ) (w : Path) (k : ℕ) (passes : stoppedO
   unfolding listed after new
   listed-path = ap (λ x. cond x w (listed (h .circuits) s c)) its-own
 
-  trace-passes : stoppedOn after (tracing s c empty) ≡ 0
+  trace-passes : stoppedOn after (tracing s c zeroBuffer) ≡ 0
   unfolding stoppedOn Allowed factsOn after openOn any
   trace-passes =
       let r = allowed-on h (opening s c t y v) passes in
-      allowed-passes (factsOn after) (tracing s c empty) (r .0, r .2, ap (_|| any (belongs s c) (h .circuits)) its-own, lit≤ tt)
+      allowed-passes (factsOn after) (tracing s c zeroBuffer) (r .0, r .2, ap (_|| any (belongs s c) (h .circuits)) its-own, lit≤ tt)
 
   traced-path : traced historyStep after s c ≡ w
   unfolding traced resultOf factsOn tracedInto
   traced-path =
-      ap (λ (x : CallResult). take (hopsOf x) (bufferOf x)) (history-step after (tracing s c empty) .result trace-passes)
-      ∙ ap (λ u. take (length u) (u ++ drop (length u) empty)) listed-path ∙ take-append-seam w (drop (length w) empty)
+      ap (λ (x : CallResult). take (hopsOf x) (bufferOf x)) (history-step after (tracing s c zeroBuffer) .result trace-passes)
+      ∙ ap (λ u. take (length u) (u ++ drop (length u) zeroBuffer)) listed-path ∙ take-append-seam w (drop (length w) zeroBuffer)
 
   -- "ports in path order": those of the path with which the open was acknowledged
   pub shows-path : (n : ℕ) → rowFor historyStep h n (some (opening s c t y v)) .ports ≡ path w

@@ -19,7 +19,7 @@ use Rattle.ownership.specs.History.{holdsLink, holdsReceive, belongs, enabledOn
 use Rattle.text.specs.Text.{digits, decimal, allDigits, value, leadingZero, number}
 use Rattle.text.specs.Lines.{onFirst, cut, lines, fields}
 use Rattle.input_line.specs.Line.{inFront, numbers, numbersOf, asked, byLetter, withNumbers, ofFields, asks}
-use Rattle.text.specs.Row.{inTurn, bytesOf, inOrder, spaced, ended, rowText, rowsText}
+use Rattle.text.specs.Row.{inTurn, fieldBytes, inOrder, spaced, ended, rowText, rowsText}
 use Rattle.printed_line.specs.PrintedLine.{callRow, unreadable, traced, rowFor, stateAfter}
 use Rattle.listing.specs.Listing.{rows, header, tooLong, listing, recorded}
 
@@ -62,5 +62,5 @@ output =
     []
 
 pub printed-example : recorded input ≡ output
-unfolding historyStep stoppedOn callTests refusal factsOn openOn heldOn takenOn any holdsLink holdsReceive belongs enabledOn freeOn linkState isFree armedOn receiveOn lowestOf lowest listed sendOn withOpened applied resultOf callOn carriesScouts tracedInto send attempts attempted network ports sendPorts otherPorts present axis keep from has flip uphill helical offered end links hasLink freePath over ways beginnings scan whole pass scouts received outcome goesOn runs answered digits decimal allDigits value leadingZero number onFirst cut lines fields inFront numbers numbersOf asked byLetter withNumbers ofFields asks inTurn bytesOf inOrder spaced ended rowText rowsText callRow unreadable traced rowFor stateAfter rows header tooLong listing recorded
+unfolding historyStep stoppedOn callTests refusal factsOn openOn heldOn takenOn any holdsLink holdsReceive belongs enabledOn freeOn linkState isFree armedOn receiveOn lowestOf lowest listed sendOn withOpened applied resultOf callOn carriesScouts tracedInto send attempts attempted network ports sendPorts otherPorts present axis keep from has flip uphill helical offered end links hasLink freePath over ways beginnings scan whole pass scouts received outcome goesOn runs answered digits decimal allDigits value leadingZero number onFirst cut lines fields inFront numbers numbersOf asked byLetter withNumbers ofFields asks inTurn fieldBytes inOrder spaced ended rowText rowsText callRow unreadable traced rowFor stateAfter rows header tooLong listing recorded
 printed-example = refl

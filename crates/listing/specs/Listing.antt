@@ -5,10 +5,11 @@ use mathlib.Core.List.{List, [], _∷_, _++_}
 use Prim.Native.Nat.{ℕ, suc}
 use lib.Dec.{ltb}
 use lib.ListN.{length}
-use Rattle.table.specs.Encode.{made}
+use Rattle.table.specs.View.{fresh}
+use Rattle.table.specs.Encode.{encode}
 use Rattle.ownership.specs.Calls.{Call, After}
 use Rattle.ownership.specs.OnTable.{tableStep}
-use Rattle.ownership.specs.History.{historyStep}
+use Rattle.ownership.specs.History.{historyStep, newHistory}
 use Rattle.text.specs.Lines.{lines}
 use Rattle.text.specs.Row.{Row, ended, rowsText}
 use Rattle.input_line.specs.Line.{asks}
@@ -49,7 +50,7 @@ listing makes s input = cond (ltb inputLimit (length input)) tooLong (header ++ 
 
 -- "It starts from a made table of dimension 1.": on the bytes of a table, by the definition that the contracts of the calls cite, and in the ownership history
 unfoldable pub printed : List ℕ → List ℕ
-printed input = listing tableStep (made 1) input
+printed input = listing tableStep (encode (fresh 1)) input
 
 unfoldable pub recorded : List ℕ → List ℕ
-recorded input = listing historyStep (record { dimension = 1; blocked = []; circuits = []; armed = [] }) input
+recorded input = listing historyStep (newHistory 1) input

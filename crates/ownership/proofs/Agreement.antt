@@ -10,7 +10,7 @@ use lib.ListN.{length}
 use borrow.Author.Tests.{le-leb}
 use Rattle.common.specs.Tests.{refusal}
 use Rattle.common.proofs.Tests.{same?, passed, accepted}
-use Rattle.cube.specs.Cube.{circuitOf}
+use Rattle.cube.specs.Cube.{largestDimension, channels, circuitOf}
 use Rattle.paths.specs.Network.{Path}
 use Rattle.paths.specs.Send.{SendResult}
 use Rattle.layout.specs.Layout.{tableLength, dimensionAt}
@@ -23,9 +23,9 @@ use Rattle.table.specs.Encode.{encode}
 use Rattle.table.proofs.Encode.{encode-view}
 use Rattle.table.proofs.Encoded.{encode-bytes, view-encode}
 use Rattle.ownership.specs.Calls.{Call, making, blocking, unblocking, opening, closing, tracing, arming, disarming, CallResult, refusedWith, answered, callTests, resultOf}
-use Rattle.ownership.specs.Update.{sendIn, updated}
+use Rattle.ownership.specs.Update.{updated}
 use Rattle.ownership.specs.OnTable.{factsOf, stoppedAt, tableStep}
-use Rattle.ownership.specs.History.{History, factsOn, stoppedOn, listed, applied, historyStep}
+use Rattle.ownership.specs.History.{History, factsOn, stoppedOn, listed, applied, historyStep, newHistory}
 use Rattle.ownership.specs.Agrees.{tableAfter, tableResults, historyAfter, historyResults, Agrees, Accepted, leaves, answers}
 use Rattle.ownership.specs.Invariant.{Valid, Represents}
 use Rattle.ownership.specs.HistoryView.{viewOf, bytesOf}
@@ -38,16 +38,16 @@ use Rattle.ownership.proofs.Refused.{refused-within}
 use Rattle.ownership.proofs.Sameness.{send-same, waiting-same}
 use Rattle.ownership.proofs.CircuitValid.{armed-inside, valid-sound}
 use Rattle.ownership.proofs.Stopped.{path-listed, stopped-same}
-use Rattle.ownership.proofs.ValidAfter.{made-valid, follows-valid}
-use Rattle.ownership.proofs.Applied.{made-view, follows-view}
+use Rattle.ownership.proofs.ValidAfter.{made-valid, applied-valid}
+use Rattle.ownership.proofs.Applied.{made-view, applied-view}
 use Rattle.ownership.proofs.Steps.{table-step, history-step}
-use Rattle.answers.specs.SendOnTable.{waitingHelps}
+use Rattle.answers.specs.SendOnTable.{waitingHelps, sendIn}
 
 -- The bytes of a valid history represent it.
 bytes-represent : (h : History) → Valid h → Represents (bytesOf h) h
 unfolding bytesOf
 bytes-represent h valid =
-    let eight : (n k : ℕ) → viewOf h .armed n k ≡ true → k < 8 = unfold viewOf in λ n k e. armed-inside h valid n k e .1 in
+    let eight : (n k : ℕ) → viewOf h .armed n k ≡ true → k < channels = unfold viewOf in λ n k e. armed-inside h valid n k e .1 in
     let fits = sound-fits (viewOf h) (unfold viewOf in valid .most) (valid-sound h valid) eight in
     record { bytes = encode-bytes (viewOf h) fits; shows = view-encode (viewOf h) fits; valid = valid }
 
@@ -59,7 +59,7 @@ module _ (b : List ℕ) (h : History) (k : Represents b h) where
   least : 1 ≤ dimensionAt b
   least = rw dimension-is (k .valid .least)
 
-  most : dimensionAt b ≤ 8
+  most : dimensionAt b ≤ largestDimension
   most = rw dimension-is (k .valid .most)
 
   -- Every table that represents a history is sound, and none of the tests of the lent table stops a call on it.
@@ -113,9 +113,9 @@ module _ (b : List ℕ) (h : History) (k : Represents b h) where
       accepts : historyStep h a .result .number ≡ 0 → Represents (tableStep b a .state) (historyStep h a .state)
       accepts e =
           let passes = history-step h a .passed e in
-          let shown : bytesOf (applied h a) ≡ encode (updated (viewOf h) a) = unfold bytesOf in ap encode (follows-view h (k .valid) a passes) in
+          let shown : bytesOf (applied h a) ≡ encode (updated (viewOf h) a) = unfold bytesOf in ap encode (applied-view h (k .valid) a passes) in
           let bytes = table-step b a .accepted (number ∙ e) ∙ ap (λ v. encode (updated v a)) (k .shows) ∙ sym shown in
-          rw (bytes, history-step h a .accepted e) (bytes-represent (applied h a) (follows-valid h (k .valid) a passes))
+          rw (bytes, history-step h a .accepted e) (bytes-represent (applied h a) (applied-valid h (k .valid) a passes))
 
       refuses : historyStep h a .result .number ≢ 0 → Represents (tableStep b a .state) (historyStep h a .state)
       refuses f = rw (table-step b a .refused (λ z. f (sym number ∙ z)), history-step h a .refused f) k
@@ -141,7 +141,7 @@ represents-agrees calls b h k =
     let after = represents-run calls b h k in record { bytes = represents-bytes _ _ after; results = represents-results calls b h k; valid = after .valid; refused = λ before a more e. refused-within before b a }
 
 -- a making of a dimension from 1 to 8 is accepted on any table of the right length
-pub making-accepted : (b : List ℕ) (D : ℕ) → length b ≡ tableLength → 1 ≤ D → D ≤ 8 → Accepted b (making D)
+pub making-accepted : (b : List ℕ) (D : ℕ) → length b ≡ tableLength → 1 ≤ D → D ≤ largestDimension → Accepted b (making D)
 unfolding resultOf callTests
 making-accepted b D long l m =
     let inside : not (leb 1 D && leb D 8) ≡ false = ap not (ap₂ _&&_ (le-leb 1 D l) (le-leb D 8 m)) in
@@ -157,7 +157,7 @@ module _ (b : List ℕ) (h : History) (D : ℕ) (e : Accepted b (making D)) wher
   unfolding resultOf
   made-result = table-step b (making D) .result (table-step b (making D) .passed e) ∙ sym (history-step h (making D) .result making-passes)
 
-  made-history : historyStep h (making D) .state ≡ record { dimension = D; blocked = []; circuits = []; armed = [] }
+  made-history : historyStep h (making D) .state ≡ newHistory D
   unfolding applied
   made-history = history-step h (making D) .accepted (sym (ap (λ (g : CallResult). g .number) made-result) ∙ e)
 

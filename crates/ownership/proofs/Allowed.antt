@@ -1,6 +1,6 @@
 -- No test of a call applies exactly where its arguments are allowed, on whatever the call is made: a table, or the history.
 -- Assumes nothing.
-use mathlib.Core.Path.{_≡_, refl, ap, ap₂, _∙_}
+use mathlib.Core.Path.{_≡_, ap, ap₂, _∙_}
 use mathlib.Core.Logic.{_⊎_, ⊎-elim, ⊎-map, _↔_}
 use mathlib.Core.Bool.{Bool, true, false, not, _&&_, _||_}
 use mathlib.Core.List.{[]}
@@ -9,6 +9,7 @@ use native.Mathlib.Omega.{arith}
 use lib.Dec.{eqb, ltb, leb}
 use lib.ListN.{length}
 use borrow.Author.Tests.{eqb-true, eqb-false, eq-eqb, ne-eqb, ltb-true, ltb-false, lt-ltb, le-ltb, leb-true, le-leb, not-false}
+use Rattle.cube.specs.Cube.{largestDimension, channels, NodeOf}
 use Rattle.common.specs.Tests.{refusal}
 use Rattle.common.proofs.Tests.{neither, either, or-left, or-right, passed, accepted, first-passed, both}
 use Rattle.cube.proofs.Bits.{high-has, no-bit-above}
@@ -34,10 +35,10 @@ a-type y = one-of _ _ (equals y 0) (one-of _ _ (equals y 1) (one-of _ _ (equals 
 pub is-below : (n m : ℕ) → n < m → not (ltb n m) ≡ false
 is-below n m h = ap not (lt-ltb n m h)
 
-channel-is : (c : ℕ) → c < 8 → ltb 7 c ≡ false
+channel-is : (c : ℕ) → c < channels → ltb 7 c ≡ false
 channel-is c h = le-ltb 7 c (omega (arith, h))
 
-pub channel-small : (c : ℕ) → ltb 7 c ≡ false → c < 8
+pub channel-small : (c : ℕ) → ltb 7 c ≡ false → c < channels
 channel-small c e = let h = ltb-false 7 c e in omega arith
 
 pub allowed : (a : CallFacts) (x : Call) → refusal (callTests a x) ≡ 0 → Allowed a x
@@ -106,23 +107,23 @@ allowed-on h x e = allowed (factsOn h) x e
 
 -- and of each call by itself
 module _ (h : History) where
-  pub made-facts : (D : ℕ) → stoppedOn h (making D) ≡ 0 → (1 ≤ D) × (D ≤ 8)
+  pub made-facts : (D : ℕ) → stoppedOn h (making D) ≡ 0 → (1 ≤ D) × (D ≤ largestDimension)
   unfolding Allowed
   made-facts D e = allowed-on h (making D) e
 
-  pub block-facts : (n p : ℕ) → stoppedOn h (blocking n p) ≡ 0 → (n < 2 ^ h .dimension) × (p < h .dimension) × (heldOn h n p ≡ false)
+  pub block-facts : (n p : ℕ) → stoppedOn h (blocking n p) ≡ 0 → (NodeOf (h .dimension) n) × (p < h .dimension) × (heldOn h n p ≡ false)
   unfolding Allowed factsOn
   block-facts n p e = allowed-on h (blocking n p) e
 
-  pub unblock-facts : (n p : ℕ) → stoppedOn h (unblocking n p) ≡ 0 → (n < 2 ^ h .dimension) × (p < h .dimension)
+  pub unblock-facts : (n p : ℕ) → stoppedOn h (unblocking n p) ≡ 0 → (NodeOf (h .dimension) n) × (p < h .dimension)
   unfolding Allowed factsOn
   unblock-facts n p e = allowed-on h (unblocking n p) e
 
-  pub close-facts : (s c : ℕ) → stoppedOn h (closing s c) ≡ 0 → c < 8
+  pub close-facts : (s c : ℕ) → stoppedOn h (closing s c) ≡ 0 → c < channels
   unfolding Allowed factsOn
   close-facts s c e = allowed-on h (closing s c) e .1
 
-  pub arm-facts : (n k : ℕ) → stoppedOn h (arming n k) ≡ 0 → (n < 2 ^ h .dimension) × (k < 8)
+  pub arm-facts : (n k : ℕ) → stoppedOn h (arming n k) ≡ 0 → (NodeOf (h .dimension) n) × (k < channels)
   unfolding Allowed factsOn
   arm-facts n k e = allowed-on h (arming n k) e
 

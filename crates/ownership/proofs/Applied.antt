@@ -12,7 +12,7 @@ use Rattle.paths.specs.Send.{Outcome, acknowledged, route-rejected, receive-rej
 use Rattle.paths.specs.CubeNetwork.{Shape, network}
 use Rattle.table.specs.View.{View, setAt, setOwner, setReceiver, setEnabled, setArmed, withoutCircuit, fresh}
 use Rattle.ownership.specs.Calls.{Call, making, blocking, unblocking, opening, closing, tracing, arming, disarming}
-use Rattle.ownership.specs.History.{Circuit, History, shapeOn, netOn, holdsLink, holdsReceive, belongs, enabledOn, armedOn, stoppedOn, sendOn, withOpened, applied}
+use Rattle.ownership.specs.History.{Circuit, History, shapeOn, netOn, holdsLink, holdsReceive, belongs, enabledOn, armedOn, stoppedOn, sendOn, withOpened, applied, newHistory}
 use Rattle.ownership.specs.Invariant.{Valid}
 use Rattle.ownership.specs.HistoryView.{numberOf, viewOf}
 use Rattle.answers.specs.SendOnTable.{holdLinks, viewAfterSend}
@@ -25,7 +25,7 @@ use Rattle.ownership.proofs.Enabled.{block-enabled, unblock-enabled}
 use Rattle.ownership.proofs.Armed.{arm-armed, disarm-armed, close-armed}
 
 -- a made table shows the history that a making begins
-pub made-view : (D : ℕ) → viewOf (record { dimension = D; blocked = []; circuits = []; armed = [] }) ≡ fresh D
+pub made-view : (D : ℕ) → viewOf (newHistory D) ≡ fresh D
 unfolding viewOf fresh numberOf enabledOn armedOn hasLink
 made-view D = λ i.
     record { dimension = D; enabled = λ n p. and-true (ltb n (2 ^ D) && ltb p D) i; owner = λ n p. 0; receiver = λ n k. 0; armed = λ n k. false }
@@ -66,10 +66,10 @@ module _ (h : History) (valid : Valid h) where
   added-view s c t receive-rejected = refl
 
   -- What a table that agrees with the history shows after the call is the update of what it showed before.
-  pub follows-view : (a : Call) → stoppedOn h a ≡ 0 → viewOf (applied h a) ≡ updated (viewOf h) a
+  pub applied-view : (a : Call) → stoppedOn h a ≡ 0 → viewOf (applied h a) ≡ updated (viewOf h) a
   unfolding applied updated viewOf
-  follows-view (making D) e = made-view D
-  follows-view (blocking n p) e = λ i. unfold setEnabled armedOn in
+  applied-view (making D) e = made-view D
+  applied-view (blocking n p) e = λ i. unfold setEnabled armedOn in
       record {
         dimension = h .dimension;
         enabled = λ m q. block-enabled h n p m q i;
@@ -77,7 +77,7 @@ module _ (h : History) (valid : Valid h) where
         receiver = viewOf h .receiver;
         armed = armedOn h;
       }
-  follows-view (unblocking n p) e = λ i. unfold setEnabled armedOn in
+  applied-view (unblocking n p) e = λ i. unfold setEnabled armedOn in
       record {
         dimension = h .dimension;
         enabled = λ m q. unblock-enabled h n p (unblock-facts h n p e .0) (unblock-facts h n p e .1) m q i;
@@ -85,9 +85,9 @@ module _ (h : History) (valid : Valid h) where
         receiver = viewOf h .receiver;
         armed = armedOn h;
       }
-  follows-view (opening s c t y v) e =
+  applied-view (opening s c t y v) e =
       added-view s c t (sendOn h s t y v .outcome) ∙ ap (λ (x : SendResult). viewAfterSend (viewOf h) (circuitOf s c) s t (x .outcome)) (sym (send-same h s t y v))
-  follows-view (closing s c) e = λ i. unfold withoutCircuit enabledOn in
+  applied-view (closing s c) e = λ i. unfold withoutCircuit enabledOn in
       record {
         dimension = h .dimension;
         enabled = enabledOn h;
@@ -99,8 +99,8 @@ module _ (h : History) (valid : Valid h) where
       drops : (f : Circuit → Bool) → Once f (h .circuits)
           → numberOf f (keep (λ x. not (belongs s c x)) (h .circuits)) ≡ cond (eqb (numberOf f (h .circuits)) (circuitOf s c)) 0 (numberOf f (h .circuits))
       drops f o = number-drop f s c (close-facts h s c e) (h .circuits) (λ x m. valid .stands x m .channel) o
-  follows-view (tracing s c buffer) e = refl
-  follows-view (arming n k) e = λ i. unfold setArmed enabledOn in
+  applied-view (tracing s c buffer) e = refl
+  applied-view (arming n k) e = λ i. unfold setArmed enabledOn in
       record {
         dimension = h .dimension;
         enabled = enabledOn h;
@@ -108,7 +108,7 @@ module _ (h : History) (valid : Valid h) where
         receiver = viewOf h .receiver;
         armed = λ m q. arm-armed h n k m q i;
       }
-  follows-view (disarming n k) e = λ i. unfold setArmed enabledOn in
+  applied-view (disarming n k) e = λ i. unfold setArmed enabledOn in
       record {
         dimension = h .dimension;
         enabled = enabledOn h;

@@ -6,11 +6,11 @@ use mathlib.Core.List.{_∷_}
 use Prim.Native.Nat.{ℕ, _<_}
 use lib.Dec.{eqb}
 use Rattle.common.specs.Lists.{any}
-use Rattle.cube.specs.Cube.{circuitOf}
+use Rattle.cube.specs.Cube.{channels, circuitOf}
 use Rattle.paths.specs.Network.{hasLink}
 use Rattle.table.specs.View.{setAt}
 use Rattle.ownership.specs.Calls.{closing}
-use Rattle.ownership.specs.History.{History, netOn, holdsReceive, belongs, armedOn, withArmed, without, applied}
+use Rattle.ownership.specs.History.{History, netOn, holdsReceive, belongs, armedOn, withArmed, withoutEntry, applied}
 use Rattle.ownership.specs.Invariant.{Valid}
 use Rattle.ownership.specs.HistoryView.{viewOf}
 use Rattle.ownership.proofs.Circuits.{number-belongs}
@@ -29,12 +29,12 @@ arm-armed h n k m q = go (eqb m n && eqb q k)
     go true = refl
     go false = refl
 
-pub disarm-armed : (h : History) (n k m q : ℕ) → armedOn (withArmed h (without n k (h .armed))) m q ≡ setAt (armedOn h) n k false m q
+pub disarm-armed : (h : History) (n k m q : ℕ) → armedOn (withArmed h (withoutEntry n k (h .armed))) m q ≡ setAt (armedOn h) n k false m q
 unfolding armedOn setAt
 disarm-armed h n k m q = dropped n k (h .armed) m q ∙ off-where (eqb m n && eqb q k) (hasLink (h .armed) m q)
 
 -- "Closing a circuit disarms its channel": that whose entry is the circuit's number, and no other
-pub close-armed : (h : History) → Valid h → (s c : ℕ) → c < 8 → (n k : ℕ)
+pub close-armed : (h : History) → Valid h → (s c : ℕ) → c < channels → (n k : ℕ)
     → armedOn (applied h (closing s c)) n k ≡ cond (eqb (viewOf h .receiver n k) (circuitOf s c)) false (armedOn h n k)
 unfolding armedOn applied viewOf
 close-armed h valid s c small n k =

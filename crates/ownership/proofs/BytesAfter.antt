@@ -5,21 +5,21 @@ use mathlib.Core.Bool.{Bool, true, false}
 use mathlib.Core.List.{List}
 use Prim.Native.Nat.{ℕ, _≤_, _<_}
 use native.Mathlib.Omega.{arith}
-use Rattle.cube.specs.Cube.{circuitOf}
+use Rattle.answers.specs.SendOnTable.{sendIn}
+use Rattle.cube.specs.Cube.{largestDimension, channels, circuitOf}
 use Rattle.cube.proofs.Bits.{with-bit-inside}
 use Rattle.cube.proofs.Ports.{most-nodes, below-256}
 use Rattle.layout.specs.Layout.{dimensionAt, maskPlace}
 use Rattle.entries.specs.EntryContracts.{putMask, putEnabled, putArmed, Within}
-use Rattle.table.specs.Encode.{made, encode, AllBytes, Bytes}
+use Rattle.table.specs.Encode.{encode, AllBytes, Bytes}
 use Rattle.table.specs.View.{view, setEnabled, setArmed, withoutCircuit, fresh}
 use Rattle.table.proofs.Encode.{encode-view}
 use Rattle.table.proofs.Encoded.{encode-shown}
 use Rattle.table.proofs.Views.{view-put-enabled, view-put-armed}
-use Rattle.table.proofs.Made.{made-bytes, view-made}
 use Rattle.answers.specs.SendAnswer.{bytesAfterSend}
 use Rattle.ownership.specs.Calls.{Call, making, blocking, unblocking, opening, closing, tracing, arming, disarming, form}
 use Rattle.ownership.specs.Allowed.{Allowed}
-use Rattle.ownership.specs.Update.{sendIn, updated}
+use Rattle.ownership.specs.Update.{updated}
 use Rattle.ownership.specs.OnTable.{factsOf, stoppedAt, tableStep}
 use Rattle.ownership.proofs.Allowed.{allowed}
 use Rattle.answers.proofs.AfterSend.{sent-fits, set-bytes, send-encoded}
@@ -27,7 +27,7 @@ use Rattle.ownership.proofs.Stops.{none-stops, none-stops-lent, none-st
 use Rattle.ownership.proofs.StepBytes.{step-encoded}
 
 -- a bit of a mask written: bytes stay bytes
-mask-bytes : (part : ℕ) (b : List ℕ) (n k : ℕ) (on : Bool) → Bytes b → k < 8 → Bytes (putMask part b n k on)
+mask-bytes : (part : ℕ) (b : List ℕ) (n k : ℕ) (on : Bool) → Bytes b → k < channels → Bytes (putMask part b n k on)
 unfolding putMask
 mask-bytes part b n k on h l = set-bytes b (maskPlace part n) _ h (with-bit-inside 8 _ k on (h .small (maskPlace part n)) l)
 
@@ -43,7 +43,7 @@ module _ (b : List ℕ) (bytes : Bytes b) where
 
 -- What the functions below leave of the bytes: `table::make`, `disable` and `enable`, `send::send`, `release::release`, `table::arm` and `disarm`.
 unfoldable pub writtenBy : List ℕ → Call → List ℕ
-writtenBy b (making D) = made D
+writtenBy b (making D) = encode (fresh D)
 writtenBy b (blocking n p) = putEnabled b n p false
 writtenBy b (unblocking n p) = putEnabled b n p true
 writtenBy b (opening s c t y v) = bytesAfterSend b (circuitOf s c) s t (sendIn (view b) s t y v .outcome)
@@ -56,9 +56,9 @@ module _ (b : List ℕ) (small : AllBytes b) (a : Call) (e : stoppedAt b a ≡ 0
   bytes : Bytes b
   bytes = record { long = none-stops-length b a e; small = small }
 
-  encoded : (x : Call) → (form x .isMaking ≡ false → dimensionAt b ≤ 8) → Allowed (factsOf (view b)) x → writtenBy b x ≡ encode (updated (view b) x)
-  unfolding writtenBy updated Allowed factsOf view sendIn
-  encoded (making D) most r = encode-shown (made D) (fresh D) (made-bytes D (omega (arith, r .1))) (view-made D (omega (arith, r .1)))
+  encoded : (x : Call) → (form x .isMaking ≡ false → dimensionAt b ≤ largestDimension) → Allowed (factsOf (view b)) x → writtenBy b x ≡ encode (updated (view b) x)
+  unfolding writtenBy updated Allowed factsOf view
+  encoded (making D) most r = refl
   encoded (blocking n p) most r =
       let m = most refl in
       enabled-encoded b bytes n p false record { bytes = bytes .long; node = below-256 m (r .0); port = omega (arith, r .1) }

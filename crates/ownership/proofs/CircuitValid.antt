@@ -11,7 +11,7 @@ use borrow.Author.Tests.{eqb-true, eq-eqb}
 use Rattle.common.specs.Lists.{_∈_, any, Pairwise}
 use Rattle.common.proofs.Tests.{same?, clash, is-false, both-below, both, and}
 use Rattle.common.proofs.Lists.{pairwise-imp, any-some, some-any}
-use Rattle.cube.specs.Cube.{circuitOf, sourceOf}
+use Rattle.cube.specs.Cube.{channels, cubeNodes, NodeOf, circuitOf, sourceOf}
 use Rattle.cube.proofs.Circuits.{source-of-circuit}
 use Rattle.paths.specs.Network.{Network, end}
 use Rattle.paths.proofs.Sentences.{permitted-end}
@@ -74,14 +74,14 @@ module _ (h : History) (valid : Valid h) where
       (receive-holds (x .target) (x .receive) x refl refl)
 
   -- A link, or a receive channel, is a send channel's exactly where the circuit listed for that channel holds it.
-  pub owner-exactly : (s c : ℕ) → c < 8 → (n p : ℕ)
+  pub owner-exactly : (s c : ℕ) → c < channels → (n p : ℕ)
       → (viewOf h .owner n p ≡ circuitOf s c) ↔ ((x : Circuit) × (x ∈ h .circuits) × ((x .source ≡ s) × (x .channel ≡ c)) × ((n, p) ∈ linksOf N x))
   owner-exactly s c small n p = (
     (λ e. unfold viewOf in let r = number-circuit (holdsLink N n p) s c small (h .circuits) (λ x m. valid .stands x m .channel) e in (r .0, r .1, (r .3, r .4), holds-link N n p (r .0) (r .2))),
     (λ r. owner-of (r .0) (r .1) n p (r .3) ∙ (λ i. circuitOf (r .2 .0 i) (r .2 .1 i))),
   )
 
-  pub receiver-exactly : (s c : ℕ) → c < 8 → (n k : ℕ)
+  pub receiver-exactly : (s c : ℕ) → c < channels → (n k : ℕ)
       → (viewOf h .receiver n k ≡ circuitOf s c) ↔ ((x : Circuit) × (x ∈ h .circuits) × ((x .source ≡ s) × (x .channel ≡ c)) × ((n ≡ x .target) × (k ≡ x .receive)))
   receiver-exactly s c small n k = (
     (λ e. unfold viewOf in let r = number-circuit (holdsReceive n k) s c small (h .circuits) (λ x m. valid .stands x m .channel) e in (r .0, r .1, (r .3, r .4), holds-receive n k (r .0) (r .2))),
@@ -100,15 +100,15 @@ module _ (h : History) (valid : Valid h) where
 
   -- the links and the target of a listed circuit lie in the cube
   inside : (x : Circuit) → x ∈ h .circuits
-      → ((n p : ℕ) → (n, p) ∈ linksOf N x → (n < 2 ^ h .dimension) × (p < h .dimension)) × (x .target < 2 ^ h .dimension)
+      → ((n p : ℕ) → (n, p) ∈ linksOf N x → (NodeOf (h .dimension) n) × (p < h .dimension)) × (x .target < 2 ^ h .dimension)
   unfolding On
   inside x m =
       let s = valid .stands x m in
       let r = permitted-inside (shapeOn h) (x .source) (x .target) (x .ports) (s .source) (s .permitted) in
-      ((λ n p i. (r .0 n p i .0, unfolded-port (shapeOn h) (valid .most) refl p .0 (r .0 n p i .1))), subst (λ (n : ℕ). n < 2 ^ h .dimension) (permitted-end N (x .source) (ports (shapeOn h)) (x .target) (x .ports) (s .permitted)) (r .1))
+      ((λ n p i. (r .0 n p i .0, unfolded-port (shapeOn h) (valid .most) refl p .0 (r .0 n p i .1))), subst (λ (n : ℕ). NodeOf (h .dimension) n) (permitted-end N (x .source) (ports (shapeOn h)) (x .target) (x .ports) (s .permitted)) (r .1))
 
   -- and an armed receive channel is one of the eight of a node of the cube
-  pub armed-inside : (n k : ℕ) → armedOn h n k ≡ true → (n < 2 ^ h .dimension) × (k < 8)
+  pub armed-inside : (n k : ℕ) → armedOn h n k ≡ true → (NodeOf (h .dimension) n) × (k < channels)
   unfolding armedOn
   armed-inside n k e = valid .armed (n, k) (true-link (h .armed) n k e)
 
@@ -137,7 +137,7 @@ module _ (h : History) (valid : Valid h) where
                   let r = link-held n p (λ z. some-number x (sym q ∙ z)) in
                   rw (from-number x m) (subst (λ (y : Circuit). (n, p) ∈ linksOf N y) (same-circuit (r .0) x (r .1) m (sym (r .3) ∙ q)) (r .2));
             };
-        channel = x .receive;
+        receive = x .receive;
         small = valid .stands x m .receive;
         receives = rw (ends x m) (receiver-of x m);
         once = λ n k q.
@@ -145,7 +145,7 @@ module _ (h : History) (valid : Valid h) where
             rw (ends x m) (subst (λ (y : Circuit). (n ≡ y .target) × (k ≡ y .receive)) (same-circuit (r .0) x (r .1) m (sym (r .3) ∙ q)) (r .2));
       }
 
-  pub stands-path : (x : Circuit) (m : x ∈ h .circuits) → (valid-stands x m .path ≡ x .ports) × (valid-stands x m .channel ≡ x .receive)
+  pub stands-path : (x : Circuit) (m : x ∈ h .circuits) → (valid-stands x m .path ≡ x .ports) × (valid-stands x m .receive ≡ x .receive)
   unfolding valid-stands
   stands-path x m = (refl, refl)
 
@@ -164,7 +164,7 @@ module _ (h : History) (valid : Valid h) where
             (λ n k q. let r = receive-held n k (λ z. ne (sym q ∙ z)) in clash (some-any is (h .circuits) (r .1) (eq-eqb _ c (sym (r .3) ∙ q))) e),
           )
 
-  number-small : (x : Circuit) → x ∈ h .circuits → numberFor x ≤ 8 * 2 ^ h .dimension
+  number-small : (x : Circuit) → x ∈ h .circuits → numberFor x ≤ channels * cubeNodes (h .dimension)
   number-small x m = omega (arith, valid .stands x m .source, valid .stands x m .channel)
 
   -- A table that agrees with the history is sound.
@@ -173,7 +173,7 @@ module _ (h : History) (valid : Valid h) where
       record {
         absent-link = λ n p o. unfold viewOf in (off n p o, ⊎-elim (λ e. e) (λ e. let r = link-held n p e in absurd (o (inside (r .0) (r .1) .0 n p (r .2)))) (same? (viewOf h .owner n p) 0));
         absent-receive = λ n k o.
-            unfold viewOf in ⊎-elim (λ e. e) (λ e. let r = receive-held n k e in absurd (o (subst (λ (m : ℕ). m < 2 ^ h .dimension) (sym (r .2 .0)) (inside (r .0) (r .1) .1)))) (same? (viewOf h .receiver n k) 0);
+            unfold viewOf in ⊎-elim (λ e. e) (λ e. let r = receive-held n k e in absurd (o (subst (λ (m : ℕ). NodeOf (h .dimension) m) (sym (r .2 .0)) (inside (r .0) (r .1) .1)))) (same? (viewOf h .receiver n k) 0);
         absent-armed = λ n k o. unfold viewOf in is-false _ (λ e. o (armed-inside n k e .0));
         held-enabled = λ n p e. unfold viewOf in let r = link-held n p e in valid .stands (r .0) (r .1) .enabled (n, p) (r .2);
         held-armed = λ n k e.
@@ -183,5 +183,5 @@ module _ (h : History) (valid : Valid h) where
         numbers = occurs;
       }
     where
-      off : (n p : ℕ) → ((n < 2 ^ h .dimension) × (p < h .dimension) → ⊥) → enabledOn h n p ≡ false
+      off : (n p : ℕ) → ((NodeOf (h .dimension) n) × (p < h .dimension) → ⊥) → enabledOn h n p ≡ false
       off n p o = unfold enabledOn in is-false _ (λ e. o (both-below (both (ltb n (2 ^ h .dimension) && ltb p (h .dimension)) _ e .0)))

@@ -11,7 +11,7 @@ use borrow.Author.Tests.{eqb-true, eq-eqb, ne-eqb, not-false}
 use Rattle.common.specs.Lists.{_∈_, keep, any, Pairwise}
 use Rattle.common.proofs.Tests.{clash, is-false, both, and}
 use Rattle.common.proofs.Lists.{keep-nil, keep-yes, keep-no, any-some, some-any}
-use Rattle.cube.specs.Cube.{circuitOf, sourceOf, channelOf}
+use Rattle.cube.specs.Cube.{channels, circuitOf, sourceOf, channelOf}
 use Rattle.cube.proofs.Circuits.{source-of-circuit, channel-of-circuit}
 use Rattle.ownership.specs.History.{Circuit, belongs}
 use Rattle.ownership.specs.HistoryView.{numberOf}
@@ -28,7 +28,7 @@ pairwise-one R (z ∷ xs) o x y (List·Memᴰ·tail m) (List·Memᴰ·tail k) f 
 abbrev pub numberFor : Circuit → ℕ
 numberFor x = circuitOf (x .source) (x .channel)
 
-pub circuit-parts : (s c a b : ℕ) → c < 8 → b < 8 → circuitOf s c ≡ circuitOf a b → (s ≡ a) × (c ≡ b)
+pub circuit-parts : (s c a b : ℕ) → c < channels → b < channels → circuitOf s c ≡ circuitOf a b → (s ≡ a) × (c ≡ b)
 circuit-parts s c a b h l e = (
   sym (source-of-circuit s c h) ∙ ap sourceOf e ∙ source-of-circuit a b l,
   sym (channel-of-circuit s c h) ∙ ap channelOf e ∙ channel-of-circuit a b l,
@@ -46,7 +46,7 @@ parts-belong s c x e f = and (eq-eqb _ s e) (eq-eqb _ c f)
 pub number-is : (s c : ℕ) (x : Circuit) → belongs s c x ≡ true → numberFor x ≡ circuitOf s c
 number-is s c x e = let r = belongs-parts s c x e in rw (r .0, r .1)
 
-pub belongs-number : (s c : ℕ) (x : Circuit) → c < 8 → x .channel < 8 → eqb (numberFor x) (circuitOf s c) ≡ belongs s c x
+pub belongs-number : (s c : ℕ) (x : Circuit) → c < channels → x .channel < channels → eqb (numberFor x) (circuitOf s c) ≡ belongs s c x
 belongs-number s c x h l = go (belongs s c x) refl
   where
     go : (b : Bool) → belongs s c x ≡ b → eqb (numberFor x) (circuitOf s c) ≡ b
@@ -93,7 +93,7 @@ module _ (f : Circuit → Bool) where
       go true e ih = (x, List·Memᴰ·head refl, e, number-yes x xs e)
       go false e ih = let r = ih (λ z. h (number-no x xs e ∙ z)) in (r .0, List·Memᴰ·tail (r .1), r .2, number-no x xs e ∙ r .3)
 
-  pub number-circuit : (s c : ℕ) → c < 8 → (xs : List Circuit) → ((x : Circuit) → x ∈ xs → x .channel < 8) → numberOf f xs ≡ circuitOf s c
+  pub number-circuit : (s c : ℕ) → c < channels → (xs : List Circuit) → ((x : Circuit) → x ∈ xs → x .channel < channels) → numberOf f xs ≡ circuitOf s c
       → (x : Circuit) × (x ∈ xs) × (f x ≡ true) × (x .source ≡ s) × (x .channel ≡ c)
   number-circuit s c h xs l e =
       let r = number-some xs (λ z. omega (arith, e, z)) in
@@ -115,7 +115,7 @@ module _ (f : Circuit → Bool) where
   number-at (y ∷ xs) o x (List·Memᴰ·tail m) e = number-no y xs (is-false (f y) (λ u. o .0 x m u e)) ∙ number-at xs (o .1) x m e
 
   -- so it is a send channel's exactly where the circuit of that channel passes,
-  pub number-belongs : (s c : ℕ) → c < 8 → (xs : List Circuit) → ((x : Circuit) → x ∈ xs → x .channel < 8) → Once xs
+  pub number-belongs : (s c : ℕ) → c < channels → (xs : List Circuit) → ((x : Circuit) → x ∈ xs → x .channel < channels) → Once xs
       → any (λ x. belongs s c x && f x) xs ≡ eqb (numberOf f xs) (circuitOf s c)
   number-belongs s c h xs l o = go (eqb (numberOf f xs) (circuitOf s c)) refl
     where
@@ -130,7 +130,7 @@ module _ (f : Circuit → Bool) where
           clash (eq-eqb _ _ (number-at xs o (r .0) (r .1) (x .1) ∙ number-is s c (r .0) (x .0))) e)
 
   -- and a circuit that is dropped takes its own number away and no other
-  pub number-drop : (s c : ℕ) → c < 8 → (xs : List Circuit) → ((x : Circuit) → x ∈ xs → x .channel < 8) → Once xs
+  pub number-drop : (s c : ℕ) → c < channels → (xs : List Circuit) → ((x : Circuit) → x ∈ xs → x .channel < channels) → Once xs
       → numberOf f (keep (λ x. not (belongs s c x)) xs) ≡ cond (eqb (numberOf f xs) (circuitOf s c)) 0 (numberOf f xs)
   unfolding Pairwise
   number-drop s c h [] l o = rw (keep-nil (λ x. not (belongs s c x)), number-nil) (sym (cond-same (eqb 0 (circuitOf s c)) 0))

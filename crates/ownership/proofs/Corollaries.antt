@@ -8,7 +8,7 @@ use Prim.Native.Nat.{ℕ, _<_}
 use Rattle.common.specs.Lists.{_∈_}
 use Rattle.common.proofs.Lists.{any-some}
 use Rattle.common.specs.Tests.{refusal}
-use Rattle.cube.specs.Cube.{circuitOf}
+use Rattle.cube.specs.Cube.{channels, circuitOf}
 use Rattle.paths.specs.Network.{Network, Path, Link, links}
 use Rattle.paths.specs.Permitted.{Permitted}
 use Rattle.paths.proofs.Links.{link-true, true-link}
@@ -54,12 +54,12 @@ module _ (b : List ℕ) (h : History) (D : ℕ) (e : Accepted b (making D)) (cal
   Listed s c Holds = (x : Circuit) × (x ∈ history .circuits) × ((x .source ≡ s) × (x .channel ≡ c)) × Holds x
 
   -- a circuit holds a link or a receive channel in the table exactly when it does in the history
-  pub table-holds-link : (s c : ℕ) → c < 8 → (n p : ℕ)
+  pub table-holds-link : (s c : ℕ) → c < channels → (n p : ℕ)
       → (ownerAt table n p ≡ circuitOf s c) ↔ Listed s c (λ x. (n, p) ∈ linksOf (netOn history) x)
   unfolding view
   table-holds-link s c l n p = subst (λ (v : View). (v .owner n p ≡ circuitOf s c) ↔ Listed s c (λ x. (n, p) ∈ linksOf (netOn history) x)) (sym (reached-represents .shows)) (owner-exactly history (reached-represents .valid) s c l n p)
 
-  pub table-holds-receive : (s c : ℕ) → c < 8 → (n k : ℕ)
+  pub table-holds-receive : (s c : ℕ) → c < channels → (n k : ℕ)
       → (receiverAt table n k ≡ circuitOf s c) ↔ Listed s c (λ x. (n ≡ x .target) × (k ≡ x .receive))
   unfolding view
   table-holds-receive s c l n k = subst (λ (v : View). (v .receiver n k ≡ circuitOf s c) ↔ Listed s c (λ x. (n ≡ x .target) × (k ≡ x .receive))) (sym (reached-represents .shows)) (receiver-exactly history (reached-represents .valid) s c l n k)
@@ -90,7 +90,7 @@ module _ (b : List ℕ) (h : History) (D : ℕ) (e : Accepted b (making D)) (cal
       (r .0, r .1, belongs-parts s c (r .0) (r .2), r .1)
 
   -- so a circuit holds a link in the table, and a receive channel, exactly when the list has an acknowledged open of it, and no accepted call after that ends it
-  pub link-shown-exactly : (s c : ℕ) → c < 8 → ((n : ℕ) × ((p : ℕ) × (ownerAt table n p ≡ circuitOf s c))) ↔ StillOpen s c (numbered (making D ∷ calls) (tableResults b (making D ∷ calls)))
+  pub link-shown-exactly : (s c : ℕ) → c < channels → ((n : ℕ) × ((p : ℕ) × (ownerAt table n p ≡ circuitOf s c))) ↔ StillOpen s c (numbered (making D ∷ calls) (tableResults b (making D ∷ calls)))
   link-shown-exactly s c l = ((λ r. still-open s c (table-holds-link s c l (r .0) (r .1 .0) .0 (r .1 .1))), (λ k. shows (some-listed s c k)))
     where
       shows : Listed s c (λ x. x ∈ history .circuits) → (n : ℕ) × ((p : ℕ) × (ownerAt table n p ≡ circuitOf s c))
@@ -98,7 +98,7 @@ module _ (b : List ℕ) (h : History) (D : ℕ) (e : Accepted b (making D)) (cal
           let first = first-link (netOn history) (r .0 .source) (ports (shapeOn history)) (r .0 .target) (r .0 .ports) (reached-represents .valid .stands (r .0) (r .1) .permitted) in
           (r .0 .source, (first .0, table-holds-link s c l (r .0 .source) (first .0) .1 (r .0, r .1, r .2, first .1)))
 
-  pub receive-shown-exactly : (s c : ℕ) → c < 8 → ((n : ℕ) × ((k : ℕ) × (receiverAt table n k ≡ circuitOf s c))) ↔ StillOpen s c (numbered (making D ∷ calls) (tableResults b (making D ∷ calls)))
+  pub receive-shown-exactly : (s c : ℕ) → c < channels → ((n : ℕ) × ((k : ℕ) × (receiverAt table n k ≡ circuitOf s c))) ↔ StillOpen s c (numbered (making D ∷ calls) (tableResults b (making D ∷ calls)))
   receive-shown-exactly s c l = ((λ r. still-open s c (table-holds-receive s c l (r .0) (r .1 .0) .0 (r .1 .1))), (λ k. shows (some-listed s c k)))
     where
       shows : Listed s c (λ x. x ∈ history .circuits) → (n : ℕ) × ((k : ℕ) × (receiverAt table n k ≡ circuitOf s c))

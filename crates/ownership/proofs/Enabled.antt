@@ -6,12 +6,13 @@ use mathlib.Core.List.{List, [], _∷_}
 use Prim.Native.Nat.{ℕ, _^_, _<_}
 use lib.Dec.{eqb, ltb}
 use borrow.Author.Tests.{eqb-true, lt-ltb}
+use Rattle.cube.specs.Cube.{NodeOf}
 use Rattle.common.specs.Lists.{keep}
 use Rattle.common.proofs.Tests.{both}
 use Rattle.common.proofs.Lists.{keep-nil, keep-yes, keep-no}
 use Rattle.paths.specs.Network.{Link, hasLink}
 use Rattle.table.specs.View.{setAt}
-use Rattle.ownership.specs.History.{History, enabledOn, withBlocked, without}
+use Rattle.ownership.specs.History.{History, enabledOn, withBlocked, withoutEntry}
 
 -- which links, or receive channels, of a list are left where those that pass a test are kept, or one is dropped
 pub kept-link : (f : ℕ → ℕ → Bool) (ls : List Link) (m q : ℕ) → hasLink (keep (λ (l : Link). f (l .0) (l .1)) ls) m q ≡ f m q && hasLink ls m q
@@ -32,8 +33,8 @@ kept-link f (l ∷ ls) m q = go (f (l .0) (l .1)) refl (eqb m (l .0) && eqb q (l
     go false e true u ih = rw (keep-no g l ls e, same u, e) (rw (same u, e) at ih)
     go false e false u ih = rw (keep-no g l ls e) ih
 
-pub dropped : (n p : ℕ) (ls : List Link) (m q : ℕ) → hasLink (without n p ls) m q ≡ not (eqb m n && eqb q p) && hasLink ls m q
-unfolding without
+pub dropped : (n p : ℕ) (ls : List Link) (m q : ℕ) → hasLink (withoutEntry n p ls) m q ≡ not (eqb m n && eqb q p) && hasLink ls m q
+unfolding withoutEntry
 dropped n p ls m q = kept-link (λ a b. not (eqb a n && eqb b p)) ls m q
 
 -- "a block adds a link, an unblock drops it": which links are enabled then
@@ -46,8 +47,8 @@ block-enabled h n p m q = go (eqb m n && eqb q p)
     go true = and-false (ltb m (2 ^ h .dimension) && ltb q (h .dimension))
     go false = refl
 
-pub unblock-enabled : (h : History) (n p : ℕ) → n < 2 ^ h .dimension → p < h .dimension → (m q : ℕ)
-    → enabledOn (withBlocked h (without n p (h .blocked))) m q ≡ setAt (enabledOn h) n p true m q
+pub unblock-enabled : (h : History) (n p : ℕ) → NodeOf (h .dimension) n → p < h .dimension → (m q : ℕ)
+    → enabledOn (withBlocked h (withoutEntry n p (h .blocked))) m q ≡ setAt (enabledOn h) n p true m q
 unfolding enabledOn setAt
 unblock-enabled h n p i l m q = rw (dropped n p (h .blocked) m q) (go (eqb m n && eqb q p) refl)
   where

@@ -5,6 +5,7 @@ use mathlib.Core.Logic.{⊎-elim}
 use mathlib.Core.Bool.{true}
 use mathlib.Core.List.{List}
 use Prim.Native.Nat.{ℕ, _<_}
+use Rattle.cube.specs.Cube.{channels}
 use Rattle.common.specs.Tests.{refusal}
 use Rattle.common.proofs.Tests.{same?, both, both-below}
 use Rattle.layout.specs.Layout.{inTable, maskAt, armedAt}
@@ -20,14 +21,14 @@ use Rattle.ownership.specs.Invariant.{Represents}
 use Rattle.ownership.specs.HistoryView.{viewOf}
 use Rattle.ownership.specs.FromTable.{historyOf}
 use Rattle.ownership.proofs.Stops.{pass-tests}
-use Rattle.ownership.proofs.Applied.{follows-view}
+use Rattle.ownership.proofs.Applied.{applied-view}
 use Rattle.ownership.proofs.Steps.{table-step, history-step}
 use Rattle.ownership.proofs.StepBytes.{rejected-same}
 use Rattle.ownership.proofs.Agreement.{represents-not-stopped, represents-step, represents-agrees}
 use Rattle.ownership.proofs.HistoryOf.{shows-same, table-valid}
 
 -- no bytes show a channel armed beyond the eight of a node
-eight : (b : List ℕ) (n k : ℕ) → view b .armed n k ≡ true → k < 8
+eight : (b : List ℕ) (n k : ℕ) → view b .armed n k ≡ true → k < channels
 unfolding view armedAt maskAt
 eight b n k e = both-below {n = n} {a = 256} (both (inTable n k) _ e .0) .1
 
@@ -62,4 +63,4 @@ shows-update b small e a z =
         let s = represents-step b h k a in
         let g = history-step h a in
         let accepted : historyStep h a .result .number ≡ 0 = rw (s .result) at n in
-        s .represented .shows ∙ ap viewOf (g .accepted accepted) ∙ follows-view h (k .valid) a (g .passed accepted) ∙ ap (λ v. updated v a) (sym (k .shows))
+        s .represented .shows ∙ ap viewOf (g .accepted accepted) ∙ applied-view h (k .valid) a (g .passed accepted) ∙ ap (λ v. updated v a) (sym (k .shows))

@@ -13,7 +13,7 @@ use Rattle.common.proofs.Tests.{same?, below-or, clash, is-false, both-below, a
 use Rattle.common.proofs.Lists.{keep-mem, mem-keep, keep-pairwise, pairwise-imp, pairwise-map}
 use Rattle.common.proofs.From.{from-mem, mem-from, from-pairwise, from-below, below-from}
 use Rattle.common.proofs.Lowest.{lowest-passes, lowest-found}
-use Rattle.cube.specs.Cube.{circuitOf}
+use Rattle.cube.specs.Cube.{largestDimension, channels, cubeNodes, circuitOf}
 use Rattle.cube.proofs.Circuits.{circuit-of-parts, channel-below}
 use Rattle.paths.specs.Network.{Link, hasLink}
 use Rattle.paths.specs.Permitted.{Permitted}
@@ -22,10 +22,10 @@ use Rattle.table.specs.View.{View}
 use Rattle.circuit_path.specs.CircuitSound.{endFor, CircuitSound}
 use Rattle.soundness.specs.Sound.{Sound}
 use Rattle.circuit_path.specs.PathOf.{pathOf}
-use Rattle.circuit_path.proofs.Stands.{path-is}
+use Rattle.circuit_path.proofs.CircuitSound.{path-is, sound-open}
 use Rattle.soundness.proofs.Soundness.{link-stands, receive-stands}
 use Rattle.paths.specs.CubeNetwork.{ports}
-use Rattle.ownership.specs.OnTable.{isOpenIn}
+use Rattle.circuit_path.specs.OpenCircuit.{isOpenIn}
 use Rattle.ownership.specs.History.{Circuit, History, shapeOn, netOn, linksOf, holdsLink, holdsReceive, enabledOn, armedOn}
 use Rattle.ownership.specs.Invariant.{CircuitValid, Disjoint, Valid}
 use Rattle.ownership.specs.HistoryView.{numberOf, viewOf}
@@ -33,7 +33,7 @@ use Rattle.ownership.specs.FromTable.{linksOut, circuitAt, openNumbers, 
 use Rattle.ownership.proofs.Circuits.{numberFor, number-none, Once, number-at}
 use Rattle.ownership.proofs.CircuitValid.{holds-link, link-holds, holds-receive, receive-holds, links-once, receives-once}
 use Rattle.ownership.proofs.Enabled.{kept-link}
-use Rattle.ownership.proofs.OpenCircuits.{open-sound, sound-open}
+use Rattle.ownership.proofs.OnSound.{open-sound}
 
 -- the links out of some ports of some nodes
 out-mem : (ns ps : List ℕ) (n p : ℕ) → (n, p) ∈ linksOut ns ps → (n ∈ ns) × (p ∈ ps)
@@ -72,20 +72,20 @@ module _ (v : View) (sound : Sound v) where
   -- what it is for a number to be open: it stands, and is the number of its circuit
   record Open (c : ℕ) : Type 0 where
     positive : 0 < c
-    most : c ≤ 8 * 2 ^ D
+    most : c ≤ channels * cubeNodes D
     stands : CircuitSound v c
 
   open-number : (c : ℕ) → c ∈ openNumbers v → Open c
   unfolding openNumbers
   open-number c m =
-      let r = keep-mem (isOpenIn v) (from 1 (8 * 2 ^ D)) m in
-      let i = from-mem 1 (8 * 2 ^ D) (r .0) in
+      let r = keep-mem (isOpenIn v) (from 1 (channels * cubeNodes D)) m in
+      let i = from-mem 1 (channels * cubeNodes D) (r .0) in
       record { positive = omega arith; most = omega arith; stands = open-sound v sound c (λ z. omega arith) (r .1) }
 
   number-open : (c : ℕ) → Open c → c ∈ openNumbers v
   unfolding openNumbers
   number-open c o =
-      mem-keep (isOpenIn v) (from 1 (8 * 2 ^ D)) (mem-from 1 (8 * 2 ^ D) c (o .positive) (omega (arith, o .most)))
+      mem-keep (isOpenIn v) (from 1 (channels * cubeNodes D)) (mem-from 1 (channels * cubeNodes D) c (o .positive) (omega (arith, o .most)))
       (sound-open v c (o .stands))
 
   -- the circuit of such a number has its number, and holds what the number stands on
@@ -98,13 +98,13 @@ module _ (v : View) (sound : Sound v) where
     unfolding circuitAt historyOf
     permitted-is = rw (path-is v c (o .stands)) (o .stands .permitted)
 
-    receive-is : circuitAt v c .receive ≡ o .stands .channel
+    receive-is : circuitAt v c .receive ≡ o .stands .receive
     unfolding circuitAt
     receive-is =
         let f : ℕ → Bool = λ k. eqb (v .receiver (endFor v c (pathOf v c)) k) c in
         let e = path-is v c (o .stands) in
-        let there : f (o .stands .channel) ≡ true = rw e (eq-eqb _ c (o .stands .receives)) in
-        let low : lowest f 8 0 ≤ o .stands .channel = lowest-found f 8 0 (o .stands .channel) (omega arith) there in
+        let there : f (o .stands .receive) ≡ true = rw e (eq-eqb _ c (o .stands .receives)) in
+        let low : lowest f 8 0 ≤ o .stands .receive = lowest-found f 8 0 (o .stands .receive) (omega arith) there in
         let taken : f (lowest f 8 0) ≡ true = lowest-passes f 8 0 (omega (arith, o .stands .small)) in
         o .stands .once _ _ (eqb-true _ c taken) .1
 
@@ -146,7 +146,7 @@ module _ (v : View) (sound : Sound v) where
       unfold historyOf in
       pairwise-map (λ c d. Open c × Open d × (c < d)) (Disjoint (netOn h)) (circuitAt v) (openNumbers v) (λ c d r. separate c d (r .0) (r .1) (λ e. omega (arith, r .2)))
       (pairwise-imp _<_ (λ c d. Open c × Open d × (c < d)) (openNumbers v) (λ c d m k l. (open-number c m, open-number d k, l))
-      (unfold openNumbers in keep-pairwise (isOpenIn v) _<_ (from 1 (8 * 2 ^ D)) (from-pairwise 1 (8 * 2 ^ D))))
+      (unfold openNumbers in keep-pairwise (isOpenIn v) _<_ (from 1 (channels * cubeNodes D)) (from-pairwise 1 (channels * cubeNodes D))))
 
   -- what the history shows is what the table shows: its links' states and its armed channels
   enabled-same : (n p : ℕ) → v .enabled n p ≡ enabledOn h n p
@@ -159,7 +159,7 @@ module _ (v : View) (sound : Sound v) where
       go true e false q = refl
       go false e y q = sym q ∙ sound .absent-link n p (λ i. clash (and (lt-ltb n _ (i .0)) (lt-ltb p _ (i .1))) e) .0
 
-  armed-same : ((n k : ℕ) → v .armed n k ≡ true → k < 8) → (n k : ℕ) → v .armed n k ≡ armedOn h n k
+  armed-same : ((n k : ℕ) → v .armed n k ≡ true → k < channels) → (n k : ℕ) → v .armed n k ≡ armedOn h n k
   unfolding armedOn historyOf
   armed-same eight n k = rw (kept-link (v .armed) _ n k, every-out (2 ^ D) 8 n k) (go (v .armed n k) refl)
     where
@@ -171,7 +171,7 @@ module _ (v : View) (sound : Sound v) where
       go false q = refl
 
   -- its entries: the number that stands in one is that of the circuit that holds it
-  entry-same : (holds : Circuit → Bool) {e : ℕ} → Once holds (h .circuits) → e ≤ 8 * 2 ^ D → (e ≢ 0 → CircuitSound v e)
+  entry-same : (holds : Circuit → Bool) {e : ℕ} → Once holds (h .circuits) → e ≤ channels * cubeNodes D → (e ≢ 0 → CircuitSound v e)
       → ((c : ℕ) → Open c → holds (circuitAt v c) ≡ true → e ≡ c) → (Open e → holds (circuitAt v e) ≡ true) → e ≡ numberOf holds (h .circuits)
   entry-same holds {e} once most stands its holder = ⊎-elim free held (same? e 0)
     where
@@ -194,7 +194,7 @@ module _ (v : View) (sound : Sound v) where
       (λ c o t. let a = holds-receive n k _ t in receive-number c o n k (a .0) (a .1)) (λ o. let a = number-receive _ o n k refl in receive-holds n k _ (a .0) (a .1))
 
   -- where it shows no channel armed beyond the eight of a node, as no bytes do
-  module _ (eight : (n k : ℕ) → v .armed n k ≡ true → k < 8) where
+  module _ (eight : (n k : ℕ) → v .armed n k ≡ true → k < channels) where
     pub shows-same : v ≡ viewOf h
     unfolding viewOf historyOf
     shows-same = λ i.
@@ -221,7 +221,7 @@ module _ (v : View) (sound : Sound v) where
               armed = sym (armed-same eight _ _) ∙ sound .held-armed _ _ (λ z. omega (arith, z, o .positive, receive-number c o _ _ refl refl));
             }
 
-    pub table-valid : 1 ≤ D → D ≤ 8 → Valid h
+    pub table-valid : 1 ≤ D → D ≤ largestDimension → Valid h
     table-valid least most =
         record {
           least = unfold historyOf in least;

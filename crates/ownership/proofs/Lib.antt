@@ -2,7 +2,6 @@
 pub mod Circuits
 pub mod Sameness
 pub mod CircuitValid
-pub mod OpenCircuits
 pub mod Stopped
 pub mod Acknowledged
 pub mod Allowed

@@ -1,37 +1,38 @@
 -- What the calls say of any table that passes the tests of a lent table, whether it represents a history or not.
 -- Assumes nothing.
-use mathlib.Core.Path.{_≡_, refl, ap, sym, _∙_}
+use mathlib.Core.Path.{_≡_, refl, ap, sym, _∙_, subst}
 use mathlib.Core.Logic.{⊎-elim, _≢_, _↔_}
 use mathlib.Core.Bool.{true, false, not, Bool}
 use mathlib.Core.List.{List, []}
-use Prim.Native.Nat.{ℕ, _^_, _<_}
+use Prim.Native.Nat.{ℕ, _<_}
 use native.Mathlib.Omega.{arith}
-use lib.Dec.{eqb}
-use lib.ListN.{length}
-use borrow.Author.Tests.{eq-eqb}
-use Rattle.common.specs.Tests.{test, refusal}
+use borrow.Author.Tests.{eq-eqb, eqb-true}
+use Rattle.common.specs.Tests.{refusal}
 use Rattle.common.proofs.Tests.{clash, same?, refusal-before, refusal-after, Avoids, avoids, avoiding, never-answered}
-use Rattle.cube.specs.Cube.{circuitOf}
+use Rattle.common.proofs.Lists.{any-some}
+use Rattle.cube.specs.Cube.{channels, NodeOf, sourceOf, circuitOf}
 use Rattle.cube.proofs.Bits.{no-bit-above}
+use Rattle.paths.specs.CubeNetwork.{ports}
 use Rattle.paths.specs.Send.{Outcome, acknowledged, route-rejected, receive-rejected}
-use Rattle.layout.specs.Layout.{tableLength, dimensionAt, enabledAt, ownerAt, receiverAt, armedAt}
-use Rattle.table.specs.View.{View, view, heldIn}
+use Rattle.layout.specs.Layout.{dimensionAt, enabledAt, ownerAt, receiverAt, armedAt}
+use Rattle.table.specs.View.{View, view, shapeOf, heldIn, heldBy}
 use Rattle.table.specs.Encode.{AllBytes, Bytes}
 use Rattle.circuit_path.specs.CircuitSound.{CircuitSound}
+use Rattle.circuit_path.specs.OpenCircuit.{isOpenIn}
 use Rattle.soundness.specs.Sound.{Sound}
 use Rattle.soundness.specs.TableTests.{tableTests}
+use Rattle.soundness.proofs.Soundness.{link-stands}
 use Rattle.soundness.proofs.Passing.{answers}
 use Rattle.answers.specs.SendOnTable.{pass-answer, answerOfOutcome}
-use Rattle.answers.specs.SendAnswer.{sendAnswer, sends, MaySend}
+use Rattle.answers.specs.SendAnswer.{sendAnswer, sentOnBytes, MaySend}
 use Rattle.answers.specs.SendSays.{SendSays}
 use Rattle.answers.proofs.SendSays.{demand-2}
 use Rattle.ownership.specs.Calls.{Call, making, blocking, unblocking, opening, closing, tracing, arming, disarming, callTests, CallResult, hopsOf, receiveOf, scoutsOf, only, answered, resultOf}
-use Rattle.ownership.specs.Update.{sendIn}
 use Rattle.ownership.specs.OnTable.{openIn, takenIn, factsOf, lentTests, stoppedAt, tableStep, done}
 use Rattle.ownership.specs.Allowed.{Allowed}
 use Rattle.ownership.proofs.Allowed.{allowed, allowed-passes}
 use Rattle.ownership.proofs.Stops.{lent-both, lent-numbered, none-stops, none-stops-lent, pass-tests, stopped-is}
-use Rattle.ownership.proofs.OpenCircuits.{open-sound, sound-open}
+use Rattle.circuit_path.proofs.CircuitSound.{sound-open}
 use Rattle.ownership.proofs.Steps.{table-step}
 use Rattle.cube.proofs.Ports.{most-nodes}
 use Rattle.ownership.proofs.StepBytes.{blocking-again, unblocking-again, arming-again, disarming-again}
@@ -63,17 +64,25 @@ answer-same helps receive-rejected n b = refl
 
 module _ (b : List ℕ) (s c t y v : ℕ) (e : stoppedAt b (opening s c t y v) ≡ 0) where
   -- what the open gives
-  abbrev gives : CallResult
-  gives = tableStep b (opening s c t y v) .result
+  abbrev openResult : CallResult
+  openResult = tableStep b (opening s c t y v) .result
 
   -- What an open that no test stops before the search answers is what a send answers, whatever the bytes are.
-  pub open-answers : SendSays b s t (circuitOf s c) y v (gives .number) (hopsOf gives) (receiveOf gives) (scoutsOf gives) (writtenBy b (opening s c t y v))
-  unfolding resultOf factsOf writtenBy sendIn sends sendAnswer
+  pub open-answers : SendSays b s t (circuitOf s c) y v (openResult .number) (hopsOf openResult) (receiveOf openResult) (scoutsOf openResult) (writtenBy b (opening s c t y v))
+  unfolding resultOf factsOf writtenBy sentOnBytes sendAnswer
   open-answers = rw (table-step b (opening s c t y v) .result e) (demand-2 b s t (circuitOf s c) y v (may-open b s c t y v e) _ _ _ _ _ (answer-same _ _ _ _))
 
   -- The users' second demand of the open call: it says what a send says, in its answer and in every byte.
-  pub open-says : AllBytes b → SendSays b s t (circuitOf s c) y v (gives .number) (hopsOf gives) (receiveOf gives) (scoutsOf gives) (tableStep b (opening s c t y v) .state)
+  pub open-says : AllBytes b → SendSays b s t (circuitOf s c) y v (openResult .number) (hopsOf openResult) (receiveOf openResult) (scoutsOf openResult) (tableStep b (opening s c t y v) .state)
   open-says small = rw (sym (written-bytes b small (opening s c t y v) e)) at open-answers
+
+-- In a sound table an open circuit stands, since a link that it holds tells so.
+pub open-sound : (v : View) → Sound v → (c : ℕ) → c ≢ 0 → isOpenIn v c ≡ true → CircuitSound v c
+unfolding isOpenIn
+open-sound v sound c some e =
+    let r = any-some (heldBy v c (sourceOf c)) (ports (shapeOf v)) e in
+    let q = eqb-true _ c (r .2) in
+    subst (CircuitSound v) q (link-stands v sound (sourceOf c) (r .0) (λ z. some (sym q ∙ z)))
 
 -- On a sound table a send channel has an open circuit exactly where its number stands on a path and a receive channel.
 pub open-stands : (w : View) → Sound w → (s c : ℕ) → (openIn w s c ≡ true) ↔ CircuitSound w (circuitOf s c)
@@ -117,7 +126,7 @@ module _ (b : List ℕ) (small : AllBytes b) (pass : refusal (tableTests b) ≡ 
       let z : stoppedAt b a ≡ 0 = stopped-is b (r .0) (r .1) (r .2) (r .3) a ∙ allowed-passes (factsOf (view b)) a may in
       λ i. record { state = same i; result = (table-step b a .result z ∙ gives) i }
 
-  module _ (n p : ℕ) (i : n < 2 ^ dimensionAt b) (l : p < dimensionAt b) where
+  module _ (n p : ℕ) (i : NodeOf (dimensionAt b) n) (l : p < dimensionAt b) where
     idle : enabledAt b n p ≡ false → heldIn (view b) n p ≡ false
     unfolding heldIn view
     idle e =
@@ -132,7 +141,7 @@ module _ (b : List ℕ) (small : AllBytes b) (pass : refusal (tableTests b) ≡ 
     unfolding Allowed factsOf view resultOf
     enabled-again e = leaves-all (unblocking n p) (i, l) refl (unblocking-again b bytes n p e)
 
-  module _ (n k : ℕ) (i : n < 2 ^ dimensionAt b) (l : k < 8) where
+  module _ (n k : ℕ) (i : NodeOf (dimensionAt b) n) (l : k < channels) where
     untaken : armedAt b n k ≡ false → takenIn (view b) n k ≡ false
     unfolding takenIn view
     untaken e =

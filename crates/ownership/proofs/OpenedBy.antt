@@ -31,21 +31,21 @@ added h s c t y v (acknowledged w k) e x m =
 added h s c t y v route-rejected e x m = inl m
 added h s c t y v receive-rejected e x m = inl m
 
-linksFollowed : (h : History) (a : Call) (x : Circuit) → x ∈ applied h a .circuits → (x ∈ h .circuits) ⊎ New h a x
+listed-or-new : (h : History) (a : Call) (x : Circuit) → x ∈ applied h a .circuits → (x ∈ h .circuits) ⊎ New h a x
 unfolding applied
-linksFollowed h (making D) x m = absurd (List·Memᴰ·not-nil m)
-linksFollowed h (blocking n p) x m = inl m
-linksFollowed h (unblocking n p) x m = inl m
-linksFollowed h (opening s c t y v) x m = added h s c t y v (sendOn h s t y v .outcome) refl x m
-linksFollowed h (closing s c) x m = inl (keep-mem _ (h .circuits) m .0)
-linksFollowed h (tracing s c buffer) x m = inl m
-linksFollowed h (arming n k) x m = inl m
-linksFollowed h (disarming n k) x m = inl m
+listed-or-new h (making D) x m = absurd (List·Memᴰ·not-nil m)
+listed-or-new h (blocking n p) x m = inl m
+listed-or-new h (unblocking n p) x m = inl m
+listed-or-new h (opening s c t y v) x m = added h s c t y v (sendOn h s t y v .outcome) refl x m
+listed-or-new h (closing s c) x m = inl (keep-mem _ (h .circuits) m .0)
+listed-or-new h (tracing s c buffer) x m = inl m
+listed-or-new h (arming n k) x m = inl m
+listed-or-new h (disarming n k) x m = inl m
 
 step : (h : History) (a : Call) (x : Circuit) → x ∈ historyStep h a .state .circuits → (x ∈ h .circuits) ⊎ ((stoppedOn h a ≡ 0) × New h a x)
 step h a x m =
     let g = history-step h a in
-    ⊎-elim (λ e. ⊎-elim inl (λ z. inr (g .passed e, z)) (linksFollowed h a x (rw (g .accepted e) at m))) (λ f. inl (rw (g .refused f) at m)) (same? (historyStep h a .result .number) 0)
+    ⊎-elim (λ e. ⊎-elim inl (λ z. inr (g .passed e, z)) (listed-or-new h a x (rw (g .accepted e) at m))) (λ f. inl (rw (g .refused f) at m)) (same? (historyStep h a .result .number) 0)
 
 -- what is listed after an accepted call was not ended by it
 ended : (h : History) (a : Call) (x : Circuit) → x ∈ applied h a .circuits → Ends (x .source) (x .channel) a → ⊥

@@ -5,6 +5,7 @@ use mathlib.Core.Logic.{⊎-elim}
 use mathlib.Core.Bool.{true, false}
 use Prim.Native.Nat.{ℕ, _^_, _≤_, _<_}
 use native.Mathlib.Omega.{arith}
+use Rattle.cube.specs.Cube.{largestDimension, channels, NodeOf}
 use Rattle.common.proofs.Tests.{clash, same?, below-or, is-false}
 use Rattle.cube.proofs.Ports.{most-nodes, below-256}
 use Rattle.layout.specs.Layout.{inTable}
@@ -13,15 +14,15 @@ use Rattle.table.specs.Encode.{ViewFits}
 use Rattle.layout.proofs.Entries.{within}
 use Rattle.soundness.specs.Sound.{Sound}
 
-module _ (v : View) (most : v .dimension ≤ 8) (sound : Sound v) (eight : (n k : ℕ) → v .armed n k ≡ true → k < 8) where
-  absent : (n p : ℕ) → inTable n p ≡ false → (n < 2 ^ v .dimension) × (p < v .dimension) → ⊥
+module _ (v : View) (most : v .dimension ≤ largestDimension) (sound : Sound v) (eight : (n k : ℕ) → v .armed n k ≡ true → k < channels) where
+  absent : (n p : ℕ) → inTable n p ≡ false → (NodeOf (v .dimension) n) × (p < v .dimension) → ⊥
   absent n p e r = clash (within n p (below-256 most (r .0)) (omega (arith, r .1))) e
 
   -- a receive channel that is held is one of the eight of a node of the cube
   unheld : (n k : ℕ) → inTable n k ≡ false → v .receiver n k ≡ 0
   unheld n k e = ⊎-elim (λ z. z) (λ f. absurd (⊎-elim (λ none. none .1 n k refl) (λ s. held f (s .once n k refl .1) (s .small)) (sound .numbers (v .receiver n k) f))) (same? (v .receiver n k) 0)
     where
-      held : (v .receiver n k ≡ 0 → ⊥) → {channel : ℕ} → k ≡ channel → channel < 8 → ⊥
+      held : (v .receiver n k ≡ 0 → ⊥) → {channel : ℕ} → k ≡ channel → channel < channels → ⊥
       held f q l = ⊎-elim (λ i. clash (within n k (below-256 most i) (omega arith)) e) (λ o. f (sound .absent-receive n k (λ i. omega arith))) (below-or (2 ^ v .dimension) n)
 
   unarmed : (n k : ℕ) → inTable n k ≡ false → v .armed n k ≡ false

@@ -14,7 +14,7 @@ use Rattle.common.specs.Lists.{_∈_, keep, from, Pairwise}
 use Rattle.common.proofs.Lists.{mem-keep, keep-shorter}
 use Rattle.common.proofs.From.{mem-from, from-pairwise, length-from, from-below}
 use Rattle.common.proofs.Tests.{same?, avoids, avoiding, never-answered}
-use Rattle.cube.specs.Cube.{next, sourceOf}
+use Rattle.cube.specs.Cube.{largestDimension, portCount, channels, NodeOf, next, sourceOf}
 use Rattle.cube.specs.Axes.{axis}
 use Rattle.cube.proofs.Bits.{flip-back}
 use Rattle.paths.specs.Network.{Path, end, links}
@@ -29,18 +29,17 @@ use Rattle.paths.proofs.CubeNetwork.{unfolded-port}
 use Rattle.paths.proofs.Attempts.{said-by, receive-rejected-says}
 use Rattle.paths.proofs.Send.{tries-permitted}
 use Rattle.paths.proofs.Words.{free-links}
-use Rattle.layout.specs.Layout.{dimensionAt, armedAt}
 use Rattle.table.specs.View.{View, view, available, receive, shapeOf, net, heldBy}
 use Rattle.table.proofs.Receives.{none-chosen}
 use Rattle.circuit_path.specs.CircuitSound.{CircuitSound}
 use Rattle.soundness.specs.Sound.{Sound}
 use Rattle.circuit_path.specs.PathOf.{pathOf}
 use Rattle.soundness.specs.TableTests.{tableTests}
-use Rattle.circuit_path.proofs.Stands.{path-is}
+use Rattle.circuit_path.proofs.CircuitSound.{path-is}
 use Rattle.soundness.proofs.Soundness.{receive-stands}
 use Rattle.answers.specs.SendOnTable.{freeIn, PassAnswer, pass-answer, answerOfOutcome}
 use Rattle.answers.specs.SendAnswer.{sendAnswer}
-use Rattle.answers.proofs.PassAnswer.{free-owner}
+use Rattle.answers.proofs.PassOnBytes.{free-owner}
 use Rattle.ownership.specs.Calls.{Call, making, blocking, unblocking, opening, closing, tracing, arming, disarming, callTests, resultOf}
 use Rattle.ownership.specs.OnTable.{factsOf, lentTests, stoppedAt, tableStep}
 use Rattle.ownership.specs.AllArmed.{AllArmed, CubeArmed}
@@ -61,7 +60,7 @@ fits (x ∷ xs) ys s h =
     omega (arith, less, rest)
 
 -- eight numbers below eight, no two the same, leave none out
-pub all-taken : (g : ℕ → ℕ) → ((j : ℕ) → j < 8 → g j < 8) → ((i j : ℕ) → i < 8 → j < 8 → g i ≡ g j → i ≡ j) → (q : ℕ) → q < 8 → ((j : ℕ) → j < 8 → g j ≢ q) → ⊥
+pub all-taken : (g : ℕ → ℕ) → ((j : ℕ) → j < 8 → g j < 8) → ((i j : ℕ) → i < 8 → j < 8 → g i ≡ g j → i ≡ j) → (q : ℕ) → q < portCount → ((j : ℕ) → j < 8 → g j ≢ q) → ⊥
 unfolding Pairwise from
 all-taken g small once q h none =
     let long : length (q ∷ map g (from 0 8)) ≡ 9 = refl in
@@ -100,9 +99,9 @@ unfolding arrival end network
 arrives S n p [] = rw (flip-back n (axis p)) (on-first (network S) n p [])
 arrives S n p (r ∷ w) = on-later (network S) n p (r ∷ w) _ _ (arrives S (next n p) r w)
 
-module _ (v : View) (sound : Sound v) (most : v .dimension ≤ 8) (t : ℕ) where
+module _ (v : View) (sound : Sound v) (most : v .dimension ≤ largestDimension) (t : ℕ) where
   -- a permitted path to t comes in over a link of t's ports
-  comes-in : (s : ℕ) (w : Path) → s < 2 ^ v .dimension → Permitted (net v) s (ports (shapeOf v)) t w → ((next t (arrival w), arrival w) ∈ links (net v) s w) × (arrival w < 8)
+  comes-in : (s : ℕ) (w : Path) → NodeOf (v .dimension) s → Permitted (net v) s (ports (shapeOf v)) t w → ((next t (arrival w), arrival w) ∈ links (net v) s w) × (arrival w < 8)
   unfolding On
   comes-in s [] i o = unfold Permitted in absurd o
   comes-in s (p ∷ w) i o =
@@ -143,13 +142,13 @@ module _ (v : View) (sound : Sound v) (most : v .dimension ≤ 8) (t : ℕ) wher
         stands i h .once t i refl .1 ∙ sym (stands i h .once t j c .1)
 
     -- so every link into t is held
-    pub no-way-in : (q : ℕ) → q < 8 → v .owner (next t q) q ≢ 0
+    pub no-way-in : (q : ℕ) → q < portCount → v .owner (next t q) q ≢ 0
     no-way-in q h z =
         all-taken port (λ j l. subst (_< 8) (port-is j l) (into j l .1)) same-channel q h
         (λ j l e. full j l (sym (holds j l) ∙ ap (λ p. v .owner (next t p) p) e ∙ z))
 
   -- Where a free permitted path leads to t and its channels are armed, a receive channel of t is available.
-  pub receives : ((k : ℕ) → k < 8 → v .armed t k ≡ true) → (s : ℕ) (w : Path) → s < 2 ^ v .dimension → Permitted (net v) s (ports (shapeOf v)) t w
+  pub receives : ((k : ℕ) → k < channels → v .armed t k ≡ true) → (s : ℕ) (w : Path) → NodeOf (v .dimension) s → Permitted (net v) s (ports (shapeOf v)) t w
       → Free (net v) (freeIn v) s w → receive v t ≢ none-available
   unfolding receive available
   receives armed s w i o free e =
@@ -158,7 +157,7 @@ module _ (v : View) (sound : Sound v) (most : v .dimension ≤ 8) (t : ℕ) wher
       (free-owner v _ _ (free-links (net v) (freeIn v) s w .0 free _ (c .0)))
 
   -- So no send to it is receive rejected.
-  send-receives : ((k : ℕ) → k < 8 → v .armed t k ≡ true) → (s : ℕ) → s < 2 ^ v .dimension → (type vector : ℕ) (o : Outcome) (n : ℕ)
+  send-receives : ((k : ℕ) → k < channels → v .armed t k ≡ true) → (s : ℕ) → NodeOf (v .dimension) s → (type vector : ℕ) (o : Outcome) (n : ℕ)
       → AttemptsSay (net v) s t (freeIn v) (receive v t) (attempts (shapeOf v) type vector) o n → o ≢ receive-rejected
   send-receives armed s i type vector o n a q =
       let x = said-by (net v) s t (freeIn v) (receive v t) (attempts (shapeOf v) type vector) receive-rejected n (rw q at a) in

@@ -8,8 +8,7 @@ use Rattle.paths.specs.Network.{isFree, linkState}
 use Rattle.paths.specs.CubeNetwork.{send}
 use Rattle.table.specs.View.{heldIn, available, receive}
 use Rattle.paths.specs.Send.{lowestOf}
-use Rattle.answers.specs.SendOnTable.{freeIn, stateIn, waitingHelps}
-use Rattle.ownership.specs.Update.{sendIn}
+use Rattle.answers.specs.SendOnTable.{freeIn, stateIn, waitingHelps, sendIn}
 use Rattle.ownership.specs.OnTable.{takenIn}
 use Rattle.ownership.specs.History.{History, shapeOn, netOn, holdsLink, holdsReceive, enabledOn, heldOn, freeOn, takenOn, armedOn, receiveOn, sendOn, waitingOn}
 use Rattle.ownership.specs.HistoryView.{viewOf}
@@ -44,7 +43,7 @@ module _ (h : History) where
 
   -- A send is the same on both.
   pub send-same : (s t y v : ℕ) → sendIn (viewOf h) s t y v ≡ sendOn h s t y v
-  unfolding sendIn sendOn viewOf
+  unfolding sendOn viewOf
   send-same s t y v = λ i. send y (shapeOn h) (free-same i) (receive-same t i) s v t
 
   -- and so is whether waiting can help it.

@@ -8,7 +8,7 @@ use Prim.Native.Nat.{ℕ, _≤_, _<_}
 use lib.Dec.{eqb}
 use borrow.Author.Tests.{eqb-true}
 use Rattle.common.proofs.Tests.{same?, both}
-use Rattle.cube.specs.Cube.{circuitOf}
+use Rattle.cube.specs.Cube.{largestDimension, channels, circuitOf}
 use Rattle.paths.specs.Send.{Outcome, acknowledged, route-rejected, receive-rejected}
 use Rattle.layout.specs.Layout.{enabledAt, armedAt}
 use Rattle.table.specs.View.{View, view, setAt, setEnabled, setArmed, fresh}
@@ -18,8 +18,8 @@ use Rattle.table.proofs.Encoded.{encode-bytes, view-encode}
 use Rattle.soundness.proofs.Soundness.{fresh-sound}
 use Rattle.ownership.specs.Calls.{Call, making, blocking, unblocking, opening, closing, tracing, arming, disarming, CallResult, answered, resultOf}
 use Rattle.ownership.specs.Allowed.{Allowed}
-use Rattle.ownership.specs.Update.{sendIn, updated}
-use Rattle.answers.specs.SendOnTable.{viewAfterSend, waitingHelps}
+use Rattle.ownership.specs.Update.{updated}
+use Rattle.answers.specs.SendOnTable.{viewAfterSend, waitingHelps, sendIn}
 use Rattle.ownership.specs.OnTable.{factsOf, stoppedAt, tableStep}
 use Rattle.ownership.proofs.Allowed.{allowed}
 use Rattle.ownership.proofs.Range.{sound-fits}
@@ -62,17 +62,17 @@ module _ (b : List ℕ) (bytes : Bytes b) (a : Call) where
 -- After an accepted making the table is a made one, whatever it was before.
 pub record Made (b : List ℕ) (D : ℕ) : Type 0 where
   pub least : 1 ≤ D
-  pub most : D ≤ 8
+  pub most : D ≤ largestDimension
   pub bytes : Bytes b
   pub shows : view b ≡ fresh D
 
-none-armed : (D n k : ℕ) → fresh D .armed n k ≡ true → k < 8
+none-armed : (D n k : ℕ) → fresh D .armed n k ≡ true → k < channels
 unfolding fresh
 none-armed D n k e = absurd (true≢false (sym e))
 
 pub made-shows : (b : List ℕ) (D : ℕ) → stoppedAt b (making D) ≡ 0 → Made (tableStep b (making D) .state) D
 made-shows b D e =
-    let h : (1 ≤ D) × (D ≤ 8) = unfold Allowed in allowed (factsOf (view b)) (making D) (none-stops b (making D) e) in
+    let h : (1 ≤ D) × (D ≤ largestDimension) = unfold Allowed in allowed (factsOf (view b)) (making D) (none-stops b (making D) e) in
     let fits = sound-fits (fresh D) (unfold fresh in h .1) (fresh-sound D) (none-armed D) in
     let accepted : tableStep b (making D) .result .number ≡ 0 = unfold resultOf in ap (λ (g : CallResult). g .number) (table-step b (making D) .result e) in
     rw (table-step b (making D) .accepted accepted) (unfold updated in record { least = h .0; most = h .1; bytes = encode-bytes (fresh D) fits; shows = view-encode (fresh D) fits })

@@ -14,7 +14,7 @@ use Rattle.common.proofs.Tests.{same?, clash, is-false, both, and, either, or-l
 use Rattle.common.proofs.Lists.{keep-mem, mem-keep, any-some, some-any}
 use Rattle.paths.specs.Send.{Outcome, acknowledged, route-rejected, receive-rejected}
 use Rattle.ownership.specs.Calls.{Call, making, blocking, unblocking, opening, closing, tracing, arming, disarming, CallResult, answered, resultOf}
-use Rattle.ownership.specs.History.{Circuit, History, belongs, openOn, factsOn, stoppedOn, sendOn, withOpened, applied, historyStep, waitingOn}
+use Rattle.ownership.specs.History.{Circuit, History, belongs, openOn, factsOn, stoppedOn, sendOn, withOpened, applied, historyStep, waitingOn, newHistory}
 use Rattle.ownership.specs.Agrees.{historyAfter, historyResults, leaves, answers}
 use Rattle.ownership.specs.StillOpen.{numbered, Ends, Lasts, StillOpen}
 use Rattle.ownership.proofs.Circuits.{belongs-parts, parts-belong}
@@ -40,7 +40,7 @@ module _ (s c : ℕ) where
   step-same h next a n e no-open spare = record { from-next = λ o. inr (sym e ∙ o, spare); opens = λ o. absurd (no-open o); spares = λ o z. e ∙ o }
 
   -- an accepted making
-  step-making : (h : History) (D : ℕ) → Step h (record { dimension = D; blocked = []; circuits = []; armed = [] }) (making D) 0
+  step-making : (h : History) (D : ℕ) → Step h (newHistory D) (making D) 0
   unfolding openOn any Ends
   step-making h D =
       record {

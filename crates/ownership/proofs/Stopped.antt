@@ -12,20 +12,20 @@ use Rattle.common.specs.Lists.{_∈_, any}
 use Rattle.common.proofs.Lists.{any-some, some-any}
 use Rattle.common.specs.Tests.{Test, test, refusal}
 use Rattle.common.proofs.Tests.{clash, is-false, refused, passed}
-use Rattle.cube.specs.Cube.{circuitOf, sourceOf}
+use Rattle.cube.specs.Cube.{channels, circuitOf, sourceOf}
 use Rattle.paths.specs.CubeNetwork.{ports}
 use Rattle.table.specs.View.{shapeOf, heldBy}
 use Rattle.circuit_path.specs.PathOf.{pathOf}
-use Rattle.circuit_path.proofs.Stands.{path-is}
+use Rattle.circuit_path.proofs.CircuitSound.{path-is, sound-open}
 use Rattle.ownership.specs.Calls.{Call, making, blocking, unblocking, opening, closing, tracing, arming, disarming, channelNumber, callTests}
-use Rattle.ownership.specs.OnTable.{isOpenIn, openIn, factsOf}
+use Rattle.circuit_path.specs.OpenCircuit.{isOpenIn}
+use Rattle.ownership.specs.OnTable.{openIn, factsOf}
 use Rattle.ownership.specs.History.{Circuit, History, belongs, openOn, listed, factsOn, stoppedOn}
 use Rattle.ownership.specs.Invariant.{Valid}
 use Rattle.ownership.specs.HistoryView.{viewOf}
 use Rattle.ownership.proofs.Allowed.{channel-small}
 use Rattle.ownership.proofs.Circuits.{numberFor, circuit-parts, parts-belong, number-is}
 use Rattle.ownership.proofs.Sameness.{held-same, taken-same}
-use Rattle.ownership.proofs.OpenCircuits.{sound-open}
 use Rattle.ownership.proofs.CircuitValid.{link-held, valid-stands, stands-path}
 
 -- the listed path is that of a circuit that belongs to the send channel
@@ -39,7 +39,7 @@ listed-some s c (x ∷ xs) e = go (belongs s c x) refl (listed-some s c xs)
     go true f ih = (x, List·Memᴰ·head refl, f, rw f)
     go false f ih = let r = ih (rw f at e) in (r .0, List·Memᴰ·tail (r .1), r .2, rw f (r .3))
 
-module _ (h : History) (valid : Valid h) (s c : ℕ) (small : c < 8) where
+module _ (h : History) (valid : Valid h) (s c : ℕ) (small : c < channels) where
   -- Tracing by the table gives the ports that the history keeps.
   pub path-listed : openOn h s c ≡ true → pathOf (viewOf h) (circuitOf s c) ≡ listed (h .circuits) s c
   unfolding openOn
@@ -68,7 +68,7 @@ past : (t : Test) (ts us : List Test) → refusal ts ≡ refusal us → refusal 
 unfolding refusal
 past t ts us e = rw e
 
-past-channel : (c : ℕ) (ts us : List Test) → (c < 8 → refusal ts ≡ refusal us) → refusal (channelNumber c ∷ ts) ≡ refusal (channelNumber c ∷ us)
+past-channel : (c : ℕ) (ts us : List Test) → (c < channels → refusal ts ≡ refusal us) → refusal (channelNumber c ∷ ts) ≡ refusal (channelNumber c ∷ us)
 past-channel c ts us h = go (ltb 7 c) refl
   where
     go : (b : Bool) → ltb 7 c ≡ b → refusal (test b 5 ∷ ts) ≡ refusal (test b 5 ∷ us)

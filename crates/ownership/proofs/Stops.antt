@@ -8,6 +8,7 @@ use native.Mathlib.Omega.{arith}
 use lib.Dec.{eqb, leb}
 use lib.ListN.{length}
 use borrow.Author.Tests.{eq-eqb, eqb-true, leb-true, not-false}
+use Rattle.cube.specs.Cube.{largestDimension}
 use Rattle.common.specs.Tests.{Test, test, refusal}
 use Rattle.common.proofs.Tests.{passed, accepted, first-passed, Avoids, avoids, avoiding, refusal-after, refusal-both, both}
 use Rattle.layout.specs.Layout.{tableLength, dimensionAt}
@@ -48,8 +49,8 @@ none-stops-lent b a h e =
     rw h at r
 
 -- A table that passes the tests of a lent table is 8,705 bytes long, has a dimension from 1 to 8, and is sound.
-pub pass-tests : (b : List ℕ) → refusal (tableTests b) ≡ 0 → (length b ≡ tableLength) × (1 ≤ dimensionAt b) × (dimensionAt b ≤ 8) × Sound (view b)
-unfolding tableTests
+pub pass-tests : (b : List ℕ) → refusal (tableTests b) ≡ 0 → (length b ≡ tableLength) × (1 ≤ dimensionAt b) × (dimensionAt b ≤ largestDimension) × Sound (view b)
+unfolding tableTests view
 pass-tests b e =
     let x = first-passed _ 1 _ (λ z. omega arith) e in
     let y = first-passed _ 2 _ (λ z. omega arith) (x .1) in
@@ -75,7 +76,7 @@ module _ (b : List ℕ) (long : length b ≡ tableLength) where
   pub making-stopped : (D : ℕ) → stoppedAt b (making D) ≡ refusal (callTests (factsOf (view b)) (making D))
   making-stopped D = after-lent (making D) (unfold lentTests in length-passes)
 
-  module _ (least : 1 ≤ dimensionAt b) (most : dimensionAt b ≤ 8) (sound : Sound (view b)) where
+  module _ (least : 1 ≤ dimensionAt b) (most : dimensionAt b ≤ largestDimension) (sound : Sound (view b)) where
     -- A sound table passes the tests of a lent table,
     pub tests-pass : refusal (tableTests b) ≡ 0
     tests-pass = sym (usable b long least most (go (soundTest (view b)) refl) .tests)

@@ -3,10 +3,11 @@
 use mathlib.Core.Path.{_≡_, refl, sym, _∙_, subst}
 use mathlib.Core.Logic.{⊎-elim}
 use mathlib.Core.Bool.{Bool, true, false, cond, not, _&&_}
-use mathlib.Core.List.{List, [], _∷_, List·Memᴰ·not-nil, List·Memᴰ·cases-cons}
+use mathlib.Core.List.{List, _∷_, List·Memᴰ·not-nil, List·Memᴰ·cases-cons}
 use Prim.Native.Nat.{ℕ, _^_, _≤_, _<_}
 use lib.Dec.{eqb}
 use borrow.Author.Tests.{eqb-true, not-true}
+use Rattle.cube.specs.Cube.{largestDimension, channels, NodeOf}
 use Rattle.common.specs.Lists.{_∈_, keep, Pairwise}
 use Rattle.common.proofs.Tests.{clash, is-false, both}
 use Rattle.common.proofs.Lists.{keep-mem, keep-pairwise, some-any}
@@ -16,11 +17,11 @@ use Rattle.paths.specs.CubeNetwork.{send}
 use Rattle.paths.proofs.Words.{free-link}
 use Rattle.table.specs.View.{setAt}
 use Rattle.ownership.specs.Calls.{Call, making, blocking, unblocking, opening, closing, tracing, arming, disarming}
-use Rattle.ownership.specs.History.{Circuit, History, shapeOn, netOn, linksOf, holdsLink, holdsReceive, belongs, enabledOn, heldOn, freeOn, takenOn, openOn, armedOn, receiveOn, factsOn, stoppedOn, sendOn, withBlocked, withCircuits, withArmed, without, withOpened, applied}
+use Rattle.ownership.specs.History.{Circuit, History, shapeOn, netOn, linksOf, holdsLink, holdsReceive, belongs, enabledOn, heldOn, freeOn, takenOn, openOn, armedOn, receiveOn, factsOn, stoppedOn, sendOn, withBlocked, withCircuits, withArmed, withoutEntry, withOpened, applied, newHistory}
 use Rattle.ownership.specs.Invariant.{CircuitValid, Disjoint, Valid}
 use Rattle.ownership.proofs.Circuits.{parts-belong, belongs-number}
 use Rattle.ownership.proofs.CircuitValid.{link-holds, receive-holds, receiver-of}
-use Rattle.answers.proofs.AfterSend.{Taken, send-taken}
+use Rattle.answers.proofs.AfterSend.{SendTakes, send-taken}
 use Rattle.ownership.proofs.Acknowledged.{receive-free}
 use Rattle.ownership.specs.Allowed.{Allowed}
 use Rattle.ownership.proofs.Allowed.{allowed-on, made-facts, block-facts, unblock-facts, close-facts, arm-facts, disarm-facts}
@@ -41,7 +42,7 @@ unfolding openOn
 open-send h x m s c e f = some-any (belongs s c) (h .circuits) m (parts-belong s c x e f)
 
 -- the history that a making begins, whatever was before it, is valid
-pub made-valid : (D : ℕ) → 1 ≤ D → D ≤ 8 → Valid (record { dimension = D; blocked = []; circuits = []; armed = [] })
+pub made-valid : (D : ℕ) → 1 ≤ D → D ≤ largestDimension → Valid (newHistory D)
 unfolding Pairwise
 made-valid D l m =
     record {
@@ -109,7 +110,7 @@ module _ (h : History) (valid : Valid h) where
       }
 
   -- an acknowledged open: its circuit stands, and is separate from each that is listed
-  module _ (s c t : ℕ) (there : s < 2 ^ h .dimension) (small : c < 8) (shut : openOn h s c ≡ false) (w : Path) (k : ℕ) (taken : Taken (shapeOn h) (freeOn h) (receiveOn h t) s t w k) where
+  module _ (s c t : ℕ) (there : NodeOf (h .dimension) s) (small : c < channels) (shut : openOn h s c ≡ false) (w : Path) (k : ℕ) (taken : SendTakes (shapeOn h) (freeOn h) (receiveOn h t) s t w k) where
     abbrev new : Circuit
     new = record { source = s; channel = c; ports = w; target = t; receive = k }
 
@@ -149,22 +150,22 @@ module _ (h : History) (valid : Valid h) where
   opened-valid s c t y v r receive-rejected e = valid
 
   -- A call that no test stops keeps the history valid.
-  pub follows-valid : (a : Call) → stoppedOn h a ≡ 0 → Valid (applied h a)
+  pub applied-valid : (a : Call) → stoppedOn h a ≡ 0 → Valid (applied h a)
   unfolding applied
-  follows-valid (making D) e = let r = made-facts h D e in made-valid D (r .0) (r .1)
-  follows-valid (blocking n p) e =
+  applied-valid (making D) e = let r = made-facts h D e in made-valid D (r .0) (r .1)
+  applied-valid (blocking n p) e =
       let r = block-facts h n p e in
       blocked-valid ((n, p) ∷ h .blocked)
       (λ l m.
       ⊎-elim (λ q. subst (λ (x : Link). (x .0 < 2 ^ h .dimension) × (x .1 < h .dimension)) (sym q) (r .0, r .1)) (λ k. valid .blocked l k)
       (List·Memᴰ·cases-cons m))
       (λ m q held on. block-enabled h n p m q ∙ other-cleared (enabledOn h) n p m q on (λ x y. clash held (rw (x, y) (r .2))))
-  follows-valid (unblocking n p) e =
+  applied-valid (unblocking n p) e =
       let r = unblock-facts h n p e in
-      blocked-valid (without n p (h .blocked)) (λ l m. valid .blocked l (unfold without in keep-mem _ (h .blocked) m .0))
+      blocked-valid (withoutEntry n p (h .blocked)) (λ l m. valid .blocked l (unfold withoutEntry in keep-mem _ (h .blocked) m .0))
       (λ m q held on. unblock-enabled h n p (r .0) (r .1) m q ∙ set-again (enabledOn h) n p m q on)
-  follows-valid (opening s c t y v) e = opened-valid s c t y v (allowed-on h (opening s c t y v) e) (sendOn h s t y v .outcome) refl
-  follows-valid (closing s c) e =
+  applied-valid (opening s c t y v) e = opened-valid s c t y v (allowed-on h (opening s c t y v) e) (sendOn h s t y v .outcome) refl
+  applied-valid (closing s c) e =
       circuits-valid (keep other (h .circuits)) (applied h (closing s c) .armed) (λ l m. valid .armed l (keep-mem _ (h .armed) m .0))
       (λ x m. let k = keep-mem other (h .circuits) m in (valid .stands x (k .0), unfold armedOn in still-armed x (k .0) (not-true _ (k .1))))
       (keep-pairwise other (Disjoint (netOn h)) (h .circuits) (valid .apart))
@@ -179,15 +180,15 @@ module _ (h : History) (valid : Valid h) where
           let stands = valid .stands x m in
           close-armed h valid s c small (x .target) (x .receive)
           ∙ (rw (receiver-of h valid x m, belongs-number s c x small (stands .channel), f) (stands .armed))
-  follows-valid (tracing s c buffer) e = valid
-  follows-valid (arming n k) e =
+  applied-valid (tracing s c buffer) e = valid
+  applied-valid (arming n k) e =
       circuits-valid (h .circuits) ((n, k) ∷ h .armed)
       (λ l m.
       ⊎-elim (λ q. subst (λ (x : ℕ × ℕ). (x .0 < 2 ^ h .dimension) × (x .1 < 8)) (sym q) (arm-facts h n k e)) (λ i. valid .armed l i)
       (List·Memᴰ·cases-cons m))
       (λ x m. let s = valid .stands x m in (s, arm-armed h n k _ _ ∙ set-again (armedOn h) n k _ _ (s .armed))) (valid .apart)
-  follows-valid (disarming n k) e =
-      circuits-valid (h .circuits) (without n k (h .armed)) (λ l m. valid .armed l (unfold without in keep-mem _ (h .armed) m .0))
+  applied-valid (disarming n k) e =
+      circuits-valid (h .circuits) (withoutEntry n k (h .armed)) (λ l m. valid .armed l (unfold withoutEntry in keep-mem _ (h .armed) m .0))
       (λ x m.
       let s = valid .stands x m in
       let other : x .target ≡ n → x .receive ≡ k → ⊥ = λ i j. clash (taken-receive h x m n k (sym i) (sym j)) (disarm-facts h n k e) in

@@ -8,28 +8,28 @@ use mathlib.Core.List.{List, [], _∷_, map}
 use Prim.Native.Nat.{ℕ, _<_}
 use native.Mathlib.Omega.{arith}
 use lib.Dec.{eqb}
-use borrow.Author.Tests.{eq-eqb, ne-eqb, eqb-true, not-false}
+use borrow.Author.Tests.{eqb-true, not-false}
 use Rattle.common.specs.Tests.{refusal}
-use Rattle.common.specs.Lists.{_∈_, any}
+use Rattle.common.specs.Lists.{any}
 use Rattle.common.proofs.Tests.{is-false, same?, avoids, avoiding, never-answered, and, clash}
 use Rattle.common.proofs.Lists.{any-some}
 use Rattle.cube.specs.Cube.{circuitOf, sourceOf, next, channels}
-use Rattle.paths.specs.Network.{Path, linkState, isFree}
-use Rattle.paths.specs.Send.{Attempt, Outcome, acknowledged, route-rejected, receive-rejected}
-use Rattle.paths.specs.Sentences.{Tries}
+use Rattle.paths.specs.Network.{Path}
+use Rattle.paths.specs.Send.{Outcome, acknowledged, route-rejected, receive-rejected}
 use Rattle.paths.specs.Waiting.{AllEnabled, SomePathEnabled, EveryPathBlocked, CrossesBlocked}
 use Rattle.paths.specs.CubeNetwork.{attempts, ports}
 use Rattle.paths.proofs.Words.{free-link, free-links}
 use Rattle.table.specs.View.{View, view, net, shapeOf, heldIn, heldBy, setArmed, withoutCircuit, available, setAt, setEnabled, setOwner, setReceiver}
 use Rattle.table.specs.Encode.{AllBytes}
 use Rattle.soundness.specs.TableTests.{tableTests}
-use Rattle.answers.specs.SendOnTable.{stateIn, freeIn, holdLinks, viewAfterSend}
+use Rattle.answers.specs.SendOnTable.{stateIn, freeIn, holdLinks, viewAfterSend, sendIn}
 use Rattle.answers.specs.SendSays.{SomeRoute, CouldRoute, BlockedRoutes, Available}
-use Rattle.ownership.specs.Calls.{Call, opening, closing, arming, callTests, blocking, tracing, disarming}
-use Rattle.ownership.specs.Update.{updated, sendIn}
-use Rattle.ownership.specs.OnTable.{openIn, isOpenIn, factsOf, lentTests, stoppedAt, tableStep, takenIn}
+use Rattle.circuit_path.specs.OpenCircuit.{isOpenIn}
+use Rattle.ownership.specs.Calls.{Call, opening, callTests}
+use Rattle.ownership.specs.Update.{updated}
+use Rattle.ownership.specs.OnTable.{openIn, factsOf, lentTests, stoppedAt, tableStep, takenIn}
 use Rattle.ownership.specs.Agrees.{tableAfter, leaves}
-use Rattle.ownership.specs.Closing.{Each, no-call, call-more, ClosesOrArms, closes, arms, RepairsNothing, a-block, an-open, a-close, a-trace, an-arming, a-disarming, Idle}
+use Rattle.ownership.specs.Closing.{Each, no-call, call-more, ClosesOrArms, closes, arms, RepairsNothing, a-block, an-open, a-close, a-trace, an-arming, a-disarming, NoLinkHeld}
 use Rattle.ownership.specs.Allowed.{Allowed}
 use Rattle.ownership.proofs.Allowed.{allowed, allowed-passes}
 use Rattle.ownership.proofs.Stops.{none-stops, none-stops-lent, pass-tests, stopped-is}
@@ -39,7 +39,7 @@ use Rattle.ownership.proofs.Agreement.{represents-step}
 use Rattle.ownership.proofs.FromTable.{sound-represents, keeps-sound, shows-update}
 use Rattle.ownership.proofs.Sameness.{held-same, taken-same}
 use Rattle.ownership.specs.FromTable.{openNumbers, circuitAt, historyOf}
-use Rattle.ownership.specs.History.{Circuit, netOn, holdsLink, holdsReceive, heldOn, takenOn}
+use Rattle.ownership.specs.History.{netOn, holdsLink, holdsReceive, heldOn, takenOn}
 
 -- two tables of one dimension with the same links enabled
 record SameEnabled (v w : View) : Type 0 where
@@ -98,11 +98,11 @@ module _ (b : List ℕ) (s c t y v : ℕ) where
       (same? (stoppedAt b (opening s c t y v)) 0)
 
   -- where nothing is held, every enabled link is free, and no send channel has an open circuit
-  idle-free : (w : View) → Idle w → (n p : ℕ) → w .enabled n p ≡ true → freeIn w n p ≡ true
+  idle-free : (w : View) → NoLinkHeld w → (n p : ℕ) → w .enabled n p ≡ true → freeIn w n p ≡ true
   unfolding freeIn stateIn
   idle-free w idle n p e = free-link _ _ .1 (e, idle n p)
 
-  idle-closed : (w : View) → Idle w → openIn w s c ≡ false
+  idle-closed : (w : View) → NoLinkHeld w → openIn w s c ≡ false
   unfolding openIn isOpenIn heldIn
   idle-closed w idle =
       is-false _ (λ e.
@@ -112,14 +112,14 @@ module _ (b : List ℕ) (s c t y v : ℕ) where
       let holder : o ≡ circuitOf s c = eqb-true o (circuitOf s c) (x .2) in
       omega (arith, nobody, holder))
 
-  idle-route : {w : View} → Idle w → SameEnabled w (view b) → CouldRoute (view b) s t (attempts (shapeOf (view b)) y v) → SomeRoute w s t (attempts (shapeOf w) y v)
+  idle-route : {w : View} → NoLinkHeld w → SameEnabled w (view b) → CouldRoute (view b) s t (attempts (shapeOf (view b)) y v) → SomeRoute w s t (attempts (shapeOf w) y v)
   unfolding SomePathEnabled AllEnabled
   idle-route {w} idle same x =
       let could : CouldRoute w s t (attempts (shapeOf w) y v) = rw (same .dimension, same .enabled) x in
       (could .0, could .1, (could .2 .0, could .2 .1, free-links (net w) (freeIn w) s (could .2 .0) .1 (λ l m. idle-free w idle (l .0) (l .1) (could .2 .2 l m))))
 
   -- "if all circuits are closed and a channel at the target is armed", a send that was answered 10 is acknowledged
-  pub closed-acknowledges : AllBytes b → {calls : List Call} → Each ClosesOrArms calls → numberOn b ≡ 10 → Idle (view (tableAfter b calls)) → Available (view (tableAfter b calls)) t
+  pub closed-acknowledges : AllBytes b → {calls : List Call} → Each ClosesOrArms calls → numberOn b ≡ 10 → NoLinkHeld (view (tableAfter b calls)) → Available (view (tableAfter b calls)) t
       → numberOn (tableAfter b calls) ≡ 0
   unfolding Allowed factsOf
   closed-acknowledges small {calls} all e idle there =
@@ -140,7 +140,7 @@ module _ (b : List ℕ) (small : AllBytes b) (e : refusal (tableTests b) ≡ 0) 
   unfolding historyOf
   none-listed = ap (map (circuitAt (view b))) none
 
-  pub closed-idle : Idle (view b)
+  pub closed-idle : NoLinkHeld (view b)
   unfolding heldOn any
   closed-idle n p =
       ap (λ v. heldIn v n p) (sound-represents b small e .shows) ∙ ap (λ (f : ℕ → ℕ → Bool). f n p) (held-same (historyOf (view b)))

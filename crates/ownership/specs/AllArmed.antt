@@ -3,8 +3,8 @@
 use mathlib.Core.Path.{_≡_}
 use mathlib.Core.Bool.{true}
 use mathlib.Core.List.{List}
-use Prim.Native.Nat.{ℕ, _^_, _<_}
-use Rattle.cube.specs.Cube.{channels}
+use Prim.Native.Nat.{ℕ, _<_}
+use Rattle.cube.specs.Cube.{channels, NodeOf}
 use Rattle.layout.specs.Layout.{dimensionAt, armedAt}
 
 -- all receive channels of a node are armed
@@ -13,4 +13,4 @@ AllArmed b n = (k : ℕ) → k < channels → armedAt b n k ≡ true
 
 -- those of all nodes of the cube are
 abbrev pub CubeArmed : List ℕ → Type 0
-CubeArmed b = (n : ℕ) → n < 2 ^ dimensionAt b → AllArmed b n
+CubeArmed b = (n : ℕ) → NodeOf (dimensionAt b) n → AllArmed b n

@@ -1,15 +1,16 @@
 -- The calls of document 01 and of document 02: what each is lent, how it is tested, and what it gives.
 -- Assumes nothing.
-use mathlib.Core.Bool.{Bool, true, false, cond, not, _&&_, _||_}
+use mathlib.Core.Bool.{Bool, true, false, cond, not, _||_}
 use mathlib.Core.List.{List, [], _∷_}
 use Prim.Native.Nat.{ℕ, _^_}
-use lib.Dec.{eqb, ltb, leb}
+use lib.Dec.{eqb, ltb}
 use lib.ListN.{length, getD, replicate}
 use Rattle.common.specs.Tests.{Test, test}
 use Rattle.paths.specs.Network.{Path}
 use Rattle.paths.specs.Send.{Outcome, acknowledged, route-rejected, receive-rejected, SendResult}
 use Rattle.circuit_path.specs.Traced.{tracedInto}
-use Rattle.cube.specs.Cube.{largestDimension}
+use Rattle.cube.specs.Cube.{cubeNodes}
+use Rattle.soundness.specs.TableTests.{dimensionTest}
 
 -- A call with its arguments. A trace is lent a buffer, which comes with its bytes; the table is not an argument.
 pub data Call : Type 0 where
@@ -104,13 +105,9 @@ pub record CallFacts : Type 0 where
   -- the ports of the circuit of a send channel, by source and channel
   pub path : ℕ → ℕ → Path
 
--- "D outside 1 to 8: the one given when making, else the one stored": the one given
-abbrev pub dimensionGiven : ℕ → Test
-dimensionGiven D = test (not (leb 1 D && leb D largestDimension)) 2
-
 -- "a node, source or target, not below 2^D"; "channel above 7"; "port not below D"
 abbrev pub absent : CallFacts → ℕ → Bool
-absent a n = not (ltb n (2 ^ a .dimension))
+absent a n = not (ltb n (cubeNodes (a .dimension)))
 
 abbrev pub node : CallFacts → ℕ → Test
 node a n = test (absent a n) 4
@@ -150,7 +147,7 @@ channelHeld a n k = test (a .isTaken n k) 21
 
 -- "Within one call the tests run in rising order of number." Those of each call behind the tests of the lent table:
 unfoldable pub callTests : CallFacts → Call → List Test
-callTests a (making D) = dimensionGiven D ∷ []
+callTests a (making D) = dimensionTest D ∷ []
 callTests a (blocking n p) = node a n ∷ port a p ∷ linkHeld a n p ∷ []
 callTests a (unblocking n p) = node a n ∷ port a p ∷ []
 callTests a (opening s c t y v) = nodes a s t ∷ channelNumber c ∷ routingType y ∷ sendVector a v ∷ inUse a s c ∷ []

@@ -1,5 +1,5 @@
 -- Lists of calls that the shift makes between two tries of a send: calls that close circuits and arm channels; and calls that repair nothing. And a table
--- on which nothing is held.
+-- on which no link is held.
 -- Assumes nothing.
 use mathlib.Core.Path.{_≡_}
 use mathlib.Core.Bool.{false}
@@ -27,5 +27,5 @@ pub data RepairsNothing : Call → Type 0 where
   a-disarming : {n k : ℕ} → RepairsNothing (disarming n k)
 
 -- no link is held
-abbrev pub Idle : View → Type 0
-Idle v = (n p : ℕ) → heldIn v n p ≡ false
+abbrev pub NoLinkHeld : View → Type 0
+NoLinkHeld v = (n p : ℕ) → heldIn v n p ≡ false

@@ -2,15 +2,15 @@
 -- Assumes nothing.
 use mathlib.Core.Bool.{not}
 use mathlib.Core.List.{List, [], _∷_, _++_, map}
-use Prim.Native.Nat.{ℕ, _*_, _^_}
+use Prim.Native.Nat.{ℕ}
 use lib.Dec.{eqb}
 use Rattle.common.specs.Lists.{keep, from, lowest}
-use Rattle.cube.specs.Cube.{sourceOf, channelOf, channels}
+use Rattle.cube.specs.Cube.{cubeNodes, sourceOf, channelOf, channels}
 use Rattle.paths.specs.Network.{Link}
 use Rattle.table.specs.View.{View, shapeOf}
 use Rattle.circuit_path.specs.CircuitSound.{endFor}
 use Rattle.circuit_path.specs.PathOf.{pathOf}
-use Rattle.ownership.specs.OnTable.{isOpenIn}
+use Rattle.circuit_path.specs.OpenCircuit.{isOpenIn}
 use Rattle.ownership.specs.History.{Circuit, History}
 use Rattle.paths.specs.CubeNetwork.{circuitCount}
 
@@ -38,7 +38,7 @@ unfoldable pub historyOf : View → History
 historyOf v =
     record {
       dimension = v .dimension;
-      blocked = keep (λ l. not (v .enabled (l .0) (l .1))) (linksOut (from 0 (2 ^ v .dimension)) (from 0 (v .dimension)));
+      blocked = keep (λ l. not (v .enabled (l .0) (l .1))) (linksOut (from 0 (cubeNodes (v .dimension))) (from 0 (v .dimension)));
       circuits = map (circuitAt v) (openNumbers v);
-      armed = keep (λ l. v .armed (l .0) (l .1)) (linksOut (from 0 (2 ^ v .dimension)) (from 0 channels));
+      armed = keep (λ l. v .armed (l .0) (l .1)) (linksOut (from 0 (cubeNodes (v .dimension))) (from 0 channels));
     }

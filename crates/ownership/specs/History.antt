@@ -2,8 +2,8 @@
 -- Assumes nothing.
 use mathlib.Core.Bool.{Bool, cond, _&&_, not}
 use mathlib.Core.List.{List, [], _∷_}
-use Prim.Native.Nat.{ℕ, _^_}
-use lib.Dec.{eqb, ltb}
+use Prim.Native.Nat.{ℕ}
+use lib.Dec.{eqb}
 use Rattle.common.specs.Lists.{keep, any}
 use Rattle.common.specs.Tests.{refusal}
 use Rattle.paths.specs.Network.{Network, Path, Link, links, hasLink, linkState, isFree}
@@ -27,6 +27,10 @@ pub record History : Type 0 where
   pub blocked : List Link
   pub circuits : List Circuit
   pub armed : List (ℕ × ℕ)
+
+-- "a making sets the dimension and clears the rest"
+abbrev pub newHistory : ℕ → History
+newHistory D = record { dimension = D; blocked = []; circuits = []; armed = [] }
 
 abbrev pub shapeOn : History → Shape
 shapeOn h = unfolded (h .dimension)
@@ -71,9 +75,12 @@ openOn h s c = any (belongs s c) (h .circuits)
 unfoldable pub armedOn : History → ℕ → ℕ → Bool
 armedOn h n k = hasLink (h .armed) n k
 
--- "its lowest channel that is armed and not held"
+-- "its lowest channel that is armed and not held": which are, and the lowest
+abbrev pub availableOn : History → ℕ → ℕ → Bool
+availableOn h n k = armedOn h n k && not (takenOn h n k)
+
 unfoldable pub receiveOn : History → ℕ → Receive
-receiveOn h t = lowestOf (λ k. armedOn h t k && not (takenOn h t k))
+receiveOn h t = lowestOf (availableOn h t)
 
 -- the ports of the circuit listed for a send channel
 unfoldable pub listed : List Circuit → ℕ → ℕ → Path
@@ -115,8 +122,8 @@ abbrev pub withArmed : History → List (ℕ × ℕ) → History
 withArmed h ls = record { dimension = h .dimension; blocked = h .blocked; circuits = h .circuits; armed = ls }
 
 -- a list of links, or of receive channels, without one of them
-unfoldable pub without : ℕ → ℕ → List (ℕ × ℕ) → List (ℕ × ℕ)
-without n p ls = keep (λ l. not (eqb (l .0) n && eqb (l .1) p)) ls
+unfoldable pub withoutEntry : ℕ → ℕ → List (ℕ × ℕ) → List (ℕ × ℕ)
+withoutEntry n p ls = keep (λ l. not (eqb (l .0) n && eqb (l .1) p)) ls
 
 -- "an open adds its circuit with path and channel"
 unfoldable pub withOpened : History → ℕ → ℕ → ℕ → Outcome → History
@@ -126,9 +133,9 @@ withOpened h s c t receive-rejected = h
 
 -- "Else a making sets the dimension and clears the rest; a block adds a link, an unblock drops it; an open adds its circuit ..; a close drops its circuit."
 unfoldable pub applied : History → Call → History
-applied h (making D) = record { dimension = D; blocked = []; circuits = []; armed = [] }
+applied h (making D) = newHistory D
 applied h (blocking n p) = withBlocked h ((n, p) ∷ h .blocked)
-applied h (unblocking n p) = withBlocked h (without n p (h .blocked))
+applied h (unblocking n p) = withBlocked h (withoutEntry n p (h .blocked))
 applied h (opening s c t y v) = withOpened h s c t (sendOn h s t y v .outcome)
 -- and document 02, (a): "Closing a circuit disarms its channel"
 applied h (closing s c) =
@@ -136,7 +143,7 @@ applied h (closing s c) =
     (keep (λ l. not (any (λ x. belongs s c x && holdsReceive (l .0) (l .1) x) (h .circuits))) (h .armed))
 applied h (tracing s c buffer) = h
 applied h (arming n k) = withArmed h ((n, k) ∷ h .armed)
-applied h (disarming n k) = withArmed h (without n k (h .armed))
+applied h (disarming n k) = withArmed h (withoutEntry n k (h .armed))
 
 -- a call entered in the history; "A refused call and a trace change nothing."
 unfoldable pub historyStep : History → Call → After History

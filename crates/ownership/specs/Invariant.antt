@@ -3,7 +3,7 @@
 use mathlib.Core.Path.{_≡_}
 use mathlib.Core.Bool.{true}
 use mathlib.Core.List.{List}
-use Prim.Native.Nat.{ℕ, _^_, _≤_, _<_}
+use Prim.Native.Nat.{ℕ, _≤_, _<_}
 use Rattle.common.specs.Lists.{_∈_, Pairwise}
 use Rattle.paths.specs.CubeNetwork.{ports, Node, LinkOf}
 use Rattle.paths.specs.Network.{Network, Link}

@@ -4,23 +4,16 @@ use mathlib.Core.Bool.{Bool, cond, not}
 use mathlib.Core.List.{List, [], _∷_, _++_}
 use Prim.Native.Nat.{ℕ}
 use lib.Dec.{eqb}
-use lib.ListN.{length}
-use Rattle.common.specs.Lists.{any}
-use Rattle.common.specs.Tests.{Test, test, refusal}
-use Rattle.cube.specs.Cube.{circuitOf, sourceOf}
-use Rattle.paths.specs.CubeNetwork.{ports}
-use Rattle.layout.specs.Layout.{tableLength}
-use Rattle.table.specs.View.{View, view, shapeOf, heldIn, heldBy}
+use Rattle.common.specs.Tests.{Test, refusal}
+use Rattle.cube.specs.Cube.{circuitOf}
+use Rattle.table.specs.View.{View, view, heldIn}
 use Rattle.table.specs.Encode.{encode}
+use Rattle.circuit_path.specs.OpenCircuit.{isOpenIn}
 use Rattle.circuit_path.specs.PathOf.{pathOf}
-use Rattle.soundness.specs.TableTests.{tableTests}
-use Rattle.answers.specs.SendOnTable.{waitingHelps}
+use Rattle.soundness.specs.TableTests.{lengthTest, tableTests}
+use Rattle.answers.specs.SendOnTable.{waitingHelps, sendIn}
 use Rattle.ownership.specs.Calls.{Call, form, CallFacts, callTests, After, callOn}
-use Rattle.ownership.specs.Update.{sendIn, updated}
-
--- circuit number c is open: it holds a link out of its source
-unfoldable pub isOpenIn : View → ℕ → Bool
-isOpenIn v c = any (heldBy v c (sourceOf c)) (ports (shapeOf v))
+use Rattle.ownership.specs.Update.{updated}
 
 -- "this send channel has an open circuit"
 unfoldable pub openIn : View → ℕ → ℕ → Bool
@@ -44,7 +37,7 @@ factsOf v =
 
 -- The tests of the lent table: a making is not stopped by what the table stored before.
 unfoldable pub lentTests : List ℕ → Call → List Test
-lentTests b a = cond (form a .isMaking) (test (not (eqb (length b) tableLength)) 1 ∷ []) (tableTests b)
+lentTests b a = cond (form a .isMaking) (lengthTest b ∷ []) (tableTests b)
 
 -- all tests of a call, in rising order of number. "The first that applies is the answer": its number, 0 where none does
 unfoldable pub stoppedAt : List ℕ → Call → ℕ

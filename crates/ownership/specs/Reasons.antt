@@ -4,7 +4,7 @@
 -- (OnTable); 10, 11 and 22 are the search's.
 -- Assumes nothing.
 use mathlib.Core.Path.{_≡_}
-use mathlib.Core.Logic.{_⊎_, _≢_}
+use mathlib.Core.Logic.{_⊎_}
 use mathlib.Core.Bool.{true, false}
 use mathlib.Core.List.{List}
 use Prim.Native.Nat.{ℕ, _^_, _≤_, _<_}

@@ -1,17 +1,10 @@
 -- What a table shows after a call that no test stops, from what it showed before. The layout of the bytes plays no part.
 -- Assumes nothing.
 use mathlib.Core.Bool.{true, false}
-use Prim.Native.Nat.{ℕ}
 use Rattle.cube.specs.Cube.{circuitOf}
-use Rattle.paths.specs.Send.{SendResult}
-use Rattle.paths.specs.CubeNetwork.{send}
-use Rattle.table.specs.View.{View, setEnabled, setArmed, withoutCircuit, receive, fresh, shapeOf}
-use Rattle.answers.specs.SendOnTable.{freeIn, viewAfterSend}
+use Rattle.table.specs.View.{View, setEnabled, setArmed, withoutCircuit, fresh}
+use Rattle.answers.specs.SendOnTable.{sendIn, viewAfterSend}
 use Rattle.ownership.specs.Calls.{Call, making, blocking, unblocking, opening, closing, tracing, arming, disarming}
-
--- the send of an open, read on what the table shows
-unfoldable pub sendIn : View → ℕ → ℕ → ℕ → ℕ → SendResult
-sendIn v s t y vector = send y (shapeOf v) (freeIn v) (receive v t) s vector t
 
 unfoldable pub updated : View → Call → View
 -- "Making a table gives dimension D, all its links enabled, nothing held"; document 02, (a): "A made table has none armed."

@@ -5,6 +5,7 @@ use mathlib.Core.List.{List, [], _∷_, map}
 use Prim.Native.Nat.{ℕ, _≤_}
 use lib.Dec.{lit≤}
 use lib.ListN.{length}
+use Rattle.cube.specs.Cube.{largestDimension}
 use Rattle.layout.specs.Layout.{tableLength}
 use Rattle.ownership.specs.Calls.{making, blocking, unblocking, opening, closing, tracing, arming, disarming}
 use Rattle.ownership.specs.Agrees.{tableResults}
@@ -20,7 +21,7 @@ resultOn b (write c k) = result (write c k)
 -- a list of calls begins with a making of a dimension from 1 to 8
 unfoldable Begins : Input → Type 0
 Begins (calls []) = ⊥
-Begins (calls (making D ∷ cs)) = (1 ≤ D) × (D ≤ 8)
+Begins (calls (making D ∷ cs)) = (1 ≤ D) × (D ≤ largestDimension)
 Begins (calls (blocking n p ∷ cs)) = ⊥
 Begins (calls (unblocking n p ∷ cs)) = ⊥
 Begins (calls (opening s c t y v ∷ cs)) = ⊥

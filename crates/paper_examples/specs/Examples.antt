@@ -19,7 +19,7 @@ use Rattle.command_word.specs.Commands.{commands, valuesIn, values, reserved}
 use Rattle.command_word.specs.Word.{readTests, reading, readWord, writeTests, writing, writeWord}
 use Rattle.circuit_path.specs.Traced.{tracedInto}
 use Rattle.ownership.specs.Calls.{Call, making, blocking, opening, closing, tracing, arming, disarming, CallResult, answered, callTests, resultOf, callOn}
-use Rattle.ownership.specs.History.{History, holdsLink, holdsReceive, belongs, enabledOn, heldOn, freeOn, takenOn, openOn, armedOn, receiveOn, listed, waitingOn, factsOn, stoppedOn, sendOn, withOpened, applied, historyStep}
+use Rattle.ownership.specs.History.{History, holdsLink, holdsReceive, belongs, enabledOn, heldOn, freeOn, takenOn, openOn, armedOn, receiveOn, listed, waitingOn, factsOn, stoppedOn, sendOn, withOpened, applied, historyStep, newHistory}
 use Rattle.paths.specs.Waiting.{findsPath, someAttempt}
 use Rattle.ownership.specs.FromTable.{linksOut}
 use Rattle.ownership.specs.Agrees.{historyResults, answers}
@@ -32,7 +32,7 @@ pub data Input : Type 0 where
 
 -- the history before a making does not matter
 abbrev pub before : History
-before = record { dimension = 0; blocked = []; circuits = []; armed = [] }
+before = newHistory 0
 
 -- numbers beside no buffer
 abbrev alone : List ℕ → List (List ℕ)

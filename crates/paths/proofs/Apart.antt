@@ -11,7 +11,7 @@ use Rattle.common.specs.Lists.{_∈_}
 use Rattle.common.proofs.Tests.{same?, clash}
 use Rattle.common.proofs.Lists.{all-cons}
 use Rattle.cube.specs.Bits.{bitAt, flip}
-use Rattle.cube.specs.Cube.{uphill}
+use Rattle.cube.specs.Cube.{largestDimension, uphill}
 use Rattle.cube.specs.Axes.{axis}
 use Rattle.cube.proofs.Bits.{bit-flipped, bit-kept, bit-lt, flip-inside}
 use Rattle.paths.specs.Network.{Path, end}
@@ -90,7 +90,7 @@ module _ (S : Shape) where
   unfolding Permitted
   permitted-ports s t (p ∷ w) o = all-cons (_∈ ports S) (o .0) (apart-ports S w (onward-apart t (network S .next s p) w (o .1)))
 
-  pub permitted-below : S .dimension ≤ 8 → S .fold ≡ 0 → (s t : ℕ) (w : Path) → Permitted (network S) s (ports S) t w → (q : ℕ) → q ∈ w → q < S .dimension
+  pub permitted-below : S .dimension ≤ largestDimension → S .fold ≡ 0 → (s t : ℕ) (w : Path) → Permitted (network S) s (ports S) t w → (q : ℕ) → q ∈ w → q < S .dimension
   permitted-below h z s t w o q m = unfolded-port S h z q .0 (permitted-ports s t w o q m)
 
   -- and a path over such ports does not leave the cube: its links and its end lie there

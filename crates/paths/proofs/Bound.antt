@@ -9,6 +9,7 @@ use native.Mathlib.Nat.{le-trans, le-refl, le-of-eq, mul-le-mul}
 use borrow.Author.Tests.{leb-true, le-leb, not-true}
 use lib.Dec.{eqb, leb}
 use lib.ListN.{length, length-append, length-map}
+use Rattle.cube.specs.Cube.{largestDimension}
 use Rattle.common.specs.Lists.{_∈_, keep}
 use Rattle.common.proofs.Every.{at₂}
 use Rattle.common.proofs.Lists.{keep-mem}
@@ -126,14 +127,14 @@ ways-more m (suc j) zero h = absurd (omega arith)
 ways-more m (suc j) (suc k) h = mul-le-mul (mul-le-mul (le-refl m) h) (let r = ways-more m j k (omega arith) in omega arith)
 
 -- With one link to an axis, no count of beginnings of up to 8 axes is larger: all 45 are computed.
-pub counts-below : (D d : ℕ) → D ≤ 8 → d ≤ D → sendsFrom 1 D d ≤ mostBeginnings
+pub counts-below : (D d : ℕ) → D ≤ largestDimension → d ≤ D → sendsFrom 1 D d ≤ mostBeginnings
 unfolding sendsFrom waysFrom mostBeginnings
 counts-below D d h l = go (at₂ 9 9 (λ D d. not (leb d D) || leb (sendsFrom 1 D d) mostBeginnings) refl D d (omega arith) (omega arith))
   where
     go : not (leb d D) || leb (sendsFrom 1 D d) mostBeginnings ≡ true → sendsFrom 1 D d ≤ mostBeginnings
     go e = leb-true _ _ (rw (le-leb d D l) at e)
 
-pub two-passes-bound : {N : Network} {ports : List ℕ} {D t : ℕ} → Nearing N t → Cubical N ports D 1 t → D ≤ 8 → (s : ℕ) (v : ℕ → Bool) (f g : ℕ → ℕ → Bool)
+pub two-passes-bound : {N : Network} {ports : List ℕ} {D t : ℕ} → Nearing N t → Cubical N ports D 1 t → D ≤ largestDimension → (s : ℕ) (v : ℕ → Bool) (f g : ℕ → ℕ → Bool)
     → scouts (pass N f s (keep v ports) t) + scouts (pass N g s (keep (λ p. not (v p)) ports) t) ≤ 123300
 unfolding mostBeginnings
 two-passes-bound {N} {D = D} {t = t} near cubic h s v f g = le-trans (two-passes near cubic s v f g) (counts-below D (N .distance t s) h (cubic .within s))

@@ -15,7 +15,7 @@ use Rattle.common.proofs.Tests.{is-false}
 use Rattle.common.proofs.Lists.{keep-yes, keep-no, keep-append, keep-same, keep-all, keep-none, keep-keep, keep-mem, mem-keep, keep-pairwise, length-keep, length-parts}
 use Rattle.common.proofs.From.{keep-wider, from-mem, from-pairwise, from-split, from-below, below-from, kept-below, below-kept, length-from}
 use Rattle.cube.specs.Bits.{bitAt, has, flip}
-use Rattle.cube.specs.Cube.{uphill}
+use Rattle.cube.specs.Cube.{largestDimension, uphill}
 use Rattle.cube.specs.Axes.{axis, present}
 use Rattle.cube.specs.Helical.{portsOf}
 use Rattle.cube.proofs.Bits.{two-bits, bit-lt, bit-flipped, bit-kept, flip-inside, same-bits, zero-has}
@@ -77,7 +77,7 @@ module _ (S : Shape) where
   pub port-axis : (q : ℕ) → q ∈ ports S → axis q < S .dimension
   port-axis q m = present-axis (S .dimension) (S .fold) q (port-there q m) .1
 
-  low-port : S .dimension ≤ 8 → (p : ℕ) → p < S .dimension → p ∈ ports S
+  low-port : S .dimension ≤ largestDimension → (p : ℕ) → p < S .dimension → p ∈ ports S
   unfolding ports
   low-port h p l = below-kept (present (S .dimension) (S .fold)) 18 p (omega arith) (present-low (S .dimension) (S .fold) p (omega arith) ∙ lt-ltb p (S .dimension) l)
 
@@ -124,7 +124,7 @@ module _ (S : Shape) where
   cube-nearing t = record { nearer = λ n q m. let k = offered-port t n q m in nearer t n q (k .0) (k .1) }
 
   -- and off the target something is offered.
-  pub cube-leading : S .dimension ≤ 8 → (t : ℕ) → Node S t → Leading (network S) t (Node S)
+  pub cube-leading : S .dimension ≤ largestDimension → (t : ℕ) → Node S t → Leading (network S) t (Node S)
   cube-leading h t l =
       record {
         inside = λ n q i m. port-inside n q i (offered-port t n q m .0);
@@ -189,13 +189,13 @@ module _ (S : Shape) where
   other-vector v c h = keep-same _ _ (ports S) (λ q m. h (axis q) (port-axis q m))
 
   -- What document 01 says of a pass holds in the cube, over any of its ports that rise.
-  pub cube-says : S .dimension ≤ 8 → (free : ℕ → ℕ → Bool) (s : ℕ) (vector : List ℕ) (t : ℕ) → Node S s → Node S t → Pairwise _<_ vector → ((q : ℕ) → q ∈ vector → q ∈ ports S)
+  pub cube-says : S .dimension ≤ largestDimension → (free : ℕ → ℕ → Bool) (s : ℕ) (vector : List ℕ) (t : ℕ) → Node S s → Node S t → Pairwise _<_ vector → ((q : ℕ) → q ∈ vector → q ∈ ports S)
       → Says (network S) free s vector t (pass (network S) free s vector t)
   cube-says h free s vector t i l rise there =
       pass-says (cube-nearing t) (cube-leading h t l) s vector rise (λ q m. port-inside s q i (there q m)) free _ refl
 
 -- With fold mask 0 this is the cube of document 01.
-module _ (S : Shape) (h : S .dimension ≤ 8) (z : S .fold ≡ 0) where
+module _ (S : Shape) (h : S .dimension ≤ largestDimension) (z : S .fold ≡ 0) where
   -- Its ports are those below D,
   pub unfolded-ports : ports S ≡ from 0 (S .dimension)
   unfolding ports present

@@ -9,6 +9,7 @@ use native.Mathlib.Omega.{arith}
 use native.Mathlib.Nat.{le-refl}
 use borrow.Author.Tests.{eq-eqb, ne-eqb}
 use lib.ListN.{length}
+use Rattle.cube.specs.Cube.{largestDimension}
 use Rattle.common.specs.Lists.{_∈_, Pairwise}
 use Rattle.common.proofs.Tests.{same?}
 use Rattle.cube.specs.Helical.{helical}
@@ -183,7 +184,7 @@ helix-short N s t p = omega (arith, helix-on-short (N .distance t (N .next s p))
 -- In the cube:
 module _ (S : Shape) where
   -- every port has its helix path, which the definition computes,
-  pub cube-helix : S .dimension ≤ 8 → (s t p : ℕ) → Node S s → Node S t → p ∈ ports S → IsHelix (network S) s t p (helixPath (network S) s t p)
+  pub cube-helix : S .dimension ≤ largestDimension → (s t p : ℕ) → Node S s → Node S t → p ∈ ports S → IsHelix (network S) s t p (helixPath (network S) s t p)
   cube-helix h s t p i l m = helix-is (cube-nearing S t) (cube-leading S h t l) s p (port-inside S s p i m)
 
   -- of 1 to D + 1 hops;

@@ -7,6 +7,7 @@ use mathlib.Core.List.{List, [], _∷_, List·Memᴰ·head, List·Memᴰ·eq-of-
 use Prim.Native.Nat.{ℕ, _≤_}
 use native.Mathlib.Omega.{arith}
 use lib.ListN.{take, drop, take-append-drop}
+use Rattle.cube.specs.Cube.{largestDimension}
 use Rattle.common.specs.Lists.{_∈_}
 use Rattle.paths.specs.Network.{Network, Path}
 use Rattle.paths.specs.Permitted.{Permitted}
@@ -56,7 +57,7 @@ module _ (S : Shape) (free : ℕ → ℕ → Bool) (r : Receive) (s vector t : �
       (pass-over (sendPorts S vector), List·Memᴰ·head refl, z)
 
 -- Sends over one network, free links, receive channel, source, vector and target, of two routing types:
-module _ (S : Shape) (fits : S .dimension ≤ 8) (free : ℕ → ℕ → Bool) (r : Receive) (s vector t : ℕ) (source : Node S s) (target : Node S t) where
+module _ (S : Shape) (fits : S .dimension ≤ largestDimension) (free : ℕ → ℕ → Bool) (r : Receive) (s vector t : ℕ) (source : Node S s) (target : Node S t) where
   abbrev AnswerOf : ℕ → Outcome
   AnswerOf type = send type S free r s vector t .outcome
 

@@ -6,7 +6,7 @@ pub mod Order
 pub mod Sentences
 pub mod Words
 pub mod Links
-pub mod Cone
+pub mod LinksAhead
 pub mod Bound
 pub mod CubeNetwork
 pub mod Attempts

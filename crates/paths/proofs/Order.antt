@@ -42,14 +42,14 @@ unfolding Pairwise Before Opens
 over-pairwise R on hops ordered [] s = unfold over in tt
 over-pairwise R on hops ordered (p ∷ ps) s =
     rw over-cons
-    (pairwise-append ((p ∷ []) ∷ map (λ (w : Path). p ∷ w) (on p)) (over on ps) (alone, behind) (over-pairwise R on hops ordered ps (s .1))
+    (pairwise-append ((p ∷ []) ∷ map (λ (w : Path). p ∷ w) (on p)) (over on ps) (alone, longer-after) (over-pairwise R on hops ordered ps (s .1))
     (λ x y m k. all-cons (λ x. Before R x y) (across [] y (over-mem on ps k)) (all-map (λ x. Before R x y) (λ (w : Path). p ∷ w) (on p) (λ w i. across w y (over-mem on ps k))) x m))
   where
     alone : (v : Path) → v ∈ map (λ (w : Path). p ∷ w) (on p) → Before R (p ∷ []) v
     alone = all-map (Before R (p ∷ [])) (λ (w : Path). p ∷ w) (on p) (λ w m. inr (refl, nil-before (Sooner p) w (hops p w m)))
 
-    behind : Pairwise (Before R) (map (λ (w : Path). p ∷ w) (on p))
-    behind = pairwise-map (Before (Sooner p)) (Before R) (λ (w : Path). p ∷ w) (on p) (λ w v b. inr (refl, b)) (ordered p)
+    longer-after : Pairwise (Before R) (map (λ (w : Path). p ∷ w) (on p))
+    longer-after = pairwise-map (Before (Sooner p)) (Before R) (λ (w : Path). p ∷ w) (on p) (λ w v b. inr (refl, b)) (ordered p)
 
     across : (w y : Path) → Opens on ps y → Before R (p ∷ w) y
     across w [] o = absurd o

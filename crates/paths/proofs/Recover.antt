@@ -9,23 +9,19 @@ use native.Mathlib.Omega.{arith}
 use lib.Dec.{eqb}
 use lib.ListN.{length}
 use borrow.Author.Tests.{eqb-true, eqb-false, eq-eqb, ne-eqb, not-true}
-use Rattle.common.specs.Lists.{_∈_, keep, any}
-use Rattle.common.proofs.Tests.{same?, clash, both, and, is-false}
-use Rattle.common.proofs.Lists.{all-cons, all-append, keep-nil, keep-mem, mem-keep, keep-shorter, keep-same, any-some, some-any}
+use Rattle.common.specs.Lists.{_∈_, keep}
+use Rattle.common.proofs.Tests.{same?, clash, both, and}
+use Rattle.common.proofs.Lists.{all-append, keep-mem, mem-keep, keep-shorter, any-some, some-any}
 use Rattle.cube.specs.Bits.{bitAt, flip}
-use Rattle.cube.specs.Cube.{Without}
-use Rattle.cube.specs.Axes.{axis}
-use Rattle.cube.specs.Helical.{portsOf}
+use Rattle.cube.specs.Axes.{axis, positions}
 use Rattle.cube.proofs.Bits.{bit-flipped, bit-kept, bit-lt}
-use Rattle.cube.proofs.Axes.{axis-low}
-use Rattle.cube.proofs.Order.{ports-mem, ports-without}
 use Rattle.paths.specs.Network.{Network, Path, takeFirst, links, hasLink, Exactly}
 use Rattle.paths.specs.Permitted.{Permitted, SameLinks}
 use Rattle.paths.specs.CubeNetwork.{Shape, ports, network}
 use Rattle.paths.specs.Recover.{dropAxis, walkFrom, wayBack, firstHopChoices, pathOfLinks}
 use Rattle.paths.proofs.Links.{On, on-cases, on-first, on-later, on-none, link-true, true-link}
 use Rattle.paths.proofs.CubeNetwork.{ports-few}
-use Rattle.paths.proofs.Apart.{Avoids, Apart, LaterApart, apart-ports, onward-apart}
+use Rattle.paths.proofs.Apart.{Avoids, Apart, apart-ports, onward-apart}
 
 -- the first of a list that has nothing, or nothing but a in front or at all
 take-none : (l : List ℕ) (on : ℕ → Path) → ((x : ℕ) → x ∈ l → ⊥) → takeFirst l on ≡ []
@@ -158,7 +154,7 @@ module _ (S : Shape) (own : ℕ → ℕ → Bool) (s a : ℕ) (w : Path) (apart 
   path-is h = go (wayBack (network S) (ports S) own s a) refl ∙ ap (a ∷_) rest
     where
       on : ℕ → Path
-      on b = walkFrom 18 (network S) (ports S) own (flip s (axis b))
+      on b = walkFrom positions (network S) (ports S) own (flip s (axis b))
 
       mine : a ∈ keep (own s) (ports S)
       mine = mem-keep (own s) (ports S) h (x .all s a (on-first (network S) s a w))

@@ -8,6 +8,7 @@ use Prim.Native.Nat.{ℕ, _+_, _≤_, _<_}
 use native.Mathlib.Omega.{arith}
 use lib.Dec.{eqb}
 use lib.ListN.{take}
+use Rattle.cube.specs.Cube.{largestDimension}
 use Rattle.common.specs.Lists.{_∈_, Pairwise}
 use Rattle.common.proofs.Lists.{all-cons}
 use Rattle.paths.specs.Network.{Network, Path}
@@ -109,7 +110,7 @@ module _ (S : Shape) where
   acknowledged-first s t free r type vector a m w k n (says-acknowledged e f) = found-first (network S) s t free a (in-cube type vector a m .0) w n f
 
   -- and what each comes to says what the documents say of it.
-  search-says : S .dimension ≤ 8 → (free : ℕ → ℕ → Bool) (s t : ℕ) → Node S s → Node S t → (a : Attempt) → InCube a
+  search-says : S .dimension ≤ largestDimension → (free : ℕ → ℕ → Bool) (s t : ℕ) → Node S s → Node S t → (a : Attempt) → InCube a
       → SearchSays (network S) s t free a (attempted (network S) free s t a)
   unfolding SearchSays attempted InCube CubePorts portsTried
   search-says h free s t i l (pass-over ps) c = cube-says S h free s ps t i l (c .0) (c .1)
@@ -142,10 +143,10 @@ module _ (S : Shape) where
     fixed-answers = refl
 
     -- with at most 9 scouts for a path, which makes 72 for the ports of a vector where nothing is folded.
-    pub fixed-bounded : S .dimension ≤ 8 → send 3 S free r s vector t .scouts ≤ 9
+    pub fixed-bounded : S .dimension ≤ largestDimension → send 3 S free r s vector t .scouts ≤ 9
     fixed-bounded h = rw fixed-answers (lowest-scouts S free s t h (sendPorts S vector))
 
-    pub helix-bounded : S .dimension ≤ 8 → S .fold ≡ 0 → send 1 S free r s vector t .scouts ≤ 72
+    pub helix-bounded : S .dimension ≤ largestDimension → S .fold ≡ 0 → send 1 S free r s vector t .scouts ≤ 72
     helix-bounded h z = rw helix-answers (vector-scouts S free s t h z vector)
 
     -- Routing type 4 stops where the first pass finds a path,
@@ -167,7 +168,7 @@ module _ (S : Shape) where
 
     module _ (type : ℕ) where
       -- A send says what document 01 says of it,
-      pub send-says : S .dimension ≤ 8 → Node S s → Node S t
+      pub send-says : S .dimension ≤ largestDimension → Node S s → Node S t
           → AttemptsSay (network S) s t free r (attempts S type vector) (send type S free r s vector t .outcome) (send type S free r s vector t .scouts)
       unfolding send said-of
       send-says h i l = each-type (λ xs. ((a : Attempt) → a ∈ xs → InCube a) → said-of xs) S type vector all all all all (in-cube type vector)
@@ -176,7 +177,7 @@ module _ (S : Shape) where
           all {a} {xs} c = runs-say (network S) s t free r a xs (λ b m. answer-says _ r _ (search-says h free s t i l b (c b m)))
 
       -- and reports no more than 123,300 scouts, where nothing is folded.
-      pub send-bounded : S .dimension ≤ 8 → S .fold ≡ 0 → send type S free r s vector t .scouts ≤ 123300
+      pub send-bounded : S .dimension ≤ largestDimension → S .fold ≡ 0 → send type S free r s vector t .scouts ≤ 123300
       unfolding send attempted allScouts
       send-bounded h z =
           each-type (λ xs. runs r (map (attempted (network S) free s t) xs) .scouts ≤ 123300) S type vector

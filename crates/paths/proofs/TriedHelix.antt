@@ -8,6 +8,7 @@ use Prim.Native.Nat.{ℕ, suc, _*_, _≤_, _<_}
 use native.Mathlib.Omega.{arith}
 use native.Mathlib.Nat.{le-refl, le-trans, mul-le-mul}
 use lib.ListN.{length, take, length-map}
+use Rattle.cube.specs.Cube.{largestDimension}
 use Rattle.common.specs.Lists.{_∈_, Pairwise}
 use Rattle.common.proofs.Lists.{all-cons, all-map, pairwise-at}
 use Rattle.cube.proofs.Order.{length-ports}
@@ -116,12 +117,12 @@ module _ (S : Shape) (free : ℕ → ℕ → Bool) (s t : ℕ) where
           (λ p m. omega (arith, helix-short (network S) s t p, distance-within S t (network S .next s p)))
 
   -- which is 9 for one port
-  pub lowest-scouts : S .dimension ≤ 8 → (ps : List ℕ) → scouts (triedHelix (take 1 ps)) ≤ 9
+  pub lowest-scouts : S .dimension ≤ largestDimension → (ps : List ℕ) → scouts (triedHelix (take 1 ps)) ≤ 9
   lowest-scouts h [] = omega (arith, helix-scouts [])
   lowest-scouts h (p ∷ ps) = omega (arith, helix-scouts (p ∷ []))
 
   -- and 72 for those of any vector, where nothing is folded.
-  pub vector-scouts : S .dimension ≤ 8 → S .fold ≡ 0 → (v : ℕ) → scouts (triedHelix (sendPorts S v)) ≤ 72
+  pub vector-scouts : S .dimension ≤ largestDimension → S .fold ≡ 0 → (v : ℕ) → scouts (triedHelix (sendPorts S v)) ≤ 72
   vector-scouts h z v =
       let most : suc (S .dimension) ≤ 9 = omega arith in le-trans (helix-scouts (sendPorts S v)) (mul-le-mul few most)
     where

@@ -6,6 +6,7 @@ use mathlib.Core.Bool.{Bool, true, false, _||_}
 use mathlib.Core.List.{List, [], _∷_, List·Memᴰ·head, List·Memᴰ·tail}
 use Prim.Native.Nat.{ℕ, _≤_}
 use native.Mathlib.Omega.{arith}
+use Rattle.cube.specs.Cube.{largestDimension}
 use Rattle.common.specs.Lists.{_∈_, any}
 use Rattle.common.proofs.Tests.{clash, is-false, and}
 use Rattle.paths.specs.Network.{Network, Path, Link, links, freePath}
@@ -77,7 +78,7 @@ pub same-finds : (N : Network) (f g : ℕ → ℕ → Bool) (s t : ℕ) (xs : Li
 same-finds N f g s t xs same = ap (λ h. someAttempt N h s t xs) (fun-ext (λ n. fun-ext (same n)))
 
 -- In the cube, of the attempts of a routing type:
-module _ (S : Shape) (fits : S .dimension ≤ 8) (s t type vector : ℕ) (source : Node S s) (target : Node S t) where
+module _ (S : Shape) (fits : S .dimension ≤ largestDimension) (s t type vector : ℕ) (source : Node S s) (target : Node S t) where
   abbrev tried : List Attempt
   tried = attempts S type vector
 

@@ -13,7 +13,7 @@ use borrow.Author.Tests.{eqb-true, eq-eqb}
 use Rattle.common.specs.Lists.{_∈_, keep, any}
 use Rattle.common.proofs.Tests.{clash, both, and, is-false}
 use Rattle.common.proofs.Lists.{all-cons, keep-nil, keep-mem, keep-same, any-some, some-any}
-use Rattle.cube.specs.Cube.{Without}
+use Rattle.cube.specs.CubeContracts.{Without}
 use Rattle.cube.specs.Axes.{axis}
 use Rattle.cube.specs.Helical.{portsOf}
 use Rattle.cube.proofs.Axes.{axis-low}

@@ -2,13 +2,13 @@
 -- Assumes nothing.
 use mathlib.Core.Bool.{Bool, cond, not, _&&_}
 use mathlib.Core.List.{List, [], _∷_, map}
-use Prim.Native.Nat.{ℕ, _*_, _^_, _<_}
+use Prim.Native.Nat.{ℕ, _*_, _<_}
 use lib.Dec.{eqb, ltb}
 use lib.ListN.{length, take}
 use Rattle.common.specs.Lists.{keep, from}
 use Rattle.cube.specs.Bits.{has}
-use Rattle.cube.specs.Cube.{channels, next, uphill}
-use Rattle.cube.specs.Axes.{axis, present}
+use Rattle.cube.specs.Cube.{channels, cubeNodes, NodeOf, next, uphill}
+use Rattle.cube.specs.Axes.{positions, axis, present}
 use Rattle.paths.specs.Network.{Network}
 use Rattle.paths.specs.Send.{Receive, Attempt, pass-over, helix-paths, attempted, SendResult, runs}
 
@@ -23,13 +23,13 @@ unfolded D = record { dimension = D; fold = 0 }
 
 -- "A cube of dimension D has nodes 0 to 2^D - 1", as a statement and as a test; and its circuits, "8·s + c + 1" for each send channel of each node
 abbrev pub Node : Shape → ℕ → Type 0
-Node S n = n < 2 ^ S .dimension
+Node S n = NodeOf (S .dimension) n
 
 abbrev pub isNode : Shape → ℕ → Bool
-isNode S n = ltb n (2 ^ S .dimension)
+isNode S n = ltb n (cubeNodes (S .dimension))
 
 abbrev pub circuitCount : Shape → ℕ
-circuitCount S = channels * 2 ^ S .dimension
+circuitCount S = channels * cubeNodes (S .dimension)
 
 -- "Port p, below D, of a node": the links of a cube none of whose dimensions is folded, by node and port
 abbrev pub LinkOf : Shape → ℕ → ℕ → Type 0
@@ -40,14 +40,14 @@ isLinkOf S n p = isNode S n && ltb p (S .dimension)
 
 -- the ports that every node has, rising
 unfoldable pub ports : Shape → List ℕ
-ports S = keep (present (S .dimension) (S .fold)) (from 0 18)
+ports S = keep (present (S .dimension) (S .fold)) (from 0 positions)
 
 -- a port leads to the node that differs in the bit of its axis; ports whose axis is uphill are offered, and the target is as many hops away
 -- as there are uphill axes
 unfoldable pub network : Shape → Network
 network S =
     record {
-      portBound = 18;
+      portBound = positions;
       next = next;
       offers = λ t n q. present (S .dimension) (S .fold) q && uphill t n (axis q);
       distance = λ t n. length (keep (uphill t n) (from 0 (S .dimension)));

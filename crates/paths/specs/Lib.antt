@@ -13,3 +13,5 @@ pub mod Reach
 pub mod Bound
 pub mod Recover
 pub mod Examples
+pub mod FoldExamples
+pub mod TypeExamples

@@ -6,7 +6,7 @@ use mathlib.Core.List.{List, [], _++_}
 use Prim.Native.Nat.{ℕ, zero, suc}
 use lib.Dec.{eqb}
 use Rattle.common.specs.Lists.{keep, any}
-use Rattle.cube.specs.Axes.{axis}
+use Rattle.cube.specs.Axes.{positions, axis}
 use Rattle.paths.specs.Network.{Network, Path, takeFirst}
 use Rattle.paths.specs.CubeNetwork.{Shape, ports, network}
 
@@ -30,4 +30,4 @@ firstHopChoices N ports own s = keep (wayBack N ports own s) (keep (own s) ports
 
 unfoldable pub pathOfLinks : Shape → (ℕ → ℕ → Bool) → ℕ → Path
 pathOfLinks S own s =
-    takeFirst (firstHopChoices (network S) (ports S) own s) (λ a. walkFrom 18 (network S) (ports S) own (network S .next s a))
+    takeFirst (firstHopChoices (network S) (ports S) own s) (λ a. walkFrom positions (network S) (ports S) own (network S .next s a))

@@ -13,7 +13,7 @@ use Rattle.text.specs.Row.{Field, nothing, shows, path, row}
 use Rattle.text.specs.Written.{rowOf}
 use Rattle.text.specs.declared.row.Row.{Row}
 use Rattle.input_line.specs.Line.{letterS}
-use Rattle.printed_line.specs.PrintedLine.{showsIf, callRow, unreadable, empty, traced, rowFor, stateAfter}
+use Rattle.printed_line.specs.PrintedLine.{showsIf, callRow, unreadable, zeroBuffer, traced, rowFor, stateAfter}
 use Rattle.printed_line.specs.LineContracts.{Answered}
 
 -- a call on a table gave an answer, and the fields are those of that answer
@@ -43,7 +43,7 @@ module _ (n : ℕ) (way : ℕ → ℕ → List ℕ) (s c t y v : ℕ) (x : CallR
   acknowledged-row p q = rw (shown, p, q)
 
 -- the ports that a trace wrote into the buffer it was lent
-pub ports-are : (s c : ℕ) {r h : ℕ} {b lent buffer : List ℕ} → lent ≡ empty
+pub ports-are : (s c : ℕ) {r h : ℕ} {b lent buffer : List ℕ} → lent ≡ zeroBuffer
     → done b r (h ∷ []) (buffer ∷ []) ≡ tableStep b (tracing s c lent) → take h buffer ≡ traced tableStep b s c
 unfolding traced
 ports-are s c {b = b} l t = ap (λ (d : After (List ℕ)). take (hopsOf (d .result)) (bufferOf (d .result))) (t ∙ ap (λ (m : List ℕ). tableStep b (tracing s c m)) l)

@@ -8,7 +8,7 @@ use Prim.Native.Nat.{ℕ}
 use lib.Dec.{eqb}
 use lib.ListN.{take, replicate}
 use Rattle.ownership.specs.Calls.{Call, making, blocking, unblocking, opening, closing, tracing, arming, disarming, CallResult, hopsOf, receiveOf, scoutsOf, bufferOf, carriesScouts, After}
-use Rattle.text.specs.Row.{Field, nothing, shows, path, Row, row, lone}
+use Rattle.text.specs.Row.{Field, nothing, shows, path, Row, row, answerAlone}
 use Rattle.input_line.specs.Line.{letterB, letterC, letterD, letterE, letterF, letterR, letterS}
 
 -- "Success is 0."
@@ -34,20 +34,20 @@ callRow n (closing s c) x way = row n letterC (x .number) (shows s) (shows c) no
 callRow n (arming m k) x way = row n letterR (x .number) (shows m) (shows k) nothing nothing nothing
 callRow n (disarming m k) x way = row n letterD (x .number) (shows m) (shows k) nothing nothing nothing
 -- no line asks for a trace
-callRow n (tracing s c buffer) x way = lone n (x .number)
+callRow n (tracing s c buffer) x way = answerAlone n (x .number)
 
 -- "For number 20 every field but line and answer is `-`."
 unfoldable pub unreadable : ℕ → Row
-unreadable n = lone n 20
+unreadable n = answerAlone n 20
 
 -- the buffer that a trace is lent
-abbrev pub empty : List ℕ
-empty = replicate 9 0
+abbrev pub zeroBuffer : List ℕ
+zeroBuffer = replicate 9 0
 
 module _ {S : Type 0} (makes : S → Call → After S) where
   -- the ports that a trace of a send channel writes
   unfoldable pub traced : S → ℕ → ℕ → List ℕ
-  traced s n c = let x = makes s (tracing n c empty) .result in take (hopsOf x) (bufferOf x)
+  traced s n c = let x = makes s (tracing n c zeroBuffer) .result in take (hopsOf x) (bufferOf x)
 
   -- the line printed for what an input line asks
   unfoldable pub rowFor : S → ℕ → Option Call → Row

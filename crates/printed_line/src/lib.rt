@@ -6,7 +6,7 @@ ghost use Prim.Native.Nat.{ℕ};
 ghost use Rattle.ownership.specs.Calls.{opening, carriesScouts};
 ghost use Rattle.text.specs.Row.{shows};
 ghost use Rattle.text.specs.Written.{fieldOf};
-ghost use Rattle.printed_line.specs.PrintedLine.{showsIf, empty};
+ghost use Rattle.printed_line.specs.PrintedLine.{showsIf, zeroBuffer};
 ghost use Rattle.printed_line.specs.LineContracts.{Answered};
 use common::refusal;
 use cube::Node;
@@ -43,7 +43,7 @@ pub fn open(
     vector: u16,
     ports: &mut [u8],
 ) -> row::Row
-    requires { ⌜ now ports ≡ empty ⌝ }
+    requires { ⌜ now ports ≡ zeroBuffer ⌝ }
     ensures { λ r. ⌜ Answered (now (t .entry)) line (some (opening (source .0) channel (target .0) routing vector)) (now (ports .exit)) r (now (t .exit)) ⌝ }
 {
     let got = router::open(t, source, channel, target, routing, vector);

@@ -9,6 +9,7 @@ use native.Mathlib.Omega.{arith}
 use lib.Dec.{eqb}
 use lib.ListN.{take}
 use borrow.Author.Tests.{eq-eqb, ne-eqb, lt-ltb}
+use Rattle.cube.specs.Cube.{portCount}
 use Rattle.common.specs.Lists.{any}
 use Rattle.common.proofs.Lists.{keep-all}
 use Rattle.cube.specs.Bits.{has}
@@ -38,7 +39,7 @@ module _ {b : List ℕ} {s t vector : ℕ} (may : MayAsk b s t vector) where
   passFinds : ℕ → Bool
   passFinds v = findsPath (pass (net (view b)) (view b .enabled) s (sendPorts S v) t)
 
-  given : sendPorts S vector ≡ portsOf 8 vector
+  given : sendPorts S vector ≡ portsOf portCount vector
   given = unfold view in (unfolded-send-ports S (may .sweep .fits) refl vector ∙ sym (ports-wider D 8 vector (may .sweep .fits) (may .ports)))
 
   -- the vector of all ports
@@ -49,17 +50,17 @@ module _ {b : List ℕ} {s t vector : ℕ} (may : MayAsk b s t vector) where
       (λ q m. let l = port-axis S q m in ones D (axis q) (omega (arith, may .sweep .fits)) (omega (arith, may .sweep .fits)) ∙ lt-ltb (axis q) D l)
 
   by-type : (type : ℕ) → someAttempt (net (view b)) (view b .enabled) s t (attempts S type vector)
-      ≡ cond (eqb type 3) (any (helixEnabled b s t) (take 1 (portsOf 8 vector)))
-      (cond (eqb type 1) (any (helixEnabled b s t) (portsOf 8 vector)) (cond (eqb type 4) (passFinds (2 ^ D - 1)) (passFinds vector)))
+      ≡ cond (eqb type 3) (any (helixEnabled b s t) (take 1 (portsOf portCount vector)))
+      (cond (eqb type 1) (any (helixEnabled b s t) (portsOf portCount vector)) (cond (eqb type 4) (passFinds (2 ^ D - 1)) (passFinds vector)))
   unfolding helixEnabled passFinds
   by-type type = rw (all, ← given) (finds-by-type S (view b .enabled) s t type vector)
 
   -- Type 3 finds what its lowest port finds,
-  pub fixed-finds : {type : ℕ} {r : Bool} → type ≡ 3 → r ≡ any (helixEnabled b s t) (take 1 (portsOf 8 vector)) → Finds type r
+  pub fixed-finds : {type : ℕ} {r : Bool} → type ≡ 3 → r ≡ any (helixEnabled b s t) (take 1 (portsOf portCount vector)) → Finds type r
   fixed-finds {type} e h = h ∙ sym (by-type type ∙ rw (eq-eqb type 3 e))
 
   -- type 1 what one of its ports finds,
-  pub helix-finds : {type : ℕ} {r : Bool} → type ≢ 3 → type ≡ 1 → r ≡ any (helixEnabled b s t) (portsOf 8 vector) → Finds type r
+  pub helix-finds : {type : ℕ} {r : Bool} → type ≢ 3 → type ≡ 1 → r ≡ any (helixEnabled b s t) (portsOf portCount vector) → Finds type r
   helix-finds {type} n e h = h ∙ sym (by-type type ∙ rw (ne-eqb type 3 n, eq-eqb type 1 e))
 
   -- type 4 what a pass over all ports finds,

@@ -15,7 +15,7 @@ use borrow.Author.Tests.{eq-eqb, ne-eqb}
 use Rattle.common.specs.Lists.{_∈_, any}
 use Rattle.common.proofs.Tests.{both, and, or-left, same?}
 use Rattle.cube.specs.Bits.{bitAt, has, flip}
-use Rattle.cube.specs.Cube.{next}
+use Rattle.cube.specs.Cube.{portCount, NodeOf, VectorOf, next}
 use Rattle.cube.specs.Helical.{portsOf}
 use Rattle.cube.proofs.Bits.{bit-lt, two-bits, bit-xor, bit-flipped, bit-kept, same-bits, flip-inside, flip-drops, has-and}
 use Rattle.cube.proofs.Axes.{axis-low}
@@ -57,9 +57,9 @@ xor-flip w x t p h l k =
     other q n = rw (bit-kept (bitXor x t) p q n, bit-xor x t q, bit-xor (flip x p) t q, bit-kept x p q n)
 
 -- some port of a vector passes that a byte has too, exactly where some port of the vector is in the byte and passes
-narrowed : (f g : ℕ → Bool) (v bits : ℕ) → ((p : ℕ) → p < 8 → g p ≡ has bits p) → any f (portsOf 8 (bitAnd v bits)) ≡ any (λ p. g p && f p) (portsOf 8 v)
+narrowed : (f g : ℕ → Bool) (v bits : ℕ) → ((p : ℕ) → p < portCount → g p ≡ has bits p) → any f (portsOf portCount (bitAnd v bits)) ≡ any (λ p. g p && f p) (portsOf portCount v)
 narrowed f g v bits h =
-    any-both f (λ p. g p && f p) (portsOf 8 (bitAnd v bits)) (portsOf 8 v)
+    any-both f (λ p. g p && f p) (portsOf portCount (bitAnd v bits)) (portsOf portCount v)
     (λ p m e. let k = ports-mem 8 (bitAnd v bits) m in
     let j = both (has v p) (has bits p) (sym (has-and v bits p) ∙ k .1) in
     (p, mem-ports 8 v p (k .0) (j .0), and (h p (k .0) ∙ j .1) e))
@@ -83,31 +83,31 @@ module _ (b : List ℕ) (t : ℕ) (may : MaySweep b t) where
   enabled = view b .enabled
 
   -- a port of a vector of the cube is a port of the cube, and leads to a node of it
-  port-of : (v p : ℕ) → v < 2 ^ D → p ∈ portsOf 8 v → (p < D) × (has v p ≡ true)
+  port-of : (v p : ℕ) → v < 2 ^ D → p ∈ portsOf portCount v → (p < D) × (has v p ≡ true)
   port-of v p h m = let k = ports-mem 8 v m in (bit-below D v p h (k .1), k .1)
 
   pub leads-to : (n p : ℕ) → p < D → next n p ≡ flip n p
   leads-to n p l = ap (flip n) (axis-low p (omega (arith, may .fits)))
 
   -- the enable bits of a node, as the code reads them
-  bits-of : (n x : ℕ) → n < 2 ^ D → x ≡ enableBits b n → (p : ℕ) → p < 8 → enabled n p ≡ has x p
+  bits-of : (n x : ℕ) → NodeOf D n → x ≡ enableBits b n → (p : ℕ) → p < portCount → enabled n p ≡ has x p
   unfolding view enableBits
   bits-of n x i e p l = enabled-has b n p (below-256 (may .fits) i) l ∙ ap (λ y. has y p) (sym e)
 
   -- A port of a vector leads to a marked node exactly where one does that is enabled and leads to a node that reaches the target, where the marks behind
   -- the vector's ports are right.
-  leads-reaches : (marks : List ℕ) (n v x : ℕ) → n < 2 ^ D → v < 2 ^ D → x ≡ enableBits b n
+  leads-reaches : (marks : List ℕ) (n v x : ℕ) → NodeOf D n → v < 2 ^ D → x ≡ enableBits b n
       → ((p : ℕ) → p < D → has v p ≡ true → marked marks (next n p) ≡ reachesOn b t (next n p))
-      → leads marks n (bitAnd v x) ≡ any (λ p. enabled n p && reachesOn b t (N .next n p)) (portsOf 8 v)
+      → leads marks n (bitAnd v x) ≡ any (λ p. enabled n p && reachesOn b t (N .next n p)) (portsOf portCount v)
   unfolding leads network
   leads-reaches marks n v x i h e right =
       narrowed (λ p. marked marks (next n p)) (enabled n) v x (bits-of n x i e)
-      ∙ any-same _ _ (portsOf 8 v) (λ p m. let k = port-of v p h m in ap (enabled n p &&_) (right p (k .0) (k .1)))
+      ∙ any-same _ _ (portsOf portCount v) (λ p m. let k = port-of v p h m in ap (enabled n p &&_) (right p (k .0) (k .1)))
 
-  pub inside : (x : ℕ) → x < 2 ^ D → bitXor x t < 2 ^ D
+  pub inside : (x : ℕ) → x < 2 ^ D → NodeOf D (bitXor x t)
   inside x h = xor-lt D x t h (may .target)
 
-  pub offered-there : (n : ℕ) → n < 2 ^ D → offered N t n ≡ portsOf 8 (bitXor n t)
+  pub offered-there : (n : ℕ) → NodeOf D n → offered N t n ≡ portsOf portCount (bitXor n t)
   unfolding view
   offered-there n i = unfolded-vector (shapeOf (view b)) (may .fits) refl 8 n t (may .fits) i (may .target)
 
@@ -139,7 +139,7 @@ module _ (b : List ℕ) (t : ℕ) (may : MaySweep b t) where
       n : ℕ
       n = bitXor x t
 
-      i : n < 2 ^ D
+      i : NodeOf D n
       i = inside x h
 
       back : bitXor n t ≡ x
@@ -179,14 +179,14 @@ module _ (b : List ℕ) (t : ℕ) (may : MaySweep b t) where
       rw back at (s .right (bitXor n t) (omega arith) k)
 
   -- Then a pass would find a path exactly where an enabled port of its vector leads to a marked node.
-  pub marks-find : (marks : List ℕ) (s vector bits : ℕ) → Marks b t marks → s < 2 ^ D → vector < 2 ^ D → bits ≡ enableBits b s
+  pub marks-find : (marks : List ℕ) (s vector bits : ℕ) → Marks b t marks → NodeOf D s → VectorOf D vector → bits ≡ enableBits b s
       → leads marks s (bitAnd vector bits) ≡ findsPath (pass N enabled s (sendPorts (shapeOf (view b)) vector) t)
   marks-find marks s vector bits m i h e =
       leads-reaches marks s vector bits i h e (λ p l u. unfold Marks in m (next s p) (rw (leads-to s p l) (flip-inside D s p i l)))
       ∙ sym found
     where
-      ports : sendPorts (shapeOf (view b)) vector ≡ portsOf 8 vector
+      ports : sendPorts (shapeOf (view b)) vector ≡ portsOf portCount vector
       ports = unfold view in (unfolded-send-ports (shapeOf (view b)) (may .fits) refl vector ∙ sym (ports-wider D 8 vector (may .fits) h))
 
-      found : findsPath (pass N enabled s (sendPorts (shapeOf (view b)) vector) t) ≡ any (λ p. enabled s p && reachesOn b t (N .next s p)) (portsOf 8 vector)
-      found = rw ports (unfold reachesOn in pass-reaches N enabled t s (portsOf 8 vector))
+      found : findsPath (pass N enabled s (sendPorts (shapeOf (view b)) vector) t) ≡ any (λ p. enabled s p && reachesOn b t (N .next s p)) (portsOf portCount vector)
+      found = rw ports (unfold reachesOn in pass-reaches N enabled t s (portsOf portCount vector))

@@ -10,8 +10,9 @@ use lib.ListN.{take}
 use lib.Bits.{bitXor, xor-lt, xor-zero-l}
 use Rattle.common.specs.Lists.{_∈_, any, keep, from}
 use Rattle.cube.specs.Bits.{has}
-use Rattle.cube.specs.Cube.{next}
-use Rattle.cube.specs.Helical.{helical, portsOf, firstPort, FirstTried}
+use Rattle.cube.specs.Cube.{largestDimension, portCount, NodeOf, next}
+use Rattle.cube.specs.CubeContracts.{FirstTried}
+use Rattle.cube.specs.Helical.{helical, portsOf, firstPort}
 use Rattle.cube.proofs.Bits.{flip-inside}
 use Rattle.cube.proofs.Order.{helical-mem, helical-last, ports-mem, first-tried}
 use Rattle.cube.proofs.Ports.{below-256}
@@ -27,22 +28,22 @@ use Rattle.reach.proofs.Marks.{bit-below}
 use Rattle.reach.proofs.Sweep.{xor-back, leads-to, offered-there}
 
 -- the port that is tried first of a vector that is not 0
-first-of : (v a : ℕ) → v < 256 → v ≢ 0 → FirstTried 8 v a (firstPort v a)
+first-of : (v a : ℕ) → v < 256 → v ≢ 0 → FirstTried portCount v a (firstPort v a)
 unfolding firstPort
 first-of v a h z = first-tried 8 8 v a h z
 
-pub first-below : (D v a : ℕ) → D ≤ 8 → v < 2 ^ D → v ≢ 0 → firstPort v a < D
+pub first-below : (D v a : ℕ) → D ≤ largestDimension → v < 2 ^ D → v ≢ 0 → firstPort v a < D
 first-below D v a d h z = bit-below D v (firstPort v a) h (first-of v a (below-256 d h) z .offered)
 
 -- the lowest port of a vector is the one that is tried first after an arrival on port 7
 module _ (f : ℕ → Bool) (v : ℕ) where
-  pub lowest-port-passes : v < 256 → v ≢ 0 → any f (take 1 (portsOf 8 v)) ≡ f (firstPort v 7)
+  pub lowest-port-passes : v < 256 → v ≢ 0 → any f (take 1 (portsOf portCount v)) ≡ f (firstPort v 7)
   unfolding any
   lowest-port-passes h z =
-      let order = sym (helical-last 7 (portsOf 8 v) (λ p m. omega (arith, ports-mem 8 v m .0))) ∙ first-of v 7 h z .rest in
+      let order = sym (helical-last 7 (portsOf portCount v) (λ p m. omega (arith, ports-mem 8 v m .0))) ∙ first-of v 7 h z .rest in
       rw order (or-false (f (firstPort v 7)))
 
-  pub no-port-passes : v ≡ 0 → any f (take 1 (portsOf 8 v)) ≡ false
+  pub no-port-passes : v ≡ 0 → any f (take 1 (portsOf portCount v)) ≡ false
   unfolding any portsOf keep from has
   no-port-passes e = rw e
 
@@ -53,11 +54,11 @@ hopsAfter b t n p = net (view b) .distance t (net (view b) .next n p)
 -- a hop over port p from node n to node m, in a table's cube, towards t
 pub record Hop (b : List ℕ) (t n p m : ℕ) : Type 0 where
   pub may : MaySweep b t
-  pub node : n < 2 ^ dimensionAt b
+  pub node : NodeOf (dimensionAt b) n
   pub port : p < dimensionAt b
   pub leads : m ≡ next n p
 
-pub a-hop : {b : List ℕ} {t m : ℕ} (n p : ℕ) → MaySweep b t → n < 2 ^ dimensionAt b → p < dimensionAt b → m ≡ next n p → Hop b t n p m
+pub a-hop : {b : List ℕ} {t m : ℕ} (n p : ℕ) → MaySweep b t → NodeOf (dimensionAt b) n → p < dimensionAt b → m ≡ next n p → Hop b t n p m
 a-hop n p may i l e = record { may = may; node = i; port = l; leads = e }
 
 module _ {b : List ℕ} {t n p m : ℕ} (hop : Hop b t n p m) where
@@ -68,7 +69,7 @@ module _ {b : List ℕ} {t n p m : ℕ} (hop : Hop b t n p m) where
   N = net (view b)
 
   -- it stays in the cube
-  pub node-there : m < 2 ^ D
+  pub node-there : NodeOf D m
   node-there = rw (hop .leads, leads-to b t (hop .may) n p (hop .port)) (flip-inside D n p (hop .node) (hop .port))
 
   -- A walk stops at a blocked link, and ends with the hop that comes to the target;
@@ -92,13 +93,13 @@ module _ {b : List ℕ} {t n p m : ℕ} (hop : Hop b t n p m) where
     uphill-small = below-256 (hop .may .fits) vector-small
 
     module _ {q : ℕ} (chosen : q ≡ firstPort v p) where
-      tried : FirstTried 8 v p q
+      tried : FirstTried portCount v p q
       tried = rw chosen (first-of v p uphill-small vector-some)
 
       pub port-there : q < D
       port-there = bit-below D v q vector-small (tried .offered)
 
-      order : helical p (offered N t m) ≡ q ∷ helical p (portsOf 8 (v - 2 ^ q))
+      order : helical p (offered N t m) ≡ q ∷ helical p (portsOf portCount (v - 2 ^ q))
       order = rw (offered-there b t (hop .may) m node-there, ← uphill) (tried .rest)
 
       pub walk-on : view b .enabled n p ≡ true → helixEnabled b m t q ≡ helixEnabled b n t p

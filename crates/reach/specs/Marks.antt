@@ -4,11 +4,11 @@
 use mathlib.Core.Path.{_≡_}
 use mathlib.Core.Bool.{Bool}
 use mathlib.Core.List.{List}
-use Prim.Native.Nat.{ℕ, _^_, _≤_, _<_}
+use Prim.Native.Nat.{ℕ, _≤_, _<_}
 use lib.Dec.{eqb}
 use lib.ListN.{length, getD}
 use Rattle.common.specs.Lists.{any}
-use Rattle.cube.specs.Cube.{largestDimension, portCount, next}
+use Rattle.cube.specs.Cube.{largestDimension, portCount, next, NodeOf, VectorOf}
 use Rattle.cube.specs.Helical.{portsOf}
 use Rattle.paths.specs.Network.{freePath}
 use Rattle.paths.specs.Helix.{helixPath}
@@ -30,7 +30,7 @@ reachesOn b t n = reaches (net (view b)) (view b .enabled) t n
 
 -- exactly those nodes are marked that do
 unfoldable pub Marks : List ℕ → ℕ → List ℕ → Type 0
-Marks b t marks = (n : ℕ) → n < 2 ^ dimensionAt b → marked marks n ≡ reachesOn b t n
+Marks b t marks = (n : ℕ) → NodeOf (dimensionAt b) n → marked marks n ≡ reachesOn b t n
 
 -- the links of the helix path of port p are all enabled
 unfoldable pub helixEnabled : List ℕ → ℕ → ℕ → ℕ → Bool
@@ -40,16 +40,16 @@ helixEnabled b s t p = freePath (net (view b)) (view b .enabled) s (helixPath (n
 pub record MaySweep (b : List ℕ) (t : ℕ) : Type 0 where
   pub bytes : length b ≡ tableLength
   pub fits : dimensionAt b ≤ largestDimension
-  pub target : t < 2 ^ dimensionAt b
+  pub target : NodeOf (dimensionAt b) t
 
 -- what the walk along a helix path asks: a node of it too, and a port
 pub record MayWalk (b : List ℕ) (s t p : ℕ) : Type 0 where
   pub sweep : MaySweep b t
-  pub source : s < 2 ^ dimensionAt b
+  pub source : NodeOf (dimensionAt b) s
   pub port : p < dimensionAt b
 
 -- what a question asks: a source of it too, and a vector of its ports
 pub record MayAsk (b : List ℕ) (s t vector : ℕ) : Type 0 where
   pub sweep : MaySweep b t
-  pub source : s < 2 ^ dimensionAt b
-  pub ports : vector < 2 ^ dimensionAt b
+  pub source : NodeOf (dimensionAt b) s
+  pub ports : VectorOf (dimensionAt b) vector

@@ -109,7 +109,7 @@ fn lowest_helix(t: &[u8], source: Node, target: Node, vector: u16, first: &[u8; 
         t,
         source,
         target,
-        cube::first_port(first, vector, Port(7)),
+        cube::first_port(first, vector, Port(cube::SEND_ARRIVAL)),
         first,
     )
 }

@@ -1,18 +1,17 @@
 -- "Every sequence agrees with this small machine", refused packets included.
 -- Assumes nothing.
 use mathlib.Core.Path.{_≡_, refl, ap, ap₂, sym, _∙_}
-use mathlib.Core.Logic.{_≢_}
 use mathlib.Core.Bool.{Bool, true, false, cond, not, _&&_, _||_, or-false, or-assoc}
 use mathlib.Core.List.{List, [], _∷_}
-use Prim.Native.Nat.{ℕ, suc, _+_, _*_, _-_, _%_, _^_, _≤_, _<_, min}
-use native.Mathlib.Nat.{zero-min, min-eq-left, min-eq-right}
+use Prim.Native.Nat.{ℕ, _+_, _-_, _%_, _^_, _≤_, _<_}
+use native.Mathlib.Nat.{zero-min}
 use native.Mathlib.Omega.{arith}
-use lib.Dec.{eqb, ltb}
-use borrow.Author.Tests.{eqb-true, eqb-false, eq-eqb, ne-eqb, ltb-true, ltb-false, lt-ltb, le-ltb}
+use lib.Dec.{eqb}
+use borrow.Author.Tests.{ltb-true, ltb-false, le-ltb}
 use Rattle.command_word.specs.Word.{readWord}
 use Rattle.receiver.specs.declared.Channel.{Channel}
-use Rattle.receiver.specs.Receive.{Packet, dataPacket, commandWord, started, eightMore, oneLess, overflows, afterData, stops, afterCommand, unread, numbered, taken, received, overshoot, after, numbers}
-use Rattle.receiver.specs.Machine.{Start, Machine, fresh, isEnd, isData, number, next, machineAfter, machineNumbers, dataAccepted, endAccepted, Shows, AgreesAfter}
+use Rattle.receiver.specs.Receive.{Packet, dataPacket, commandWord, started, received, overshoot, after, numbers}
+use Rattle.receiver.specs.Machine.{Start, Machine, atStart, isEnd, isData, number, next, machineAfter, machineNumbers, dataAccepted, endAccepted, AgreesAfter}
 use Rattle.receiver.proofs.Held.{Held, number-same, number-is, one-more, step-held}
 
 -- A list of packets, from any machine and channel that hold.
@@ -65,12 +64,12 @@ ended-by s (p ∷ ps) m = ended-by s ps (next s m p) ∙ ap (_|| endAccepted s p
 -- the overshoot of a channel that holds
 overshot-by : (s : Start) (m : Machine) (c : Channel) → s .count < 2 ^ 32 → Held s m c → overshoot c ≡ (m .packets - s .count) % 2 ^ 32
 unfolding overshoot
-overshot-by s m c fits h = go (m .marked) refl
+overshot-by s m c fits h = go (m .overflowed) refl
   where
-    over : (b : Bool) → m .marked ≡ b → c .overflow ≡ cond b 1 0
+    over : (b : Bool) → m .overflowed ≡ b → c .overflow ≡ cond b 1 0
     over b e = h .shows .overflow ∙ ap (λ (b : Bool). cond b 1 0) e
 
-    go : (b : Bool) → m .marked ≡ b → overshoot c ≡ (m .packets - s .count) % 2 ^ 32
+    go : (b : Bool) → m .overflowed ≡ b → overshoot c ≡ (m .packets - s .count) % 2 ^ 32
     go true e =
         let more : s .count < m .packets = ltb-true _ _ (sym (h .mark) ∙ e) in
         let k : c .count < 2 ^ 32 = h .shows .count-fits in
@@ -81,7 +80,7 @@ overshot-by s m c fits h = go (m .marked) refl
         rw (over false e) (omega arith)
 
 -- a channel at its start
-fresh-held : (s : Start) → s .address < 2 ^ 32 → s .count < 2 ^ 32 → Held s fresh (started (s .address) (s .count) (s .ignores))
+fresh-held : (s : Start) → s .address < 2 ^ 32 → s .count < 2 ^ 32 → Held s atStart (started (s .address) (s .count) (s .ignores))
 unfolding started
 fresh-held s a g =
     record {
@@ -98,13 +97,13 @@ pub every-sequence-agrees : (s : Start) → s .address < 2 ^ 32 → s .count < 2
 every-sequence-agrees s a g ps =
     let c = started (s .address) (s .count) (s .ignores) in
     let h = fresh-held s a g in
-    let last = after-held s g ps fresh c h in
-    let same = numbers-same s g ps fresh c h in
+    let last = after-held s g ps atStart c h in
+    let same = numbers-same s g ps atStart c h in
     record {
       shows = last .shows;
       answers = same;
-      counted = let e = counted-by s ps fresh in let f = ap (dataAccepted ps) same in omega arith;
+      counted = let e = counted-by s ps atStart in let f = ap (dataAccepted ps) same in omega arith;
       mark = last .mark;
-      ended = ended-by s ps fresh ∙ ap (endAccepted s ps) (sym same);
-      overshot = overshot-by s (machineAfter s fresh ps) (after c ps) g last;
+      ended = ended-by s ps atStart ∙ ap (endAccepted s ps) (sym same);
+      overshot = overshot-by s (machineAfter s atStart ps) (after c ps) g last;
     }

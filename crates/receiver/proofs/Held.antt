@@ -1,24 +1,23 @@
 -- What holds of the machine and of the channel together, and that each packet keeps it.
 -- Assumes nothing.
-use mathlib.Core.Path.{_≡_, refl, ap, ap₂, sym, _∙_}
+use mathlib.Core.Path.{_≡_, refl, ap, sym, _∙_}
 use mathlib.Core.Logic.{_≢_}
-use mathlib.Core.Bool.{Bool, true, false, cond, not, _&&_, _||_, or-false, or-assoc}
-use mathlib.Core.List.{List, [], _∷_}
+use mathlib.Core.Bool.{Bool, true, false, cond, _&&_, _||_}
 use Prim.Native.Nat.{ℕ, suc, _+_, _*_, _-_, _%_, _^_, _≤_, _<_, min}
-use native.Mathlib.Nat.{zero-min, min-eq-left, min-eq-right}
+use native.Mathlib.Nat.{min-eq-left, min-eq-right}
 use native.Mathlib.Omega.{arith}
 use lib.Dec.{eqb, ltb}
 use borrow.Author.Tests.{eqb-true, eqb-false, eq-eqb, ne-eqb, ltb-true, ltb-false, lt-ltb, le-ltb}
 use Rattle.command_word.specs.Word.{readWord}
 use Rattle.receiver.specs.declared.Channel.{Channel}
-use Rattle.receiver.specs.Receive.{Packet, dataPacket, commandWord, started, eightMore, oneLess, overflows, afterData, stops, afterCommand, unread, numbered, taken, received, overshoot, after, numbers}
-use Rattle.receiver.specs.Machine.{Start, Machine, fresh, isEnd, isData, number, next, machineAfter, machineNumbers, dataAccepted, endAccepted, Shows, AgreesAfter}
+use Rattle.receiver.specs.Receive.{Packet, dataPacket, commandWord, eightMore, oneLess, overflows, afterData, stops, afterCommand, unread, numbered, taken, received}
+use Rattle.receiver.specs.Machine.{Start, Machine, isEnd, number, next, Shows}
 use Rattle.receiver.proofs.Steps.{unread-number, stopped-number, taken-number}
 
 -- what holds of machine and channel after every packet
 pub record Held (s : Start) (m : Machine) (c : Channel) : Type 0 where
   pub shows : Shows s m c
-  pub mark : m .marked ≡ ltb (s .count) (m .packets)
+  pub mark : m .overflowed ≡ ltb (s .count) (m .packets)
 
 -- the number of a packet
 pub number-same : (m : Machine) (c : Channel) (p : Packet) → c .running ≡ cond (m .stopped) 0 1 → numbered c p ≡ number m p
@@ -41,7 +40,7 @@ number-is c p = refl
 
 -- the machine after a data packet that is not refused
 abbrev pub one-more : Start → Machine → Machine
-one-more s m = record { packets = suc (m .packets); marked = m .marked || eqb (m .packets) (s .count); stopped = false }
+one-more s m = record { packets = suc (m .packets); overflowed = m .overflowed || eqb (m .packets) (s .count); stopped = false }
 
 -- A data packet to a machine that runs.
 module _ (s : Start) (m : Machine) (c : Channel) (fits : s .count < 2 ^ 32) (running : m .stopped ≡ false) (h : Held s m c) where
@@ -68,7 +67,7 @@ module _ (s : Start) (m : Machine) (c : Channel) (fits : s .count < 2 ^ 32) (run
       rw (min-eq-left g) (omega arith)
 
   -- by whether the packet overflows
-  data-by : (o : Bool) → overflows c ≡ o → m .marked || eqb (m .packets) (s .count) ≡ o → ltb (s .count) (suc (m .packets)) ≡ o
+  data-by : (o : Bool) → overflows c ≡ o → m .overflowed || eqb (m .packets) (s .count) ≡ o → ltb (s .count) (suc (m .packets)) ≡ o
       → cond o (c .address) (eightMore (c .address)) ≡ (s .address + 8 * min (suc (m .packets)) (s .count)) % 2 ^ 32 → Held s (one-more s m) (afterData c)
   unfolding afterData
   data-by o e k l x =
@@ -87,7 +86,7 @@ module _ (s : Start) (m : Machine) (c : Channel) (fits : s .count < 2 ^ 32) (run
 
   data-held : Held s (one-more s m) (afterData c)
   unfolding overflows
-  data-held = go (m .marked) refl (eqb (m .packets) (s .count)) refl
+  data-held = go (m .overflowed) refl (eqb (m .packets) (s .count)) refl
     where
       n : ℕ
       n = m .packets
@@ -95,10 +94,10 @@ module _ (s : Start) (m : Machine) (c : Channel) (fits : s .count < 2 ^ 32) (run
       g : ℕ
       g = s .count
 
-      over : (b : Bool) → m .marked ≡ b → c .overflow ≡ cond b 1 0
+      over : (b : Bool) → m .overflowed ≡ b → c .overflow ≡ cond b 1 0
       over b e = h .shows .overflow ∙ ap (λ (b : Bool). cond b 1 0) e
 
-      go : (b : Bool) → m .marked ≡ b → (z : Bool) → eqb n g ≡ z → Held s (one-more s m) (afterData c)
+      go : (b : Bool) → m .overflowed ≡ b → (z : Bool) → eqb n g ≡ z → Held s (one-more s m) (afterData c)
       go true e z f =
           let more : g < n = ltb-true g n (sym (h .mark) ∙ e) in
           data-by
@@ -130,7 +129,7 @@ module _ (s : Start) (m : Machine) (c : Channel) (fits : s .count < 2 ^ 32) (run
 
 -- A packet that changes at most whether the channel runs.
 stop-held : (s : Start) (m : Machine) (c : Channel) (t : Bool) (r : ℕ) → Held s m c → r ≡ cond t 0 1
-    → Held s (record { packets = m .packets; marked = m .marked; stopped = t }) (record { address = c .address; count = c .count; running = r; overflow = c .overflow; ignores = c .ignores })
+    → Held s (record { packets = m .packets; overflowed = m .overflowed; stopped = t }) (record { address = c .address; count = c .count; running = r; overflow = c .overflow; ignores = c .ignores })
 stop-held s m c t r h e =
     record {
       shows =
@@ -172,7 +171,7 @@ step-held s m c (commandWord word) fits h =
     end = cond (eqb (readWord word .command) 9) true (cond (eqb (readWord word .command) 8) (eqb (s .ignores) 0) false)
 
     go : (r : ℕ) (x : Bool) → eqb r 0 ≡ x → (b : Bool) → m .stopped ≡ b
-        → Held s (record { packets = m .packets; marked = m .marked; stopped = b || (x && end) }) (cond (eqb (cond x (cond b 30 0) r) 0) (afterCommand c (readWord word .command)) c)
+        → Held s (record { packets = m .packets; overflowed = m .overflowed; stopped = b || (x && end) }) (cond (eqb (cond x (cond b 30 0) r) 0) (afterCommand c (readWord word .command)) c)
     go r false e true f = rw e (stop-held s m c true (c .running) h (h .shows .running ∙ ap (λ (b : Bool). cond b 0 1) f))
     go r false e false f = rw e (stop-held s m c false (c .running) h (h .shows .running ∙ ap (λ (b : Bool). cond b 0 1) f))
     go r true e true f = stop-held s m c true (c .running) h (h .shows .running ∙ ap (λ (b : Bool). cond b 0 1) f)

@@ -20,11 +20,11 @@ pub record Machine : Type 0 where
   -- data packets accepted
   pub packets : ℕ
   -- the overflow mark
-  pub marked : Bool
+  pub overflowed : Bool
   pub stopped : Bool
 
-abbrev pub fresh : Machine
-fresh = record { packets = 0; marked = false; stopped = false }
+abbrev pub atStart : Machine
+atStart = record { packets = 0; overflowed = false; stopped = false }
 
 -- a packet that ends the circuit's message or transmission for this channel: readable, command 9, or command 8 where those are not ignored
 unfoldable pub isEnd : Start → Packet → Bool
@@ -47,8 +47,8 @@ next s m dataPacket =
     cond
     (m .stopped)
     m
-    (record { packets = suc (m .packets); marked = m .marked || eqb (m .packets) (s .count); stopped = false })
-next s m (commandWord word) = record { packets = m .packets; marked = m .marked; stopped = m .stopped || isEnd s (commandWord word) }
+    (record { packets = suc (m .packets); overflowed = m .overflowed || eqb (m .packets) (s .count); stopped = false })
+next s m (commandWord word) = record { packets = m .packets; overflowed = m .overflowed; stopped = m .stopped || isEnd s (commandWord word) }
 
 unfoldable pub machineAfter : Start → Machine → List Packet → Machine
 machineAfter s m [] = m
@@ -76,7 +76,7 @@ pub record Shows (s : Start) (m : Machine) (c : Channel) : Type 0 where
   -- the count given less the data packets, modulo 2^32: with them it is the count given again
   pub count : (c .count + m .packets) % 2 ^ 32 ≡ s .count
   pub count-fits : c .count < 2 ^ 32
-  pub overflow : c .overflow ≡ cond (m .marked) 1 0
+  pub overflow : c .overflow ≡ cond (m .overflowed) 1 0
   pub running : c .running ≡ cond (m .stopped) 0 1
   pub ignores : c .ignores ≡ cond (eqb (s .ignores) 0) 0 1
 
@@ -84,11 +84,11 @@ pub record Shows (s : Start) (m : Machine) (c : Channel) : Type 0 where
 -- machine's; and in plain words of the numbers themselves,
 pub record Agrees (s : Start) (ps : List Packet) (m : Machine) (c : Channel) (ns : List ℕ) : Type 0 where
   pub shows : Shows s m c
-  pub answers : ns ≡ machineNumbers s fresh ps
+  pub answers : ns ≡ machineNumbers s atStart ps
   -- the machine has counted the data packets that were accepted
   pub counted : m .packets ≡ dataAccepted ps ns
   -- the mark is set exactly when more of them came than were counted
-  pub mark : m .marked ≡ ltb (s .count) (m .packets)
+  pub mark : m .overflowed ≡ ltb (s .count) (m .packets)
   -- the channel is stopped exactly after an end that was accepted
   pub ended : m .stopped ≡ endAccepted s ps ns
   -- the overshoot is how many came too many, modulo 2^32
@@ -97,4 +97,4 @@ pub record Agrees (s : Start) (ps : List Packet) (m : Machine) (c : Channel) (ns
 abbrev pub AgreesAfter : Start → List Packet → Type 0
 AgreesAfter s ps =
     let c = started (s .address) (s .count) (s .ignores) in
-    Agrees s ps (machineAfter s fresh ps) (after c ps) (numbers c ps)
+    Agrees s ps (machineAfter s atStart ps) (after c ps) (numbers c ps)

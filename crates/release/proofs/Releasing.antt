@@ -3,7 +3,7 @@
 -- Assumes nothing.
 use mathlib.Core.Path.{_≡_, refl, ap, sym, _∙_, subst}
 use mathlib.Core.Logic.{⊎-elim}
-use mathlib.Core.Bool.{Bool, true, false, cond, not, _&&_}
+use mathlib.Core.Bool.{Bool, true, false, cond, _&&_}
 use mathlib.Core.List.{List, [], _∷_, List·Memᴰ·head, List·Memᴰ·tail}
 use Prim.Native.Nat.{ℕ, zero, suc, _+_, _/_, _%_, _^_, _≤_, _<_}
 use native.Mathlib.Omega.{arith}
@@ -15,12 +15,11 @@ use borrow.Author.Tests.{eqb-true, eqb-false, eq-eqb}
 use Rattle.common.specs.Lists.{_∈_, lowest}
 use Rattle.common.proofs.Tests.{below-or, clash, is-false, both, and}
 use Rattle.common.proofs.Lowest.{lowest-passes, lowest-before}
-use Rattle.cube.specs.Cube.{next, sourceOf}
+use Rattle.cube.specs.Cube.{portCount, NodeOf, next, sourceOf}
 use Rattle.cube.proofs.Axes.{next-inside}
 use Rattle.cube.proofs.Ports.{below-256}
-use Rattle.paths.specs.Network.{Network, Path, end, links, hasLink}
+use Rattle.paths.specs.Network.{Path, links, hasLink}
 use Rattle.paths.specs.Send.{acknowledged}
-use Rattle.paths.specs.CubeNetwork.{Shape, network}
 use Rattle.paths.proofs.Links.{link-true, true-link}
 use Rattle.paths.proofs.Apart.{permitted-below, permitted-inside}
 use Rattle.layout.specs.Layout.{dimensionAt, entryPlace, receivePart, receiverAt}
@@ -29,55 +28,45 @@ use Rattle.table.specs.View.{View, view, setReceiver, setArmed, setAt, withoutC
 use Rattle.table.specs.Encode.{encode, Bytes}
 use Rattle.circuit_path.specs.CircuitSound.{endFor, CircuitSound}
 use Rattle.soundness.specs.Sound.{Sound}
-use Rattle.circuit_path.specs.PathOf.{pathOf, isEmpty}
+use Rattle.circuit_path.specs.PathOf.{pathOf}
+use Rattle.circuit_path.specs.OpenCircuit.{isOpenIn}
 use Rattle.circuit_path.specs.Traced.{tracedInto}
 use Rattle.circuit_path.specs.Follow.{HasSource}
-use Rattle.circuit_path.proofs.Stands.{path-is}
-use Rattle.answers.specs.PassAnswer.{holdPath}
+use Rattle.circuit_path.proofs.CircuitSound.{path-is}
+use Rattle.answers.specs.PassOnBytes.{holdPath}
 use Rattle.answers.specs.SendAnswer.{bytesAfterSend}
-use Rattle.answers.proofs.PassAnswer.{owner-length}
+use Rattle.answers.proofs.PassOnBytes.{owner-length}
 use Rattle.answers.specs.SendOnTable.{holdLinks, viewAfterSend}
 use Rattle.answers.proofs.AfterSend.{PortsBelow, Fits, hold-length, view-hold, view-after-send, send-bytes}
 use Rattle.ownership.proofs.BytesAfter.{armed-encoded}
 use Rattle.ownership.proofs.Applied.{held-path}
-use Rattle.ownership.proofs.OpenCircuits.{open-path, open-sound}
+use Rattle.ownership.proofs.OnSound.{open-sound}
 use Rattle.release.specs.Release.{MayFree}
 
 -- i of the links are freed, and the next is one of node `at`
-pub record Freeing (N : Network) (b ports : List ℕ) (s hops : ℕ) (now : List ℕ) (at i : ℕ) : Type 0 where
+pub record Freeing (b ports : List ℕ) (s hops : ℕ) (now : List ℕ) (at i : ℕ) : Type 0 where
   pub most : i ≤ hops
   pub node : at < 256
   pub long : length now ≡ length b
-  pub ends : end N at (slice i hops ports) ≡ end N s (take hops ports)
   pub holds : holdPath now 0 at (slice i hops ports) ≡ holdPath b 0 s (take hops ports)
 
-module _ (S : Shape) {b ports : List ℕ} {s hops : ℕ} where
-  pub without-start : s < 256 → Freeing (network S) b ports s hops b s 0
-  without-start h = record { most = omega arith; node = h; long = refl; ends = refl; holds = refl }
-
-  pub without-on : {now after : List ℕ} {at to i p : ℕ} → Freeing (network S) b ports s hops now at i → i < hops → hops ≤ length ports → p ≡ getD ports i 0 → p < 8
-      → after ≡ putOwner now at p 0 → to ≡ next at p → Freeing (network S) b ports s hops after to (i + 1)
+module _ {b ports : List ℕ} {s hops : ℕ} where
+  pub without-on : {now after : List ℕ} {at to i p : ℕ} → Freeing b ports s hops now at i → i < hops → hops ≤ length ports → p ≡ getD ports i 0 → p < portCount
+      → after ≡ putOwner now at p 0 → to ≡ next at p → Freeing b ports s hops after to (i + 1)
   without-on {now} {after} {at} {to} {i} {p} f h room e l q t =
+      let split : slice i hops ports ≡ p ∷ slice (suc i) hops ports = slice-cons i hops ports 0 h room ∙ ap (_∷ slice (suc i) hops ports) (sym e) in
       record {
         most = omega arith;
         node = rw t (next-inside 8 at p (omega arith) (f .node) l);
         long = ap length q ∙ owner-length now at p 0 ∙ f .long;
-        ends = rw (t, add-one i) (sym (ap (end (network S) at) split ∙ (unfold end network in refl)) ∙ f .ends);
         holds = rw (q, t, add-one i) (sym (ap (holdPath now 0 at) split ∙ (unfold holdPath in refl)) ∙ f .holds);
       }
-    where
-      split : slice i hops ports ≡ p ∷ slice (suc i) hops ports
-      split = slice-cons i hops ports 0 h room ∙ ap (_∷ slice (suc i) hops ports) (sym e)
 
-  module _ {now : List ℕ} {at i : ℕ} (f : Freeing (network S) b ports s hops now at i) (h : hops ≤ i) where
-    none : slice i hops ports ≡ []
-    none = let e : i ≡ hops = omega (arith, f .most) in rw e (slice-empty hops ports)
-
-    pub freed-end : at ≡ end (network S) s (take hops ports)
-    freed-end = sym (ap (end (network S) at) none ∙ (unfold end in refl)) ∙ f .ends
-
-    pub freed-bytes-are : now ≡ holdPath b 0 s (take hops ports)
-    freed-bytes-are = sym (ap (holdPath now 0 at) none ∙ (unfold holdPath in refl)) ∙ f .holds
+  pub freed-bytes-are : {now : List ℕ} {at i : ℕ} → Freeing b ports s hops now at i → hops ≤ i → now ≡ holdPath b 0 s (take hops ports)
+  freed-bytes-are {now} {at} {i} f h =
+      let e : i ≡ hops = omega (arith, f .most) in
+      let none : slice i hops ports ≡ [] = rw e (slice-empty hops ports) in
+      sym (ap (holdPath now 0 at) none ∙ (unfold holdPath in refl)) ∙ f .holds
 
 -- the member at a place
 at-member : (w : List ℕ) (i : ℕ) → i < length w → getD w i 0 ∈ w
@@ -91,9 +80,9 @@ receiver-length b n k c =
     length-set (set b (entryPlace receivePart n k) (c % 256)) (entryPlace receivePart n k + 1) (c / 256) ∙ length-set b (entryPlace receivePart n k) (c % 256)
 
 -- An open circuit of a sound table.
-module _ {b : List ℕ} {c : ℕ} (known : HasSource b c) (some : not (isEmpty (pathOf (view b) c)) ≡ true) (sound : Sound (view b)) where
+module _ {b : List ℕ} {c : ℕ} (known : HasSource b c) (some : isOpenIn (view b) c ≡ true) (sound : Sound (view b)) where
   stands : CircuitSound (view b) c
-  stands = open-sound (view b) sound c (λ z. omega (arith, z, known .circuit)) (open-path (view b) c ∙ some)
+  stands = open-sound (view b) sound c (λ z. omega (arith, z, known .circuit)) some
 
   abbrev pub path : Path
   path = pathOf (view b) c
@@ -113,7 +102,7 @@ module _ {b : List ℕ} {c : ℕ} (known : HasSource b c) (some : not (isEmpty (
       subst (PortsBelow (dimensionAt b)) same
       (unfold PortsBelow in permitted-below (shapeOf (view b)) (known .fits) refl (sourceOf c) (endFor (view b) c (stands .path)) (stands .path) (stands .permitted))
 
-  target-inside : target < 2 ^ dimensionAt b
+  target-inside : NodeOf (dimensionAt b) target
   unfolding view
   target-inside = subst (_< 2 ^ dimensionAt b) target-is (permitted-inside (shapeOf (view b)) (sourceOf c) (endFor (view b) c (stands .path)) (stands .path) (known .source) (stands .permitted) .1)
 
@@ -125,24 +114,24 @@ module _ {b : List ℕ} {c : ℕ} (known : HasSource b c) (some : not (isEmpty (
       go true e = link-true _ m q (subst (λ (w : Path). (m, q) ∈ links (net (view b)) (sourceOf c) w) same (stands .exactly .only m q e))
       go false e = is-false _ (λ t. clash (stands .exactly .all m q (subst (λ (w : Path). (m, q) ∈ links (net (view b)) (sourceOf c) w) (sym same) (true-link _ m q t))) e)
 
-  receives : view b .receiver target (stands .channel) ≡ c
-  receives = subst (λ (t : ℕ). view b .receiver t (stands .channel) ≡ c) target-is (stands .receives)
+  receives : view b .receiver target (stands .receive) ≡ c
+  receives = subst (λ (t : ℕ). view b .receiver t (stands .receive) ≡ c) target-is (stands .receives)
 
-  channel-held : (m k : ℕ) → (eqb m target && eqb k (stands .channel)) ≡ eqb (view b .receiver m k) c
+  channel-held : (m k : ℕ) → (eqb m target && eqb k (stands .receive)) ≡ eqb (view b .receiver m k) c
   channel-held m k = go (eqb (view b .receiver m k) c) refl
     where
-      go : (x : Bool) → eqb (view b .receiver m k) c ≡ x → (eqb m target && eqb k (stands .channel)) ≡ x
+      go : (x : Bool) → eqb (view b .receiver m k) c ≡ x → (eqb m target && eqb k (stands .receive)) ≡ x
       go true e = let r = stands .once m k (eqb-true _ c e) in and (eq-eqb m target (r .0 ∙ target-is)) (eq-eqb k _ (r .1))
       go false e =
           is-false _ (λ t. let r = both (eqb m target) _ t in
           eqb-false _ c e (subst (λ (x : ℕ). view b .receiver x k ≡ c) (sym (eqb-true m target (r .0))) (subst (λ (x : ℕ). view b .receiver target x ≡ c) (sym (eqb-true k _ (r .1))) receives)))
 
   -- so what the table shows once both are nobody's and the channel is disarmed is what it shows once every entry of the circuit is freed
-  shown-freed : setArmed (viewAfterSend (view b) 0 (sourceOf c) target (acknowledged path (stands .channel))) target (stands .channel) false
+  shown-freed : setArmed (viewAfterSend (view b) 0 (sourceOf c) target (acknowledged path (stands .receive))) target (stands .receive) false
       ≡ withoutCircuit (view b) c
   unfolding viewAfterSend withoutCircuit setReceiver setArmed setAt
   shown-freed =
-      ap (λ (v : View). setArmed (setReceiver v target (stands .channel) 0) target (stands .channel) false)
+      ap (λ (v : View). setArmed (setReceiver v target (stands .receive) 0) target (stands .receive) false)
       (held-path (view b) (shapeOf (view b)) 0 (sourceOf c) path) ∙ λ i.
       record {
         dimension = view b .dimension;
@@ -152,17 +141,17 @@ module _ {b : List ℕ} {c : ℕ} (known : HasSource b c) (some : not (isEmpty (
         armed = λ m k. cond (channel-held m k i) false (view b .armed m k);
       }
 
-  bytes-freed : Bytes b → putArmed (putReceiver (holdPath b 0 (sourceOf c) path) target (stands .channel) 0) target (stands .channel) false
+  bytes-freed : Bytes b → putArmed (putReceiver (holdPath b 0 (sourceOf c) path) target (stands .receive) 0) target (stands .receive) false
       ≡ encode (withoutCircuit (view b) c)
   unfolding bytesAfterSend
   bytes-freed bytes =
-      let o = acknowledged path (stands .channel) in
+      let o = acknowledged path (stands .receive) in
       let fits : Fits (dimensionAt b) o = unfold Fits in (ports-below, stands .small) in
       let freed : Bytes (bytesAfterSend b 0 (sourceOf c) target o) = send-bytes b 0 (sourceOf c) target o bytes (lit< tt) in
       let shown = view-after-send 0 (lit< tt) (dimensionAt b) (known .fits) b (known .bytes) (sourceOf c) target (known .source) target-inside o fits in
-      armed-encoded (bytesAfterSend b 0 (sourceOf c) target o) freed target (stands .channel) false
+      armed-encoded (bytesAfterSend b 0 (sourceOf c) target o) freed target (stands .receive) false
       record { bytes = freed .long; node = below-256 (known .fits) target-inside; port = stands .small }
-      ∙ ap encode (ap (λ (v : View). setArmed v target (stands .channel) false) shown ∙ shown-freed)
+      ∙ ap encode (ap (λ (v : View). setArmed v target (stands .receive) false) shown ∙ shown-freed)
 
   -- Of what the code has: the ports of the path in a buffer of nine, how many they are, and the source.
   module _ (buffer : List ℕ) {ports : List ℕ} {hops s : ℕ} (room : 9 ≤ length buffer) (count : hops ≡ length path) (e : ports ≡ tracedInto path buffer) (q : s ≡ sourceOf c) where
@@ -184,10 +173,7 @@ module _ {b : List ℕ} {c : ℕ} (known : HasSource b c) (some : not (isEmpty (
               omega (arith, p, known .fits);
         }
 
-    module _ {t : ℕ} {b₁ : List ℕ} (ends : t ≡ end (net (view b)) s (take hops ports)) (holds : b₁ ≡ holdPath b 0 s (take hops ports)) where
-      at-target : t ≡ target
-      at-target = ends ∙ rw (taken, q)
-
+    module _ {t : ℕ} {b₁ : List ℕ} (at-target : t ≡ target) (holds : b₁ ≡ holdPath b 0 s (take hops ports)) where
       held : b₁ ≡ holdPath b 0 (sourceOf c) path
       held = holds ∙ rw (taken, q)
 
@@ -203,11 +189,11 @@ module _ {b : List ℕ} {c : ℕ} (known : HasSource b c) (some : not (isEmpty (
           shown = view-hold 0 (lit< tt) (dimensionAt b) (known .fits) b (known .bytes) (sourceOf c) path (known .source) ports-below
 
       module _ {k : ℕ} (found : k ≡ lowest (λ j. eqb (receiverAt b₁ t j) c) 8 0) where
-        the-channel : k ≡ stands .channel
+        the-channel : k ≡ stands .receive
         the-channel =
             let f : ℕ → Bool = λ j. eqb (receiverAt b₁ t j) c in
-            let yes : f (stands .channel) ≡ true = received (stands .channel) ∙ eq-eqb _ c receives in
-            let most : lowest f 8 0 < 0 + 8 = ⊎-elim (λ l. l) (λ l. absurd (clash yes (lowest-before f 8 0 (stands .channel) (omega arith) (omega (arith, stands .small, l))))) (below-or 8 (lowest f 8 0)) in
+            let yes : f (stands .receive) ≡ true = received (stands .receive) ∙ eq-eqb _ c receives in
+            let most : lowest f 8 0 < 0 + 8 = ⊎-elim (λ l. l) (λ l. absurd (clash yes (lowest-before f 8 0 (stands .receive) (omega arith) (omega (arith, stands .small, l))))) (below-or 8 (lowest f 8 0)) in
             let here = lowest-passes f 8 0 most in
             found ∙ eqb-true _ _ (both (eqb target target) _ (channel-held target (lowest f 8 0) ∙ sym (received (lowest f 8 0)) ∙ here) .1)
 

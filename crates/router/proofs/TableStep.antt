@@ -10,18 +10,17 @@ use lib.Dec.{leb}
 use lib.ListN.{length}
 use borrow.Author.Tests.{ne-eqb, le-leb, lt-leb}
 use Rattle.common.proofs.Tests.{refused, passed, accepted}
-use Rattle.cube.specs.Cube.{circuitOf}
+use Rattle.cube.specs.Cube.{largestDimension, circuitOf}
 use Rattle.paths.specs.Send.{Outcome, acknowledged, route-rejected, receive-rejected}
 use Rattle.layout.specs.Layout.{tableLength}
-use Rattle.table.specs.Encode.{made, encode, AllBytes}
+use Rattle.table.specs.Encode.{encode, AllBytes}
 use Rattle.entries.specs.EntryContracts.{putEnabled, putArmed}
-use Rattle.table.specs.View.{view, withoutCircuit}
+use Rattle.table.specs.View.{view, withoutCircuit, fresh}
 use Rattle.circuit_path.specs.PathOf.{pathOf}
 use Rattle.circuit_path.specs.Traced.{tracedInto}
 use Rattle.ownership.specs.Calls.{Call, making, blocking, unblocking, opening, closing, tracing, arming, disarming, CallResult, refusedWith, answered, callTests, resultOf, After}
-use Rattle.answers.specs.SendOnTable.{PassAnswer, pass-answer, answerOfOutcome, waitingHelps}
-use Rattle.answers.specs.SendAnswer.{sendAnswer, sends}
-use Rattle.ownership.specs.Update.{sendIn}
+use Rattle.answers.specs.SendOnTable.{PassAnswer, pass-answer, answerOfOutcome, waitingHelps, sendIn}
+use Rattle.answers.specs.SendAnswer.{sendAnswer, sentOnBytes}
 use Rattle.ownership.specs.OnTable.{factsOf, lentTests, stoppedAt, tableStep, done}
 use Rattle.ownership.proofs.Stops.{making-stopped}
 use Rattle.ownership.proofs.Steps.{table-step}
@@ -34,7 +33,7 @@ dimension-zero {D} e = ap (_&& leb D 8) (lt-leb 1 D (omega (arith, e)))
 pub dimension-large : {D : ℕ} → 8 < D → (leb 1 D && leb D 8) ≡ false
 dimension-large {D} h = ap (leb 1 D &&_) (lt-leb D 8 h) ∙ and-false (leb 1 D)
 
-pub dimension-is : {D : ℕ} → D ≢ 0 → D ≤ 8 → (leb 1 D && leb D 8) ≡ true
+pub dimension-is : {D : ℕ} → D ≢ 0 → D ≤ largestDimension → (leb 1 D && leb D 8) ≡ true
 dimension-is {D} f h = ap₂ _&&_ (le-leb 1 D (omega (arith, f))) (le-leb D 8 h)
 
 -- A call that a test stops changes nothing. One that no test stops gives its result, and the bytes are those that the functions below write.
@@ -58,7 +57,7 @@ module _ (b : List ℕ) where
     unfolding callTests
     make-dimension e f = call-stopped b (making D) {n = 2} (sym (making-stopped b e D ∙ refused 2 [] (ap not f))) (λ z. omega arith)
 
-    pub make-made : length b ≡ tableLength → AllBytes b → (leb 1 D && leb D 8) ≡ true → {b₁ : List ℕ} → b₁ ≡ made D → done b₁ 0 [] [] ≡ tableStep b (making D)
+    pub make-made : length b ≡ tableLength → AllBytes b → (leb 1 D && leb D 8) ≡ true → {b₁ : List ℕ} → b₁ ≡ encode (fresh D) → done b₁ 0 [] [] ≡ tableStep b (making D)
     unfolding callTests writtenBy resultOf
     make-made e small f q = call-passed b (making D) {n = 0} (sym (making-stopped b e D ∙ passed 2 [] (ap not f) ∙ accepted)) refl small q refl
 
@@ -86,11 +85,11 @@ module _ (b : List ℕ) where
   call-closes s c e z small q r = call-passed b (closing s c) e z small (r ∙ ap (λ i. encode (withoutCircuit (view b) i)) q) refl
 
   -- an open: what the search comes to is what it gives
-  pub call-opens : (s c t y v : ℕ) {m : ℕ} → m ≡ stoppedAt b (opening s c t y v) → m ≡ 0 → AllBytes b → {k : ℕ} → k ≡ circuitOf s c → {x h r n : ℕ} {b₁ : List ℕ} → pass-answer x h r n b₁ ≡ sends b s t k y v
+  pub call-opens : (s c t y v : ℕ) {m : ℕ} → m ≡ stoppedAt b (opening s c t y v) → m ≡ 0 → AllBytes b → {k : ℕ} → k ≡ circuitOf s c → {x h r n : ℕ} {b₁ : List ℕ} → pass-answer x h r n b₁ ≡ sentOnBytes b s t k y v
       → done b₁ x (h ∷ r ∷ n ∷ []) [] ≡ tableStep b (opening s c t y v)
-  unfolding writtenBy resultOf factsOf sends sendAnswer sendIn
+  unfolding writtenBy resultOf factsOf sentOnBytes sendAnswer
   call-opens s c t y v e z small q g =
-      ap shown (g ∙ ap (λ i. sends b s t i y v) q) ∙ shown-same (waitingHelps (view b) s t y v) (sendIn (view b) s t y v .outcome) _ _ ∙ call-passed b (opening s c t y v) e z small refl refl
+      ap shown (g ∙ ap (λ i. sentOnBytes b s t i y v) q) ∙ shown-same (waitingHelps (view b) s t y v) (sendIn (view b) s t y v .outcome) _ _ ∙ call-passed b (opening s c t y v) e z small refl refl
     where
       shown : PassAnswer → After (List ℕ)
       shown (pass-answer x h r n b₁) = done b₁ x (h ∷ r ∷ n ∷ []) []

@@ -18,7 +18,7 @@ pub fn make(t: &mut [u8], dimension: u16) -> u16
     if dimension == 0 {
         return refusal::DIMENSION;
     }
-    if dimension > 8 {
+    if dimension > cube::LARGEST_DIMENSION {
         return refusal::DIMENSION;
     }
     table::make(t, dimension as u8);
@@ -127,9 +127,9 @@ pub fn trace(t: &[u8], source: Node, channel: u16, buffer: &mut [u8]) -> Traced
             hops: 0,
         };
     }
-    let hops = circuit_path::write_path(t, cube::circuit_of(source, channel), buffer);
+    let path = circuit_path::write_path(t, cube::circuit_of(source, channel), buffer);
     Traced {
         number: refusal::ACCEPTED,
-        hops,
+        hops: path.hops,
     }
 }

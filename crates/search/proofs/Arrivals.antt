@@ -3,13 +3,14 @@
 use mathlib.Core.Path.{_≡_, refl, ap, ap₂, sym, _∙_}
 use mathlib.Core.Logic.{_≢_}
 use mathlib.Core.List.{List, []}
-use Prim.Native.Nat.{ℕ, zero, suc, _+_, _*_, _^_, _≤_, _<_}
+use Prim.Native.Nat.{ℕ, zero, suc, _+_, _*_, _≤_, _<_}
 use native.Mathlib.Omega.{arith}
 use native.Mathlib.Nat.{mul-le-mul}
 use lib.ListN.{length}
 use lib.Bits.{xor-lt}
 use Rattle.common.specs.Lists.{_∈_}
-use Rattle.cube.specs.Cube.{next, UphillVector}
+use Rattle.cube.specs.CubeContracts.{UphillVector}
+use Rattle.cube.specs.Cube.{portCount, NodeOf, next}
 use Rattle.cube.specs.Helical.{helical, portsOf}
 use Rattle.paths.specs.Network.{offered}
 use Rattle.paths.specs.CubeNetwork.{network}
@@ -22,9 +23,9 @@ use Rattle.layout.specs.Layout.{dimensionAt}
 use Rattle.table.specs.TableContracts.{lowestChannel}
 use Rattle.table.specs.View.{view, receive, net, shapeOf}
 use Rattle.answers.specs.SendOnTable.{freeIn}
-use Rattle.answers.specs.PassAnswer.{answerOfPass, arrivalAfter, hopsLeft}
+use Rattle.answers.specs.PassOnBytes.{answerOfPass, arrivalAfter, hopsLeft}
 use Rattle.search.specs.SearchContracts.{farthestAfter, Packed, tryAnswer, arriveAnswer, Narrowed, MayTry, MayArrive}
-use Rattle.answers.proofs.PassAnswer.{at-target, arrives, target-receives, target-full, lowest-small}
+use Rattle.answers.proofs.PassOnBytes.{at-target, arrives, target-receives, target-full, lowest-small}
 use Rattle.search.proofs.PackedAnswer.{of-receive, of-acknowledged}
 use Rattle.search.proofs.Narrow.{farthest-most, narrow-reach, narrow-may, narrow-tries}
 
@@ -49,9 +50,9 @@ module _ {b : List ℕ} {t c n a h s : ℕ} (may : MayArrive b t c n a h s) wher
       record { same = of-receive s b (omega (arith, may .room)) ∙ target-full (view b) b c n h s q g ∙ at-goal e }
 
   module _ (away : n ≢ t) {v : ℕ} (uphill : UphillVector n t v) where
-    offers : offered (net (view b)) t n ≡ portsOf 8 v
+    offers : offered (net (view b)) t n ≡ portsOf portCount v
     unfolding view
-    offers = unfolded-vector (shapeOf (view b)) (may .here .fits) refl 8 n t (may .here .fits) (may .here .node) (may .here .target) ∙ ap (portsOf 8) (sym (uphill .value))
+    offers = unfolded-vector (shapeOf (view b)) (may .here .fits) refl 8 n t (may .here .fits) (may .here .node) (may .here .target) ∙ ap (portsOf portCount) (sym (uphill .value))
 
     all-tried : tryAnswer b t c n v a h s ≡ arriveAnswer b t c n a h s
     unfolding tryAnswer arriveAnswer hopsLeft
@@ -59,25 +60,25 @@ module _ {b : List ℕ} {t c n a h s : ℕ} (may : MayArrive b t c n a h s) wher
         ap (answerOfPass b c n h (receive (view b) t))
         (ap (λ ps. trying (freeIn (view b) n) (arrivalAfter (net (view b)) (freeIn (view b)) t n) (helical a ps) s) (sym offers) ∙ arrives (net (view b)) (freeIn (view b)) t n a s (cube-nearing (shapeOf (view b)) t) away)
 
-    nearer : (p : ℕ) → p ∈ portsOf 8 v → hopsLeft b t n ≡ suc (net (view b) .distance t (net (view b) .next n p))
+    nearer : (p : ℕ) → p ∈ portsOf portCount v → hopsLeft b t n ≡ suc (net (view b) .distance t (net (view b) .next n p))
     unfolding hopsLeft
     nearer p m = cube-nearing (shapeOf (view b)) t .nearer n p (rw offers m)
 
     pub arrive-reach : suc (farthestAfter b t n v) ≤ hopsLeft b t n
     arrive-reach =
-        let goal : t < 2 ^ shapeOf (view b) .dimension = unfold view in may .here .target in
-        let start : n < 2 ^ shapeOf (view b) .dimension = unfold view in may .here .node in
+        let goal : NodeOf (shapeOf (view b) .dimension) t = unfold view in may .here .target in
+        let start : NodeOf (shapeOf (view b) .dimension) n = unfold view in may .here .node in
         let some = cube-leading (shapeOf (view b)) (unfold view in may .here .fits) t goal .leads n start away in
         let e = nearer (some .0) (rw offers at (some .1)) in
         let most : farthestAfter b t n v ≤ net (view b) .distance t (net (view b) .next n (some .0)) = unfold farthestAfter in
-        farthest-most (net (view b)) t n _ (portsOf 8 v) (λ p m. let z = nearer p m in omega (arith, e)) in
+        farthest-most (net (view b)) t n _ (portsOf portCount v) (λ p m. let z = nearer p m in omega (arith, e)) in
         omega (arith, e, most)
 
     all-may : MayTry b t c n v a h s
     unfolding hopsLeft network
     all-may =
-        let degree : length (portsOf 8 v) ≤ 1 * hopsLeft b t n = rw (← offers) (cube-cubical (shapeOf (view b)) (one-link (shapeOf (view b)) (unfold view in may .here .fits) refl) t .degree n) in
-        let ports = one-further (length (portsOf 8 v)) (farthestAfter b t n v) (hopsLeft b t n) arrive-reach (omega (arith, degree)) in
+        let degree : length (portsOf portCount v) ≤ 1 * hopsLeft b t n = rw (← offers) (cube-cubical (shapeOf (view b)) (one-link (shapeOf (view b)) (unfold view in may .here .fits) refl) t .degree n) in
+        let ports = one-further (length (portsOf portCount v)) (farthestAfter b t n v) (hopsLeft b t n) arrive-reach (omega (arith, degree)) in
         record {
           here = may .here;
           ports = rw (uphill .value) (xor-lt (dimensionAt b) n t (may .here .node) (may .here .target));

@@ -1,6 +1,6 @@
 -- The laws of a pass on the bytes of a table.
 pub mod PackedAnswer
 pub mod Narrow
-pub mod Turns
+pub mod PortsTried
 pub mod Arrivals
 pub mod Sends

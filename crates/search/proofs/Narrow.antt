@@ -20,15 +20,15 @@ use Rattle.entries.specs.EntryContracts.{enableBits, Within}
 use Rattle.table.specs.View.{View, view, receive, net}
 use Rattle.layout.proofs.Entries.{enabled-has}
 use Rattle.answers.specs.SendOnTable.{freeIn}
-use Rattle.answers.specs.PassAnswer.{answerOfPass, arrivalAfter}
+use Rattle.answers.specs.PassOnBytes.{answerOfPass, arrivalAfter}
 use Rattle.search.specs.SearchContracts.{Narrowed, Enabled, tryAnswer, farthest, farthestAfter, MayTry}
-use Rattle.answers.proofs.PassAnswer.{free-off}
+use Rattle.answers.proofs.PassOnBytes.{free-off}
 use mathlib.Core.Logic.{⊎-elim}
 use native.Mathlib.Omega.{arith}
 use native.Mathlib.Nat.{le-trans, le-refl, mul-le-mul}
 use lib.Dec.{leb}
 use borrow.Author.Tests.{leb-true, leb-false}
-use Rattle.cube.specs.Cube.{next}
+use Rattle.cube.specs.Cube.{portCount, next}
 use Rattle.paths.specs.Network.{Network}
 use Rattle.paths.specs.Bound.{waysFrom}
 use Rattle.paths.proofs.Bound.{ways-more}
@@ -44,7 +44,7 @@ trying-kept f free on (p ∷ ps) h s = go (f p) refl (trying-kept f free on ps (
     go false e ih = rw (keep-no f p ps e, trying-cons free on p ps s, h p (List·Memᴰ·head refl) e) (ih s)
 
 module _ {v : View} {n vector left : ℕ} (narrow : Narrowed v n vector left) where
-  ports-kept : portsOf 8 left ≡ keep (has left) (portsOf 8 vector)
+  ports-kept : portsOf portCount left ≡ keep (has left) (portsOf portCount vector)
   unfolding portsOf
   ports-kept =
       keep-same (has left) (λ q. has vector q && has left q) (from 0 8) (λ q m. go q (has left q) refl) ∙ sym (keep-keep (has left) (has vector) (from 0 8))
@@ -53,10 +53,10 @@ module _ {v : View} {n vector left : ℕ} (narrow : Narrowed v n vector left) wh
       go q true e = rw (narrow .among q e)
       go q false e = sym (and-false (has vector q))
 
-  pub narrow-fewer : length (portsOf 8 left) ≤ length (portsOf 8 vector)
-  narrow-fewer = rw ports-kept (length-keep (has left) (portsOf 8 vector))
+  pub narrow-fewer : length (portsOf portCount left) ≤ length (portsOf portCount vector)
+  narrow-fewer = rw ports-kept (length-keep (has left) (portsOf portCount vector))
 
-  pub narrow-mem : (p : ℕ) → p ∈ portsOf 8 left → p ∈ portsOf 8 vector
+  pub narrow-mem : (p : ℕ) → p ∈ portsOf portCount left → p ∈ portsOf portCount vector
   narrow-mem p m = let r = ports-mem 8 left m in mem-ports 8 vector p (r .0) (narrow .among p (r .1))
 
 -- the answer is that of the whole vector
@@ -66,13 +66,13 @@ narrow-tries b t c a h s {n} {vector} {left} narrow =
     let on : ℕ → ℕ → PassResult = arrivalAfter (net (view b)) (freeIn (view b)) t n in
     ap (answerOfPass b c n h (receive (view b) t))
     (ap (λ ps. trying (freeIn (view b) n) on (helical a ps) s) (ports-kept narrow)
-    ∙ ap (λ ps. trying (freeIn (view b) n) on ps s) (helical-keep a (has left) (portsOf 8 vector))
-    ∙ trying-kept (has left) (freeIn (view b) n) on (helical a (portsOf 8 vector))
-    (λ p m e. let r = ports-mem 8 vector (helical-mem a (portsOf 8 vector) m) in narrow .dropped p (r .0) (r .1) e) s)
+    ∙ ap (λ ps. trying (freeIn (view b) n) on ps s) (helical-keep a (has left) (portsOf portCount vector))
+    ∙ trying-kept (has left) (freeIn (view b) n) on (helical a (portsOf portCount vector))
+    (λ p m e. let r = ports-mem 8 vector (helical-mem a (portsOf portCount vector) m) in narrow .dropped p (r .0) (r .1) e) s)
 
 -- the ports of a vector that are enabled at a node: x is the byte that the code found there
 module _ (b : List ℕ) (n vector x : ℕ) (within : Within b n 0) (byte : x ≡ enableBits b n) where
-  read : (p : ℕ) → p < 8 → view b .enabled n p ≡ has x p
+  read : (p : ℕ) → p < portCount → view b .enabled n p ≡ has x p
   unfolding view enableBits
   read p l = enabled-has b n p (within .node) l ∙ ap (λ y. has y p) (sym byte)
 
@@ -119,13 +119,13 @@ farthest-most N t n m (q ∷ ps) h = go (leb (farthest N t n ps) (N .distance t 
 pub narrow-reach : (b : List ℕ) (t : ℕ) {n v left : ℕ} → Narrowed (view b) n v left → farthestAfter b t n left ≤ farthestAfter b t n v
 unfolding farthestAfter
 narrow-reach b t {n} {v} {left} narrow =
-    farthest-most (net (view b)) t n (farthest (net (view b)) t n (portsOf 8 v)) (portsOf 8 left) (λ p m. farthest-mem (net (view b)) t n (portsOf 8 v) p (narrow-mem narrow p m))
+    farthest-most (net (view b)) t n (farthest (net (view b)) t n (portsOf portCount v)) (portsOf portCount left) (λ p m. farthest-mem (net (view b)) t n (portsOf portCount v) p (narrow-mem narrow p m))
 
 pub narrow-may : {b : List ℕ} {t c n v left a h s : ℕ} → MayTry b t c n v a h s → Narrowed (view b) n v left → MayTry b t c n left a h s
 narrow-may {b} {t} {c} {n} {v} {left} may narrow =
     let near = narrow-reach b t narrow in
     let ways = ways-more 1 (farthestAfter b t n left) (farthestAfter b t n v) near in
-    let all : length (portsOf 8 left) * (1 + waysFrom 1 (farthestAfter b t n left)) ≤ length (portsOf 8 v) * (1 + waysFrom 1 (farthestAfter b t n v)) = mul-le-mul (narrow-fewer narrow) (let w = ways in omega arith) in
+    let all : length (portsOf portCount left) * (1 + waysFrom 1 (farthestAfter b t n left)) ≤ length (portsOf portCount v) * (1 + waysFrom 1 (farthestAfter b t n v)) = mul-le-mul (narrow-fewer narrow) (let w = ways in omega arith) in
     record {
       here = may .here;
       ports = (let l = narrow .most in omega (arith, may .ports));

@@ -4,8 +4,8 @@ use mathlib.Core.Path.{_≡_, ap, _∙_}
 use mathlib.Core.List.{List}
 use Prim.Native.Nat.{ℕ, _+_, _-_, _*_, _/_, _%_, _≤_, _<_}
 use native.Mathlib.Omega.{arith}
-use lib.Dec.{ltb}
 use borrow.Author.Tests.{lt-ltb, le-ltb}
+use Rattle.cube.specs.Cube.{channels}
 use Rattle.answers.specs.SendOnTable.{PassAnswer, pass-answer}
 use Rattle.search.specs.SearchContracts.{answerIn, Packed, Unpacked}
 
@@ -28,7 +28,7 @@ of-receive s b l =
     let rest : (4294967296 + s) % 4294967296 ≡ s = omega arith in
     in-receive (4294967296 + s) b (omega arith) (omega arith) ∙ ap (λ y. pass-answer 11 0 0 y b) rest
 
-pub of-acknowledged : (h k s : ℕ) (b : List ℕ) → h < 65536 → k < 8 → s < 4294967296 → answerIn (8589934592 + s + 4294967296 * (8 * h + k)) b ≡ pass-answer 0 h k s b
+pub of-acknowledged : (h k s : ℕ) (b : List ℕ) → h < 65536 → k < channels → s < 4294967296 → answerIn (8589934592 + s + 4294967296 * (8 * h + k)) b ≡ pass-answer 0 h k s b
 of-acknowledged h k s b lh lk ls =
     let x : ℕ = 8589934592 + s + 4294967296 * (8 * h + k) in
     let both : x / 4294967296 - 2 ≡ 8 * h + k = omega arith in

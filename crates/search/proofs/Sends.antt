@@ -2,7 +2,7 @@
 -- Assumes nothing.
 use mathlib.Core.Path.{_≡_, refl, ap, ap₂, sym, _∙_}
 use mathlib.Core.Logic.{_≢_}
-use mathlib.Core.Bool.{Bool, true, false, not}
+use mathlib.Core.Bool.{true, not}
 use mathlib.Core.List.{List}
 use Prim.Native.Nat.{ℕ, _+_, _-_, _^_, _≤_, _<_}
 use native.Mathlib.Omega.{arith}
@@ -11,31 +11,32 @@ use lib.Dec.{eqb, lit<}
 use lib.ListN.{length}
 use lib.Pow.{pow-pos}
 use lib.Bits.{bitXor, xor-lt}
-use borrow.Author.Tests.{lt-ltb, ne-eqb}
+use borrow.Author.Tests.{lt-ltb}
 use Rattle.cube.specs.Bits.{bitAt, has}
-use Rattle.cube.specs.Cube.{NodeCount}
+use Rattle.cube.specs.CubeContracts.{NodeCount}
+use Rattle.cube.specs.Cube.{largestDimension, portCount, channels}
 use Rattle.cube.proofs.Bits.{one-bit, bit-lt, bit-xor, has-bit}
-use Rattle.cube.specs.Helical.{helical, portsOf}
-use Rattle.cube.proofs.Order.{helical-last, ports-wider, ports-mem, length-ports}
+use Rattle.cube.specs.Helical.{portsOf}
+use Rattle.cube.proofs.Order.{length-ports}
 use Rattle.paths.specs.Pass.{PassResult, none, found, pass, scouts}
 use Rattle.paths.specs.Search.{trying, sending}
-use Rattle.paths.specs.Send.{Receive, channel, none-available, Outcome, acknowledged, route-rejected, receive-rejected, oneResult, received, outcome, goesOn}
-use Rattle.paths.specs.CubeNetwork.{Shape, network, sendPorts, otherPorts, attempts, send}
+use Rattle.paths.specs.Send.{Receive, channel, none-available, oneResult, received, outcome}
+use Rattle.paths.specs.CubeNetwork.{Shape, network, sendPorts, otherPorts}
 use Rattle.paths.proofs.Depth.{search-is-pass}
-use Rattle.paths.proofs.CubeNetwork.{distance-within, unfolded-send-ports, scouts-bound, other-vector}
+use Rattle.paths.proofs.CubeNetwork.{distance-within, scouts-bound, other-vector}
 use Rattle.paths.proofs.Send.{maze-answers, alternate-stops, alternate-goes-on}
 use Rattle.paths.specs.Bound.{waysFrom}
 use Rattle.paths.proofs.Bound.{ways-more}
 use Rattle.layout.specs.Layout.{dimensionAt}
 use Rattle.entries.specs.EntryContracts.{putReceiver}
-use Rattle.table.specs.View.{View, view, receive, available, net, shapeOf}
+use Rattle.table.specs.View.{view, receive, net, shapeOf}
 use Rattle.table.proofs.Made.{ones}
 use Rattle.answers.specs.SendOnTable.{freeIn, pass-answer, answerOfOutcome}
-use Rattle.answers.specs.PassAnswer.{holdPath, answerOfPass, arrivalAfter}
+use Rattle.answers.specs.PassOnBytes.{holdPath, answerOfPass, arrivalAfter}
 use Rattle.search.specs.SearchContracts.{farthestAfter, tryAnswer, Narrowed, MayTry}
 use Rattle.answers.specs.SendAnswer.{bytesAfterSend, sendAnswer, searched, MaySend}
-use Rattle.answers.proofs.PassAnswer.{receive-small}
-use Rattle.answers.proofs.Sent.{ports-in-turn, sent-stops, sent-goes-on, sent-leaves, sent-scouts, sent-counted}
+use Rattle.answers.proofs.PassOnBytes.{receive-small}
+use Rattle.answers.proofs.SendAnswer.{ports-in-turn, sent-stops, sent-goes-on, sent-leaves, sent-scouts, sent-counted}
 use Rattle.search.proofs.Narrow.{narrow-tries, farthest-most}
 
 -- the pass of a send over the ports of a vector
@@ -53,7 +54,7 @@ module _ {b : List ℕ} {s t c vector : ℕ} (may : MaySend b s t c vector) wher
 
   near : farthestAfter b t s vector ≤ 8
   unfolding farthestAfter
-  near = farthest-most (net (view b)) t s 8 (portsOf 8 vector) (λ p m. let f : shapeOf (view b) .dimension ≤ 8 = unfold view in may .fits in omega (arith, f, distance-within (shapeOf (view b)) t (net (view b) .next s p)))
+  near = farthest-most (net (view b)) t s 8 (portsOf portCount vector) (λ p m. let f : shapeOf (view b) .dimension ≤ largestDimension = unfold view in may .fits in omega (arith, f, distance-within (shapeOf (view b)) t (net (view b) .next s p)))
 
   -- there is room for the hops and the scouts of a pass
   pub may-try : MayTry b t c s vector 7 0 0
@@ -104,7 +105,7 @@ module _ (b : List ℕ) (c s t : ℕ) (r : Receive) where
       go (channel j) u = let y : x ≡ 0 = cc in absurd (f y)
 
 -- "every port below D that was not in the given vector": the ports of the vector with every bit below D changed
-module _ (D vector : ℕ) (h : D ≤ 8) where
+module _ (D vector : ℕ) (h : D ≤ largestDimension) where
   other-has : (p : ℕ) → p < D → has (bitXor (2 ^ D - 1) vector) p ≡ not (has vector p)
   unfolding has
   other-has p i = rw (bit-xor (2 ^ D - 1) vector p, has-bit (2 ^ D - 1) p (ones D p (omega arith) (omega arith) ∙ lt-ltb p D i)) (one-bit (λ x. eqb (bitXor 1 x) 1 ≡ not (eqb x 1)) refl refl (bitAt vector p) (bit-lt vector p))
@@ -120,7 +121,7 @@ module _ {b : List ℕ} {s t c vector left : ℕ} (may : MaySend b s t c vector)
   passed : pass-answer x h k n b₁ ≡ answerOfPass b c s 0 (receive (view b) t) (passOf b s t vector)
   passed = got ∙ narrow-tries b t c 7 0 0 narrow ∙ tries-pass may
 
-  pub maze-channel : x ≡ 0 → k < 8
+  pub maze-channel : x ≡ 0 → k < channels
   maze-channel z = receive-small (view b) t k (pass-channel b c s t (receive (view b) t) (passOf b s t vector) passed z)
 
   pub maze-taken : x ≡ 0 → {b₂ : List ℕ} → b₂ ≡ putReceiver b₁ t k c → pass-answer x h k n b₂ ≡ searched b s t c 0 vector

@@ -8,7 +8,7 @@ use Prim.Native.Nat.{ℕ, _+_, _-_, _*_, _/_, _%_, _^_, _≤_, _<_}
 use lib.Dec.{leb, ltb}
 use lib.ListN.{length}
 use Rattle.cube.specs.Bits.{has}
-use Rattle.cube.specs.Cube.{largestDimension, portCount, channels}
+use Rattle.cube.specs.Cube.{largestDimension, portCount, channels, NodeOf, VectorOf}
 use Rattle.cube.specs.Helical.{helical, portsOf}
 use Rattle.paths.specs.Network.{Network}
 use Rattle.paths.specs.Bound.{waysFrom}
@@ -16,7 +16,7 @@ use Rattle.paths.specs.Search.{trying, arriving}
 use Rattle.layout.specs.Layout.{tableLength, dimensionAt}
 use Rattle.table.specs.View.{View, view, receive, net}
 use Rattle.answers.specs.SendOnTable.{freeIn, PassAnswer, pass-answer}
-use Rattle.answers.specs.PassAnswer.{answerOfPass, arrivalAfter, hopsLeft}
+use Rattle.answers.specs.PassOnBytes.{answerOfPass, arrivalAfter, hopsLeft}
 
 -- the largest distance to a target among the nodes behind the ports of a list
 unfoldable pub farthest : Network → ℕ → ℕ → List ℕ → ℕ
@@ -64,15 +64,15 @@ Unpacked x number hops receive scouts = (b : List ℕ) → pass-answer number ho
 pub record SearchPre (b : List ℕ) (t c n a : ℕ) : Type 0 where
   pub bytes : length b ≡ tableLength
   pub fits : dimensionAt b ≤ largestDimension
-  pub node : n < 2 ^ dimensionAt b
-  pub target : t < 2 ^ dimensionAt b
+  pub node : NodeOf (dimensionAt b) n
+  pub target : NodeOf (dimensionAt b) t
   pub port : a < portCount
   pub circuit : c ≢ 0
   pub small : c < 65536
 
 pub record MayTry (b : List ℕ) (t c n vector a h s : ℕ) : Type 0 where
   pub here : SearchPre b t c n a
-  pub ports : vector < 2 ^ dimensionAt b
+  pub ports : VectorOf (dimensionAt b) vector
   pub hops : h + 1 + farthestAfter b t n vector < 65536
   pub room : s + length (portsOf portCount vector) * (1 + waysFrom 1 (farthestAfter b t n vector)) < 2 ^ 32
 

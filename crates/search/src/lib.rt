@@ -23,9 +23,9 @@ fn enabled_ports(t: &[u8], n: Node, vector: u16) -> u16
     vector & table::enable_bits(t, n)
 }
 
-// A pass's answer in one number, so that it goes back from hop to hop in a register: the scouts sent, where no path is free; NO_CHANNEL more, where one is but no
-// receive channel; and where it is acknowledged, ACKNOWLEDGED more, and NO_CHANNEL times 8 * hops + receive channel.
-const NO_CHANNEL: u64 = 4294967296;
+// A pass's answer in one number, so that it goes back from hop to hop in a register: the scouts sent, where no path is free; RECEIVE_REJECTION more, where one is but no
+// receive channel; and where it is acknowledged, ACKNOWLEDGED more, and RECEIVE_REJECTION times 8 * hops + receive channel.
+const RECEIVE_REJECTION: u64 = 4294967296;
 
 const ACKNOWLEDGED: u64 = 8589934592;
 
@@ -34,15 +34,15 @@ fn acknowledged(hops: u16, receive: u16, scouts: u32) -> u64
     ensures { λ r. ⌜ r ≡ 8589934592 + scouts + 4294967296 * (channels * hops + receive) ⌝ }
 {
     let place = 8 * (hops as u64) + receive as u64;
-    ACKNOWLEDGED + scouts as u64 + NO_CHANNEL * place
+    ACKNOWLEDGED + scouts as u64 + RECEIVE_REJECTION * place
 }
 
 // The parts of that number.
 fn unpacked(answer: u64) -> Opened
     ensures { λ r. ⌜ Unpacked answer (r .number) (r .hops) (r .receive) (r .scouts) ⌝ }
 {
-    let scouts = (answer % NO_CHANNEL) as u32;
-    if answer < NO_CHANNEL {
+    let scouts = (answer % RECEIVE_REJECTION) as u32;
+    if answer < RECEIVE_REJECTION {
         return Opened {
             number: refusal::ROUTE_REJECTED,
             hops: 0,
@@ -58,7 +58,7 @@ fn unpacked(answer: u64) -> Opened
             scouts,
         };
     }
-    let place = answer / NO_CHANNEL - 2;
+    let place = answer / RECEIVE_REJECTION - 2;
     let hops = (place / 8 % 65536) as u16;
     let receive = (place % 8) as u16;
     Opened {
@@ -133,7 +133,7 @@ fn try_in_turn(
                     return got;
                 }
                 table::set_owner(t, at, p, Circuit(0));
-                if got >= NO_CHANNEL {
+                if got >= RECEIVE_REJECTION {
                     return got;
                 }
                 sent = got as u32;
@@ -163,8 +163,8 @@ fn arrive(
 {
     if at.0 == target.0 {
         let receive = table::free_channel(t, at);
-        if receive == 8 {
-            NO_CHANNEL + scouts as u64
+        if receive == cube::NO_CHANNEL {
+            RECEIVE_REJECTION + scouts as u64
         } else {
             acknowledged(hops, receive, scouts)
         }
@@ -189,7 +189,17 @@ pub fn maze(
     ensures { λ r. ⌜ pass-answer (r .number) (r .hops) (r .receive) (r .scouts) (now (t .exit)) ≡ searched (now (t .entry)) (source .0) (target .0) (c .0) 0 vector ⌝ }
 {
     let ports = enabled_ports(t, source, vector);
-    let answer = try_in_turn(t, source, target, c, ports, Port(7), 0, 0, first);
+    let answer = try_in_turn(
+        t,
+        source,
+        target,
+        c,
+        ports,
+        Port(cube::SEND_ARRIVAL),
+        0,
+        0,
+        first,
+    );
     let got = unpacked(answer);
     if got.number == refusal::ACCEPTED {
         table::set_receiver(t, target, got.receive, c);

@@ -1,2 +1,2 @@
 -- What a send makes of the answer of its search.
-pub mod Judged
+pub mod ByWaiting

@@ -3,7 +3,7 @@ ghost use mathlib.Core.Path.{_≡_};
 ghost use mathlib.Core.Logic.{_≢_};
 ghost use Rattle.cube.specs.Helical.{FirstPorts};
 ghost use Rattle.answers.specs.SendOnTable.{pass-answer};
-ghost use Rattle.answers.specs.SendAnswer.{MaySend, searched, sends};
+ghost use Rattle.answers.specs.SendAnswer.{MaySend, searched, sentOnBytes};
 use answers::Opened;
 use common::refusal;
 use cube::Circuit;
@@ -48,7 +48,7 @@ pub fn send(
 ) -> Opened
     requires { ⌜ MaySend (now t) (source .0) (target .0) (c .0) vector ⌝ }
     requires { ⌜ vector ≢ 0 ⌝ }
-    ensures { λ r. ⌜ pass-answer (r .number) (r .hops) (r .receive) (r .scouts) (now (t .exit)) ≡ sends (now (t .entry)) (source .0) (target .0) (c .0) routing vector ⌝ }
+    ensures { λ r. ⌜ pass-answer (r .number) (r .hops) (r .receive) (r .scouts) (now (t .exit)) ≡ sentOnBytes (now (t .entry)) (source .0) (target .0) (c .0) routing vector ⌝ }
 {
     let first = cube::FIRST_PORTS;
     let answer = search_by_type(t, source, target, c, routing, vector, &first);

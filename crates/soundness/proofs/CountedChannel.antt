@@ -10,7 +10,7 @@ use lib.ListN.{length}
 use borrow.Author.Tests.{eqb-true}
 use Rattle.common.specs.Lists.{_∈_}
 use Rattle.common.proofs.Tests.{below-or, is-false, both, and, either, or-left, or-right}
-use Rattle.cube.specs.Cube.{sourceOf}
+use Rattle.cube.specs.Cube.{largestDimension, portCount, channels, NodeOf, sourceOf}
 use Rattle.cube.proofs.Ports.{most-nodes}
 use Rattle.paths.specs.Network.{Network, Path, Link, links, hasLink, Exactly}
 use Rattle.paths.specs.Permitted.{Permitted}
@@ -22,9 +22,9 @@ use Rattle.table.specs.TableContracts.{linkCount}
 use Rattle.table.specs.View.{View, shapeOf, net, heldBy}
 use Rattle.circuit_path.specs.CircuitSound.{endFor, CircuitSound}
 use Rattle.soundness.specs.Sound.{Sound}
-use Rattle.circuit_hops.specs.Marks.{Seen}
+use Rattle.circuit_hops.specs.Seen.{Seen}
 use Rattle.circuit_hops.specs.CountHops.{FollowedPath, Taken}
-use Rattle.soundness.specs.Counting.{Earlier, ReceivedBefore, Standing, Counting, Counts}
+use Rattle.soundness.specs.Counting.{Earlier, ReceivedBefore, CircuitFollowed, Counting, Counts}
 use Rattle.soundness.proofs.LinkCount.{links-added}
 use Rattle.soundness.proofs.Soundness.{receive-stands}
 use Rattle.circuit_hops.proofs.Taken.{positive}
@@ -37,7 +37,7 @@ length-links N s (p ∷ w) = ap suc (length-links N (N .next s p) w)
 
 module _ {v : View} where
   -- a receive channel that a circuit holds
-  module _ {c n k hops : ℕ} {m after : List ℕ} (fits : v .dimension ≤ 8) (held : c ≡ v .receiver n k) (some : c ≢ 0) (l : k < 8) (node : n < 2 ^ v .dimension) (armed : v .armed n k ≡ true)
+  module _ {c n k hops : ℕ} {m after : List ℕ} (fits : v .dimension ≤ largestDimension) (held : c ≡ v .receiver n k) (some : c ≢ 0) (l : k < channels) (node : NodeOf (v .dimension) n) (armed : v .armed n k ≡ true)
       (taken : Taken v c n m after hops) where
     here : ReceivedBefore v (8 * n + k + 1) c
     unfolding ReceivedBefore
@@ -95,7 +95,7 @@ module _ {v : View} where
       last : {n' k' : ℕ} → Earlier (8 * n + k + 1) n' k' → Earlier (8 * n + k) n' k' ⊎ ((n' ≡ n) × (k' ≡ k))
       last {n'} {k'} e = ⊎-elim (λ b. inl (e .0, b)) (λ b. inr (let z : 8 * n' + k' ≡ 8 * n + k = omega (arith, e .1) in (omega (arith, e .0), omega (arith, e .0)))) (below-or (8 * n + k) (8 * n' + k'))
 
-      older : {n' k' : ℕ} → Earlier (8 * n + k) n' k' → v .receiver n' k' ≢ 0 → Standing v on n' k'
+      older : {n' k' : ℕ} → Earlier (8 * n + k) n' k' → v .receiver n' k' ≢ 0 → CircuitFollowed v on n' k'
       older {n'} {k'} e z =
           let s = x .stands n' k' e z in
           record {
@@ -117,7 +117,7 @@ module _ {v : View} where
               let r = both (heldBy v (v .receiver n' k') a b) (x .on a b || hasLink way a b) o in
               ⊎-elim (λ y. and (r .0) y) (λ y. absurd (fresh (n', k', e, sym (eqb-true _ _ (r .0)) ∙ on-way a b y))) (either (x .on a b) (hasLink way a b) (r .1))
 
-      newest : Standing v on n k
+      newest : CircuitFollowed v on n k
       newest =
           record {
             node = node;
@@ -150,7 +150,7 @@ module _ {v : View} where
               unfold Permitted Seen On in
               let q = unfolded-port (shapeOf v) fits refl p .0 (o .0) in
               let mine = own (sourceOf c) p (on-first (net v) (sourceOf c) p w) in
-              let low : p < 8 = omega arith in
+              let low : p < portCount = omega arith in
               (p, low, mine, taken .marks got (sourceOf c) p (omega (arith, source-inside, most-nodes fits)) low .2 refl mine)
 
       still-seen : (d : ℕ) → sourceOf d < 256 → Seen v m d → Seen v after d
@@ -163,7 +163,7 @@ module _ {v : View} where
             on = on;
             count = count;
             passed = passed;
-            stands = λ n' k' e z. ⊎-elim (λ o. older o z) (λ o. subst (λ (y : ℕ). Standing v on y k') (sym (o .0)) (subst (λ (y : ℕ). Standing v on n y) (sym (o .1)) newest)) (last e);
+            stands = λ n' k' e z. ⊎-elim (λ o. older o z) (λ o. subst (λ (y : ℕ). CircuitFollowed v on y k') (sym (o .0)) (subst (λ (y : ℕ). CircuitFollowed v on n y) (sym (o .1)) newest)) (last e);
             once = λ n' k' m' j' e f q z. one n' k' m' j' (last e) (last f) q z;
             marks = λ n' k' e z. ⊎-elim (λ o. still-seen _ (older-source o z) (x .marks n' k' o z)) (λ o. subst (Seen v after) (held ∙ sym (same-receiver o)) at-source) (last e);
             marks-received = λ s p a b e. ⊎-elim (λ o. wider v _ _ _ (omega arith) (x .marks-received s p a b o)) (λ o. subst (ReceivedBefore v (8 * n + k + 1)) (sym o) here) (taken .marks got s p a b .0 e);

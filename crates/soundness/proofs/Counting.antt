@@ -8,12 +8,13 @@ use Prim.Native.Nat.{ℕ, _+_, _*_, _≤_, _<_}
 use native.Mathlib.Omega.{arith}
 use native.Mathlib.Nat.{add-zero, add-assoc}
 use lib.ListN.{replicate, getD-replicate}
+use Rattle.cube.specs.Cube.{channels}
 use Rattle.common.proofs.Tests.{below-or, clash}
 use Rattle.cube.specs.Bits.{has}
 use Rattle.cube.proofs.Bits.{zero-has}
 use Rattle.table.specs.View.{View}
 use Rattle.soundness.specs.Sound.{Sound}
-use Rattle.circuit_hops.specs.Marks.{seenAt}
+use Rattle.circuit_hops.specs.Seen.{seenAt}
 use Rattle.soundness.specs.Counting.{Earlier, ReceivedBefore, Counting, Counts}
 use Rattle.soundness.proofs.LinkCount.{links-most, links-none}
 
@@ -36,7 +37,7 @@ counting-none v =
 
 module _ {v : View} where
   -- receive channels that nobody holds are passed over
-  pub counts-skip : {i j : ℕ} {m : List ℕ} → i ≤ j → ((n k : ℕ) → k < 8 → i ≤ 8 * n + k → 8 * n + k < j → v .receiver n k ≡ 0) → Counts v i j m m 0
+  pub counts-skip : {i j : ℕ} {m : List ℕ} → i ≤ j → ((n k : ℕ) → k < channels → i ≤ 8 * n + k → 8 * n + k < j → v .receiver n k ≡ 0) → Counts v i j m m 0
   counts-skip {i} {j} {m} l free =
       record { counts = λ k h x. subst (λ (y : ℕ). Counting v j y m) (sym (add-zero h)) (on h x); sound = λ s h x. omega arith; most = omega arith }
     where

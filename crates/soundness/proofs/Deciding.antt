@@ -16,7 +16,7 @@ use Rattle.common.proofs.Lists.{keep-nil}
 use Rattle.common.proofs.Every.{decide₂}
 use Rattle.common.proofs.Tests.{same?, below-or, clash, is-false, both, both-below, and, decided-no}
 use Rattle.cube.specs.Bits.{has}
-use Rattle.cube.specs.Cube.{sourceOf}
+use Rattle.cube.specs.Cube.{largestDimension, portCount, channels, NodeOf, sourceOf}
 use Rattle.cube.proofs.Bits.{high-has, no-bit-above, no-ports}
 use Rattle.paths.specs.Network.{Path, links}
 use Rattle.paths.specs.Permitted.{Permitted}
@@ -33,7 +33,7 @@ use Rattle.layout.proofs.Entries.{enabled-has, mask-has}
 use Rattle.circuit_path.specs.CircuitSound.{endFor, CircuitSound}
 use Rattle.soundness.specs.Sound.{Nowhere, Sound}
 use Rattle.soundness.specs.SoundTest.{soundTest}
-use Rattle.soundness.specs.Counting.{Earlier, ReceivedBefore, Standing, Counting, Counts, Frees}
+use Rattle.soundness.specs.Counting.{Earlier, ReceivedBefore, CircuitFollowed, Counting, Counts, Frees}
 use Rattle.soundness.proofs.Soundness.{placed, link-stands}
 use Rattle.soundness.proofs.LinkCount.{links-same, links-more, links-parts}
 use Rattle.soundness.proofs.Passing.{off, unarmed, view-framed, decided, same-answer}
@@ -41,31 +41,31 @@ use Rattle.soundness.proofs.Counting.{counting-none}
 use Rattle.circuit_hops.proofs.Ways.{shown}
 
 -- what the cube lacks is off
-absent-off : (b : List ℕ) → EnablesFit b (dimensionAt b) → (n p : ℕ) → n < 256 → ((n < 2 ^ view b .dimension) × (p < view b .dimension) → ⊥) → view b .enabled n p ≡ false
+absent-off : (b : List ℕ) → EnablesFit b (dimensionAt b) → (n p : ℕ) → n < 256 → ((NodeOf (view b .dimension) n) × (p < view b .dimension) → ⊥) → view b .enabled n p ≡ false
 unfolding view EnablesFit
 absent-off b fit n p i out = off b (dimensionAt b) n p i (fit n i) (is-false _ (λ e. out (both-below e)))
 
-absent-unarmed : (b : List ℕ) → ArmsFit b (dimensionAt b) → (n k : ℕ) → (n < 2 ^ view b .dimension → ⊥) → view b .armed n k ≡ false
+absent-unarmed : (b : List ℕ) → ArmsFit b (dimensionAt b) → (n k : ℕ) → (NodeOf (view b .dimension) n → ⊥) → view b .armed n k ≡ false
 unfolding view
 absent-unarmed b arms n k out = ⊎-elim (λ l. absurd (out l)) (λ l. unarmed b (dimensionAt b) n k arms l) (below-or (2 ^ dimensionAt b) n)
 
 -- the answer whether the held channels of a node are armed
-module _ (b : List ℕ) (n : ℕ) {answer : Bool} (d : Decides ((k : ℕ) → k < 8 → receiverAt b n k ≢ 0 → armedAt b n k ≡ true) answer) where
+module _ (b : List ℕ) (n : ℕ) {answer : Bool} (d : Decides ((k : ℕ) → k < channels → receiverAt b n k ≢ 0 → armedAt b n k ≡ true) answer) where
   pub unarmed-fails : answer ≡ false → Sound (view b) → ⊥
   unfolding view
   unarmed-fails e s = d .fails e (λ k l z. s .held-armed n k z)
 
-  pub armed-held : answer ≡ true → (k : ℕ) → k < 8 → view b .receiver n k ≢ 0 → view b .armed n k ≡ true
+  pub armed-held : answer ≡ true → (k : ℕ) → k < channels → view b .receiver n k ≢ 0 → view b .armed n k ≡ true
   unfolding view
   armed-held e = d .holds e
 
-  pub absent-free : answer ≡ true → ArmsFit b (dimensionAt b) → 2 ^ dimensionAt b ≤ n → (k : ℕ) → k < 8 → view b .receiver n k ≡ 0
+  pub absent-free : answer ≡ true → ArmsFit b (dimensionAt b) → 2 ^ dimensionAt b ≤ n → (k : ℕ) → k < channels → view b .receiver n k ≡ 0
   unfolding view
   absent-free e arms l k i = ⊎-elim (λ z. z) (λ z. absurd (clash (d .holds e k i z) (unarmed b (dimensionAt b) n k arms l))) (same? (receiverAt b n k) 0)
 
 -- all receive channels were looked at, and all held links are enabled and counted
-module _ (b : List ℕ) (d : dimensionAt b ≤ 8) (fit : EnablesFit b (dimensionAt b)) (arms : ArmsFit b (dimensionAt b)) {hops free : ℕ} {m : List ℕ} (x : Counting (view b) 2048 hops m)
-    (on : (n p : ℕ) → n < 256 → p < 8 → view b .owner n p ≢ 0 → view b .enabled n p ≡ true) (counted : linkCount (heldBy (view b) 0) 2048 ≡ free) where
+module _ (b : List ℕ) (d : dimensionAt b ≤ largestDimension) (fit : EnablesFit b (dimensionAt b)) (arms : ArmsFit b (dimensionAt b)) {hops free : ℕ} {m : List ℕ} (x : Counting (view b) 2048 hops m)
+    (on : (n p : ℕ) → n < 256 → p < portCount → view b .owner n p ≢ 0 → view b .enabled n p ≡ true) (counted : linkCount (heldBy (view b) 0) 2048 ≡ free) where
   v : View
   v = view b
 
@@ -81,17 +81,17 @@ module _ (b : List ℕ) (d : dimensionAt b ≤ 8) (fit : EnablesFit b (dimension
   held-count : linkCount held 2048 + free ≡ 2048
   held-count = unfold held in omega (arith, links-parts (heldBy (view b) 0), counted)
 
-  small : view b .dimension ≤ 8
+  small : view b .dimension ≤ largestDimension
   small = omega (arith, shown b)
 
   -- a place in the table is before the last one
-  earlier : (n k : ℕ) → n < 256 → k < 8 → Earlier 2048 n k
+  earlier : (n k : ℕ) → n < 256 → k < channels → Earlier 2048 n k
   earlier n k i l = (l, omega arith)
 
   in-table : (n k : ℕ) → view b .receiver n k ≢ 0 → Earlier 2048 n k
   in-table n k h = ⊎-elim (λ i. earlier n k (i .0) (i .1)) (λ o. absurd (h (view-framed b .no-receive n k o))) (placed n k)
 
-  stands : (n k : ℕ) → view b .receiver n k ≢ 0 → Standing (view b) (x .on) n k
+  stands : (n k : ℕ) → view b .receiver n k ≢ 0 → CircuitFollowed (view b) (x .on) n k
   stands n k h = x .stands n k (in-table n k h) h
 
   -- in a sound table every held link is on
@@ -110,7 +110,7 @@ module _ (b : List ℕ) (d : dimensionAt b ≤ 8) (fit : EnablesFit b (dimension
       found : CircuitSound (view b) (view b .owner n p) → x .on n p ≡ true
       found z =
           subst (λ (c : ℕ). (z : CircuitSound (view b) c) → endFor (view b) c (z .path) ≡ endFor (view b) (view b .owner n p) (z₀ .path) → heldBy (view b) c n p ≡ true → x .on n p ≡ true)
-          (z .receives) (on-way (endFor (view b) (view b .owner n p) (z .path)) (z .channel) (λ y. some (sym (z .receives) ∙ y))) z refl (eq-eqb (view b .owner n p) (view b .owner n p) refl)
+          (z .receives) (on-way (endFor (view b) (view b .owner n p) (z .path)) (z .receive) (λ y. some (sym (z .receives) ∙ y))) z refl (eq-eqb (view b .owner n p) (view b .owner n p) refl)
         where
           z₀ : CircuitSound (view b) (view b .owner n p)
           z₀ = z
@@ -122,7 +122,7 @@ module _ (b : List ℕ) (d : dimensionAt b ≤ 8) (fit : EnablesFit b (dimension
     unfolding ReceivedBefore
     received n p h = let r = x .passed n p (all n p h) .3 in (r .0, r .1, r .3, λ z. h (sym (r .3) ∙ z))
 
-    link-inside : (n p : ℕ) → view b .owner n p ≢ 0 → (n < 2 ^ view b .dimension) × (p < view b .dimension)
+    link-inside : (n p : ℕ) → view b .owner n p ≢ 0 → (NodeOf (view b .dimension) n) × (p < view b .dimension)
     link-inside n p h =
         let r = received n p h in
         let t = stands (r .0) (r .1) (r .3) in
@@ -142,7 +142,7 @@ module _ (b : List ℕ) (d : dimensionAt b ≤ 8) (fit : EnablesFit b (dimension
           path = t .path;
           permitted = subst (λ (y : ℕ). Permitted (net (view b)) (sourceOf c) (ports (shapeOf (view b))) y (t .path)) (sym there) (t .permitted);
           exactly = record { all = λ m q o. both _ (x .on m q) (t .exactly .all m q o) .0; only = λ m q o. t .exactly .only m q (and o (all m q (λ z. h (sym (eqb-true _ c o) ∙ z)))) };
-          channel = k;
+          receive = k;
           small = in-table n k h .0;
           receives = ap (λ y. view b .receiver y k) there;
           once = λ m j e. let r = x .once m j n k (in-table m j (λ z. h (sym e ∙ z))) (in-table n k h) e (λ z. h (sym e ∙ z)) in (r .0 ∙ sym there, r .1);
@@ -151,7 +151,7 @@ module _ (b : List ℕ) (d : dimensionAt b ≤ 8) (fit : EnablesFit b (dimension
         c : ℕ
         c = view b .receiver n k
 
-        t : Standing (view b) (x .on) n k
+        t : CircuitFollowed (view b) (x .on) n k
         t = stands n k h
 
         there : endFor (view b) c (t .path) ≡ n
@@ -173,11 +173,11 @@ module _ (b : List ℕ) (d : dimensionAt b ≤ 8) (fit : EnablesFit b (dimension
         zero-of : (y : ℕ) → (y ≢ 0 → ⊥) → y ≡ 0
         zero-of y h = ⊎-elim (λ z. z) (λ z. absurd (h z)) (same? y 0)
 
-        enabled-off : (n p : ℕ) → ((n < 2 ^ view b .dimension) × (p < view b .dimension) → ⊥) → view b .enabled n p ≡ false
+        enabled-off : (n p : ℕ) → ((NodeOf (view b .dimension) n) × (p < view b .dimension) → ⊥) → view b .enabled n p ≡ false
         enabled-off n p out =
-            ⊎-elim (λ (i : (n < 256) × (p < 8)). absent-off b fit n p (i .0) out) (λ o. view-framed b .no-link n p o .0) (placed n p)
+            ⊎-elim (λ (i : (n < 256) × (p < portCount)). absent-off b fit n p (i .0) out) (λ o. view-framed b .no-link n p o .0) (placed n p)
 
-        unarmed-at : (n k : ℕ) → (n < 2 ^ view b .dimension → ⊥) → view b .armed n k ≡ false
+        unarmed-at : (n k : ℕ) → (NodeOf (view b .dimension) n → ⊥) → view b .armed n k ≡ false
         unarmed-at n k out = absent-unarmed b arms n k out
 
         numbers : (c : ℕ) → c ≢ 0 → Nowhere (view b) c ⊎ CircuitSound (view b) c
@@ -203,7 +203,7 @@ module _ (b : List ℕ) (d : dimensionAt b ≤ 8) (fit : EnablesFit b (dimension
       equal : linkCount (x .on) 2048 ≤ linkCount held 2048 → linkCount held 2048 ≤ linkCount (x .on) 2048 → hops + free ≡ 2048
       equal l k = omega (arith, held-count, x .count)
 
-      in-place : (n p : ℕ) → view b .owner n p ≢ 0 → (n < 256) × (p < 8)
+      in-place : (n p : ℕ) → view b .owner n p ≢ 0 → (n < 256) × (p < portCount)
       in-place n p h = ⊎-elim (λ i. i) (λ o. absurd (h (view-framed b .no-link n p o .1))) (placed n p)
 
 -- what the two masks must have in a sound table
@@ -216,7 +216,7 @@ module _ (b : List ℕ) (bytes : (i : ℕ) → getD b i 0 < 256) (s : Sound (vie
   unfolding EnablesFit enableLimit enableBits view
   sound-enables n i = go (ltb n (2 ^ dimensionAt b)) refl
     where
-      off-at : (p : ℕ) → ((n < 2 ^ dimensionAt b) × (p < dimensionAt b) → ⊥) → has (enableBits b n) p ≡ false
+      off-at : (p : ℕ) → ((NodeOf (dimensionAt b) n) × (p < dimensionAt b) → ⊥) → has (enableBits b n) p ≡ false
       off-at p out = ⊎-elim (λ l. sym (enabled-has b n p i l) ∙ s .absent-link n p out .0) (λ l. high-has 8 (enableBits b n) p (bytes (enablePlace n)) l) (below-or 8 p)
 
       go : (t : Bool) → ltb n (2 ^ dimensionAt b) ≡ t → enableBits b n < cond t (2 ^ dimensionAt b) 1
@@ -224,7 +224,7 @@ module _ (b : List ℕ) (bytes : (i : ℕ) → getD b i 0 < 256) (s : Sound (vie
       go false e = no-bit-above 0 (enableBits b n) (λ p l. off-at p (λ h. clash (lt-ltb n _ (h .0)) e))
 
 -- the answer of the test: whatever refuses the table, and the sum
-module _ (b : List ℕ) (d : dimensionAt b ≤ 8) where
+module _ (b : List ℕ) (d : dimensionAt b ≤ largestDimension) where
   pub refuse : (Sound (view b) → ⊥) → false ≡ soundTest (view b)
   refuse h = same-answer false _ (decided-no h) (decided b d)
 

@@ -10,6 +10,7 @@ use native.Mathlib.Nat.{add-zero}
 use lib.Dec.{eqb}
 use lib.ListN.{length}
 use borrow.Author.Tests.{eq-eqb}
+use Rattle.cube.specs.Cube.{portCount}
 use Rattle.common.specs.Lists.{keep, from}
 use Rattle.common.proofs.From.{count-yes, length-from}
 use Rattle.common.proofs.Lists.{length-keep}
@@ -29,10 +30,10 @@ count-run f i (suc k) h =
     omega (arith, one, ap (λ x. length (keep f (from 0 x))) on)
 
 -- what a node's links are asked
-abbrev Covers : View → ℕ → Type 0
-Covers v n = (p : ℕ) → p < 8 → v .owner n p ≢ 0 → v .enabled n p ≡ true
+abbrev HeldEnabled : View → ℕ → Type 0
+HeldEnabled v n = (p : ℕ) → p < portCount → v .owner n p ≢ 0 → v .enabled n p ≡ true
 
-pub frees-none : {v : View} {n₀ n₁ : ℕ} (n : ℕ) → n₀ < n₁ → (Covers v n → ⊥) → Frees v n₀ n₁ 4096
+pub frees-none : {v : View} {n₀ n₁ : ℕ} (n : ℕ) → n₀ < n₁ → (HeldEnabled v n → ⊥) → Frees v n₀ n₁ 4096
 frees-none n l h =
     record {
       enabled = λ k. absurd (omega arith);
@@ -41,12 +42,12 @@ frees-none n l h =
       most = omega arith;
     }
 
-pub frees-all : (b : List ℕ) {n₀ n₁ free : ℕ} → n₀ < n₁ → free < 4096 → ((n p : ℕ) → n₀ ≤ n → n < n₁ → p < 8 → view b .owner n p ≢ 0 → view b .enabled n p ≡ true)
+pub frees-all : (b : List ℕ) {n₀ n₁ free : ℕ} → n₀ < n₁ → free < 4096 → ((n p : ℕ) → n₀ ≤ n → n < n₁ → p < portCount → view b .owner n p ≢ 0 → view b .enabled n p ≡ true)
     → freeCount b (8 * n₀) + free ≡ freeCount b (8 * n₁) → Frees (view b) n₀ n₁ free
 frees-all b l k h e = record { enabled = λ z. h; counted = λ z. unfold freeCount view in e; sound = λ s. k; most = omega arith }
 
 -- sixteen nodes that hold nothing
-pub frees-clear : (b : List ℕ) (n : ℕ) → ((m p : ℕ) → n ≤ m → m < n + 16 → p < 8 → ownerAt b m p ≡ 0) → Frees (view b) n (n + 16) 128
+pub frees-clear : (b : List ℕ) (n : ℕ) → ((m p : ℕ) → n ≤ m → m < n + 16 → p < portCount → ownerAt b m p ≡ 0) → Frees (view b) n (n + 16) 128
 frees-clear b n h = frees-all b (omega arith) (omega arith) (λ m p l k i z. absurd (z (unfold view in h m p l k i))) free
   where
     free : freeCount b (8 * n) + 128 ≡ freeCount b (8 * (n + 16))

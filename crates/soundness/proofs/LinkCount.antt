@@ -10,6 +10,7 @@ use native.Mathlib.Nat.{zero-add, add-zero}
 use lib.Dec.{eqb}
 use lib.ListN.{length, length-append}
 use borrow.Author.Tests.{eqb-true, eq-eqb}
+use Rattle.cube.specs.Cube.{portCount}
 use Rattle.common.specs.Lists.{_∈_, keep, from, Pairwise}
 use Rattle.common.proofs.Lists.{keep-yes, keep-no, keep-append, keep-same, keep-none, length-parts, length-keep}
 use Rattle.common.proofs.From.{from-mem, mem-from, from-below, from-split, length-from}
@@ -59,20 +60,20 @@ kept-one-more f g k i l off on same = go (k - suc i) (omega arith)
 -- the same of links
 module _ (f g : ℕ → ℕ → Bool) where
   -- one link more
-  pub link-more : (n p : ℕ) → n < 256 → p < 8 → f n p ≡ false → g n p ≡ true → ((m q : ℕ) → ((m ≡ n) × (q ≡ p) → ⊥) → f m q ≡ g m q) → linkCount g 2048 ≡ suc (linkCount f 2048)
+  pub link-more : (n p : ℕ) → n < 256 → p < portCount → f n p ≡ false → g n p ≡ true → ((m q : ℕ) → ((m ≡ n) × (q ≡ p) → ⊥) → f m q ≡ g m q) → linkCount g 2048 ≡ suc (linkCount f 2048)
   unfolding linkCount
   link-more n p h l off on same =
       kept-one-more (λ i. f (i / 8) (i % 8)) (λ i. g (i / 8) (i % 8)) 2048 (8 * n + p) (omega arith) (ap₂ f (node n p l) (port n p l) ∙ off) (ap₂ g (node n p l) (port n p l) ∙ on)
       (λ j k. same (j / 8) (j % 8) (λ e. k (omega arith)))
     where
-      node : (n p : ℕ) → p < 8 → (8 * n + p) / 8 ≡ n
+      node : (n p : ℕ) → p < portCount → (8 * n + p) / 8 ≡ n
       node n p l = omega arith
 
-      port : (n p : ℕ) → p < 8 → (8 * n + p) % 8 ≡ p
+      port : (n p : ℕ) → p < portCount → (8 * n + p) % 8 ≡ p
       port n p l = omega arith
 
   -- a test of links that passes no more often than one that it implies
-  pub links-same : ((m q : ℕ) → f m q ≡ true → g m q ≡ true) → linkCount g 2048 ≤ linkCount f 2048 → (m q : ℕ) → m < 256 → q < 8 → g m q ≡ true → f m q ≡ true
+  pub links-same : ((m q : ℕ) → f m q ≡ true → g m q ≡ true) → linkCount g 2048 ≤ linkCount f 2048 → (m q : ℕ) → m < 256 → q < portCount → g m q ≡ true → f m q ≡ true
   unfolding linkCount
   links-same h l m q i j t =
       sym (ap₂ f node port) ∙ kept-same (λ i. f (i / 8) (i % 8)) (λ i. g (i / 8) (i % 8)) (from 0 2048) (λ x k e. h (x / 8) (x % 8) e) l (8 * m + q) (mem-from 0 2048 (8 * m + q) (omega arith) (omega arith)) (ap₂ g node port ∙ t)

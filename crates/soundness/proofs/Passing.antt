@@ -9,6 +9,7 @@ use native.Mathlib.Omega.{arith}
 use lib.Dec.{ltb, leb}
 use lib.ListN.{length}
 use borrow.Author.Tests.{ltb-false, eq-eqb, ne-eqb, le-leb, lt-leb}
+use Rattle.cube.specs.Cube.{largestDimension, portCount, channels}
 use Rattle.common.specs.Decides.{Decides}
 use Rattle.common.specs.Tests.{refusal, test}
 use Rattle.common.proofs.Tests.{same?, below-or, clash, both, and, refused, passed, accepted}
@@ -23,7 +24,8 @@ use Rattle.table.specs.View.{View, view}
 use Rattle.layout.proofs.Entries.{inside}
 use Rattle.soundness.specs.Sound.{Sound}
 use Rattle.soundness.specs.SoundTest.{linkTest, receiveTest, soundTest}
-use Rattle.soundness.specs.TableTests.{tableTests, TableAnswer}
+use Rattle.soundness.specs.TestContracts.{TableAnswer}
+use Rattle.soundness.specs.TableTests.{tableTests}
 use Rattle.soundness.proofs.Soundness.{Framed, EntriesPass, sound-entries, entries-sound}
 
 -- a link that the cube lacks is off where the enable bits of its node are below their limit
@@ -48,18 +50,18 @@ unarmed b D n k fit l = go (inTable n k) refl
 module _ (v : View) where
   all-pass : EntriesPass v → soundTest v ≡ true
   unfolding soundTest
-  all-pass e = all 256 (λ n. every 8 (linkTest v n) && every 8 (receiveTest v n)) (λ n l.
+  all-pass e = all 256 (λ n. every portCount (linkTest v n) && every channels (receiveTest v n)) (λ n l.
       and (all 8 (linkTest v n) (λ p h. e .links-pass n p l h)) (all 8 (receiveTest v n) (λ k h. e .receives-pass n k l h)))
 
   pass-all : soundTest v ≡ true → EntriesPass v
   unfolding soundTest
   pass-all t = record { links-pass = λ n p l h. at 8 (linkTest v n) (node n l .0) p h; receives-pass = λ n k l h. at 8 (receiveTest v n) (node n l .1) k h }
     where
-      node : (n : ℕ) → n < 256 → (every 8 (linkTest v n) ≡ true) × (every 8 (receiveTest v n) ≡ true)
-      node n l = both (every 8 (linkTest v n)) (every 8 (receiveTest v n)) (at 256 (λ n. every 8 (linkTest v n) && every 8 (receiveTest v n)) t n l)
+      node : (n : ℕ) → n < 256 → (every portCount (linkTest v n) ≡ true) × (every channels (receiveTest v n) ≡ true)
+      node n l = both (every portCount (linkTest v n)) (every channels (receiveTest v n)) (at 256 (λ n. every portCount (linkTest v n) && every channels (receiveTest v n)) t n l)
 
   -- so it answers whether the table is sound
-  pub tested : v .dimension ≤ 8 → Framed v → Decides (Sound v) (soundTest v)
+  pub tested : v .dimension ≤ largestDimension → Framed v → Decides (Sound v) (soundTest v)
   tested fits framed =
       record {
         holds = λ t. entries-sound v fits framed (pass-all t);
@@ -72,7 +74,7 @@ unfolding view enabledAt armedAt maskAt ownerAt receiverAt entryAt
 view-framed b = record { no-link = λ n p o. (rw o, rw o); no-receive = λ n k o. rw o; no-armed = λ n k o. rw o }
 
 -- so the test decides whether a table of a cube is sound
-pub decided : (b : List ℕ) → dimensionAt b ≤ 8 → Decides (Sound (view b)) (soundTest (view b))
+pub decided : (b : List ℕ) → dimensionAt b ≤ largestDimension → Decides (Sound (view b)) (soundTest (view b))
 unfolding view
 decided b h = tested (view b) h (view-framed b)
 
@@ -96,7 +98,7 @@ module _ (b : List ℕ) where
   second : length b ≡ tableLength → not (leb 1 (dimensionAt b) && leb (dimensionAt b) 8) ≡ true → TableAnswer b 2
   second l e =
       record {
-        tests = unfold tableTests in sym (passed 1 _ (rw (eq-eqb (length b) tableLength l)) ∙ refused 2 _ e);
+        tests = unfold tableTests view in sym (passed 1 _ (rw (eq-eqb (length b) tableLength l)) ∙ refused 2 _ e);
         sound = λ e. absurd (omega arith);
         not-sound = λ e. absurd (omega arith);
       }
@@ -107,9 +109,9 @@ module _ (b : List ℕ) where
   pub large-dimension : length b ≡ tableLength → 1 ≤ dimensionAt b → 8 < dimensionAt b → TableAnswer b 2
   large-dimension l k h = second l (rw (le-leb 1 (dimensionAt b) k, lt-leb (dimensionAt b) 8 h))
 
-  module _ (l : length b ≡ tableLength) (k : 1 ≤ dimensionAt b) (h : dimensionAt b ≤ 8) where
+  module _ (l : length b ≡ tableLength) (k : 1 ≤ dimensionAt b) (h : dimensionAt b ≤ largestDimension) where
     third : refusal (tableTests b) ≡ refusal (test (not (soundTest (view b))) 3 ∷ [])
-    unfolding tableTests
+    unfolding tableTests view
     third = passed 1 _ (rw (eq-eqb (length b) tableLength l)) ∙ passed 2 _ (rw (le-leb 1 (dimensionAt b) k, le-leb (dimensionAt b) 8 h))
 
     pub not-sound : soundTest (view b) ≡ false → TableAnswer b 3
@@ -122,13 +124,13 @@ module _ (b : List ℕ) where
   pub answers : TableAnswer b (refusal (tableTests b))
   answers = go (same? (length b) tableLength) (below-or 1 (dimensionAt b)) (below-or 9 (dimensionAt b)) (soundTest (view b)) refl
     where
-      settled : {n : ℕ} → TableAnswer b n → TableAnswer b (refusal (tableTests b))
-      settled a = subst (TableAnswer b) (a .tests) a
+      first-applies : {n : ℕ} → TableAnswer b n → TableAnswer b (refusal (tableTests b))
+      first-applies a = subst (TableAnswer b) (a .tests) a
 
       go : (length b ≡ tableLength) ⊎ (length b ≢ tableLength) → (dimensionAt b < 1) ⊎ (1 ≤ dimensionAt b) → (dimensionAt b < 9) ⊎ (9 ≤ dimensionAt b)
           → (x : Bool) → soundTest (view b) ≡ x → TableAnswer b (refusal (tableTests b))
-      go (inr f) d m x e = settled (wrong-length f)
-      go (inl l) (inl d) m x e = settled (no-dimension l d)
-      go (inl l) (inr d) (inr m) x e = settled (large-dimension l d (omega arith))
-      go (inl l) (inr d) (inl m) false e = settled (not-sound l d (omega arith) e)
-      go (inl l) (inr d) (inl m) true e = settled (usable l d (omega arith) e)
+      go (inr f) d m x e = first-applies (wrong-length f)
+      go (inl l) (inl d) m x e = first-applies (no-dimension l d)
+      go (inl l) (inr d) (inr m) x e = first-applies (large-dimension l d (omega arith))
+      go (inl l) (inr d) (inl m) false e = first-applies (not-sound l d (omega arith) e)
+      go (inl l) (inr d) (inl m) true e = first-applies (usable l d (omega arith) e)

@@ -5,8 +5,8 @@ use mathlib.Core.Path.{_≡_}
 use mathlib.Core.Logic.{_≢_}
 use mathlib.Core.Bool.{Bool, true, _&&_}
 use mathlib.Core.List.{List}
-use Prim.Native.Nat.{ℕ, _+_, _*_, _^_, _≤_, _<_}
-use Rattle.cube.specs.Cube.{portCount, channels, sourceOf}
+use Prim.Native.Nat.{ℕ, _+_, _*_, _≤_, _<_}
+use Rattle.cube.specs.Cube.{portCount, channels, sourceOf, NodeOf}
 use Rattle.paths.specs.Network.{Path, Exactly}
 use Rattle.paths.specs.Permitted.{Permitted}
 use Rattle.paths.specs.CubeNetwork.{ports, circuitCount}
@@ -14,7 +14,7 @@ use Rattle.table.specs.TableContracts.{linkCount}
 use Rattle.table.specs.View.{View, shapeOf, net, heldBy}
 use Rattle.circuit_path.specs.CircuitSound.{endFor, CircuitSound}
 use Rattle.soundness.specs.Sound.{Sound}
-use Rattle.circuit_hops.specs.Marks.{seenAt, Seen}
+use Rattle.circuit_hops.specs.Seen.{seenAt, Seen}
 
 -- channel k of node n comes before place i, where places run node by node
 abbrev pub Earlier : ℕ → ℕ → ℕ → Type 0
@@ -25,8 +25,8 @@ unfoldable pub ReceivedBefore : View → ℕ → ℕ → Type 0
 ReceivedBefore v i c = (n : ℕ) × (k : ℕ) × Earlier i n k × (v .receiver n k ≡ c)
 
 -- what is known of the circuit on channel k of node n once it was followed: its path has exactly those of its links that are on
-pub record Standing (v : View) (on : ℕ → ℕ → Bool) (n k : ℕ) : Type 0 where
-  pub node : n < 2 ^ v .dimension
+pub record CircuitFollowed (v : View) (on : ℕ → ℕ → Bool) (n k : ℕ) : Type 0 where
+  pub node : NodeOf (v .dimension) n
   pub armed : v .armed n k ≡ true
   pub in-range : v .receiver n k ≤ circuitCount (shapeOf v)
   pub path : Path
@@ -40,7 +40,7 @@ pub record Counting (v : View) (i hops : ℕ) (seen : List ℕ) : Type 0 where
   pub on : ℕ → ℕ → Bool
   pub count : linkCount on 2048 ≡ hops
   pub passed : (m q : ℕ) → on m q ≡ true → (m < 256) × (q < portCount) × (v .owner m q ≢ 0) × ReceivedBefore v i (v .owner m q)
-  pub stands : (n k : ℕ) → Earlier i n k → v .receiver n k ≢ 0 → Standing v on n k
+  pub stands : (n k : ℕ) → Earlier i n k → v .receiver n k ≢ 0 → CircuitFollowed v on n k
   pub once : (n k m j : ℕ) → Earlier i n k → Earlier i m j → v .receiver n k ≡ v .receiver m j → v .receiver n k ≢ 0 → (n ≡ m) × (k ≡ j)
   pub marks : (n k : ℕ) → Earlier i n k → v .receiver n k ≢ 0 → Seen v seen (v .receiver n k)
   pub marks-received : (s p : ℕ) → s < 256 → p < portCount → seenAt seen s p ≡ true → ReceivedBefore v i (v .owner s p)

@@ -9,8 +9,7 @@ ghost use Rattle.layout.specs.Layout.{tableLength};
 ghost use Rattle.table.specs.View.{view};
 ghost use Rattle.soundness.specs.Counting.{Counts, Frees};
 ghost use Rattle.soundness.specs.SoundTest.{soundTest};
-ghost use Rattle.soundness.specs.TestContracts.{Usable, ReceivePre};
-ghost use Rattle.soundness.specs.TableTests.{TableAnswer};
+ghost use Rattle.soundness.specs.TestContracts.{Usable, ReceivePre, TableAnswer};
 use circuit_path::NONE;
 use common::refusal;
 use cube::Circuit;
@@ -22,7 +21,7 @@ const GROUP: u16 = 16;
 const GROUPS: u16 = 16;
 
 // All links of a table.
-const LINKS: u32 = 2048;
+const ALL_LINKS: u32 = 2048;
 
 // The hops of the circuits that hold a node's receive channels.
 fn hops_at(t: &[u8], nodes: u16, n: Node, seen: &mut [u8]) -> u32
@@ -32,7 +31,7 @@ fn hops_at(t: &[u8], nodes: u16, n: Node, seen: &mut [u8]) -> u32
 {
     let mut hops: u32 = 0;
     let mut k: u16 = 0;
-    while k < 8 {
+    while k < cube::CHANNELS {
         let c = table::receiver(t, n, k);
         if c.0 != 0 {
             hops += circuit_hops::hops_to(t, nodes, c, n, seen);
@@ -114,7 +113,7 @@ fn free_from(t: &[u8], from: Node) -> u32
         }
         i += 1;
     }
-    table::free_links(t, from, GROUP)
+    table::count_free_links(t, from, GROUP)
 }
 
 fn free_group(t: &[u8], from: Node) -> u32
@@ -154,7 +153,7 @@ fn entries_sound(t: &[u8], dimension: u16) -> bool
     }
     let free = all_free(t);
     let mut seen = [0u8; 256];
-    all_hops(t, cube::node_count(dimension), &mut seen) + free == LINKS
+    all_hops(t, cube::node_count(dimension), &mut seen) + free == ALL_LINKS
 }
 
 // Whether a table may be used: 0, or the refusal of the first test that it fails.
@@ -168,7 +167,7 @@ pub fn check(t: &[u8]) -> u16
     if d < 1 {
         return refusal::DIMENSION;
     }
-    if d > 8 {
+    if d > cube::LARGEST_DIMENSION {
         return refusal::DIMENSION;
     }
     if entries_sound(t, d) {

@@ -185,11 +185,11 @@ module _ (v : View) (fit : ViewFits v) where
       first (suc i) = lit< tt
 
   -- the parts, one behind another
-  behind-receives : ((enables ++ links) ++ receives) ++ arms ≡ (enables ++ links) ++ (receives ++ arms)
-  behind-receives = append-assoc (enables ++ links) receives arms
+  after-receives : ((enables ++ links) ++ receives) ++ arms ≡ (enables ++ links) ++ (receives ++ arms)
+  after-receives = append-assoc (enables ++ links) receives arms
 
-  behind-links : ((enables ++ links) ++ receives) ++ arms ≡ enables ++ (links ++ (receives ++ arms))
-  behind-links = behind-receives ∙ append-assoc enables links (receives ++ arms)
+  after-links : ((enables ++ links) ++ receives) ++ arms ≡ enables ++ (links ++ (receives ++ arms))
+  after-links = after-receives ∙ append-assoc enables links (receives ++ arms)
 
   -- What `encode` writes shows what it was given.
   pub view-encode : view (encode v) ≡ v
@@ -198,13 +198,13 @@ module _ (v : View) (fit : ViewFits v) where
       record {
         dimension = v .dimension;
         enabled = λ n p.
-            (ap (λ b. maskAt enablePart (v .dimension ∷ b) n p) behind-links
+            (ap (λ b. maskAt enablePart (v .dimension ∷ b) n p) after-links
             ∙ masks-show (v .enabled) (fit .enabled) enablePart (v .dimension ∷ []) (links ++ (receives ++ arms)) refl n p) i;
         owner = λ n p.
-            (ap (λ b. entryAt linkPart (v .dimension ∷ b) n p) behind-links
+            (ap (λ b. entryAt linkPart (v .dimension ∷ b) n p) after-links
             ∙ part-shows (v .owner) (fit .owner) linkPart (v .dimension ∷ enables) (receives ++ arms) (ap suc (masks-length (v .enabled))) n p) i;
         receiver = λ n k.
-            (ap (λ b. entryAt receivePart (v .dimension ∷ b) n k) behind-receives
+            (ap (λ b. entryAt receivePart (v .dimension ∷ b) n k) after-receives
             ∙ part-shows (v .receiver) (fit .receiver) receivePart (v .dimension ∷ (enables ++ links)) arms (ap suc links-end) n k) i;
         armed = λ n k.
             (ap (λ b. maskAt armPart (v .dimension ∷ (((enables ++ links) ++ receives) ++ b)) n k) (sym (append-nil arms))

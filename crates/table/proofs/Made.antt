@@ -2,13 +2,14 @@
 -- Assumes nothing.
 use mathlib.Core.Path.{_≡_, refl, ap, ap₂, sym, _∙_}
 use mathlib.Core.Bool.{Bool, true, false, cond, _&&_, Bool·beq, true≢false, and-false}
-use mathlib.Core.List.{List, _++_}
+use mathlib.Core.List.{List, _∷_, _++_}
 use Prim.Native.Nat.{ℕ, zero, suc, _+_, _-_, _%_, _^_, _≤_, _<_}
 use native.Mathlib.Omega.{arith}
 use native.Mathlib.Numerals.{one-add}
 use lib.Dec.{ltb, lit≤}
 use lib.ListN.{length, getD, set, replicate, length-append, length-replicate, getD-replicate, List·getD-append}
 use borrow.Author.Tests.{ltb-true, ltb-false, le-ltb}
+use Rattle.cube.specs.Cube.{largestDimension, portCount, cubeNodes}
 use Rattle.common.proofs.Every.{at₂}
 use Rattle.cube.specs.Bits.{has}
 use Rattle.cube.proofs.Bits.{zero-has}
@@ -18,7 +19,12 @@ use Rattle.layout.specs.LayoutContracts.{filled}
 use Rattle.layout.proofs.Entries.{within, inside}
 use Rattle.layout.proofs.Fills.{made-is}
 use Rattle.table.specs.View.{view, fresh}
-use Rattle.table.specs.Encode.{made, Bytes}
+use Rattle.table.specs.Encode.{encode, Bytes}
+use Rattle.table.proofs.Encoded.{encode-shown}
+
+-- the bytes that the code writes: D, the D bits of each of its 2^D nodes, and nothing else
+unfoldable pub made : ℕ → List ℕ
+made D = D ∷ replicate (cubeNodes D) (2 ^ D - 1) ++ replicate (tableLength - 1 - cubeNodes D) 0
 
 -- a value k times and then zeros
 run-front : (k m x j : ℕ) → j < k → getD (replicate k x ++ replicate m 0) j 0 ≡ x
@@ -41,18 +47,18 @@ same-test false true e = e
 same-test false false e = refl
 
 -- all D bits, and no other
-pub ones : (D p : ℕ) → D < 9 → p < 8 → has (2 ^ D - 1) p ≡ ltb p D
+pub ones : (D p : ℕ) → D ≤ largestDimension → p < portCount → has (2 ^ D - 1) p ≡ ltb p D
 unfolding has
-ones D p h l = same-test _ _ (at₂ 9 8 (λ D p. Bool·beq (has (2 ^ D - 1) p) (ltb p D)) refl D p h l)
+ones D p h l = same-test _ _ (at₂ 9 8 (λ D p. Bool·beq (has (2 ^ D - 1) p) (ltb p D)) refl D p (omega arith) l)
 
 -- two fills and the first byte: with as many nodes as the dimension has, and all their bits
-pub made-of : (b : List ℕ) (D n : ℕ) → length b ≡ tableLength → n ≡ 2 ^ D → 0 < n → n ≤ 256 → set (filled (filled b (1 + n) tableLength 0) 1 (1 + n) ((n - 1) % 256)) 0 D ≡ made D
+fills-made : (b : List ℕ) (D n : ℕ) → length b ≡ tableLength → n ≡ 2 ^ D → 0 < n → n ≤ 256 → set (filled (filled b (1 + n) tableLength 0) 1 (1 + n) ((n - 1) % 256)) 0 D ≡ made D
 unfolding made
-made-of b D n h e s l =
+fills-made b D n h e s l =
     let x : (n - 1) % 256 ≡ n - 1 = omega arith in
     rw x (made-is b D n (n - 1) h l ∙ rw e)
 
-module _ (D : ℕ) (h : D < 9) where
+module _ (D : ℕ) (h : D ≤ largestDimension) where
   byte-of : (j : ℕ) → getD (made D) (suc j) 0 ≡ cond (ltb j (2 ^ D)) (2 ^ D - 1) 0
   unfolding made
   byte-of j = go (ltb j (2 ^ D)) refl
@@ -94,8 +100,8 @@ module _ (D : ℕ) (h : D < 9) where
   unfolding armedAt maskAt
   made-armed n k = rw (byte-zero (armPlace n) (omega arith), zero-has k) (and-false (inTable n k))
 
--- A made table is one of bytes,
-pub made-bytes : (D : ℕ) → D < 9 → Bytes (made D)
+-- They are bytes,
+made-bytes : (D : ℕ) → D ≤ largestDimension → Bytes (made D)
 made-bytes D h = record { long = long; small = small }
   where
     nodes : 2 ^ D ≤ 256
@@ -115,10 +121,10 @@ made-bytes D h = record { long = long; small = small }
     small zero = unfold made in omega arith
     small (suc j) = rw (byte-of D h j) (either (ltb j (2 ^ D)))
 
--- and shows its dimension, every link of its cube enabled, nothing held and none armed.
-pub view-made : (D : ℕ) → D < 9 → view (made D) ≡ fresh D
+-- and show the dimension, every link of its cube enabled, nothing held and none armed.
+made-shows : (D : ℕ) → D ≤ largestDimension → view (made D) ≡ fresh D
 unfolding view fresh ownerAt receiverAt dimensionAt made
-view-made D h = λ i.
+made-shows D h = λ i.
     record {
       dimension = D;
       enabled = λ n p. made-enabled D h n p i;
@@ -126,3 +132,18 @@ view-made D h = λ i.
       receiver = λ n k. made-entry D h receivePart (lit≤ tt) n k i;
       armed = λ n k. made-armed D h n k i;
     }
+
+-- So the bytes that the code writes are those that show a made table;
+pub made-encoded : (D : ℕ) → D ≤ largestDimension → made D ≡ encode (fresh D)
+made-encoded D m = encode-shown (made D) (fresh D) (made-bytes D m) (made-shows D m)
+
+pub made-of : (b : List ℕ) (D n : ℕ) → D ≤ largestDimension → length b ≡ tableLength → n ≡ 2 ^ D → 0 < n → n ≤ 256
+    → set (filled (filled b (1 + n) tableLength 0) 1 (1 + n) ((n - 1) % 256)) 0 D ≡ encode (fresh D)
+made-of b D n m h e s l = fills-made b D n h e s l ∙ made-encoded D m
+
+-- and such bytes are a table that shows it.
+pub fresh-bytes : (D : ℕ) → D ≤ largestDimension → Bytes (encode (fresh D))
+fresh-bytes D m = rw (← made-encoded D m) (made-bytes D m)
+
+pub view-made : (D : ℕ) → D ≤ largestDimension → view (encode (fresh D)) ≡ fresh D
+view-made D m = rw (← made-encoded D m) (made-shows D m)

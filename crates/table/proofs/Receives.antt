@@ -6,16 +6,17 @@ use Prim.Native.Nat.{ℕ, _<_}
 use native.Mathlib.Omega.{arith}
 use lib.Dec.{eqb}
 use borrow.Author.Tests.{eqb-true, eqb-false}
+use Rattle.cube.specs.Cube.{channels}
 use Rattle.common.specs.Lists.{lowest}
 use Rattle.common.proofs.Lowest.{lowest-most, lowest-passes, lowest-before}
 use Rattle.paths.specs.Send.{channel, none-available, lowestOf}
 
 -- it is one of eight, passes, and none below it does
-pub chosen : (f : ℕ → Bool) (k : ℕ) → lowestOf f ≡ channel k → (k < 8) × (f k ≡ true) × ((j : ℕ) → j < k → f j ≡ false)
+pub chosen : (f : ℕ → Bool) (k : ℕ) → lowestOf f ≡ channel k → (k < channels) × (f k ≡ true) × ((j : ℕ) → j < k → f j ≡ false)
 unfolding lowestOf
 chosen f k e = go (eqb (lowest f 8 0) 8) refl e
   where
-    go : (x : Bool) → eqb (lowest f 8 0) 8 ≡ x → cond x none-available (channel (lowest f 8 0)) ≡ channel k → (k < 8) × (f k ≡ true) × ((j : ℕ) → j < k → f j ≡ false)
+    go : (x : Bool) → eqb (lowest f 8 0) 8 ≡ x → cond x none-available (channel (lowest f 8 0)) ≡ channel k → (k < channels) × (f k ≡ true) × ((j : ℕ) → j < k → f j ≡ false)
     go true q z = let y : _≡_ {A = ℕ} 0 1 = cc in absurd (omega arith)
     go false q z =
         let u : lowest f 8 0 ≡ k = cc in

@@ -10,6 +10,7 @@ use lib.Dec.{eqb, ltb, lit<, lit≤}
 use lib.ListN.{length, getD}
 use lib.Seq.{getD-set-same, getD-set-other}
 use borrow.Author.Tests.{ltb-true, ltb-false, eqb-true, eqb-false}
+use Rattle.cube.specs.Cube.{portCount, channels}
 use Rattle.cube.specs.Bits.{has, withBit}
 use Rattle.cube.proofs.Bits.{with-bit-same, with-bit-other}
 use Rattle.layout.specs.Layout.{inTable, dimensionAt, maskPlace, maskAt, enablePart, armPart, enabledAt, armedAt, entryPlace, entryAt, linkPart, receivePart, ownerAt, receiverAt, wordAt}
@@ -19,12 +20,12 @@ use Rattle.entries.specs.EntryContracts.{putMask, putEnabled, putArmed, putEntr
 use Rattle.table.specs.View.{view, setAt, setOwner, setReceiver, setEnabled, setArmed}
 
 -- an entry written: that entry, and every other of the same part and of the other
-module _ (part : ℕ) (b : List ℕ) (n k c : ℕ) (i : n < 256) (l : k < 8) where
+module _ (part : ℕ) (b : List ℕ) (n k c : ℕ) (i : n < 256) (l : k < channels) where
   off-entry : (m q : ℕ) → (m ≡ n → q ≡ k → ⊥) → entryAt part (putEntry part b n k c) m q ≡ entryAt part b m q
   unfolding entryAt putEntry
   off-entry m q ne = go (inTable m q) refl
     where
-      apart : q < 8 → (x : Bool) → ltb (entryPlace part m q) (entryPlace part n k) ≡ x → (entryPlace part m q + 1 < entryPlace part n k) ⊎ (entryPlace part n k + 1 < entryPlace part m q)
+      apart : q < portCount → (x : Bool) → ltb (entryPlace part m q) (entryPlace part n k) ≡ x → (entryPlace part m q + 1 < entryPlace part n k) ⊎ (entryPlace part n k + 1 < entryPlace part m q)
       apart h true e = let g = ltb-true (entryPlace part m q) (entryPlace part n k) e in inl (omega arith)
       apart h false e =
           let g = ltb-false (entryPlace part m q) (entryPlace part n k) e in
@@ -100,7 +101,7 @@ view-put-receiver b n k c w small = λ i.
     }
 
 -- a bit of a mask set or cleared: that bit, and every other of the same part and of the others
-module _ (part : ℕ) (b : List ℕ) (n p : ℕ) (on : Bool) (i : n < 256) (l : p < 8) where
+module _ (part : ℕ) (b : List ℕ) (n p : ℕ) (on : Bool) (i : n < 256) (l : p < portCount) where
   byte-on : part + 256 ≤ length b → getD (putMask part b n p on) (maskPlace part n) 0 ≡ withBit (getD b (maskPlace part n) 0) p on
   unfolding putMask
   byte-on room = getD-set-same b (maskPlace part n) (withBit (getD b (maskPlace part n) 0) p on) 0 (omega arith)

@@ -1,10 +1,10 @@
--- The bytes of a table that shows a given view, the parts of its layout one after another; and those of a made table.
+-- The bytes of a table that shows a given view, the parts of its layout one after another.
 -- Assumes nothing.
 use mathlib.Core.Bool.{Bool, false, cond}
 use mathlib.Core.List.{List, [], _∷_, _++_, map}
 use mathlib.Core.Path.{_≡_}
-use Prim.Native.Nat.{ℕ, zero, suc, _+_, _-_, _/_, _%_, _^_, _<_}
-use lib.ListN.{length, getD, replicate}
+use Prim.Native.Nat.{ℕ, zero, suc, _+_, _/_, _%_, _^_, _<_}
+use lib.ListN.{length, getD}
 use Rattle.common.specs.Lists.{from}
 use Rattle.cube.specs.Cube.{portCount}
 use Rattle.layout.specs.Layout.{tableLength, inTable}
@@ -30,11 +30,6 @@ entryBytes f i (suc k) = f (i / portCount) (i % portCount) % 256 ∷ f (i / port
 -- 1 byte, 256 bytes, 4,096 bytes, 4,096 bytes and 256 bytes
 unfoldable pub encode : View → List ℕ
 encode v = v .dimension ∷ maskBytes (v .enabled) ++ entryBytes (v .owner) 0 2048 ++ entryBytes (v .receiver) 0 2048 ++ maskBytes (v .armed)
-
--- "Making a table gives dimension D, all its links enabled, nothing held", and "A made table has none armed": D, the D bits of each of its 2^D nodes,
--- and nothing else
-unfoldable pub made : ℕ → List ℕ
-made D = D ∷ replicate (2 ^ D) (2 ^ D - 1) ++ replicate (tableLength - 1 - 2 ^ D) 0
 
 -- every number of a list is a byte
 abbrev pub AllBytes : List ℕ → Type 0

@@ -71,6 +71,6 @@ available v n k = v .armed n k && eqb (v .receiver n k) 0
 unfoldable pub receive : View → ℕ → Receive
 receive v n = lowestOf (available v n)
 
--- what a made table shows: all links of its cube enabled, nothing held, and "none armed"
+-- "Making a table gives dimension D, all its links enabled, nothing held", and "A made table has none armed."
 unfoldable pub fresh : ℕ → View
 fresh D = record { dimension = D; enabled = isLinkOf (unfolded D); owner = λ n p. 0; receiver = λ n k. 0; armed = λ n k. false }

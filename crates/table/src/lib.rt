@@ -7,11 +7,11 @@ ghost use lib.Dec.{eqb};
 ghost use lib.ListN.{length};
 ghost use Rattle.common.specs.Decides.{Decides};
 ghost use Rattle.common.specs.Lists.{lowest};
-ghost use Rattle.cube.specs.Cube.{portCount, channels};
+ghost use Rattle.cube.specs.Cube.{largestDimension, portCount, channels};
 ghost use Rattle.layout.specs.Layout.{tableLength, enabledAt, ownerAt, receiverAt, armedAt};
 ghost use Rattle.entries.specs.EntryContracts.{Within};
-ghost use Rattle.table.specs.View.{view};
-ghost use Rattle.table.specs.Encode.{made};
+ghost use Rattle.table.specs.View.{view, fresh};
+ghost use Rattle.table.specs.Encode.{encode};
 ghost use Rattle.table.specs.TableContracts.{HeldBy, linksHeld, EnablesFit, ArmsFit, freeCount, lowestChannel};
 use cube::Circuit;
 use cube::Node;
@@ -33,7 +33,7 @@ pub use layout::wide;
 
 // Whether every node has the enable bits of links of its cube alone, and the nodes that the cube lacks have none.
 pub fn enables_fit(t: &[u8], dimension: u16) -> bool
-    requires { ⌜ (length (now t) ≡ tableLength) × (dimension < 9) ⌝ }
+    requires { ⌜ (length (now t) ≡ tableLength) × (dimension ≤ largestDimension) ⌝ }
     ensures { λ r. ⌜ Decides (EnablesFit (now (t .entry)) dimension) r ⌝ }
 {
     let nodes = cube::node_count(dimension);
@@ -64,7 +64,7 @@ pub fn receives_clear(t: &[u8], n: Node, nodes: u16) -> bool
 
 // Whether no receive channel is armed at the nodes that the cube lacks.
 pub fn arms_fit(t: &[u8], dimension: u16) -> bool
-    requires { ⌜ (length (now t) ≡ tableLength) × (dimension < 9) ⌝ }
+    requires { ⌜ (length (now t) ≡ tableLength) × (dimension ≤ largestDimension) ⌝ }
     ensures { λ r. ⌜ Decides (ArmsFit (now (t .entry)) dimension) r ⌝ }
 {
     let count = cube::node_count(dimension) as usize;
@@ -103,7 +103,7 @@ pub fn held_armed(t: &[u8], n: Node) -> bool
 }
 
 // How many links of so many nodes from one on nobody holds.
-pub fn free_links(t: &[u8], n: Node, nodes: u16) -> u32
+pub fn count_free_links(t: &[u8], n: Node, nodes: u16) -> u32
     requires { ⌜ (length (now t) ≡ tableLength) × (n .0 + nodes ≤ 256) × (0 < nodes) ⌝ }
     ensures { λ r. ⌜ (r ≤ portCount * nodes) × (freeCount (now (t .entry)) (portCount * n .0) + r ≡ freeCount (now (t .entry)) (portCount * (n .0 + nodes))) ⌝ }
 {
@@ -138,8 +138,8 @@ pub fn free_channel(t: &[u8], n: Node) -> u16
 
 // Writes a table of a dimension: all its links enabled, nothing held, no channel armed.
 pub fn make(t: &mut [u8], dimension: u8)
-    requires { ⌜ (length (now t) ≡ tableLength) × (dimension < 9) ⌝ }
-    ensures { λ _. ⌜ now (t .exit) ≡ made dimension ⌝ }
+    requires { ⌜ (length (now t) ≡ tableLength) × (dimension ≤ largestDimension) ⌝ }
+    ensures { λ _. ⌜ now (t .exit) ≡ encode (fresh dimension) ⌝ }
 {
     let nodes = cube::node_count(layout::wide(dimension));
     let end = layout::ENABLE + nodes as usize;

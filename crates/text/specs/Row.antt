@@ -17,12 +17,12 @@ inTurn [] = []
 inTurn (p ∷ ps) = decimal p ++ inTurn ps
 
 -- the bytes of a field; "A field with nothing to show is `-`."
-unfoldable pub bytesOf : Field → List ℕ
-bytesOf nothing = dash ∷ []
-bytesOf (shows n) = decimal n
-bytesOf (letter x) = x ∷ []
-bytesOf (path []) = dash ∷ []
-bytesOf (path (p ∷ ps)) = inTurn (p ∷ ps)
+unfoldable pub fieldBytes : Field → List ℕ
+fieldBytes nothing = dash ∷ []
+fieldBytes (shows n) = decimal n
+fieldBytes (letter x) = x ∷ []
+fieldBytes (path []) = dash ∷ []
+fieldBytes (path (p ∷ ps)) = inTurn (p ∷ ps)
 
 pub record Row : Type 0 where
   pub line : Field
@@ -40,8 +40,8 @@ row n x a node channel receive scouts ports =
     record { line = shows n; call = letter x; answer = shows a; node = node; channel = channel; receive = receive; scouts = scouts; ports = ports }
 
 -- a line that shows its number and an answer alone
-abbrev pub lone : ℕ → ℕ → Row
-lone n a =
+abbrev pub answerAlone : ℕ → ℕ → Row
+answerAlone n a =
     record { line = shows n; call = nothing; answer = shows a; node = nothing; channel = nothing; receive = nothing; scouts = nothing; ports = nothing }
 
 -- "line call answer node channel receive scouts ports"
@@ -59,7 +59,7 @@ unfoldable pub ended : List (List ℕ) → List ℕ
 ended fs = spaced fs ++ newline ∷ []
 
 unfoldable pub rowText : Row → List ℕ
-rowText r = ended (map bytesOf (inOrder r))
+rowText r = ended (map fieldBytes (inOrder r))
 
 unfoldable pub rowsText : List Row → List ℕ
 rowsText [] = []

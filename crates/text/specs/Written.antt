@@ -8,11 +8,11 @@ use Prim.Native.Nat.{ℕ, _+_}
 use lib.Dec.{eqb, leb}
 use lib.ListN.{length, take}
 use lib.Seq.{sets}
-use Rattle.text.specs.declared.row.Field.{Field as CallResult}
+use Rattle.text.specs.declared.row.Field.{Field as GivenField}
 use Rattle.text.specs.declared.row.Field.the-variants.{Nothing, Number, Letter, Path}
 use Rattle.text.specs.declared.row.Row.{Row as GivenRow}
 use Rattle.text.specs.Text.{allDigits, value, largest}
-use Rattle.text.specs.Row.{Field, nothing, shows, letter, path, bytesOf, Row}
+use Rattle.text.specs.Row.{Field, nothing, shows, letter, path, fieldBytes, Row}
 
 -- a text was written from place i on, byte by byte; place j is behind it
 pub record Wrote (b : List ℕ) (i : ℕ) (text : List ℕ) (after : List ℕ) (j : ℕ) : Type 0 where
@@ -34,7 +34,7 @@ unfoldable pub said : ℕ → List ℕ → ℕ
 said n xs = cond (allDigits xs && leb (value n xs) largest) (value n xs) 65536
 
 -- what a field shows that was given beside a buffer of ports: a path is as many of them as it says
-abbrev pub fieldOf : List ℕ → CallResult → Field
+abbrev pub fieldOf : List ℕ → GivenField → Field
 fieldOf ports Nothing = nothing
 fieldOf ports (Number n) = shows n
 fieldOf ports (Letter x) = letter x
@@ -56,7 +56,7 @@ rowOf ports r =
 
 -- how many bytes a field takes, and a printed line: its eight fields, seven spaces and a newline
 abbrev pub width : Field → ℕ
-width f = length (bytesOf f)
+width f = length (fieldBytes f)
 
 abbrev pub rowWidth : Row → ℕ
 rowWidth r =

@@ -4,7 +4,7 @@ ghost use Rattle.text.specs.Text.{number};
 ghost use Rattle.text.specs.Written.{orNone, said};
 
 // What a field answers that is no number.
-pub const NONE: u32 = 65536;
+pub const NO_NUMBER: u32 = 65536;
 
 fn wide(x: u8) -> u32
     ensures { λ r. ⌜ r ≡ x ⌝ }
@@ -21,14 +21,14 @@ fn digits(field: &[u8]) -> u32
     while i < field.len() {
         let x = wide(field[i]);
         if x < 48 {
-            return NONE;
+            return NO_NUMBER;
         }
         if 57 < x {
-            return NONE;
+            return NO_NUMBER;
         }
         n = 10 * n + (x - 48);
         if 65535 < n {
-            return NONE;
+            return NO_NUMBER;
         }
         i += 1;
     }
@@ -39,13 +39,13 @@ pub fn read(field: &[u8]) -> u32
     ensures { λ r. ⌜ r ≡ orNone (number (now (field .entry))) ⌝ }
 {
     if field.len() == 0 {
-        return NONE;
+        return NO_NUMBER;
     }
     if field.len() == 1 {
         return digits(field);
     }
     if field[0] == b'0' {
-        return NONE;
+        return NO_NUMBER;
     }
     digits(field)
 }

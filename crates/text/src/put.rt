@@ -4,7 +4,7 @@ ghost use Prim.Native.Nat.{_+_, _≤_, _<_, min};
 ghost use mathlib.Core.Path.{_≡_};
 ghost use lib.ListN.{length, take};
 ghost use Rattle.text.specs.Text.{decimal};
-ghost use Rattle.text.specs.Row.{bytesOf, inTurn, path as showsPath};
+ghost use Rattle.text.specs.Row.{fieldBytes, inTurn, path as showsPath};
 ghost use Rattle.text.specs.Written.{Wrote};
 
 pub fn byte(out: &mut [u8], at: usize, x: u8) -> usize
@@ -86,8 +86,8 @@ fn least(m: usize, n: usize) -> usize
 
 // The path that the first ports of a buffer are; `-` where it has none.
 pub fn path(out: &mut [u8], at: usize, buffer: &[u8], count: u16) -> usize
-    requires { ⌜ at + length (bytesOf (showsPath (take count (now buffer)))) ≤ length (now out) ⌝ }
-    ensures { λ r. ⌜ Wrote (now (out .entry)) at (bytesOf (showsPath (take count (now (buffer .entry))))) (now (out .exit)) r ⌝ }
+    requires { ⌜ at + length (fieldBytes (showsPath (take count (now buffer)))) ≤ length (now out) ⌝ }
+    ensures { λ r. ⌜ Wrote (now (out .entry)) at (fieldBytes (showsPath (take count (now (buffer .entry))))) (now (out .exit)) r ⌝ }
 {
     let hops = least(count as usize, buffer.len());
     if hops == 0 {

@@ -4,7 +4,7 @@ ghost use mathlib.Core.List.{List, _∷_};
 ghost use Prim.Native.Nat.{ℕ, _+_, _≤_};
 ghost use lib.ListN.{length};
 ghost use Rattle.text.specs.Text.{space};
-ghost use Rattle.text.specs.Row.{bytesOf, rowText, row, lone};
+ghost use Rattle.text.specs.Row.{fieldBytes, rowText, row, answerAlone};
 ghost use Rattle.text.specs.Written.{Wrote, fieldOf, rowOf, width, rowWidth};
 use crate::put;
 
@@ -54,8 +54,8 @@ pub fn of_call(
 }
 
 // A line that shows its number and an answer alone.
-pub fn lone(line: u16, answer: u16) -> Row
-    ensures { λ r. ⌜ ((w : List ℕ) → rowOf w r ≡ lone line answer) ⌝ }
+pub fn answer_alone(line: u16, answer: u16) -> Row
+    ensures { λ r. ⌜ ((w : List ℕ) → rowOf w r ≡ answerAlone line answer) ⌝ }
 {
     Row {
         line,
@@ -72,7 +72,7 @@ pub fn lone(line: u16, answer: u16) -> Row
 // The bytes of a field.
 fn write_field(out: &mut [u8], at: usize, f: Field, ports: &[u8]) -> usize
     requires { ⌜ at + width (fieldOf (now ports) f) ≤ length (now out) ⌝ }
-    ensures { λ r. ⌜ Wrote (now (out .entry)) at (bytesOf (fieldOf (now (ports .entry)) f)) (now (out .exit)) r ⌝ }
+    ensures { λ r. ⌜ Wrote (now (out .entry)) at (fieldBytes (fieldOf (now (ports .entry)) f)) (now (out .exit)) r ⌝ }
 {
     match f {
         Field::Nothing => put::byte(out, at, b'-'),
@@ -85,7 +85,7 @@ fn write_field(out: &mut [u8], at: usize, f: Field, ports: &[u8]) -> usize
 // A field behind a space.
 fn write_next(out: &mut [u8], at: usize, f: Field, ports: &[u8]) -> usize
     requires { ⌜ at + 1 + width (fieldOf (now ports) f) ≤ length (now out) ⌝ }
-    ensures { λ r. ⌜ Wrote (now (out .entry)) at (space ∷ bytesOf (fieldOf (now (ports .entry)) f)) (now (out .exit)) r ⌝ }
+    ensures { λ r. ⌜ Wrote (now (out .entry)) at (space ∷ fieldBytes (fieldOf (now (ports .entry)) f)) (now (out .exit)) r ⌝ }
 {
     let behind = put::byte(out, at, b' ');
     write_field(out, behind, f, ports)

@@ -3,12 +3,9 @@
 use mathlib.Core.Path.{sym, _∙_}
 use borrow.Author.Needs.{needs}
 use Rattle.table.specs.View.{view}
-use Rattle.answers.proofs.PassAnswer.{state-blocked, state-free, state-held}
+use Rattle.answers.proofs.PassOnBytes.{state-blocked, state-free, state-held}
 use Rattle.answers.proofs.link_state.Statement.{statement}
 use Rattle.answers.proofs.link_state.Tie as tie
-
-owner-requires : tie.Need-owner-requires
-owner-requires c κs = search needs
 
 returns : tie.Need-returns
 unfolding view
@@ -31,4 +28,4 @@ returns-3 c =
     state-blocked (view (s .args .t .now)) (s .args .n .0) (s .args .p .0) (sym (s .pre .1) ∙ c .if1 .left)
 
 pub link-state-spec : {M : Type 1} → statement M
-link-state-spec = tie.close (tie.spec owner-requires returns returns-2 returns-3)
+link-state-spec = tie.close (tie.spec (search needs) returns returns-2 returns-3)

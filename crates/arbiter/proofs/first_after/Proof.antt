@@ -10,15 +10,6 @@ use Rattle.arbiter.proofs.Requests.{found-above, found-round}
 use Rattle.arbiter.proofs.first_after.Statement.{statement}
 use Rattle.arbiter.proofs.first_after.Tie as tie
 
-add-past : tie.Need-add-past
-add-past c = search needs
-
-cast-above : tie.Need-cast-above
-cast-above c = search needs
-
-shr-above : tie.Need-shr-above
-shr-above c = search needs
-
 cast-result : tie.Need-cast-result
 cast-result c = let s = c .before in omega (arith, trailing-le 32 (s .args .requests))
 
@@ -39,4 +30,4 @@ returns-2 c =
     sym (chosen-is (s .args .last) (s .pre .stored) (s .args .requests) _ (found-above (s .args .last) (s .args .requests) (s .pre) (λ z. omega arith)))
 
 pub first-after-spec : {M : Type 1} → statement M
-first-after-spec = tie.close (tie.spec add-past cast-above shr-above cast-result cast-result-2 add-result returns returns-2)
+first-after-spec = tie.close (tie.spec (search needs) (search needs) (search needs) cast-result cast-result-2 add-result returns returns-2)

@@ -7,15 +7,9 @@ use Rattle.call_tests.proofs.Stopping.{stops}
 use Rattle.call_tests.proofs.arm.Statement.{statement}
 use Rattle.call_tests.proofs.arm.Tie as tie
 
-check-requires : tie.Need-check-requires
-check-requires c κs = search needs
-
 returns : tie.Need-returns
 unfolding stoppedAt lentTests
 returns c = search stops
-
-is-absent-requires : tie.Need-is-absent-requires
-is-absent-requires c κs = search needs
 
 returns-2 : tie.Need-returns-2
 unfolding stoppedAt lentTests callTests factsOf
@@ -30,4 +24,4 @@ unfolding stoppedAt lentTests callTests factsOf
 returns-4 c = search stops depth 12
 
 pub arm-spec : {M : Type 1} → statement M
-arm-spec = tie.close (tie.spec check-requires returns is-absent-requires returns-2 returns-3 returns-4)
+arm-spec = tie.close (tie.spec (search needs) returns (search needs) returns-2 returns-3 returns-4)

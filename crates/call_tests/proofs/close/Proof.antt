@@ -3,19 +3,13 @@
 use borrow.Author.Needs.{needs}
 use Rattle.ownership.specs.Calls.{callTests}
 use Rattle.ownership.specs.OnTable.{factsOf, lentTests, stoppedAt}
-use Rattle.call_tests.proofs.Stopping.{stops, onPathOf, below-eight}
+use Rattle.call_tests.proofs.Stopping.{stops, passed-before, below-eight}
 use Rattle.call_tests.proofs.close.Statement.{statement}
 use Rattle.call_tests.proofs.close.Tie as tie
-
-check-requires : tie.Need-check-requires
-check-requires c κs = search needs
 
 returns : tie.Need-returns
 unfolding stoppedAt lentTests
 returns c = search stops
-
-is-absent-requires : tie.Need-is-absent-requires
-is-absent-requires c κs = search needs
 
 returns-2 : tie.Need-returns-2
 unfolding stoppedAt lentTests callTests factsOf
@@ -26,7 +20,7 @@ unfolding stoppedAt lentTests callTests factsOf
 returns-3 c = search stops depth 12
 
 has-circuit-requires : tie.Need-has-circuit-requires
-has-circuit-requires c κs = (search onPathOf, (search onPathOf, below-eight (c .if3 .left)))
+has-circuit-requires c κs = (search passed-before, (search passed-before, below-eight (c .if3 .left)))
 
 returns-4 : tie.Need-returns-4
 unfolding stoppedAt lentTests callTests factsOf
@@ -37,4 +31,4 @@ unfolding stoppedAt lentTests callTests factsOf
 returns-5 c = search stops depth 12
 
 pub close-spec : {M : Type 1} → statement M
-close-spec = tie.close (tie.spec check-requires returns is-absent-requires returns-2 returns-3 has-circuit-requires returns-4 returns-5)
+close-spec = tie.close (tie.spec (search needs) returns (search needs) returns-2 returns-3 has-circuit-requires returns-4 returns-5)

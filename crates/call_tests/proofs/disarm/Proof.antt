@@ -4,19 +4,13 @@ use borrow.Author.Needs.{needs}
 use Rattle.table.specs.View.{view}
 use Rattle.ownership.specs.Calls.{callTests}
 use Rattle.ownership.specs.OnTable.{takenIn, factsOf, lentTests, stoppedAt}
-use Rattle.call_tests.proofs.Stopping.{stops, onPathOf, node-passed, below-eight, receive-within}
+use Rattle.call_tests.proofs.Stopping.{stops, passed-before, node-passed, below-eight, receive-within}
 use Rattle.call_tests.proofs.disarm.Statement.{statement}
 use Rattle.call_tests.proofs.disarm.Tie as tie
-
-check-requires : tie.Need-check-requires
-check-requires c κs = search needs
 
 returns : tie.Need-returns
 unfolding stoppedAt lentTests
 returns c = search stops
-
-is-absent-requires : tie.Need-is-absent-requires
-is-absent-requires c κs = search needs
 
 returns-2 : tie.Need-returns-2
 unfolding stoppedAt lentTests callTests factsOf
@@ -27,7 +21,7 @@ unfolding stoppedAt lentTests callTests factsOf
 returns-3 c = search stops depth 12
 
 receiver-requires : tie.Need-receiver-requires
-receiver-requires c κs = receive-within (node-passed _ _ (search onPathOf) (search onPathOf), below-eight (search onPathOf))
+receiver-requires c κs = receive-within (node-passed _ _ (search passed-before) (search passed-before), below-eight (search passed-before))
 
 returns-4 : tie.Need-returns-4
 unfolding stoppedAt lentTests callTests factsOf takenIn view
@@ -38,4 +32,4 @@ unfolding stoppedAt lentTests callTests factsOf takenIn view
 returns-5 c = search stops depth 12
 
 pub disarm-spec : {M : Type 1} → statement M
-disarm-spec = tie.close (tie.spec check-requires returns is-absent-requires returns-2 returns-3 receiver-requires returns-4 returns-5)
+disarm-spec = tie.close (tie.spec (search needs) returns (search needs) returns-2 returns-3 receiver-requires returns-4 returns-5)

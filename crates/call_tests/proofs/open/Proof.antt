@@ -3,26 +3,17 @@
 use borrow.Author.Needs.{needs}
 use Rattle.ownership.specs.Calls.{callTests}
 use Rattle.ownership.specs.OnTable.{factsOf, lentTests, stoppedAt}
-use Rattle.call_tests.proofs.Stopping.{stops, onPathOf, not-found, below-eight}
+use Rattle.call_tests.proofs.Stopping.{stops, passed-before, not-found, below-eight}
 use Rattle.call_tests.proofs.open.Statement.{statement}
 use Rattle.call_tests.proofs.open.Tie as tie
-
-check-requires : tie.Need-check-requires
-check-requires c κs = search needs
 
 returns : tie.Need-returns
 unfolding stoppedAt lentTests
 returns c = search stops
 
-is-absent-requires : tie.Need-is-absent-requires
-is-absent-requires c κs = search needs
-
 returns-2 : tie.Need-returns-2
 unfolding stoppedAt lentTests callTests factsOf
 returns-2 c = search stops depth 12
-
-is-absent-requires-2 : tie.Need-is-absent-requires-2
-is-absent-requires-2 c κs = search needs
 
 returns-3 : tie.Need-returns-3
 unfolding stoppedAt lentTests callTests factsOf
@@ -32,15 +23,9 @@ returns-4 : tie.Need-returns-4
 unfolding stoppedAt lentTests callTests factsOf
 returns-4 c = search stops depth 12
 
-no-type-requires : tie.Need-no-type-requires
-no-type-requires c κs = search needs
-
 returns-5 : tie.Need-returns-5
 unfolding stoppedAt lentTests callTests factsOf
 returns-5 c = search stops depth 12
-
-no-vector-requires : tie.Need-no-vector-requires
-no-vector-requires c κs = search needs
 
 returns-6 : tie.Need-returns-6
 unfolding stoppedAt lentTests callTests factsOf
@@ -50,7 +35,7 @@ has-circuit-requires : tie.Need-has-circuit-requires
 has-circuit-requires c κs =
     let d = c .before .before .before .before in
     let s = d .before .before .before in
-    (search onPathOf, (not-found (s .before .is-absent .ensures) (s .if2 .left), below-eight (d .if4 .left)))
+    (search passed-before, (not-found (s .before .is-absent .ensures) (s .if2 .left), below-eight (d .if4 .left)))
 
 returns-7 : tie.Need-returns-7
 unfolding stoppedAt lentTests callTests factsOf
@@ -61,4 +46,4 @@ unfolding stoppedAt lentTests callTests factsOf
 returns-8 c = search stops depth 12 fits 4000
 
 pub open-spec : {M : Type 1} → statement M
-open-spec = tie.close (tie.spec check-requires returns is-absent-requires returns-2 is-absent-requires-2 returns-3 returns-4 no-type-requires returns-5 no-vector-requires returns-6 has-circuit-requires returns-7 returns-8)
+open-spec = tie.close (tie.spec (search needs) returns (search needs) returns-2 (search needs) returns-3 returns-4 (search needs) returns-5 (search needs) returns-6 has-circuit-requires returns-7 returns-8)

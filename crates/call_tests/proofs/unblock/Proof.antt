@@ -7,22 +7,13 @@ use Rattle.call_tests.proofs.Stopping.{stops}
 use Rattle.call_tests.proofs.unblock.Statement.{statement}
 use Rattle.call_tests.proofs.unblock.Tie as tie
 
-check-requires : tie.Need-check-requires
-check-requires c κs = search needs
-
 returns : tie.Need-returns
 unfolding stoppedAt lentTests
 returns c = search stops
 
-is-absent-requires : tie.Need-is-absent-requires
-is-absent-requires c κs = search needs
-
 returns-2 : tie.Need-returns-2
 unfolding stoppedAt lentTests callTests factsOf
 returns-2 c = search stops depth 12
-
-no-port-requires : tie.Need-no-port-requires
-no-port-requires c κs = search needs
 
 returns-3 : tie.Need-returns-3
 unfolding stoppedAt lentTests callTests factsOf
@@ -33,4 +24,4 @@ unfolding stoppedAt lentTests callTests factsOf
 returns-4 c = search stops depth 12
 
 pub unblock-spec : {M : Type 1} → statement M
-unblock-spec = tie.close (tie.spec check-requires returns is-absent-requires returns-2 no-port-requires returns-3 returns-4)
+unblock-spec = tie.close (tie.spec (search needs) returns (search needs) returns-2 (search needs) returns-3 returns-4)

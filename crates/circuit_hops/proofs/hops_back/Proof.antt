@@ -10,20 +10,11 @@ use borrow.Author.Needs.{needs}
 use Rattle.circuit_hops.proofs.hops_back.Statement.{statement}
 use Rattle.circuit_hops.proofs.hops_back.Tie as tie
 
-sub-first-hop : tie.Need-sub-first-hop
-sub-first-hop c = search needs
-
 first-hop-requires : tie.Need-first-hop-requires
 first-hop-requires c κs = let s = c .before in record { bytes = s .pre .known .bytes; node = source-small (s .pre); port = lit< tt }
 
 returns : tie.Need-returns
 returns c = let h = c .before .before in back-none (h .before .before .pre) (h .first-hop .ensures) (c .if1 .taken)
-
-neighbour-requires : tie.Need-neighbour-requires
-neighbour-requires c κs = search needs
-
-sub-follow : tie.Need-sub-follow
-sub-follow c = search needs
 
 follow-requires : tie.Need-follow-requires
 follow-requires c κs =
@@ -48,10 +39,10 @@ pub hops-back-spec : {M : Type 1} → statement M
 hops-back-spec =
     tie.close
     (tie.spec
-    sub-first-hop
+    (search needs)
     first-hop-requires
     returns
-    neighbour-requires
-    sub-follow
+    (search needs)
+    (search needs)
     follow-requires
     returns-2)

@@ -20,9 +20,6 @@ returns c =
     let b = s .args .t .now in
     taken-none b (s .args .c .0) (s .args .end .0) _ _ (λ l z. omega (arith, c .if1 .taken, s .pre .0 .count, ap (2 ^_) (shown b)))
 
-source-of-requires : tie.Need-source-of-requires
-source-of-requires c κs = search needs
-
 held-by-requires : tie.Need-held-by-requires
 held-by-requires c κs =
     let i = c .before in
@@ -51,14 +48,9 @@ returns-2 c =
       vector-inside b n (s .pre .0 .fits) (omega (arith, i .if1 .left, s .pre .0 .count, s .pre .1)) z (subst (λ (x : ℕ). HeldBy b n x (h .held-by .result)) (g .source-of .ensures) (h .held-by .ensures)),
     ))
 
+-- by itself, since must-fail/marked_by_the_way_to_its_end falls here
 several-links-requires : tie.Need-several-links-requires
 several-links-requires c κs = search needs
-
-same-length : tie.Need-same-length
-same-length c = search needs
-
-returns-3 : tie.Need-returns-3
-returns-3 c = search needs
 
 returns-4 : tie.Need-returns-4
 returns-4 c =
@@ -97,26 +89,20 @@ one-link-requires c κs =
       omega (arith, k .links-held .ensures, e .before .if2 .left),
     )
 
-same-length-2 : tie.Need-same-length-2
-same-length-2 c = search needs
-
-returns-5 : tie.Need-returns-5
-returns-5 c = search needs
-
 pub hops-to-spec : {M : Type 1} → statement M
 hops-to-spec =
     tie.close
     (tie.spec
     mul-if1
     returns
-    source-of-requires
+    (λ c κs. search needs)
     held-by-requires
     links-held-requires
     returns-2
     several-links-requires
-    same-length
-    returns-3
+    (λ c. search needs)
+    (λ c. search needs)
     returns-4
     one-link-requires
-    same-length-2
-    returns-5)
+    (λ c. search needs)
+    (λ c. search needs))

@@ -7,33 +7,15 @@ use lib.Bits.{bitAnd, bitOr, or-lt}
 use lib.ListN.{set}
 use borrow.Author.Needs.{needs}
 use borrow.Author.Tests.{eq-eqb, ne-eqb}
-use Rattle.circuit_hops.specs.Marks.{withMarks}
+use Rattle.circuit_hops.specs.Seen.{withMarks}
 use Rattle.circuit_hops.proofs.mark_new.Statement.{statement}
 use Rattle.circuit_hops.proofs.mark_new.Tie as tie
-
-cast-at : tie.Need-cast-at
-cast-at c = search needs
-
-slice-read-wide : tie.Need-slice-read-wide
-slice-read-wide c = search needs
-
-wide-requires : tie.Need-wide-requires
-wide-requires c κs = search needs
 
 returns : tie.Need-returns
 returns c =
     let w = c .before in
     let s = w .before .before .before .before in
     (sym (ne-eqb _ 0 (λ z. c .if1 .taken (ap (λ x. bitAnd x (s .args .held)) (w .wide .ensures .0) ∙ z))), λ e. absurd (false≢true e))
-
-cast-seen : tie.Need-cast-seen
-cast-seen c = search needs
-
-slice-write-seen : tie.Need-slice-write-seen
-slice-write-seen c = search needs
-
-same-length : tie.Need-same-length
-same-length c = search needs
 
 returns-2 : tie.Need-returns-2
 unfolding withMarks
@@ -49,11 +31,11 @@ pub mark-new-spec : {M : Type 1} → statement M
 mark-new-spec =
     tie.close
     (tie.spec
-    cast-at
-    slice-read-wide
-    wide-requires
+    (search needs)
+    (search needs)
+    (search needs)
     returns
-    cast-seen
-    slice-write-seen
-    same-length
+    (search needs)
+    (search needs)
+    (search needs)
     returns-2)

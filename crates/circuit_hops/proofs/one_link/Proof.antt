@@ -28,9 +28,6 @@ walk-requires c κs =
     let pre = s .pre .0 .0 in
     record { bytes = pre .known .bytes; fits = pre .known .fits; start = one-link pre (s .pre .0 .1) (s .pre .1) (s .pre .0 .2) (e .if1 .left) .inside; target = omega (arith, pre .target, pre .count) }
 
-same-length : tie.Need-same-length
-same-length c = search needs
-
 returns-2 : tie.Need-returns-2
 returns-2 c =
     let i = c .before .before in
@@ -41,9 +38,6 @@ returns-2 c =
     let one = one-link pre (s .pre .0 .1) (s .pre .1) (s .pre .0 .2) (e .if1 .left) in
     taken-new (s .args .t .now) (s .args .c .0) (s .args .end .0) _ _ (pre .source) (s .pre .0 .1) (sym (m .mark-new .ensures .0) ∙ i .if2 .taken) (m .mark-new .ensures .1 (i .if2 .taken))
     (omega (arith, source-small pre, s .pre .0 .3)) (pre .known .source) (one-followed pre (one .sole) (one .low) (one .to) (c .walk .ensures))
-
-same-length-2 : tie.Need-same-length-2
-same-length-2 c = search needs
 
 returns-3 : tie.Need-returns-3
 returns-3 c =
@@ -58,7 +52,7 @@ one-link-spec =
     returns
     mark-new-requires
     walk-requires
-    same-length
+    (search needs)
     returns-2
-    same-length-2
+    (search needs)
     returns-3)

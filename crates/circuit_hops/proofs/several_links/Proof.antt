@@ -10,12 +10,6 @@ use Rattle.circuit_hops.proofs.several_links.Tie as tie
 mark-new-requires : tie.Need-mark-new-requires
 mark-new-requires c κs = let s = c .before .before .before in (source-small (s .pre .0), s .pre .1 .small, s .pre .2)
 
-hops-back-requires : tie.Need-hops-back-requires
-hops-back-requires c κs = search needs
-
-same-length : tie.Need-same-length
-same-length c = search needs
-
 returns : tie.Need-returns
 returns c =
     let i = c .before in
@@ -23,9 +17,6 @@ returns c =
     let s = m .before .before .before .before in
     taken-new (s .args .t .now) (s .args .c .0) (s .args .end .0) _ _ (s .pre .0 .source) (s .pre .1) (sym (m .mark-new .ensures .0) ∙ i .if1 .taken) (m .mark-new .ensures .1 (i .if1 .taken))
     (omega (arith, source-small (s .pre .0), s .pre .2)) (s .pre .0 .known .source) (c .hops-back .ensures)
-
-same-length-2 : tie.Need-same-length-2
-same-length-2 c = search needs
 
 returns-2 : tie.Need-returns-2
 returns-2 c =
@@ -36,4 +27,4 @@ returns-2 c =
 pub several-links-spec : {M : Type 1} → statement M
 several-links-spec =
     tie.close
-    (tie.spec mark-new-requires hops-back-requires same-length returns same-length-2 returns-2)
+    (tie.spec mark-new-requires (search needs) (search needs) returns (search needs) returns-2)

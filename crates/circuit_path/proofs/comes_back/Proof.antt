@@ -9,12 +9,6 @@ use borrow.Author.Needs.{needs}
 use Rattle.circuit_path.proofs.comes_back.Statement.{statement}
 use Rattle.circuit_path.proofs.comes_back.Tie as tie
 
-takes-requires : tie.Need-takes-requires
-takes-requires c κs = search needs
-
-neighbour-requires : tie.Need-neighbour-requires
-neighbour-requires c κs = search needs
-
 holds-requires : tie.Need-holds-requires
 holds-requires c κs =
     let s = c .before .before .before .before in
@@ -33,4 +27,4 @@ returns-2 c =
 
 pub comes-back-spec : {M : Type 1} → statement M
 comes-back-spec =
-    tie.close (tie.spec takes-requires neighbour-requires holds-requires returns returns-2)
+    tie.close (tie.spec (search needs) (search needs) holds-requires returns returns-2)

@@ -26,12 +26,6 @@ abbrev μ-loop : tie.MeasureT-loop
 loop-holds : tie.Need-loop-holds Inv-loop μ-loop
 loop-holds c = (omega arith, omega arith, refl, refl)
 
-takes-requires : tie.Need-takes-requires Inv-loop μ-loop
-takes-requires c κs = search needs
-
-comes-back-requires : tie.Need-comes-back-requires Inv-loop μ-loop
-comes-back-requires c κs = search needs
-
 returns : tie.Need-returns Inv-loop μ-loop
 returns c =
     let b = c .before in
@@ -42,15 +36,6 @@ returns c =
     let low : p ≡ lowest (comesBack (view (s .args .t .now)) (s .args .c .0) (s .args .s .0) (s .args .vector)) 8 0 =
     sym (lowest-here _ 8 p (i .loop-test .taken) (sym (b .comes-back .ensures) ∙ c .if2 .taken)) ∙ l .loop .inv .2 in
     first-back (view (s .args .t .now)) (s .args .c .0) (s .args .s .0) (s .args .vector) p low (i .loop-test .taken)
-
-first-of-requires : tie.Need-first-of-requires Inv-loop μ-loop
-first-of-requires c κs = search needs
-
-add-p : tie.Need-add-p Inv-loop μ-loop
-add-p c = omega arith
-
-loop-less : tie.Need-loop-less Inv-loop μ-loop
-loop-less c = omega arith
 
 loop-again : tie.Need-loop-again Inv-loop μ-loop
 loop-again c =
@@ -88,11 +73,11 @@ first-hop-spec =
     Inv-loop
     μ-loop
     loop-holds
-    takes-requires
-    comes-back-requires
+    (search needs)
+    (search needs)
     returns
-    first-of-requires
-    add-p
-    loop-less
+    (search needs)
+    (λ c. omega arith)
+    (λ c. omega arith)
     loop-again
     returns-2)

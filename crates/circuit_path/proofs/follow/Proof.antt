@@ -6,6 +6,7 @@ use native.Mathlib.Omega.{arith}
 use lib.Dec.{lit<}
 use lib.ListN.{length}
 use lib.Pow.{pow-pos}
+use Rattle.cube.specs.Cube.{portCount}
 use Rattle.paths.specs.Network.{end}
 use Rattle.cube.proofs.Axes.{next-inside}
 use Rattle.table.specs.View.{view, net}
@@ -85,7 +86,7 @@ loop-again c =
     let s = l .before .before in
     let v = view (s .args .t .now) in
     let q = h .held-port .result .0 in
-    let small : q < 8 = omega (arith, i .if1 .left) in
+    let small : q < portCount = omega (arith, i .if1 .left) in
     let to = n .neighbour .ensures in
     let on = follow-on v (s .args .c .0) (l .loop .at .0) (l .loop .left) q (c .without .result) (h .held-port .ensures) small (c .without .ensures) in (
       rw to (next-inside 8 (l .loop .at .0) q (omega arith) (l .loop .inv .0) small),

@@ -31,22 +31,10 @@ loop-holds c =
     let most : c .lowest-bit .result ≤ 8 = omega (arith, e, lowest-most (has (s .args .vector)) 8 0) in
     (most, lowest-skip _ 8 (c .lowest-bit .result) most (none-before (view (s .args .t .now)) (s .args .c .0) (s .args .n .0) (s .args .vector) _ e))
 
-lowest-bit-requires : tie.Need-lowest-bit-requires Inv-loop μ-loop
-lowest-bit-requires c κs = search needs
-
-takes-requires : tie.Need-takes-requires Inv-loop μ-loop
-takes-requires c κs = search needs
-
 returns : tie.Need-returns Inv-loop μ-loop
 returns c =
     let l = c .before .before .before in
     sym (lowest-here _ 8 (l .loop .p) (omega arith) (sym (c .before .takes .ensures) ∙ c .if1 .taken)) ∙ l .loop .inv .1
-
-add-p : tie.Need-add-p Inv-loop μ-loop
-add-p c = omega arith
-
-loop-less : tie.Need-loop-less Inv-loop μ-loop
-loop-less c = omega arith
 
 loop-again : tie.Need-loop-again Inv-loop μ-loop
 loop-again c =
@@ -62,11 +50,11 @@ held-port-spec =
     (tie.spec
     Inv-loop
     μ-loop
-    lowest-bit-requires
+    (search needs)
     loop-holds
-    takes-requires
+    (search needs)
     returns
-    add-p
-    loop-less
+    (λ c. omega arith)
+    (λ c. omega arith)
     loop-again
     returns-2)

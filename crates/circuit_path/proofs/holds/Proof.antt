@@ -7,12 +7,9 @@ use borrow.Author.Needs.{needs}
 use Rattle.circuit_path.proofs.holds.Statement.{statement}
 use Rattle.circuit_path.proofs.holds.Tie as tie
 
-owner-requires : tie.Need-owner-requires
-owner-requires c κs = search needs
-
 returns : tie.Need-returns
 unfolding view
 returns c = ap (λ x. eqb x (c .before .before .before .before .args .c .0)) (c .before .before .owner .ensures)
 
 pub holds-spec : {M : Type 1} → statement M
-holds-spec = tie.close (tie.spec owner-requires returns)
+holds-spec = tie.close (tie.spec (search needs) returns)

@@ -1,19 +1,10 @@
--- `circuit_path::is_open` meets its contract: a path is empty where no link of the source is held.
+-- `circuit_path::is_open` meets its contract: whether a port of the cube is in the vector of the links that it holds at its source.
 -- Assumes nothing.
 use native.Mathlib.Omega.{arith}
-use Rattle.circuit_path.proofs.Examine.{opened-vector, source-within}
+use Rattle.circuit_path.proofs.Examine.{open-vector, source-within}
 use borrow.Author.Needs.{needs}
 use Rattle.circuit_path.proofs.is_open.Statement.{statement}
 use Rattle.circuit_path.proofs.is_open.Tie as tie
-
-dimension-requires : tie.Need-dimension-requires
-dimension-requires c κs = search needs
-
-node-count-requires : tie.Need-node-count-requires
-node-count-requires c κs = search needs
-
-source-of-requires : tie.Need-source-of-requires
-source-of-requires c κs = search needs
 
 held-by-requires : tie.Need-held-by-requires
 held-by-requires c κs =
@@ -21,23 +12,20 @@ held-by-requires c κs =
     let d = m .before in
     source-within (d .before .before .pre) (d .dimension .ensures) (m .node-count .ensures) (c .source-of .ensures)
 
-sub-result : tie.Need-sub-result
-sub-result c = search needs
-
 returns : tie.Need-returns
 returns c =
     let g = c .before in
     let m = g .before in
     let d = m .before in
-    opened-vector (d .dimension .ensures) (omega (arith, d .dimension .ensures, d .before .before .pre .fits)) (m .node-count .ensures .value) (g .source-of .ensures) (c .held-by .ensures)
+    open-vector (d .dimension .ensures) (omega (arith, d .dimension .ensures, d .before .before .pre .fits)) (m .node-count .ensures .value) (g .source-of .ensures) (c .held-by .ensures)
 
 pub is-open-spec : {M : Type 1} → statement M
 is-open-spec =
     tie.close
     (tie.spec
-    dimension-requires
-    node-count-requires
-    source-of-requires
+    (search needs)
+    (search needs)
+    (search needs)
     held-by-requires
-    sub-result
+    (search needs)
     returns)

@@ -6,12 +6,6 @@ use borrow.Author.Needs.{needs}
 use Rattle.circuit_path.proofs.takes.Statement.{statement}
 use Rattle.circuit_path.proofs.takes.Tie as tie
 
-shr-if1 : tie.Need-shr-if1
-shr-if1 c = search needs
-
-holds-requires : tie.Need-holds-requires
-holds-requires c κs = search needs
-
 returns : tie.Need-returns
 returns c =
     let s = c .before .before .before in
@@ -23,4 +17,4 @@ returns-2 c =
     takes-off (view (s .args .t .now)) (s .args .c .0) (s .args .n .0) (s .args .vector) (s .args .p .0) (c .if1 .left)
 
 pub takes-spec : {M : Type 1} → statement M
-takes-spec = tie.close (tie.spec shr-if1 holds-requires returns returns-2)
+takes-spec = tie.close (tie.spec (search needs) (search needs) returns returns-2)

@@ -8,7 +8,7 @@ use lib.ListN.{length-set}
 use lib.Pow.{pow-pos}
 use Rattle.table.specs.View.{view}
 use Rattle.circuit_path.proofs.Examine.{source-within}
-use Rattle.circuit_path.proofs.Tracing.{Tracing, first-below, start-tracing, end-count, end-bytes, port-left, on-place, on-tracing, whole-count, whole-bytes}
+use Rattle.circuit_path.proofs.Tracing.{Tracing, first-below, start-tracing, port-left, on-place, on-tracing, end-tracing}
 use borrow.Author.Needs.{needs}
 use Rattle.circuit_path.proofs.write_path.Statement.{statement}
 use Rattle.circuit_path.proofs.write_path.Tie as tie
@@ -18,18 +18,6 @@ Inv-loop t c buffer₀ left₀ at₀ hops₀ buffer left at hops = Tracing (view
 
 abbrev μ-loop : tie.MeasureT-loop
 μ-loop t c buffer₀ left₀ at₀ hops₀ buffer left at hops = left
-
-dimension-requires : tie.Need-dimension-requires Inv-loop μ-loop
-dimension-requires c κs = search needs
-
-node-count-requires : tie.Need-node-count-requires Inv-loop μ-loop
-node-count-requires c κs = search needs
-
-sub-left : tie.Need-sub-left Inv-loop μ-loop
-sub-left c = search needs
-
-source-of-requires : tie.Need-source-of-requires Inv-loop μ-loop
-source-of-requires c κs = search needs
 
 first-hop-requires : tie.Need-first-hop-requires Inv-loop μ-loop
 first-hop-requires c κs =
@@ -46,9 +34,6 @@ cast-buffer c =
     let d = m .before in
     let s = d .before .before .before in
     omega (arith, first-below (s .pre .0) (d .dimension .ensures) (m .node-count .ensures) (g .source-of .ensures) (h .first-hop .ensures) (s .pre .1 .0))
-
-slice-write-buffer : tie.Need-slice-write-buffer Inv-loop μ-loop
-slice-write-buffer c = search needs
 
 neighbour-requires : tie.Need-neighbour-requires Inv-loop μ-loop
 neighbour-requires c κs =
@@ -89,12 +74,9 @@ returns c =
     let g = h .before in
     let m = g .before in
     let d = m .before in
-    let s = d .before .before .before in (
-      whole-count (s .pre .0) (d .dimension .ensures) (m .node-count .ensures) (g .source-of .ensures) (h .first-hop .ensures) (s .pre .1 .0) (n .neighbour .ensures)
-          (end-count (l .loop .inv) (e .held-port .ensures) (c .if1 .taken)),
-      whole-bytes (s .pre .0) (d .dimension .ensures) (m .node-count .ensures) (g .source-of .ensures) (h .first-hop .ensures) (s .pre .1 .0) (n .neighbour .ensures) _ (s .pre .1 .1)
-          (end-bytes (l .loop .inv) (e .held-port .ensures) (c .if1 .taken)),
-    )
+    let s = d .before .before .before in
+    end-tracing (s .pre .0) (d .dimension .ensures) (m .node-count .ensures) (g .source-of .ensures) (h .first-hop .ensures) (s .pre .1 .0) (n .neighbour .ensures) _ (s .pre .1 .1)
+    (l .loop .inv) (e .held-port .ensures) (c .if1 .taken)
 
 cast-buffer-2 : tie.Need-cast-buffer-2 Inv-loop μ-loop
 cast-buffer-2 c = omega (arith, c .before .if1 .left)
@@ -143,13 +125,13 @@ write-path-spec =
     (tie.spec
     Inv-loop
     μ-loop
-    dimension-requires
-    node-count-requires
-    sub-left
-    source-of-requires
+    (search needs)
+    (search needs)
+    (search needs)
+    (search needs)
     first-hop-requires
     cast-buffer
-    slice-write-buffer
+    (search needs)
     neighbour-requires
     loop-holds
     held-port-requires

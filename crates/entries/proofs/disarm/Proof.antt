@@ -9,15 +9,6 @@ use borrow.Author.Needs.{needs}
 use Rattle.entries.proofs.disarm.Statement.{statement}
 use Rattle.entries.proofs.disarm.Tie as tie
 
-arm-place-requires : tie.Need-arm-place-requires
-arm-place-requires c κs = search needs
-
-put-bit-requires : tie.Need-put-bit-requires
-put-bit-requires c κs = search needs
-
-same-length : tie.Need-same-length
-same-length c = search needs
-
 returns : tie.Need-returns
 unfolding putArmed putMask
 returns c =
@@ -27,4 +18,4 @@ returns c =
     w .put-bit .ensures ∙ ap (λ i. set b i (withBit (getD b i 0) (s .args .channel) false)) (w .before .arm-place .ensures .0)
 
 pub disarm-spec : {M : Type 1} → statement M
-disarm-spec = tie.close (tie.spec arm-place-requires put-bit-requires same-length returns)
+disarm-spec = tie.close (tie.spec (search needs) (search needs) (search needs) returns)

@@ -9,15 +9,6 @@ use borrow.Author.Needs.{needs}
 use Rattle.entries.proofs.enable.Statement.{statement}
 use Rattle.entries.proofs.enable.Tie as tie
 
-enable-place-requires : tie.Need-enable-place-requires
-enable-place-requires c κs = search needs
-
-put-bit-requires : tie.Need-put-bit-requires
-put-bit-requires c κs = search needs
-
-same-length : tie.Need-same-length
-same-length c = search needs
-
 returns : tie.Need-returns
 unfolding putEnabled putMask
 returns c =
@@ -27,4 +18,4 @@ returns c =
     w .put-bit .ensures ∙ ap (λ i. set b i (withBit (getD b i 0) (s .args .p .0) true)) (w .before .enable-place .ensures .0)
 
 pub enable-spec : {M : Type 1} → statement M
-enable-spec = tie.close (tie.spec enable-place-requires put-bit-requires same-length returns)
+enable-spec = tie.close (tie.spec (search needs) (search needs) (search needs) returns)

@@ -7,19 +7,10 @@ use borrow.Author.Needs.{needs}
 use Rattle.entries.proofs.enable_bits.Statement.{statement}
 use Rattle.entries.proofs.enable_bits.Tie as tie
 
-enable-place-requires : tie.Need-enable-place-requires
-enable-place-requires c κs = search needs
-
-shared-slice-read-wide : tie.Need-shared-slice-read-wide
-shared-slice-read-wide c = search needs
-
-wide-requires : tie.Need-wide-requires
-wide-requires c κs = search needs
-
 returns : tie.Need-returns
 unfolding enableBits
 returns c = (c .wide .ensures .0 ∙ ap (λ i. getD (c .before .before .before .before .args .t .now) i 0) (c .before .before .enable-place .ensures .0), c .wide .ensures .1)
 
 pub enable-bits-spec : {M : Type 1} → statement M
 enable-bits-spec =
-    tie.close (tie.spec enable-place-requires shared-slice-read-wide wide-requires returns)
+    tie.close (tie.spec (search needs) (search needs) (search needs) returns)

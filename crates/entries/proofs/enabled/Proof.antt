@@ -6,12 +6,6 @@ use borrow.Author.Needs.{needs}
 use Rattle.entries.proofs.enabled.Statement.{statement}
 use Rattle.entries.proofs.enabled.Tie as tie
 
-enable-place-requires : tie.Need-enable-place-requires
-enable-place-requires c κs = search needs
-
-bit-requires : tie.Need-bit-requires
-bit-requires c κs = search needs
-
 returns : tie.Need-returns
 unfolding enabledAt
 returns c =
@@ -21,4 +15,4 @@ returns c =
     enablePart (e .enable-place .result) (e .enable-place .ensures .0) (c .bit .ensures)
 
 pub enabled-spec : {M : Type 1} → statement M
-enabled-spec = tie.close (tie.spec enable-place-requires bit-requires returns)
+enabled-spec = tie.close (tie.spec (search needs) (search needs) returns)

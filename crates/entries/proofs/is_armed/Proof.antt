@@ -6,12 +6,6 @@ use borrow.Author.Needs.{needs}
 use Rattle.entries.proofs.is_armed.Statement.{statement}
 use Rattle.entries.proofs.is_armed.Tie as tie
 
-arm-place-requires : tie.Need-arm-place-requires
-arm-place-requires c κs = search needs
-
-bit-requires : tie.Need-bit-requires
-bit-requires c κs = search needs
-
 returns : tie.Need-returns
 unfolding armedAt
 returns c =
@@ -21,4 +15,4 @@ returns c =
     armPart (e .arm-place .result) (e .arm-place .ensures .0) (c .bit .ensures)
 
 pub is-armed-spec : {M : Type 1} → statement M
-is-armed-spec = tie.close (tie.spec arm-place-requires bit-requires returns)
+is-armed-spec = tie.close (tie.spec (search needs) (search needs) returns)

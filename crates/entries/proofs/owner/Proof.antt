@@ -6,12 +6,6 @@ use borrow.Author.Needs.{needs}
 use Rattle.entries.proofs.owner.Statement.{statement}
 use Rattle.entries.proofs.owner.Tie as tie
 
-link-place-requires : tie.Need-link-place-requires
-link-place-requires c κs = search needs
-
-word-requires : tie.Need-word-requires
-word-requires c κs = search needs
-
 returns : tie.Need-returns
 unfolding ownerAt
 returns c =
@@ -19,4 +13,4 @@ returns c =
     entry-is _ (s .args .n .0) (s .args .p .0) (s .pre .node) (s .pre .port) linkPart (c .word .result) _ (c .before .link-place .ensures .0) (c .word .ensures)
 
 pub owner-spec : {M : Type 1} → statement M
-owner-spec = tie.close (tie.spec link-place-requires word-requires returns)
+owner-spec = tie.close (tie.spec (search needs) (search needs) returns)

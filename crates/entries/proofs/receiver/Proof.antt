@@ -6,12 +6,6 @@ use borrow.Author.Needs.{needs}
 use Rattle.entries.proofs.receiver.Statement.{statement}
 use Rattle.entries.proofs.receiver.Tie as tie
 
-receive-place-requires : tie.Need-receive-place-requires
-receive-place-requires c κs = search needs
-
-word-requires : tie.Need-word-requires
-word-requires c κs = search needs
-
 returns : tie.Need-returns
 unfolding receiverAt
 returns c =
@@ -19,4 +13,4 @@ returns c =
     entry-is _ (s .args .n .0) (s .args .channel) (s .pre .node) (s .pre .port) receivePart (c .word .result) _ (c .before .receive-place .ensures .0) (c .word .ensures)
 
 pub receiver-spec : {M : Type 1} → statement M
-receiver-spec = tie.close (tie.spec receive-place-requires word-requires returns)
+receiver-spec = tie.close (tie.spec (search needs) (search needs) returns)

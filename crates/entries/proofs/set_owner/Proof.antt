@@ -7,15 +7,6 @@ use borrow.Author.Needs.{needs}
 use Rattle.entries.proofs.set_owner.Statement.{statement}
 use Rattle.entries.proofs.set_owner.Tie as tie
 
-link-place-requires : tie.Need-link-place-requires
-link-place-requires c κs = search needs
-
-put-word-requires : tie.Need-put-word-requires
-put-word-requires c κs = search needs
-
-same-length : tie.Need-same-length
-same-length c = search needs
-
 returns : tie.Need-returns
 unfolding putOwner putEntry
 returns c =
@@ -24,4 +15,4 @@ returns c =
     w .put-word .ensures ∙ ap (λ i. putWord (s .args .t .now) i (s .args .c .0)) (w .before .link-place .ensures .0)
 
 pub set-owner-spec : {M : Type 1} → statement M
-set-owner-spec = tie.close (tie.spec link-place-requires put-word-requires same-length returns)
+set-owner-spec = tie.close (tie.spec (search needs) (search needs) (search needs) returns)

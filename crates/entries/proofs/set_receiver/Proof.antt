@@ -7,15 +7,6 @@ use borrow.Author.Needs.{needs}
 use Rattle.entries.proofs.set_receiver.Statement.{statement}
 use Rattle.entries.proofs.set_receiver.Tie as tie
 
-receive-place-requires : tie.Need-receive-place-requires
-receive-place-requires c κs = search needs
-
-put-word-requires : tie.Need-put-word-requires
-put-word-requires c κs = search needs
-
-same-length : tie.Need-same-length
-same-length c = search needs
-
 returns : tie.Need-returns
 unfolding putReceiver putEntry
 returns c =
@@ -25,4 +16,4 @@ returns c =
 
 pub set-receiver-spec : {M : Type 1} → statement M
 set-receiver-spec =
-    tie.close (tie.spec receive-place-requires put-word-requires same-length returns)
+    tie.close (tie.spec (search needs) (search needs) (search needs) returns)

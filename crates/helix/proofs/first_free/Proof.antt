@@ -1,6 +1,5 @@
 -- `helix::first_free` meets its contract: what is left to try gives the whole.
 -- Assumes nothing.
-use mathlib.Core.Path.{refl}
 use native.Mathlib.Omega.{arith}
 use lib.Dec.{lit<}
 use lib.Pow.{pow-pos}

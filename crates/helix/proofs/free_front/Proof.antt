@@ -6,9 +6,9 @@ use borrow.Author.Needs.{needs}
 use Rattle.helix.proofs.free_front.Statement.{statement}
 use Rattle.helix.proofs.free_front.Tie as tie
 use Rattle.cube.specs.Cube.{next}
-use Rattle.answers.specs.PassAnswer.{hopsLeft}
+use Rattle.answers.specs.PassOnBytes.{hopsLeft}
 use Rattle.table.specs.View.{view}
-use Rattle.answers.proofs.PassAnswer.{told-free, told-held, told-blocked}
+use Rattle.answers.proofs.PassOnBytes.{told-free, told-held, told-blocked}
 use Rattle.helix.proofs.Following.{Looking, looking-first, looking-stopped, looking-arrived, looking-nearer, looking-more, hop-within, up-small}
 
 abbrev Inv-loop : tie.InvT-loop
@@ -27,20 +27,11 @@ link-state-requires : tie.Need-link-state-requires Inv-loop μ-loop
 unfolding view
 link-state-requires c κs = (hop-within (c .before .loop .inv .may) refl, c .enabled .ensures)
 
-enum-told : tie.Need-enum-told Inv-loop μ-loop
-enum-told c = search needs
-
-enum-told-2 : tie.Need-enum-told-2 Inv-loop μ-loop
-enum-told-2 c = search needs
-
 returns : tie.Need-returns Inv-loop μ-loop
 returns c =
     let f = c .before .before in
     let l = f .before .before in
     looking-stopped (l .loop .inv) (told-held (view (l .before .before .args .t .now)) (l .loop .at .0) (l .loop .p .0) (f .link-state .ensures) (c .enum-told2 .given .1))
-
-enum-told-3 : tie.Need-enum-told-3 Inv-loop μ-loop
-enum-told-3 c = search needs
 
 returns-2 : tie.Need-returns-2 Inv-loop μ-loop
 returns-2 c =
@@ -61,9 +52,6 @@ returns-3 c =
     let l = f .before .before in
     looking-arrived (l .loop .inv) (told-free (view (l .before .before .args .t .now)) (l .loop .at .0) (l .loop .p .0) (f .link-state .ensures) (a .before .enum-told .given .1))
     (a .neighbour .ensures) (c .if1 .taken)
-
-uphill-vector-requires : tie.Need-uphill-vector-requires Inv-loop μ-loop
-uphill-vector-requires c κs = search needs
 
 first-port-requires : tie.Need-first-port-requires Inv-loop μ-loop
 first-port-requires c κs =
@@ -102,15 +90,15 @@ free-front-spec =
     loop-holds
     enabled-requires
     link-state-requires
-    enum-told
-    enum-told-2
+    (search needs)
+    (search needs)
     returns
-    enum-told-3
+    (search needs)
     returns-2
     neighbour-requires
     add-hops
     returns-3
-    uphill-vector-requires
+    (search needs)
     first-port-requires
     loop-less
     loop-again)

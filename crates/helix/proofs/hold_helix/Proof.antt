@@ -6,7 +6,7 @@ use borrow.Author.Needs.{needs}
 use Rattle.helix.proofs.hold_helix.Statement.{statement}
 use Rattle.helix.proofs.hold_helix.Tie as tie
 use Rattle.cube.specs.Cube.{next}
-use Rattle.answers.specs.PassAnswer.{hopsLeft}
+use Rattle.answers.specs.PassOnBytes.{hopsLeft}
 use Rattle.helix.proofs.Following.{Holding, holding-first, holding-arrived, holding-nearer, holding-more, hop-within, up-small}
 
 abbrev Inv-loop : tie.InvT-loop
@@ -34,9 +34,6 @@ returns c =
     let a = c .before .before .before in
     let o = a .before .before .before in
     holding-arrived (o .before .before .loop .inv) (o .set-owner .ensures) (a .neighbour .ensures) (c .if1 .taken)
-
-uphill-vector-requires : tie.Need-uphill-vector-requires Inv-loop μ-loop
-uphill-vector-requires c κs = search needs
 
 first-port-requires : tie.Need-first-port-requires Inv-loop μ-loop
 first-port-requires c κs =
@@ -70,7 +67,7 @@ hold-helix-spec =
     neighbour-requires
     same-length
     returns
-    uphill-vector-requires
+    (search needs)
     first-port-requires
     loop-less
     loop-again)

@@ -1,19 +1,12 @@
 -- `helix::try_each` meets its contract: the first free path, and the receive channel that the target has for it.
 -- Assumes nothing.
 use mathlib.Core.Path.{_∙_}
-use native.Mathlib.Omega.{arith}
 use lib.Dec.{lit<}
 use Rattle.cube.proofs.Order.{byte-vector}
 use Rattle.helix.proofs.HelixSends.{helix-none, path-follows, helix-full, channel-small, helix-taken}
 use borrow.Author.Needs.{needs}
 use Rattle.helix.proofs.try_each.Statement.{statement}
 use Rattle.helix.proofs.try_each.Tie as tie
-
-first-free-requires : tie.Need-first-free-requires
-first-free-requires c κs = search needs
-
-same-length : tie.Need-same-length
-same-length c = search needs
 
 returns : tie.Need-returns
 returns c =
@@ -26,9 +19,6 @@ free-channel-requires c κs =
     let s = c .before .before .before .before .before .before .before in
     let may = s .pre .1 in
     record { bytes = may .bytes; node = byte-vector (may .fits) (may .target); port = lit< tt }
-
-same-length-2 : tie.Need-same-length-2
-same-length-2 c = search needs
 
 returns-2 : tie.Need-returns-2
 returns-2 c =
@@ -61,9 +51,6 @@ set-receiver-requires c κs =
       port = channel-small may (f .first-free .ensures) (e .if1 .left) (k .free-channel .ensures) (n .if2 .left);
     }
 
-same-length-3 : tie.Need-same-length-3
-same-length-3 c = search needs
-
 returns-3 : tie.Need-returns-3
 returns-3 c =
     let r = c .before .before in
@@ -79,13 +66,13 @@ pub try-each-spec : {M : Type 1} → statement M
 try-each-spec =
     tie.close
     (tie.spec
-    first-free-requires
-    same-length
+    (λ c κs. search needs)
+    (search needs)
     returns
     free-channel-requires
-    same-length-2
+    (search needs)
     returns-2
     hold-helix-requires
     set-receiver-requires
-    same-length-3
+    (search needs)
     returns-3)

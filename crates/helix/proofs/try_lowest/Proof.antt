@@ -29,9 +29,6 @@ try-each-requires c κs =
     let s = p .before .before in
     (s .pre .0, may-lowest (s .pre .1 .0) (s .pre .1 .1) (p .first-port .ensures) (w .without .ensures))
 
-same-length : tie.Need-same-length
-same-length c = search needs
-
 returns : tie.Need-returns
 returns c =
     let e = c .before .before in
@@ -41,4 +38,4 @@ returns c =
     e .try-each .ensures ∙ lowest-sent (s .pre .1 .0) (s .pre .1 .1) (p .first-port .ensures) (w .without .ensures)
 
 pub try-lowest-spec : {M : Type 1} → statement M
-try-lowest-spec = tie.close (tie.spec first-port-requires without-requires sub-try-each try-each-requires same-length returns)
+try-lowest-spec = tie.close (tie.spec first-port-requires without-requires sub-try-each try-each-requires (search needs) returns)

@@ -7,27 +7,6 @@ use borrow.Author.Needs.{needs}
 use Rattle.input_line.proofs.by_letter.Statement.{statement}
 use Rattle.input_line.proofs.by_letter.Tie as tie
 
-counted-requires : tie.Need-counted-requires
-counted-requires c κs = search needs
-
-counted-requires-2 : tie.Need-counted-requires-2
-counted-requires-2 c κs = search needs
-
-counted-requires-3 : tie.Need-counted-requires-3
-counted-requires-3 c κs = search needs
-
-counted-requires-4 : tie.Need-counted-requires-4
-counted-requires-4 c κs = search needs
-
-counted-requires-5 : tie.Need-counted-requires-5
-counted-requires-5 c κs = search needs
-
-counted-requires-6 : tie.Need-counted-requires-6
-counted-requires-6 c κs = search needs
-
-counted-requires-7 : tie.Need-counted-requires-7
-counted-requires-7 c κs = search needs
-
 returns : tie.Need-returns
 unfolding numbersOf asked
 returns c = rw (c .before .match .keys1) (c .counted .ensures)
@@ -66,13 +45,13 @@ pub by-letter-spec : {M : Type 1} → statement M
 by-letter-spec =
     tie.close
     (tie.spec
-    counted-requires
-    counted-requires-2
-    counted-requires-3
-    counted-requires-4
-    counted-requires-5
-    counted-requires-6
-    counted-requires-7
+    (search needs)
+    (search needs)
+    (search needs)
+    (search needs)
+    (search needs)
+    (search needs)
+    (search needs)
     returns
     returns-2
     returns-3

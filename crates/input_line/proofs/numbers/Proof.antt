@@ -32,21 +32,6 @@ loop-holds : tie.Need-loop-holds Inv-loop μ-loop
 loop-holds c =
     let s = c .before in (omega arith, omega arith, s .pre .1, joined-none (numbers (fields (drop (s .args .from) (s .args .line .now)))), omega arith)
 
-find-requires : tie.Need-find-requires Inv-loop μ-loop
-find-requires c κs = omega arith
-
-sub-read : tie.Need-sub-read Inv-loop μ-loop
-sub-read c = omega arith
-
-part-read-start : tie.Need-part-read-start Inv-loop μ-loop
-part-read-start c = search needs
-
-part-read-end : tie.Need-part-read-end Inv-loop μ-loop
-part-read-end c = search needs
-
-read-requires : tie.Need-read-requires Inv-loop μ-loop
-read-requires c κs = search needs
-
 returns : tie.Need-returns Inv-loop μ-loop
 returns c =
     let r = c .before in
@@ -69,14 +54,8 @@ cast-values c =
     let part = take (f .find .result - l .loop .at) (drop (l .loop .at) line) in
     record { fits = rw (r .read .ensures) (read-most part (λ e. c .if1 .left (r .read .ensures ∙ e)) .0) }
 
-mul-values : tie.Need-mul-values Inv-loop μ-loop
-mul-values c = omega arith
-
 element-write-values : tie.Need-element-write-values Inv-loop μ-loop
 element-write-values c = c .before .before .before .before .loop-test .taken
-
-add-count : tie.Need-add-count Inv-loop μ-loop
-add-count c = omega arith
 
 returns-2 : tie.Need-returns-2 Inv-loop μ-loop
 returns-2 c =
@@ -100,12 +79,6 @@ returns-2 c =
       read = λ z. l .loop .inv .3 ∙ numbers-more vs k (fields-end line at j (l .loop .inv .0) (f .find .ensures .0) whole) n small good ∙ numbers-last (set vs k n) (k + 1);
       unread = λ z. absurd (omega arith);
     }
-
-add-at : tie.Need-add-at Inv-loop μ-loop
-add-at c = omega arith
-
-loop-less : tie.Need-loop-less Inv-loop μ-loop
-loop-less c = omega arith
 
 loop-again : tie.Need-loop-again Inv-loop μ-loop
 loop-again c =
@@ -146,18 +119,18 @@ numbers-spec =
     Inv-loop
     μ-loop
     loop-holds
-    find-requires
-    sub-read
-    part-read-start
-    part-read-end
-    read-requires
+    (λ c. omega arith)
+    (λ c. omega arith)
+    (search needs)
+    (search needs)
+    (search needs)
     returns
     cast-values
-    mul-values
+    (λ c. omega arith)
     element-write-values
-    add-count
+    (λ c. omega arith)
     returns-2
-    add-at
-    loop-less
+    (λ c. omega arith)
+    (λ c. omega arith)
     loop-again
     returns-3)

@@ -13,35 +13,8 @@ returns c = sym (too-long-line (c .before .before .args .line .now) (c .if1 .tak
 returns-2 : tie.Need-returns-2
 returns-2 c = sym (short-line (c .before .before .before .args .line .now) (c .if2 .taken))
 
-shared-slice-read-if3 : tie.Need-shared-slice-read-if3
-shared-slice-read-if3 c = search needs
-
 returns-3 : tie.Need-returns-3
 returns-3 c = sym (second-byte (c .before .before .before .before .before .args .line .now) (omega arith) (omega arith) (c .if3 .taken))
-
-numbers-requires : tie.Need-numbers-requires
-numbers-requires c κs = search needs
-
-shared-slice-read-by-letter : tie.Need-shared-slice-read-by-letter
-shared-slice-read-by-letter c = search needs
-
-array-read-by-letter : tie.Need-array-read-by-letter
-array-read-by-letter c = search needs
-
-array-read-by-letter-2 : tie.Need-array-read-by-letter-2
-array-read-by-letter-2 c = search needs
-
-array-read-by-letter-3 : tie.Need-array-read-by-letter-3
-array-read-by-letter-3 c = search needs
-
-array-read-by-letter-4 : tie.Need-array-read-by-letter-4
-array-read-by-letter-4 c = search needs
-
-array-read-by-letter-5 : tie.Need-array-read-by-letter-5
-array-read-by-letter-5 c = search needs
-
-by-letter-requires : tie.Need-by-letter-requires
-by-letter-requires c κs = search needs
 
 returns-4 : tie.Need-returns-4
 returns-4 c =
@@ -56,14 +29,14 @@ read-spec =
     (tie.spec
     returns
     returns-2
-    shared-slice-read-if3
+    (search needs)
     returns-3
-    numbers-requires
-    shared-slice-read-by-letter
-    array-read-by-letter
-    array-read-by-letter-2
-    array-read-by-letter-3
-    array-read-by-letter-4
-    array-read-by-letter-5
-    by-letter-requires
+    (search needs)
+    (search needs)
+    (search needs)
+    (search needs)
+    (search needs)
+    (search needs)
+    (search needs)
+    (search needs)
     returns-4)

@@ -8,18 +8,9 @@ use borrow.Author.Needs.{needs}
 use Rattle.layout.proofs.bit.Statement.{statement}
 use Rattle.layout.proofs.bit.Tie as tie
 
-shared-slice-read-wide : tie.Need-shared-slice-read-wide
-shared-slice-read-wide c = search needs
-
-wide-requires : tie.Need-wide-requires
-wide-requires c κs = search needs
-
-shr-result : tie.Need-shr-result
-shr-result c = search needs
-
 returns : tie.Need-returns
 unfolding has bitAt
 returns c = let s = c .before .before .before in ap (λ x. eqb (x / 2 ^ s .args .k % 2) 1) (c .wide .ensures .0)
 
 pub bit-spec : {M : Type 1} → statement M
-bit-spec = tie.close (tie.spec shared-slice-read-wide wide-requires shr-result returns)
+bit-spec = tie.close (tie.spec (search needs) (search needs) (search needs) returns)

@@ -5,19 +5,10 @@ use Rattle.layout.proofs.Rows.{mask-decides}
 use Rattle.layout.proofs.mask_covers.Statement.{statement}
 use Rattle.layout.proofs.mask_covers.Tie as tie
 
-row-vector-requires : tie.Need-row-vector-requires
-row-vector-requires c κs = search needs
-
-shared-slice-read-wide : tie.Need-shared-slice-read-wide
-shared-slice-read-wide c = search needs
-
-wide-requires : tie.Need-wide-requires
-wide-requires c κs = search needs
-
 returns : tie.Need-returns
 returns c =
     let r = c .before .before in
     rw (c .wide .ensures .0) (mask-decides (r .row-vector .ensures) (rw (c .wide .ensures .0) at (c .wide .ensures .1)))
 
 pub mask-covers-spec : {M : Type 1} → statement M
-mask-covers-spec = tie.close (tie.spec row-vector-requires shared-slice-read-wide wide-requires returns)
+mask-covers-spec = tie.close (tie.spec (search needs) (search needs) (search needs) returns)

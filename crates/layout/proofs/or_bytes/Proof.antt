@@ -17,18 +17,6 @@ abbrev μ-loop : tie.MeasureT-loop
 loop-holds : tie.Need-loop-holds Inv-loop μ-loop
 loop-holds c = (omega arith, or-bytes-none _ _)
 
-add-all : tie.Need-add-all Inv-loop μ-loop
-add-all c = omega arith
-
-shared-slice-read-all : tie.Need-shared-slice-read-all Inv-loop μ-loop
-shared-slice-read-all c = omega arith
-
-add-i : tie.Need-add-i Inv-loop μ-loop
-add-i c = omega arith
-
-loop-less : tie.Need-loop-less Inv-loop μ-loop
-loop-less c = omega arith
-
 loop-again : tie.Need-loop-again Inv-loop μ-loop
 loop-again c = let l = c .before .before in (omega arith, or-bytes-more _ _ (l .loop .i) (l .loop .all) (l .loop .inv .1))
 
@@ -46,9 +34,9 @@ or-bytes-spec =
     Inv-loop
     μ-loop
     loop-holds
-    add-all
-    shared-slice-read-all
-    add-i
-    loop-less
+    (λ c. omega arith)
+    (λ c. omega arith)
+    (λ c. omega arith)
+    (λ c. omega arith)
     loop-again
     returns)

@@ -24,27 +24,6 @@ abbrev μ-loop : tie.MeasureT-loop
 loop-holds : tie.Need-loop-holds Inv-loop μ-loop
 loop-holds c = (omega arith, omega arith, count-none _)
 
-cast-word : tie.Need-cast-word Inv-loop μ-loop
-cast-word c = omega arith
-
-mul-word : tie.Need-mul-word Inv-loop μ-loop
-mul-word c = omega arith
-
-add-word : tie.Need-add-word Inv-loop μ-loop
-add-word c = omega arith
-
-word-requires : tie.Need-word-requires Inv-loop μ-loop
-word-requires c κs = omega arith
-
-add-count : tie.Need-add-count Inv-loop μ-loop
-add-count c = omega arith
-
-add-k : tie.Need-add-k Inv-loop μ-loop
-add-k c = omega arith
-
-loop-less : tie.Need-loop-less Inv-loop μ-loop
-loop-less c = omega arith
-
 loop-again : tie.Need-loop-again Inv-loop μ-loop
 loop-again c =
     let r = c .before .before in
@@ -72,12 +51,12 @@ row-count-spec =
     Inv-loop
     μ-loop
     loop-holds
-    cast-word
-    mul-word
-    add-word
-    word-requires
-    add-count
-    add-k
-    loop-less
+    (λ c. omega arith)
+    (λ c. omega arith)
+    (λ c. omega arith)
+    (λ c. omega arith)
+    (λ c. omega arith)
+    (λ c. omega arith)
+    (λ c. omega arith)
     loop-again
     returns)

@@ -18,24 +18,6 @@ lists-part : (n : ℕ) (input out out′ : List ℕ) (short : Bool) (written : �
 lists-part n input out out′ short written e =
     let whole : n - 0 ≡ n = omega arith in ap (λ (f : Filled). f .output) e ∙ ap (λ k. lists (take k input) out .output) whole
 
-sub-list : tie.Need-sub-list
-sub-list c = search needs
-
-part-list-start : tie.Need-part-list-start
-part-list-start c = search needs
-
-part-list-end : tie.Need-part-list-end
-part-list-end c = search needs
-
-list-requires : tie.Need-list-requires
-list-requires c κs = search needs
-
-sub-write-all : tie.Need-sub-write-all
-sub-write-all c = search needs
-
-part-write-all-start : tie.Need-part-write-all-start
-part-write-all-start c = search needs
-
 part-write-all-end : tie.Need-part-write-all-end
 part-write-all-end c =
     let l = c .before .before .before in
@@ -43,26 +25,11 @@ part-write-all-end c =
     let r = l .list .result in
     subst (λ (n : ℕ). r .written ≤ n) (sym (l .list .kept .1 .0)) (written-within (take (s .args .bytes - 0) (drop 0 (s .args .input .now))) (s .args .output .now) (l .list .last .1 .0) (r .short) (r .written) (l .list .ensures .0) (l .list .kept .1 .0))
 
-write-all-requires : tie.Need-write-all-requires
-write-all-requires c κs = search needs
-
-slice-aggregate-fail : tie.Need-slice-aggregate-fail
-slice-aggregate-fail c = search needs
-
-fail-requires : tie.Need-fail-requires
-fail-requires c κs = search needs
-
-same-length : tie.Need-same-length
-same-length c = search needs
-
 returns : tie.Need-returns
 returns c =
     let l = c .before .before .before .before .before .before .before .before in
     let s = l .before .before .before .before .before in
     lists-part (s .args .bytes) (s .args .input .now) (s .args .output .now) (l .list .last .1 .0) (l .list .result .short) (l .list .result .written) (l .list .ensures .0)
-
-same-length-2 : tie.Need-same-length-2
-same-length-2 c = search needs
 
 returns-2 : tie.Need-returns-2
 returns-2 c =
@@ -74,17 +41,17 @@ pub print-spec : {M : Type 1} → statement M
 print-spec =
     tie.close
     (tie.spec
-    sub-list
-    part-list-start
-    part-list-end
-    list-requires
-    sub-write-all
-    part-write-all-start
+    (search needs)
+    (search needs)
+    (search needs)
+    (search needs)
+    (search needs)
+    (search needs)
     part-write-all-end
-    write-all-requires
-    slice-aggregate-fail
-    fail-requires
-    same-length
+    (search needs)
+    (search needs)
+    (search needs)
+    (search needs)
     returns
-    same-length-2
+    (search needs)
     returns-2)

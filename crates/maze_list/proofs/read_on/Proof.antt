@@ -7,24 +7,6 @@ use borrow.Author.Needs.{needs}
 use Rattle.maze_list.proofs.read_on.Statement.{statement}
 use Rattle.maze_list.proofs.read_on.Tie as tie
 
-sub-rest : tie.Need-sub-rest
-sub-rest c = search needs
-
-part-rest-start : tie.Need-part-rest-start
-part-rest-start c = search needs
-
-part-rest-end : tie.Need-part-rest-end
-part-rest-end c = search needs
-
-read-requires : tie.Need-read-requires
-read-requires c κs = search needs
-
-count-requires : tie.Need-count-requires
-count-requires c κs = search needs
-
-same-length : tie.Need-same-length
-same-length c = search needs
-
 returns : tie.Need-returns
 returns c =
     let s = c .before .before .before .before .before .before .before .before .before .before in
@@ -36,10 +18,10 @@ pub read-on-spec : {M : Type 1} → statement M
 read-on-spec =
     tie.close
     (tie.spec
-    sub-rest
-    part-rest-start
-    part-rest-end
-    read-requires
-    count-requires
-    same-length
+    (search needs)
+    (search needs)
+    (search needs)
+    (search needs)
+    (search needs)
+    (search needs)
     returns)

@@ -4,6 +4,7 @@ use mathlib.Core.Path.{_≡_, refl, sym, ap, _∙_}
 use Prim.Native.Nat.{_<_, _^_}
 use native.Mathlib.Omega.{arith}
 use lib.Pow.{pow-pos}
+use Rattle.cube.specs.Cube.{portCount}
 use Rattle.common.specs.Lists.{any}
 use Rattle.cube.specs.Helical.{portsOf}
 use Rattle.cube.proofs.Ports.{below-256}
@@ -15,7 +16,7 @@ use Rattle.reach.proofs.any_helix.Tie as tie
 
 abbrev Inv-loop : tie.InvT-loop
 Inv-loop t source target vector first left₀ left =
-    (left < 2 ^ dimensionAt t) × (any (helixEnabled t (source .0) (target .0)) (portsOf 8 left) ≡ any (helixEnabled t (source .0) (target .0)) (portsOf 8 vector))
+    (left < 2 ^ dimensionAt t) × (any (helixEnabled t (source .0) (target .0)) (portsOf portCount left) ≡ any (helixEnabled t (source .0) (target .0)) (portsOf portCount vector))
 
 abbrev μ-loop : tie.MeasureT-loop
 μ-loop t source target vector first left₀ left = left
@@ -80,7 +81,7 @@ returns-2 c =
     let l = c .before in
     let s = l .before .before in
     let passes = helixEnabled (s .args .t .now) (s .args .source .0) (s .args .target .0) in
-    sym (sym (l .loop .inv .1) ∙ ap (λ v. any passes (portsOf 8 v)) (c .loop-test .left) ∙ none-passes passes)
+    sym (sym (l .loop .inv .1) ∙ ap (λ v. any passes (portsOf portCount v)) (c .loop-test .left) ∙ none-passes passes)
 
 pub any-helix-spec : {M : Type 1} → statement M
 any-helix-spec = tie.close (tie.spec Inv-loop μ-loop loop-holds lowest-bit-requires helix-enabled-requires returns without-requires loop-less loop-again returns-2)

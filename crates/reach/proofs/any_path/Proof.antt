@@ -10,9 +10,6 @@ use Rattle.reach.proofs.Sweep.{marks-find}
 use Rattle.reach.proofs.any_path.Statement.{statement}
 use Rattle.reach.proofs.any_path.Tie as tie
 
-reaching-requires : tie.Need-reaching-requires
-reaching-requires c κs = search needs
-
 enable-bits-requires : tie.Need-enable-bits-requires
 enable-bits-requires c κs =
     let p = c .before .before .before .pre in
@@ -35,4 +32,4 @@ returns c =
     (r .reaching .ensures) (p .source) (p .ports) (e .enable-bits .ensures .0)
 
 pub any-path-spec : {M : Type 1} → statement M
-any-path-spec = tie.close (tie.spec reaching-requires enable-bits-requires leads-on-requires returns)
+any-path-spec = tie.close (tie.spec (search needs) enable-bits-requires leads-on-requires returns)

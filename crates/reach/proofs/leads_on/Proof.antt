@@ -30,9 +30,6 @@ neighbour-requires c κs =
     let low = lowest-of (i .before .loop .left) (i .before .loop .inv .0) (i .loop-test .taken) in
     omega (arith, c .lowest-bit .ensures)
 
-cast-at : tie.Need-cast-at Inv-loop μ-loop
-cast-at c = search needs
-
 element-copy-out-if1 : tie.Need-element-copy-out-if1 Inv-loop μ-loop
 element-copy-out-if1 c =
     let n = c .before in
@@ -95,7 +92,7 @@ leads-on-spec =
     loop-holds
     lowest-bit-requires
     neighbour-requires
-    cast-at
+    (search needs)
     element-copy-out-if1
     returns
     without-requires

@@ -26,9 +26,6 @@ dimension-requires c κs = c .before .pre .bytes
 node-count-requires : tie.Need-node-count-requires Inv-loop μ-loop
 node-count-requires c κs = omega (arith, c .dimension .ensures, c .before .before .pre .fits)
 
-cast-first : tie.Need-cast-first Inv-loop μ-loop
-cast-first c = search needs
-
 array-write-marks : tie.Need-array-write-marks Inv-loop μ-loop
 array-write-marks c = let p = c .before .before .before .before .pre in below-256 (p .fits) (p .target)
 
@@ -37,9 +34,6 @@ loop-holds c =
     let n = c .before in
     let s = n .before .before .before in
     (omega arith, n .node-count .ensures .some, swept-target (s .args .t .now) (s .args .target .0) (s .pre) (replicate 256 0) refl)
-
-cast-at : tie.Need-cast-at Inv-loop μ-loop
-cast-at c = search needs
 
 enable-bits-requires : tie.Need-enable-bits-requires Inv-loop μ-loop
 enable-bits-requires c κs =
@@ -118,10 +112,10 @@ reaching-spec =
     μ-loop
     dimension-requires
     node-count-requires
-    cast-first
+    (search needs)
     array-write-marks
     loop-holds
-    cast-at
+    (search needs)
     enable-bits-requires
     leads-on-requires
     array-write-marks-2

@@ -9,16 +9,10 @@ use Rattle.reach.proofs.Asks.{fixed-finds, helix-finds, alternate-finds
 use Rattle.reach.proofs.some_path_enabled.Statement.{statement}
 use Rattle.reach.proofs.some_path_enabled.Tie as tie
 
-lowest-helix-requires : tie.Need-lowest-helix-requires
-lowest-helix-requires c κs = search needs
-
 returns : tie.Need-returns
 returns c =
     let s = c .before .before .before in
     fixed-finds (s .pre .1) (c .before .if1 .taken) (c .lowest-helix .ensures)
-
-any-helix-requires : tie.Need-any-helix-requires
-any-helix-requires c κs = search needs
 
 returns-2 : tie.Need-returns-2
 returns-2 c =
@@ -26,15 +20,6 @@ returns-2 c =
     let x = y .before in
     let s = x .before .before in
     helix-finds (s .pre .1) (x .if1 .left) (y .if2 .taken) (c .any-helix .ensures)
-
-dimension-requires : tie.Need-dimension-requires
-dimension-requires c κs = search needs
-
-node-count-requires : tie.Need-node-count-requires
-node-count-requires c κs = search needs
-
-sub-all : tie.Need-sub-all
-sub-all c = search needs
 
 any-path-requires : tie.Need-any-path-requires
 any-path-requires c κs =
@@ -55,9 +40,6 @@ returns-3 c =
     let count = count-of (d .dimension .ensures) (n .node-count .ensures .value) in
     alternate-finds (s .pre .1) (x .if1 .left) (y .if2 .left) (z .if3 .taken) (ap (_- 1) count) (c .any-path .ensures)
 
-any-path-requires-2 : tie.Need-any-path-requires-2
-any-path-requires-2 c κs = search needs
-
 returns-4 : tie.Need-returns-4
 returns-4 c =
     let z = c .before in
@@ -70,14 +52,14 @@ pub some-path-enabled-spec : {M : Type 1} → statement M
 some-path-enabled-spec =
     tie.close
     (tie.spec
-    lowest-helix-requires
+    (λ c κs. search needs)
     returns
-    any-helix-requires
+    (λ c κs. search needs)
     returns-2
-    dimension-requires
-    node-count-requires
-    sub-all
+    (λ c κs. search needs)
+    (λ c κs. search needs)
+    (search needs)
     any-path-requires
     returns-3
-    any-path-requires-2
+    (λ c κs. search needs)
     returns-4)

@@ -6,9 +6,6 @@ use Rattle.receiver.proofs.Steps.{one-less, data-marked, data-marks, da
 use Rattle.receiver.proofs.doubleword.Statement.{statement}
 use Rattle.receiver.proofs.doubleword.Tie as tie
 
-wrapping-sub-u32-requires : tie.Need-wrapping-sub-u32-requires
-wrapping-sub-u32-requires c κs = search needs
-
 returns : tie.Need-returns
 returns c = data-marked _ _ (c .if1 .taken) (one-less _ _ (omega arith) (omega arith) (c .before .before .wrapping-sub-u32 .ensures))
 
@@ -16,9 +13,6 @@ returns-2 : tie.Need-returns-2
 returns-2 c =
     let e = c .before .before in
     data-marks _ _ (e .if1 .left) (c .if2 .taken) (one-less _ _ (omega arith) (omega arith) (e .before .before .wrapping-sub-u32 .ensures))
-
-wrapping-add-u32-requires : tie.Need-wrapping-add-u32-requires
-wrapping-add-u32-requires c κs = search needs
 
 returns-3 : tie.Need-returns-3
 returns-3 c =
@@ -34,4 +28,4 @@ returns-3 c =
     (c .wrapping-add-u32 .ensures)
 
 pub doubleword-spec : {M : Type 1} → statement M
-doubleword-spec = tie.close (tie.spec wrapping-sub-u32-requires returns returns-2 wrapping-add-u32-requires returns-3)
+doubleword-spec = tie.close (tie.spec (search needs) returns returns-2 (search needs) returns-3)

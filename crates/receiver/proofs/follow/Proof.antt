@@ -10,12 +10,9 @@ returns : tie.Need-returns
 unfolding followed
 returns c = rw (ne-eqb _ 0 (c .if1 .taken))
 
-start-requires : tie.Need-start-requires
-start-requires c κs = search needs
-
 returns-2 : tie.Need-returns-2
 unfolding followed
 returns-2 c = rw (c .before .if1 .left, c .start .ensures)
 
 pub follow-spec : {M : Type 1} → statement M
-follow-spec = tie.close (tie.spec returns start-requires returns-2)
+follow-spec = tie.close (tie.spec returns (search needs) returns-2)

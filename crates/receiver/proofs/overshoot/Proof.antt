@@ -11,12 +11,9 @@ returns : tie.Need-returns
 unfolding overshoot
 returns c = rw (c .if1 .taken)
 
-wrapping-sub-u32-requires : tie.Need-wrapping-sub-u32-requires
-wrapping-sub-u32-requires c κs = search needs
-
 returns-2 : tie.Need-returns-2
 unfolding overshoot
 returns-2 c = rw (ne-eqb _ 0 (c .before .if1 .left)) (omega arith)
 
 pub overshoot-spec : {M : Type 1} → statement M
-overshoot-spec = tie.close (tie.spec returns wrapping-sub-u32-requires returns-2)
+overshoot-spec = tie.close (tie.spec returns (search needs) returns-2)

@@ -8,11 +8,8 @@ use Rattle.receiver.proofs.take_data.Tie as tie
 returns : tie.Need-returns
 returns c = data-stopped _ (c .if1 .taken)
 
-doubleword-requires : tie.Need-doubleword-requires
-doubleword-requires c κs = search needs
-
 returns-2 : tie.Need-returns-2
 returns-2 c = data-taken _ _ (c .before .if1 .left) (c .doubleword .ensures)
 
 pub take-data-spec : {M : Type 1} → statement M
-take-data-spec = tie.close (tie.spec returns doubleword-requires returns-2)
+take-data-spec = tie.close (tie.spec returns (search needs) returns-2)

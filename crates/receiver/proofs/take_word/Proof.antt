@@ -7,9 +7,6 @@ use Rattle.receiver.proofs.Steps.{word-unread, word-stopped, word-taken
 use Rattle.receiver.proofs.take_word.Statement.{statement}
 use Rattle.receiver.proofs.take_word.Tie as tie
 
-read-requires : tie.Need-read-requires
-read-requires c κs = search needs
-
 returns : tie.Need-returns
 returns c = word-unread _ _ _ (ap (λ (r : WordRead). r .number) (c .before .before .read .ensures)) (c .if1 .taken)
 
@@ -17,9 +14,6 @@ returns-2 : tie.Need-returns-2
 returns-2 c =
     let r = c .before .before .before in
     word-stopped _ _ (sym (ap (λ (r : WordRead). r .number) (r .read .ensures)) ∙ c .before .if1 .left) (c .if2 .taken)
-
-obey-requires : tie.Need-obey-requires
-obey-requires c κs = search needs
 
 returns-3 : tie.Need-returns-3
 returns-3 c =
@@ -36,4 +30,4 @@ returns-3 c =
     (c .obey .ensures)
 
 pub take-word-spec : {M : Type 1} → statement M
-take-word-spec = tie.close (tie.spec read-requires returns returns-2 obey-requires returns-3)
+take-word-spec = tie.close (tie.spec (search needs) returns returns-2 (search needs) returns-3)

@@ -3,22 +3,18 @@
 use mathlib.Core.Path.{refl, _∙_}
 use Prim.Native.Nat.{_-_}
 use native.Mathlib.Omega.{arith}
-use Rattle.table.specs.View.{view, shapeOf, net}
-use Rattle.release.proofs.Releasing.{Freeing, without-start, without-on, freed-end, freed-bytes-are}
+use Rattle.release.proofs.Releasing.{Freeing, without-on, freed-bytes-are}
 use Rattle.release.proofs.free_links.Statement.{statement}
 use Rattle.release.proofs.free_links.Tie as tie
 
 abbrev Inv-loop : tie.InvT-loop
-Inv-loop t₀ ports hops at₀ i₀ t at i = Freeing (net (view t₀)) t₀ ports (at₀ .0) hops t (at .0) i
+Inv-loop t₀ ports hops at₀ i₀ t at i = Freeing t₀ ports (at₀ .0) hops t (at .0) i
 
 abbrev μ-loop : tie.MeasureT-loop
 μ-loop t₀ ports hops at₀ i₀ t at i = hops - i
 
 loop-holds : tie.Need-loop-holds Inv-loop μ-loop
-loop-holds c = let s = c .before .before in without-start (shapeOf (view (s .args .t .now))) (s .pre .node)
-
-cast-hop : tie.Need-cast-hop Inv-loop μ-loop
-cast-hop c = omega arith
+loop-holds c = record { most = omega arith; node = c .before .before .pre .node; long = refl; holds = refl }
 
 shared-slice-read-p : tie.Need-shared-slice-read-p Inv-loop μ-loop
 shared-slice-read-p c =
@@ -46,30 +42,20 @@ neighbour-requires c κs =
     let s = l .before .before .before in
     omega (arith, s .pre .below (l .loop .i) (i .loop-test .taken))
 
-add-i : tie.Need-add-i Inv-loop μ-loop
-add-i c = omega arith
-
-loop-less : tie.Need-loop-less Inv-loop μ-loop
-loop-less c = omega arith
-
 loop-again : tie.Need-loop-again Inv-loop μ-loop
 loop-again c =
     let o = c .before .before .before in
     let i = o .before .before .before in
     let l = i .before in
     let s = l .before .before .before in
-    without-on (shapeOf (view (s .args .t .now))) (l .loop .inv) (i .loop-test .taken) (s .pre .room) refl
+    without-on (l .loop .inv) (i .loop-test .taken) (s .pre .room) refl
     (s .pre .below (l .loop .i) (i .loop-test .taken)) (o .set-owner .ensures) (c .neighbour .ensures)
 
 same-length : tie.Need-same-length Inv-loop μ-loop
 same-length c = c .before .loop .inv .long
 
 returns : tie.Need-returns Inv-loop μ-loop
-returns c =
-    let l = c .before in
-    let s = l .before .before .before in
-    let S = shapeOf (view (s .args .t .now)) in
-    (freed-end S (l .loop .inv) (c .loop-test .left), freed-bytes-are S (l .loop .inv) (c .loop-test .left))
+returns c = freed-bytes-are (c .before .loop .inv) (c .loop-test .left)
 
 pub free-links-spec : {M : Type 1} → statement M
 free-links-spec =
@@ -78,13 +64,13 @@ free-links-spec =
     Inv-loop
     μ-loop
     loop-holds
-    cast-hop
+    (λ c. omega arith)
     shared-slice-read-p
     cast-p
     set-owner-requires
     neighbour-requires
-    add-i
-    loop-less
+    (λ c. omega arith)
+    (λ c. omega arith)
     loop-again
     same-length
     returns)

@@ -14,65 +14,56 @@ slice-aggregate-write-path c = refl
 write-path-requires : tie.Need-write-path-requires
 write-path-requires c κs = let s = c .before .before .before in (s .pre .0, (s .pre .1 .0, lit≤ tt))
 
-source-of-requires : tie.Need-source-of-requires
-source-of-requires c κs = search needs
-
-slice-aggregate-free-links : tie.Need-slice-aggregate-free-links
-slice-aggregate-free-links c = search needs
-
 free-links-requires : tie.Need-free-links-requires
 free-links-requires c κs =
     let m = c .before in
     let w = m .before .before .before in
     let s = w .before .before .before .before in
-    may-free (s .pre .0) (s .pre .1 .0) (s .pre .1 .1) _ (lit≤ tt) (w .write-path .ensures .0) (w .write-path .ensures .1) (m .source-of .ensures)
+    may-free (s .pre .0) (s .pre .1 .0) (s .pre .1 .1) _ (lit≤ tt) (w .write-path .ensures .0) (w .write-path .ensures .1 .1) (m .source-of .ensures)
 
 held-channel-requires : tie.Need-held-channel-requires
 held-channel-requires c κs =
-    let f = c .before .before .before in
+    let f = c .before .before .before .before in
     let m = f .before .before in
     let w = m .before .before .before in
     let s = w .before .before .before .before in
-    target-within (s .pre .0) (s .pre .1 .0) (s .pre .1 .1) _ (lit≤ tt) (w .write-path .ensures .0) (w .write-path .ensures .1) (m .source-of .ensures)
-    (f .free-links .ensures .0) (f .free-links .ensures .1)
+    target-within (s .pre .0) (s .pre .1 .0) (s .pre .1 .1) _ (lit≤ tt) (w .write-path .ensures .0) (w .write-path .ensures .1 .1) (m .source-of .ensures)
+    (w .write-path .ensures .1 .0) (f .free-links .ensures)
 
 set-receiver-requires : tie.Need-set-receiver-requires
 set-receiver-requires c κs =
     let h = c .before in
-    let f = h .before .before .before .before in
+    let f = h .before .before .before .before .before in
     let m = f .before .before in
     let w = m .before .before .before in
     let s = w .before .before .before .before in
-    channel-within (s .pre .0) (s .pre .1 .0) (s .pre .1 .1) _ (lit≤ tt) (w .write-path .ensures .0) (w .write-path .ensures .1) (m .source-of .ensures)
-    (f .free-links .ensures .0) (f .free-links .ensures .1) (h .held-channel .ensures)
+    channel-within (s .pre .0) (s .pre .1 .0) (s .pre .1 .1) _ (lit≤ tt) (w .write-path .ensures .0) (w .write-path .ensures .1 .1) (m .source-of .ensures)
+    (w .write-path .ensures .1 .0) (f .free-links .ensures) (h .held-channel .ensures)
 
 disarm-requires : tie.Need-disarm-requires
 disarm-requires c κs =
     let r = c .before .before .before in
     let h = r .before .before in
-    let f = h .before .before .before .before in
+    let f = h .before .before .before .before .before in
     let m = f .before .before in
     let w = m .before .before .before in
     let s = w .before .before .before .before in
-    freed-within (s .pre .0) (s .pre .1 .0) (s .pre .1 .1) _ (lit≤ tt) (w .write-path .ensures .0) (w .write-path .ensures .1) (m .source-of .ensures)
-    (f .free-links .ensures .0) (f .free-links .ensures .1) (h .held-channel .ensures) (r .set-receiver .ensures)
-
-same-length : tie.Need-same-length
-same-length c = search needs
+    freed-within (s .pre .0) (s .pre .1 .0) (s .pre .1 .1) _ (lit≤ tt) (w .write-path .ensures .0) (w .write-path .ensures .1 .1) (m .source-of .ensures)
+    (w .write-path .ensures .1 .0) (f .free-links .ensures) (h .held-channel .ensures) (r .set-receiver .ensures)
 
 returns : tie.Need-returns
 returns c =
     let d = c .before .before in
     let r = d .before .before .before .before in
     let h = r .before .before in
-    let f = h .before .before .before .before in
+    let f = h .before .before .before .before .before in
     let m = f .before .before in
     let w = m .before .before .before in
     let a = w .before .before .before in
     let s = a .before in
     d .disarm .ensures
-    ∙ all-freed (s .pre .0) (s .pre .1 .0) (s .pre .1 .1) _ (lit≤ tt) (w .write-path .ensures .0) (w .write-path .ensures .1) (m .source-of .ensures)
-    (f .free-links .ensures .0) (f .free-links .ensures .1) (h .held-channel .ensures) (r .set-receiver .ensures)
+    ∙ all-freed (s .pre .0) (s .pre .1 .0) (s .pre .1 .1) _ (lit≤ tt) (w .write-path .ensures .0) (w .write-path .ensures .1 .1) (m .source-of .ensures)
+    (w .write-path .ensures .1 .0) (f .free-links .ensures) (h .held-channel .ensures) (r .set-receiver .ensures)
     record { long = s .pre .0 .bytes; small = λ i. omega (arith, a .slice-known .given i) }
 
 pub release-spec : {M : Type 1} → statement M
@@ -81,11 +72,11 @@ release-spec =
     (tie.spec
     slice-aggregate-write-path
     write-path-requires
-    source-of-requires
-    slice-aggregate-free-links
+    (search needs)
+    (search needs)
     free-links-requires
     held-channel-requires
     set-receiver-requires
     disarm-requires
-    same-length
+    (search needs)
     returns)

@@ -6,21 +6,6 @@ use borrow.Author.Needs.{needs}
 use Rattle.search.proofs.alternate_maze.Statement.{statement}
 use Rattle.search.proofs.alternate_maze.Tie as tie
 
-dimension-requires : tie.Need-dimension-requires
-dimension-requires c κs = search needs
-
-node-count-requires : tie.Need-node-count-requires
-node-count-requires c κs = search needs
-
-sub-others : tie.Need-sub-others
-sub-others c = search needs
-
-maze-requires : tie.Need-maze-requires
-maze-requires c κs = search needs
-
-same-length : tie.Need-same-length
-same-length c = search needs
-
 returns : tie.Need-returns
 returns c =
     let g = c .before .before .before .before in
@@ -47,9 +32,6 @@ add-scouts c =
     let few = few-scouts (s .pre .1) (g .maze .ensures) (k .before .dimension .ensures) (k .node-count .ensures) (e .if1 .left) (m .maze2 .ensures) in
     record { fits = omega (arith, few) }
 
-same-length-2 : tie.Need-same-length-2
-same-length-2 c = search needs
-
 returns-2 : tie.Need-returns-2
 returns-2 c =
     let m = c .before .before .before .before in
@@ -61,4 +43,4 @@ returns-2 c =
 
 pub alternate-maze-spec : {M : Type 1} → statement M
 alternate-maze-spec =
-    tie.close (tie.spec dimension-requires node-count-requires sub-others maze-requires same-length returns maze-requires-2 add-scouts same-length-2 returns-2)
+    tie.close (tie.spec (λ c κs. search needs) (λ c κs. search needs) (search needs) (λ c κs. search needs) (search needs) returns maze-requires-2 add-scouts (search needs) returns-2)

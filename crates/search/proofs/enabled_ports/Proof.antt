@@ -5,9 +5,6 @@ use borrow.Author.Needs.{needs}
 use Rattle.search.proofs.enabled_ports.Statement.{statement}
 use Rattle.search.proofs.enabled_ports.Tie as tie
 
-enable-bits-requires : tie.Need-enable-bits-requires
-enable-bits-requires c κs = search needs
-
 returns : tie.Need-returns
 returns c =
     let s = c .before .before in (
@@ -16,4 +13,4 @@ returns c =
     )
 
 pub enabled-ports-spec : {M : Type 1} → statement M
-enabled-ports-spec = tie.close (tie.spec enable-bits-requires returns)
+enabled-ports-spec = tie.close (tie.spec (search needs) returns)

@@ -22,9 +22,6 @@ try-in-turn-requires c κs =
     let s = e .before .before .before in
     (s .pre .0, (narrow-may (may-try (s .pre .1)) (e .enabled-ports .ensures .0), e .enabled-ports .ensures .1))
 
-unpacked-requires : tie.Need-unpacked-requires
-unpacked-requires c κs = search needs
-
 set-receiver-requires : tie.Need-set-receiver-requires
 set-receiver-requires c κs =
     let u = c .before .before .before in
@@ -38,9 +35,6 @@ set-receiver-requires c κs =
       port = maze-channel may (e .enabled-ports .ensures .0) (read-off (u .unpacked .ensures) (g .try-in-turn .ensures)) (c .before .if1 .taken);
     }
 
-same-length : tie.Need-same-length
-same-length c = search needs
-
 returns : tie.Need-returns
 returns c =
     let r = c .before .before in
@@ -49,9 +43,6 @@ returns c =
     let e = g .before .before in
     let s = e .before .before .before in
     maze-taken (s .pre .1) (e .enabled-ports .ensures .0) (read-off (u .unpacked .ensures) (g .try-in-turn .ensures)) (r .before .before .if1 .taken) (r .set-receiver .ensures)
-
-same-length-2 : tie.Need-same-length-2
-same-length-2 c = search needs
 
 returns-2 : tie.Need-returns-2
 returns-2 c =
@@ -62,4 +53,4 @@ returns-2 c =
     maze-rejected (s .pre .1) (e .enabled-ports .ensures .0) (read-off (u .unpacked .ensures) (g .try-in-turn .ensures)) (c .if1 .left)
 
 pub maze-spec : {M : Type 1} → statement M
-maze-spec = tie.close (tie.spec enabled-ports-requires try-in-turn-requires unpacked-requires set-receiver-requires same-length returns same-length-2 returns-2)
+maze-spec = tie.close (tie.spec enabled-ports-requires try-in-turn-requires (search needs) set-receiver-requires (search needs) returns (search needs) returns-2)

@@ -9,9 +9,6 @@ use borrow.Author.Needs.{needs}
 use Rattle.search.proofs.unpacked.Statement.{statement}
 use Rattle.search.proofs.unpacked.Tie as tie
 
-cast-scouts : tie.Need-cast-scouts
-cast-scouts c = search needs
-
 returns : tie.Need-returns
 returns c b =
     let x = c .before .args .answer in
@@ -24,14 +21,8 @@ returns-2 c b = sym (in-receive (c .before .before .args .answer) b (c .before .
 sub-place : tie.Need-sub-place
 sub-place c = omega (arith, c .if2 .left)
 
-cast-hops : tie.Need-cast-hops
-cast-hops c = search needs
-
-cast-receive : tie.Need-cast-receive
-cast-receive c = search needs
-
 returns-3 : tie.Need-returns-3
 returns-3 c b = sym (in-acknowledged (c .before .before .args .answer) b (c .if2 .left))
 
 pub unpacked-spec : {M : Type 1} → statement M
-unpacked-spec = tie.close (tie.spec cast-scouts returns returns-2 sub-place cast-hops cast-receive returns-3)
+unpacked-spec = tie.close (tie.spec (search needs) returns returns-2 sub-place (search needs) (search needs) returns-3)

@@ -2,16 +2,10 @@
 -- Assumes nothing.
 use mathlib.Core.Path.{_∙_, ap, sym}
 use Rattle.answers.specs.SendAnswer.{searched}
-use Rattle.send.proofs.Judged.{send-maze}
+use Rattle.send.proofs.ByWaiting.{send-maze}
 use borrow.Author.Needs.{needs}
 use Rattle.send.proofs.search_by_type.Statement.{statement}
 use Rattle.send.proofs.search_by_type.Tie as tie
-
-alternate-maze-requires : tie.Need-alternate-maze-requires
-alternate-maze-requires c κs = search needs
-
-same-length : tie.Need-same-length
-same-length c = search needs
 
 returns : tie.Need-returns
 returns c =
@@ -20,12 +14,6 @@ returns c =
     let s = e .before .before in
     g .alternate-maze .ensures ∙ ap (λ y. searched (s .args .t .now) (s .args .source .0) (s .args .target .0) (s .args .c .0) y (s .args .vector)) (sym (e .if1 .taken))
 
-try-lowest-requires : tie.Need-try-lowest-requires
-try-lowest-requires c κs = search needs
-
-same-length-2 : tie.Need-same-length-2
-same-length-2 c = search needs
-
 returns-2 : tie.Need-returns-2
 returns-2 c =
     let g = c .before .before in
@@ -33,24 +21,12 @@ returns-2 c =
     let s = e .before .before .before in
     g .try-lowest .ensures ∙ ap (λ y. searched (s .args .t .now) (s .args .source .0) (s .args .target .0) (s .args .c .0) y (s .args .vector)) (sym (e .if2 .taken))
 
-try-each-requires : tie.Need-try-each-requires
-try-each-requires c κs = search needs
-
-same-length-3 : tie.Need-same-length-3
-same-length-3 c = search needs
-
 returns-3 : tie.Need-returns-3
 returns-3 c =
     let g = c .before .before in
     let e = g .before .before in
     let s = e .before .before .before .before in
     g .try-each .ensures ∙ ap (λ y. searched (s .args .t .now) (s .args .source .0) (s .args .target .0) (s .args .c .0) y (s .args .vector)) (sym (e .if3 .taken))
-
-maze-requires : tie.Need-maze-requires
-maze-requires c κs = search needs
-
-same-length-4 : tie.Need-same-length-4
-same-length-4 c = search needs
 
 returns-4 : tie.Need-returns-4
 returns-4 c =
@@ -64,15 +40,15 @@ pub search-by-type-spec : {M : Type 1} → statement M
 search-by-type-spec =
     tie.close
     (tie.spec
-    alternate-maze-requires
-    same-length
+    (λ c κs. search needs)
+    (λ c. search needs)
     returns
-    try-lowest-requires
-    same-length-2
+    (λ c κs. search needs)
+    (λ c. search needs)
     returns-2
-    try-each-requires
-    same-length-3
+    (λ c κs. search needs)
+    (λ c. search needs)
     returns-3
-    maze-requires
-    same-length-4
+    (λ c κs. search needs)
+    (λ c. search needs)
     returns-4)

@@ -3,7 +3,7 @@
 use mathlib.Core.Path.{refl}
 use Rattle.cube.specs.Helical.{firstPort}
 use Rattle.cube.proofs.Order.{table-of}
-use Rattle.send.proofs.Judged.{may-ask-after, judged-kept, judged-helps, judged-blocked}
+use Rattle.send.proofs.ByWaiting.{may-ask-after, judged-kept, judged-helps, judged-blocked}
 use borrow.Author.Needs.{needs}
 use Rattle.send.proofs.send.Statement.{statement}
 use Rattle.send.proofs.send.Tie as tie
@@ -11,9 +11,6 @@ use Rattle.send.proofs.send.Tie as tie
 search-by-type-requires : tie.Need-search-by-type-requires
 unfolding firstPort
 search-by-type-requires c κs = let s = c .before .before .before in (table-of _ refl refl, s .pre)
-
-same-length : tie.Need-same-length
-same-length c = search needs
 
 returns : tie.Need-returns
 returns c =
@@ -28,18 +25,12 @@ some-path-enabled-requires c κs =
     let s = g .before .before .before .before in
     (table-of _ refl refl, may-ask-after _ _ _ _ _ _ (g .search-by-type .ensures) (s .pre .0) (e .if1 .left))
 
-same-length-2 : tie.Need-same-length-2
-same-length-2 c = search needs
-
 returns-2 : tie.Need-returns-2
 returns-2 c =
     let a = c .before in
     let e = a .before .before .before in
     let g = e .before .before .before .before in
     judged-helps _ _ _ _ _ _ (g .search-by-type .ensures) (e .if1 .left) (a .some-path-enabled .ensures) (c .if2 .taken)
-
-same-length-3 : tie.Need-same-length-3
-same-length-3 c = search needs
 
 returns-3 : tie.Need-returns-3
 returns-3 c =
@@ -53,10 +44,10 @@ send-spec =
     tie.close
     (tie.spec
     search-by-type-requires
-    same-length
+    (search needs)
     returns
     some-path-enabled-requires
-    same-length-2
+    (search needs)
     returns-2
-    same-length-3
+    (search needs)
     returns-3)

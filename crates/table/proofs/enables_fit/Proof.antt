@@ -1,31 +1,10 @@
--- `table::enables_fit` meets its contract: no byte of either run is above what was or-bytes of it.
+-- `table::enables_fit` meets its contract: no byte of either run is above the or of it.
 -- Assumes nothing.
 use native.Mathlib.Omega.{arith}
 use borrow.Author.Needs.{needs}
 use Rattle.table.proofs.Fits.{enables-fit, enables-large}
 use Rattle.table.proofs.enables_fit.Statement.{statement}
 use Rattle.table.proofs.enables_fit.Tie as tie
-
-node-count-requires : tie.Need-node-count-requires
-node-count-requires c κs = search needs
-
-cast-count : tie.Need-cast-count
-cast-count c = search needs
-
-or-bytes-requires : tie.Need-or-bytes-requires
-or-bytes-requires c κs = search needs
-
-wide-requires : tie.Need-wide-requires
-wide-requires c κs = search needs
-
-add-or-bytes : tie.Need-add-or-bytes
-add-or-bytes c = search needs
-
-sub-or-bytes : tie.Need-sub-or-bytes
-sub-or-bytes c = search needs
-
-or-bytes-requires-2 : tie.Need-or-bytes-requires-2
-or-bytes-requires-2 c κs = search needs
 
 returns : tie.Need-returns
 returns c =
@@ -50,12 +29,12 @@ pub enables-fit-spec : {M : Type 1} → statement M
 enables-fit-spec =
     tie.close
     (tie.spec
-    node-count-requires
-    cast-count
-    or-bytes-requires
-    wide-requires
-    add-or-bytes
-    sub-or-bytes
-    or-bytes-requires-2
+    (search needs)
+    (search needs)
+    (search needs)
+    (search needs)
+    (search needs)
+    (search needs)
+    (search needs)
     returns
     returns-2)

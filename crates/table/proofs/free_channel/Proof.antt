@@ -9,21 +9,6 @@ use Rattle.table.proofs.Rows.{channels-available}
 use Rattle.table.proofs.free_channel.Statement.{statement}
 use Rattle.table.proofs.free_channel.Tie as tie
 
-receive-place-requires : tie.Need-receive-place-requires
-receive-place-requires c κs = search needs
-
-row-vector-requires : tie.Need-row-vector-requires
-row-vector-requires c κs = search needs
-
-arm-place-requires : tie.Need-arm-place-requires
-arm-place-requires c κs = search needs
-
-shared-slice-read-wide : tie.Need-shared-slice-read-wide
-shared-slice-read-wide c = search needs
-
-wide-requires : tie.Need-wide-requires
-wide-requires c κs = search needs
-
 lowest-bit-requires : tie.Need-lowest-bit-requires
 lowest-bit-requires c κs = lt-of-le-of-lt (and-le-l _ _) (c .before .before .before .row-vector .ensures .small)
 
@@ -43,10 +28,10 @@ pub free-channel-spec : {M : Type 1} → statement M
 free-channel-spec =
     tie.close
     (tie.spec
-    receive-place-requires
-    row-vector-requires
-    arm-place-requires
-    shared-slice-read-wide
-    wide-requires
+    (search needs)
+    (search needs)
+    (search needs)
+    (search needs)
+    (search needs)
     lowest-bit-requires
     returns)

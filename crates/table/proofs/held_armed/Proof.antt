@@ -6,15 +6,6 @@ use Rattle.table.proofs.Rows.{covers-node}
 use Rattle.table.proofs.held_armed.Statement.{statement}
 use Rattle.table.proofs.held_armed.Tie as tie
 
-receive-place-requires : tie.Need-receive-place-requires
-receive-place-requires c κs = search needs
-
-arm-place-requires : tie.Need-arm-place-requires
-arm-place-requires c κs = search needs
-
-mask-covers-requires : tie.Need-mask-covers-requires
-mask-covers-requires c κs = search needs
-
 returns : tie.Need-returns
 unfolding receiverAt armedAt
 returns c =
@@ -25,4 +16,4 @@ returns c =
     (c .mask-covers .ensures)
 
 pub held-armed-spec : {M : Type 1} → statement M
-held-armed-spec = tie.close (tie.spec receive-place-requires arm-place-requires mask-covers-requires returns)
+held-armed-spec = tie.close (tie.spec (search needs) (search needs) (search needs) returns)

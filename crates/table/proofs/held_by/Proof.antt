@@ -5,12 +5,6 @@ use borrow.Author.Needs.{needs}
 use Rattle.table.proofs.held_by.Statement.{statement}
 use Rattle.table.proofs.held_by.Tie as tie
 
-link-place-requires : tie.Need-link-place-requires
-link-place-requires c κs = search needs
-
-row-vector-requires : tie.Need-row-vector-requires
-row-vector-requires c κs = search needs
-
 returns : tie.Need-returns
 returns c =
     let p = c .before in
@@ -18,4 +12,4 @@ returns c =
     links-vector (s .args .t .now) (s .args .n .0) (s .args .c .0) (p .link-place .result) (s .pre .node) (c .row-vector .result) (p .link-place .ensures .0) (c .row-vector .ensures)
 
 pub held-by-spec : {M : Type 1} → statement M
-held-by-spec = tie.close (tie.spec link-place-requires row-vector-requires returns)
+held-by-spec = tie.close (tie.spec (search needs) (search needs) returns)

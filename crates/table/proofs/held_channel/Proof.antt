@@ -6,15 +6,6 @@ use borrow.Author.Needs.{needs}
 use Rattle.table.proofs.held_channel.Statement.{statement}
 use Rattle.table.proofs.held_channel.Tie as tie
 
-receive-place-requires : tie.Need-receive-place-requires
-receive-place-requires c κs = search needs
-
-row-vector-requires : tie.Need-row-vector-requires
-row-vector-requires c κs = search needs
-
-lowest-bit-requires : tie.Need-lowest-bit-requires
-lowest-bit-requires c κs = search needs
-
 returns : tie.Need-returns
 returns c =
     let r = c .before in
@@ -23,4 +14,4 @@ returns c =
     c .lowest-bit .ensures ∙ channels-lowest (s .args .t .now) (s .args .n .0) (s .args .c .0) (p .receive-place .result) (s .pre .node) (r .row-vector .result) (p .receive-place .ensures .0) (r .row-vector .ensures)
 
 pub held-channel-spec : {M : Type 1} → statement M
-held-channel-spec = tie.close (tie.spec receive-place-requires row-vector-requires lowest-bit-requires returns)
+held-channel-spec = tie.close (tie.spec (search needs) (search needs) (search needs) returns)

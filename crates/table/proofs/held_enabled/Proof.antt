@@ -6,15 +6,6 @@ use Rattle.table.proofs.Rows.{covers-node}
 use Rattle.table.proofs.held_enabled.Statement.{statement}
 use Rattle.table.proofs.held_enabled.Tie as tie
 
-link-place-requires : tie.Need-link-place-requires
-link-place-requires c κs = search needs
-
-enable-place-requires : tie.Need-enable-place-requires
-enable-place-requires c κs = search needs
-
-mask-covers-requires : tie.Need-mask-covers-requires
-mask-covers-requires c κs = search needs
-
 returns : tie.Need-returns
 unfolding ownerAt enabledAt
 returns c =
@@ -25,4 +16,4 @@ returns c =
     (c .mask-covers .ensures)
 
 pub held-enabled-spec : {M : Type 1} → statement M
-held-enabled-spec = tie.close (tie.spec link-place-requires enable-place-requires mask-covers-requires returns)
+held-enabled-spec = tie.close (tie.spec (search needs) (search needs) (search needs) returns)

@@ -1,4 +1,4 @@
--- `table::links_clear` meets its contract: the bytes of the rows are 0 where what was or-bytes of them is.
+-- `table::links_clear` meets its contract: the bytes of the rows are 0 where the or of them is.
 -- Assumes nothing.
 use mathlib.Core.Path.{_≡_, subst}
 use Prim.Native.Nat.{ℕ, _+_, _*_}
@@ -10,15 +10,6 @@ use Rattle.layout.proofs.Entries.{rows-zero}
 use Rattle.layout.proofs.Runs.{or-bytes-zero}
 use Rattle.table.proofs.links_clear.Statement.{statement}
 use Rattle.table.proofs.links_clear.Tie as tie
-
-link-place-requires : tie.Need-link-place-requires
-link-place-requires c κs = search needs
-
-mul-or-bytes : tie.Need-mul-or-bytes
-mul-or-bytes c = search needs
-
-or-bytes-requires : tie.Need-or-bytes-requires
-or-bytes-requires c κs = search needs
 
 returns : tie.Need-returns
 unfolding ownerAt
@@ -33,7 +24,7 @@ pub links-clear-spec : {M : Type 1} → statement M
 links-clear-spec =
     tie.close
     (tie.spec
-    link-place-requires
-    mul-or-bytes
-    or-bytes-requires
+    (search needs)
+    (search needs)
+    (search needs)
     returns)

@@ -6,12 +6,6 @@ use borrow.Author.Needs.{needs}
 use Rattle.table.proofs.links_held.Statement.{statement}
 use Rattle.table.proofs.links_held.Tie as tie
 
-link-place-requires : tie.Need-link-place-requires
-link-place-requires c κs = search needs
-
-row-count-requires : tie.Need-row-count-requires
-row-count-requires c κs = search needs
-
 returns : tie.Need-returns
 returns c =
     let p = c .before in
@@ -19,4 +13,4 @@ returns c =
     c .row-count .ensures ∙ links-count (s .args .t .now) (s .args .n .0) (s .args .c .0) (p .link-place .result) (s .pre .node) (p .link-place .ensures .0)
 
 pub links-held-spec : {M : Type 1} → statement M
-links-held-spec = tie.close (tie.spec link-place-requires row-count-requires returns)
+links-held-spec = tie.close (tie.spec (search needs) (search needs) returns)

@@ -9,33 +9,6 @@ use borrow.Author.Needs.{needs}
 use Rattle.table.proofs.make.Statement.{statement}
 use Rattle.table.proofs.make.Tie as tie
 
-wide-requires : tie.Need-wide-requires
-wide-requires c κs = search needs
-
-node-count-requires : tie.Need-node-count-requires
-node-count-requires c κs = search needs
-
-cast-end : tie.Need-cast-end
-cast-end c = search needs
-
-add-end : tie.Need-add-end
-add-end c = search needs
-
-fill-requires : tie.Need-fill-requires
-fill-requires c κs = search needs
-
-sub-fill : tie.Need-sub-fill
-sub-fill c = search needs
-
-cast-fill : tie.Need-cast-fill
-cast-fill c = search needs
-
-fill-requires-2 : tie.Need-fill-requires-2
-fill-requires-2 c κs = search needs
-
-slice-write-t : tie.Need-slice-write-t
-slice-write-t c = search needs
-
 same-length : tie.Need-same-length
 same-length c = simp length-set (c .before .before .fill2 .kept .0 ∙ c .before .before .before .before .before .before .fill .kept .0)
 
@@ -48,20 +21,20 @@ returns c =
     let D = s .args .dimension in
     let n = k .node-count .result in
     ap (λ l. set l 0 D) (g .fill2 .ensures ∙ ap (λ l. filled l 1 (1 + n) ((n - 1) % 256)) (f .fill .ensures))
-    ∙ made-of (s .args .t .now) D n (s .pre .0) (k .node-count .ensures .value ∙ ap (2 ^_) (k .before .wide .ensures .0)) (k .node-count .ensures .some) (k .node-count .ensures .most)
+    ∙ made-of (s .args .t .now) D n (s .pre .1) (s .pre .0) (k .node-count .ensures .value ∙ ap (2 ^_) (k .before .wide .ensures .0)) (k .node-count .ensures .some) (k .node-count .ensures .most)
 
 pub make-spec : {M : Type 1} → statement M
 make-spec =
     tie.close
     (tie.spec
-    wide-requires
-    node-count-requires
-    cast-end
-    add-end
-    fill-requires
-    sub-fill
-    cast-fill
-    fill-requires-2
-    slice-write-t
+    (search needs)
+    (search needs)
+    (search needs)
+    (search needs)
+    (search needs)
+    (search needs)
+    (search needs)
+    (search needs)
+    (search needs)
     same-length
     returns)

@@ -1,4 +1,4 @@
--- `table::receives_clear` meets its contract: the bytes of the rows are 0 where what was or-bytes of them is.
+-- `table::receives_clear` meets its contract: the bytes of the rows are 0 where the or of them is.
 -- Assumes nothing.
 use mathlib.Core.Path.{_≡_, subst}
 use Prim.Native.Nat.{ℕ, _+_, _*_}
@@ -10,15 +10,6 @@ use Rattle.layout.proofs.Entries.{rows-zero}
 use Rattle.layout.proofs.Runs.{or-bytes-zero}
 use Rattle.table.proofs.receives_clear.Statement.{statement}
 use Rattle.table.proofs.receives_clear.Tie as tie
-
-receive-place-requires : tie.Need-receive-place-requires
-receive-place-requires c κs = search needs
-
-mul-or-bytes : tie.Need-mul-or-bytes
-mul-or-bytes c = search needs
-
-or-bytes-requires : tie.Need-or-bytes-requires
-or-bytes-requires c κs = search needs
 
 returns : tie.Need-returns
 unfolding receiverAt
@@ -33,7 +24,7 @@ pub receives-clear-spec : {M : Type 1} → statement M
 receives-clear-spec =
     tie.close
     (tie.spec
-    receive-place-requires
-    mul-or-bytes
-    or-bytes-requires
+    (search needs)
+    (search needs)
+    (search needs)
     returns)

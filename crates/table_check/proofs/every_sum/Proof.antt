@@ -17,26 +17,11 @@ abbrev μ-loop : tie.MeasureT-loop
 loop-holds : tie.Need-loop-holds Inv-loop μ-loop
 loop-holds c = (omega arith, refl)
 
-sums-requires : tie.Need-sums-requires Inv-loop μ-loop
-sums-requires c κs = search needs
-
-sum-answer-requires : tie.Need-sum-answer-requires Inv-loop μ-loop
-sum-answer-requires c κs = search needs
-
-add-which : tie.Need-add-which Inv-loop μ-loop
-add-which c = omega arith
-
-loop-less : tie.Need-loop-less Inv-loop μ-loop
-loop-less c = omega arith
-
 loop-again : tie.Need-loop-again Inv-loop μ-loop
 loop-again c = (omega arith, search needs)
 
 same-length : tie.Need-same-length Inv-loop μ-loop
 same-length c = c .before .loop .inv .1
-
-returns : tie.Need-returns Inv-loop μ-loop
-returns c = search needs
 
 pub every-sum-spec : {M : Type 1} → statement M
 every-sum-spec =
@@ -45,10 +30,10 @@ every-sum-spec =
     Inv-loop
     μ-loop
     loop-holds
-    sums-requires
-    sum-answer-requires
-    add-which
-    loop-less
+    (search needs)
+    (search needs)
+    (λ c. omega arith)
+    (λ c. omega arith)
     loop-again
     same-length
-    returns)
+    (search needs))

@@ -10,29 +10,11 @@ use Rattle.command_word.proofs.Answers.{read-refused, read-accepted}
 use Rattle.command_word.proofs.CommandWord.read.Statement.{statement}
 use Rattle.command_word.proofs.CommandWord.read.Tie as tie
 
-unread-requires : tie.Need-unread-requires
-unread-requires c κs = search needs
-
 returns : tie.Need-returns
 returns c = c .unread .ensures ∙ read-refused _ 15 (too-large (omega arith)) refl
 
-packet-type-requires : tie.Need-packet-type-requires
-packet-type-requires c κs = search needs
-
-unread-requires-2 : tie.Need-unread-requires-2
-unread-requires-2 c κs = search needs
-
 returns-2 : tie.Need-returns-2
 returns-2 c = c .unread2 .ensures ∙ read-refused _ 16 (no-command (omega arith) (omega arith)) refl
-
-command-requires : tie.Need-command-requires
-command-requires c κs = search needs
-
-type-for-requires : tie.Need-type-for-requires
-type-for-requires c κs = search needs
-
-unread-requires-3 : tie.Need-unread-requires-3
-unread-requires-3 c κs = search needs
 
 returns-3 : tie.Need-returns-3
 returns-3 c =
@@ -41,12 +23,6 @@ returns-3 c =
     let p = m .before .before in
     c .unread3 .ensures
     ∙ read-refused _ 17 (wrong-type (omega arith) (omega arith) (λ e. c .before .if3 .taken (p .packet-type .ensures ∙ e ∙ sym (t .type-for .ensures .0 ∙ ap typeFor (m .command .ensures .0))))) refl
-
-values-requires : tie.Need-values-requires
-values-requires c κs = search needs
-
-unread-requires-4 : tie.Need-unread-requires-4
-unread-requires-4 c κs = search needs
 
 returns-4 : tie.Need-returns-4
 returns-4 c =
@@ -57,12 +33,6 @@ returns-4 c =
     let goes = sym (p .packet-type .ensures) ∙ v .before .if3 .left ∙ t .type-for .ensures .0 ∙ ap typeFor (m .command .ensures .0) in
     let none = sym (v .values .ensures ∙ ap values (m .command .ensures .0)) ∙ c .before .if4 .taken in
     c .unread4 .ensures ∙ read-refused _ 18 (reserved-command (omega arith) (omega arith) goes none) refl
-
-status-requires : tie.Need-status-requires
-status-requires c κs = search needs
-
-rem-t8 : tie.Need-rem-t8
-rem-t8 c = search needs
 
 returns-5 : tie.Need-returns-5
 returns-5 c =
@@ -78,18 +48,18 @@ pub read-spec : {M : Type 1} → statement M
 read-spec =
     tie.close
     (tie.spec
-    unread-requires
+    (search needs)
     returns
-    packet-type-requires
-    unread-requires-2
+    (search needs)
+    (search needs)
     returns-2
-    command-requires
-    type-for-requires
-    unread-requires-3
+    (search needs)
+    (search needs)
+    (search needs)
     returns-3
-    values-requires
-    unread-requires-4
+    (search needs)
+    (search needs)
     returns-4
-    status-requires
-    rem-t8
+    (search needs)
+    (search needs)
     returns-5)

@@ -9,23 +9,11 @@ use Rattle.command_word.proofs.Answers.{write-refused, write-accepted}
 use Rattle.command_word.proofs.CommandWord.write.Statement.{statement}
 use Rattle.command_word.proofs.CommandWord.write.Tie as tie
 
-unwritten-requires : tie.Need-unwritten-requires
-unwritten-requires c κs = search needs
-
 returns : tie.Need-returns
 returns c = c .unwritten .ensures ∙ write-refused _ _ 18 (above-15 (omega arith)) refl
 
-values-requires : tie.Need-values-requires
-values-requires c κs = search needs
-
-unwritten-requires-2 : tie.Need-unwritten-requires-2
-unwritten-requires-2 c κs = search needs
-
 returns-2 : tie.Need-returns-2
 returns-2 c = c .unwritten2 .ensures ∙ write-refused _ _ 18 (reserved-number (omega arith) (cc)) refl
-
-unwritten-requires-3 : tie.Need-unwritten-requires-3
-unwritten-requires-3 c κs = search needs
 
 returns-3 : tie.Need-returns-3
 returns-3 c = c .unwritten3 .ensures ∙ write-refused _ _ 19 (too-much (omega arith) (λ e. omega arith) (omega arith)) refl
@@ -40,12 +28,12 @@ pub write-spec : {M : Type 1} → statement M
 write-spec =
     tie.close
     (tie.spec
-    unwritten-requires
+    (search needs)
     returns
-    values-requires
-    unwritten-requires-2
+    (search needs)
+    (search needs)
     returns-2
-    unwritten-requires-3
+    (search needs)
     returns-3
     new-requires
     returns-4)

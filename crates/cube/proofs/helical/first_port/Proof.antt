@@ -5,21 +5,6 @@ use borrow.Author.Needs.{needs}
 use Rattle.cube.proofs.helical.first_port.Statement.{statement}
 use Rattle.cube.proofs.helical.first_port.Tie as tie
 
-mul-at : tie.Need-mul-at
-mul-at c = search needs
-
-add-at : tie.Need-add-at
-add-at c = search needs
-
-cast-at : tie.Need-cast-at
-cast-at c = search needs
-
-element-copy-out-wide : tie.Need-element-copy-out-wide
-element-copy-out-wide c = search needs
-
-wide-requires : tie.Need-wide-requires
-wide-requires c κs = search needs
-
 returns : tie.Need-returns
 returns c =
     let s = c .before .before in
@@ -27,4 +12,4 @@ returns c =
 
 pub first-port-spec : {M : Type 1} → statement M
 first-port-spec =
-    tie.close (tie.spec mul-at add-at cast-at element-copy-out-wide wide-requires returns)
+    tie.close (tie.spec (search needs) (search needs) (search needs) (search needs) (search needs) returns)

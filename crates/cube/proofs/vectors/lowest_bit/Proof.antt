@@ -8,9 +8,6 @@ use Rattle.cube.proofs.Ports.{lowest-is}
 use Rattle.cube.proofs.vectors.lowest_bit.Statement.{statement}
 use Rattle.cube.proofs.vectors.lowest_bit.Tie as tie
 
-add-result : tie.Need-add-result
-add-result c = search needs
-
 cast-result : tie.Need-cast-result
 cast-result c = omega (arith, trailing-le 16 (c .args .vector + 256))
 
@@ -18,4 +15,4 @@ returns : tie.Need-returns
 returns c = lowest-is (c .args .vector) (c .pre)
 
 pub lowest-bit-spec : {M : Type 1} → statement M
-lowest-bit-spec = tie.close (tie.spec add-result cast-result returns)
+lowest-bit-spec = tie.close (tie.spec (search needs) cast-result returns)

@@ -11,9 +11,6 @@ use borrow.Author.Needs.{needs}
 use Rattle.cube.proofs.vectors.neighbour.Statement.{statement}
 use Rattle.cube.proofs.vectors.neighbour.Tie as tie
 
-shl-t5 : tie.Need-shl-t5
-shl-t5 c = search needs
-
 returns : tie.Need-returns
 returns c =
     let n = c .args .node .0 in
@@ -21,4 +18,4 @@ returns c =
     ap (bitXor n) (port-bit 16 p (omega arith)) ∙ flip-xor n p ∙ ap (flip n) (sym (axis-low p (c .pre)))
 
 pub neighbour-spec : {M : Type 1} → statement M
-neighbour-spec = tie.close (tie.spec shl-t5 returns)
+neighbour-spec = tie.close (tie.spec (search needs) returns)

@@ -5,11 +5,8 @@ use borrow.Author.Needs.{needs}
 use Rattle.cube.proofs.vectors.node_count.Statement.{statement}
 use Rattle.cube.proofs.vectors.node_count.Tie as tie
 
-shl-result : tie.Need-shl-result
-shl-result c = search needs
-
 returns : tie.Need-returns
 returns c = node-count (c .args .dimension) (c .pre)
 
 pub node-count-spec : {M : Type 1} → statement M
-node-count-spec = tie.close (tie.spec shl-result returns)
+node-count-spec = tie.close (tie.spec (search needs) returns)

@@ -6,9 +6,6 @@ use borrow.Author.Needs.{needs}
 use Rattle.cube.proofs.vectors.without.Statement.{statement}
 use Rattle.cube.proofs.vectors.without.Tie as tie
 
-shl-result : tie.Need-shl-result
-shl-result c = search needs
-
 returns : tie.Need-returns
 returns c =
     let v = c .args .vector in
@@ -16,4 +13,4 @@ returns c =
     rw (port-bit 16 p (c .pre .0), flip-xor v p) (without-of v p (c .pre .1))
 
 pub without-spec : {M : Type 1} → statement M
-without-spec = tie.close (tie.spec shl-result returns)
+without-spec = tie.close (tie.spec (search needs) returns)

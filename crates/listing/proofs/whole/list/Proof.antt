@@ -13,15 +13,6 @@ use Rattle.listing.proofs.whole.list.Tie as tie
 returns : tie.Need-returns
 returns c = let s = c .before .before .before in (lists-short (s .args .input .now) (s .args .output .now) (c .if1 .taken), refl)
 
-slice-aggregate-text : tie.Need-slice-aggregate-text
-slice-aggregate-text c = search needs
-
-text-requires : tie.Need-text-requires
-text-requires c κs = search needs
-
-same-length : tie.Need-same-length
-same-length c = search needs
-
 returns-2 : tie.Need-returns-2
 unfolding tooLong ended spaced
 returns-2 c =
@@ -29,21 +20,6 @@ returns-2 c =
     let i = w .before .before .before in
     let s = i .before .before .before .before in
     (lists-all (s .args .input .now) (omega (arith, i .before .if1 .left)) (printed-long (s .args .input .now) (i .if2 .taken)) (w .text .ensures), refl)
-
-slice-aggregate-make : tie.Need-slice-aggregate-make
-slice-aggregate-make c = search needs
-
-make-requires : tie.Need-make-requires
-make-requires c κs = search needs
-
-slice-aggregate-text-2 : tie.Need-slice-aggregate-text-2
-slice-aggregate-text-2 c = search needs
-
-text-requires-2 : tie.Need-text-requires-2
-text-requires-2 c κs = search needs
-
-slice-aggregate-rows : tie.Need-slice-aggregate-rows
-slice-aggregate-rows c = search needs
 
 rows-requires : tie.Need-rows-requires
 unfolding header ended spaced
@@ -53,9 +29,6 @@ rows-requires c κs =
     let i = m .before .before in
     let s = i .before .before .before .before in
     omega (arith, rows-fit (s .args .input .now) (m .make .last .0) (omega (arith, i .if2 .left)) (m .make .ensures), h .text2 .ensures .place, h .text2 .kept .0, i .before .if1 .left)
-
-same-length-2 : tie.Need-same-length-2
-same-length-2 c = search needs
 
 returns-3 : tie.Need-returns-3
 unfolding header ended spaced
@@ -73,15 +46,15 @@ list-spec =
     tie.close
     (tie.spec
     returns
-    slice-aggregate-text
-    text-requires
-    same-length
+    (search needs)
+    (search needs)
+    (search needs)
     returns-2
-    slice-aggregate-make
-    make-requires
-    slice-aggregate-text-2
-    text-requires-2
-    slice-aggregate-rows
+    (search needs)
+    (search needs)
+    (search needs)
+    (search needs)
+    (search needs)
     rows-requires
-    same-length-2
+    (search needs)
     returns-3)

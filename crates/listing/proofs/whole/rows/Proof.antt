@@ -27,18 +27,6 @@ abbrev μ-loop : tie.MeasureT-loop
 loop-holds : tie.Need-loop-holds Inv-loop μ-loop
 loop-holds c = (omega arith, omega arith, refl, refl, refl, refl)
 
-find-requires : tie.Need-find-requires Inv-loop μ-loop
-find-requires c κs = omega arith
-
-sub-answer : tie.Need-sub-answer Inv-loop μ-loop
-sub-answer c = omega arith
-
-part-answer-start : tie.Need-part-answer-start Inv-loop μ-loop
-part-answer-start c = search needs
-
-part-answer-end : tie.Need-part-answer-end Inv-loop μ-loop
-part-answer-end c = search needs
-
 answer-requires : tie.Need-answer-requires Inv-loop μ-loop
 answer-requires c κs =
     let f = c .before .before .before in
@@ -46,15 +34,6 @@ answer-requires c κs =
     let s = l .before .before .before .before in
     let fits = line-fits (s .args .input .now) (l .loop .from) (f .find .result) (f .before .loop-test .taken) (f .find .ensures .0) (f .find .ensures .1) (l .loop .t) (l .loop .line) in
     omega (arith, fits, s .pre .1, l .loop .inv .3, l .loop .inv .5)
-
-add-line : tie.Need-add-line Inv-loop μ-loop
-add-line c = omega arith
-
-add-from : tie.Need-add-from Inv-loop μ-loop
-add-from c = omega arith
-
-loop-less : tie.Need-loop-less Inv-loop μ-loop
-loop-less c = omega arith
 
 loop-again : tie.Need-loop-again Inv-loop μ-loop
 loop-again c =
@@ -99,14 +78,14 @@ rows-spec =
     Inv-loop
     μ-loop
     loop-holds
-    find-requires
-    sub-answer
-    part-answer-start
-    part-answer-end
+    (λ c. omega arith)
+    (λ c. omega arith)
+    (search needs)
+    (search needs)
     answer-requires
-    add-line
-    add-from
-    loop-less
+    (λ c. omega arith)
+    (λ c. omega arith)
+    (λ c. omega arith)
     loop-again
     same-length
     same-length-2

@@ -1,6 +1,6 @@
 -- `maze_check::calls::arm_all` meets its contract: it ends, and the table keeps its length.
 -- Assumes nothing.
-use mathlib.Core.Path.{_≡_, refl, _∙_}
+use mathlib.Core.Path.{_≡_, refl}
 use Prim.Native.Nat.{_-_}
 use native.Mathlib.Omega.{arith}
 use lib.ListN.{length}
@@ -14,34 +14,16 @@ Inv-loop t₀ nodes channels answer₀ i₀ t answer i = length t ≡ length t�
 abbrev μ-loop : tie.MeasureT-loop
 μ-loop t₀ nodes channels answer₀ i₀ t answer i = channels - i
 
-wide-requires : tie.Need-wide-requires Inv-loop μ-loop
-wide-requires c κs = search needs
-
 mul-channels : tie.Need-mul-channels Inv-loop μ-loop
 mul-channels c = omega (arith, c .wide .ensures)
 
 loop-holds : tie.Need-loop-holds Inv-loop μ-loop
 loop-holds c = refl
 
-arm-requires : tie.Need-arm-requires Inv-loop μ-loop
-arm-requires c κs = search needs
-
-add-i : tie.Need-add-i Inv-loop μ-loop
-add-i c = omega arith
-
-loop-less : tie.Need-loop-less Inv-loop μ-loop
-loop-less c = omega arith
-
-loop-again : tie.Need-loop-again Inv-loop μ-loop
-loop-again c = search needs
-
 same-length : tie.Need-same-length Inv-loop μ-loop
 same-length c = c .before .loop .inv
-
-returns : tie.Need-returns Inv-loop μ-loop
-returns c = search needs
 
 pub arm-all-spec : {M : Type 1} → statement M
 arm-all-spec =
     tie.close
-    (tie.spec Inv-loop μ-loop wide-requires mul-channels loop-holds arm-requires add-i loop-less loop-again same-length returns)
+    (tie.spec Inv-loop μ-loop (search needs) mul-channels loop-holds (search needs) (λ c. omega arith) (λ c. omega arith) (search needs) same-length (search needs))

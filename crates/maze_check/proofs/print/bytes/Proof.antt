@@ -13,26 +13,5 @@ Inv-loop list i₀ i = i ≤ length list
 abbrev μ-loop : tie.MeasureT-loop
 μ-loop list i₀ i = length list - i
 
-loop-holds : tie.Need-loop-holds Inv-loop μ-loop
-loop-holds c = omega arith
-
-shared-slice-read-byte : tie.Need-shared-slice-read-byte Inv-loop μ-loop
-shared-slice-read-byte c = search needs
-
-byte-requires : tie.Need-byte-requires Inv-loop μ-loop
-byte-requires c κs = search needs
-
-add-i : tie.Need-add-i Inv-loop μ-loop
-add-i c = search needs
-
-loop-less : tie.Need-loop-less Inv-loop μ-loop
-loop-less c = omega arith
-
-loop-again : tie.Need-loop-again Inv-loop μ-loop
-loop-again c = omega arith
-
-returns : tie.Need-returns Inv-loop μ-loop
-returns c = search needs
-
 pub bytes-spec : {M : Type 1} → statement M
-bytes-spec = tie.close (tie.spec Inv-loop μ-loop loop-holds shared-slice-read-byte byte-requires add-i loop-less loop-again returns)
+bytes-spec = tie.close (tie.spec Inv-loop μ-loop (λ c. omega arith) (search needs) (search needs) (search needs) (λ c. omega arith) (λ c. omega arith) (search needs))

@@ -7,20 +7,11 @@ use borrow.Author.Needs.{needs}
 use Rattle.router.proofs.calls.arm.Statement.{statement}
 use Rattle.router.proofs.calls.arm.Tie as tie
 
-arm-requires : tie.Need-arm-requires
-arm-requires c κs = search needs
-
-same-length : tie.Need-same-length
-same-length c = search needs
-
 returns : tie.Need-returns
 returns c = call-stopped _ _ (c .before .arm .ensures) (c .if1 .taken)
 
 arm-requires-2 : tie.Need-arm-requires-2
 arm-requires-2 c κs = receive-within (arm-passed (c .before .before .arm .ensures) (c .before .if1 .left))
-
-same-length-2 : tie.Need-same-length-2
-same-length-2 c = search needs
 
 returns-2 : tie.Need-returns-2
 returns-2 c =
@@ -29,4 +20,4 @@ returns-2 c =
     call-arms _ _ _ (e .before .arm .ensures) (e .if1 .left) (λ i. omega (arith, e .before .before .before .slice-known .given i)) (d .arm2 .ensures)
 
 pub arm-spec : {M : Type 1} → statement M
-arm-spec = tie.close (tie.spec arm-requires same-length returns arm-requires-2 same-length-2 returns-2)
+arm-spec = tie.close (tie.spec (search needs) (search needs) returns arm-requires-2 (search needs) returns-2)

@@ -7,20 +7,11 @@ use borrow.Author.Needs.{needs}
 use Rattle.router.proofs.calls.block.Statement.{statement}
 use Rattle.router.proofs.calls.block.Tie as tie
 
-block-requires : tie.Need-block-requires
-block-requires c κs = search needs
-
-same-length : tie.Need-same-length
-same-length c = search needs
-
 returns : tie.Need-returns
 returns c = call-stopped _ _ (c .before .block .ensures) (c .if1 .taken)
 
 disable-requires : tie.Need-disable-requires
 disable-requires c κs = link-within (block-passed (c .before .before .block .ensures) (c .before .if1 .left))
-
-same-length-2 : tie.Need-same-length-2
-same-length-2 c = search needs
 
 returns-2 : tie.Need-returns-2
 returns-2 c =
@@ -29,4 +20,4 @@ returns-2 c =
     call-blocks _ _ _ (e .before .block .ensures) (e .if1 .left) (λ i. omega (arith, e .before .before .before .slice-known .given i)) (d .disable .ensures)
 
 pub block-spec : {M : Type 1} → statement M
-block-spec = tie.close (tie.spec block-requires same-length returns disable-requires same-length-2 returns-2)
+block-spec = tie.close (tie.spec (search needs) (search needs) returns disable-requires (search needs) returns-2)

@@ -1,18 +1,14 @@
 -- `router::calls::close` meets its contract: its tests, then every entry of the circuit freed.
 -- Assumes nothing.
-use mathlib.Core.Path.{_∙_}
-use Rattle.call_tests.proofs.Stopping.{close-passed, small-source, has-source, channel-path}
+use mathlib.Core.Path.{ap, _∙_}
+use Rattle.circuit_path.specs.OpenCircuit.{isOpenIn}
+use Rattle.ownership.specs.OnTable.{openIn}
+use Rattle.call_tests.proofs.Stopping.{close-passed, small-source, has-source}
 use Rattle.router.proofs.TableStep.{call-stopped, call-closes}
 use native.Mathlib.Omega.{arith}
 use borrow.Author.Needs.{needs}
 use Rattle.router.proofs.calls.close.Statement.{statement}
 use Rattle.router.proofs.calls.close.Tie as tie
-
-close-requires : tie.Need-close-requires
-close-requires c κs = search needs
-
-same-length : tie.Need-same-length
-same-length c = search needs
 
 returns : tie.Need-returns
 returns c = call-stopped _ _ (c .before .close .ensures) (c .if1 .taken)
@@ -23,15 +19,13 @@ circuit-of-requires c κs =
     small-source (r .0) (r .1)
 
 release-requires : tie.Need-release-requires
+unfolding openIn
 release-requires c κs =
     let e = c .before .before in
     let r = close-passed (e .before .close .ensures) (e .if1 .left) in (
       has-source (r .0) (r .1) (c .circuit-of .ensures),
-      (channel-path _ _ _ (c .circuit-of .ensures) ∙ r .2, r .0 .sound),
+      (ap (isOpenIn _) (c .circuit-of .ensures) ∙ r .2, r .0 .sound),
     )
-
-same-length-2 : tie.Need-same-length-2
-same-length-2 c = search needs
 
 returns-2 : tie.Need-returns-2
 returns-2 c =
@@ -41,4 +35,4 @@ returns-2 c =
     call-closes _ _ _ (e .before .close .ensures) (e .if1 .left) (λ i. omega (arith, e .before .before .before .slice-known .given i)) (m .circuit-of .ensures) (g .release .ensures)
 
 pub close-spec : {M : Type 1} → statement M
-close-spec = tie.close (tie.spec close-requires same-length returns circuit-of-requires release-requires same-length-2 returns-2)
+close-spec = tie.close (tie.spec (search needs) (search needs) returns circuit-of-requires release-requires (search needs) returns-2)

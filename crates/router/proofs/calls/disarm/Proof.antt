@@ -7,20 +7,11 @@ use borrow.Author.Needs.{needs}
 use Rattle.router.proofs.calls.disarm.Statement.{statement}
 use Rattle.router.proofs.calls.disarm.Tie as tie
 
-disarm-requires : tie.Need-disarm-requires
-disarm-requires c κs = search needs
-
-same-length : tie.Need-same-length
-same-length c = search needs
-
 returns : tie.Need-returns
 returns c = call-stopped _ _ (c .before .disarm .ensures) (c .if1 .taken)
 
 disarm-requires-2 : tie.Need-disarm-requires-2
 disarm-requires-2 c κs = receive-within (disarm-passed (c .before .before .disarm .ensures) (c .before .if1 .left))
-
-same-length-2 : tie.Need-same-length-2
-same-length-2 c = search needs
 
 returns-2 : tie.Need-returns-2
 returns-2 c =
@@ -29,4 +20,4 @@ returns-2 c =
     call-disarms _ _ _ (e .before .disarm .ensures) (e .if1 .left) (λ i. omega (arith, e .before .before .before .slice-known .given i)) (d .disarm2 .ensures)
 
 pub disarm-spec : {M : Type 1} → statement M
-disarm-spec = tie.close (tie.spec disarm-requires same-length returns disarm-requires-2 same-length-2 returns-2)
+disarm-spec = tie.close (tie.spec (search needs) (search needs) returns disarm-requires-2 (search needs) returns-2)

@@ -15,15 +15,6 @@ returns-2 c = make-dimension _ _ (c .before .if1 .left) (dimension-zero (c .if2 
 returns-3 : tie.Need-returns-3
 returns-3 c = make-dimension _ _ (c .before .before .if1 .left) (dimension-large (c .if3 .taken))
 
-cast-make : tie.Need-cast-make
-cast-make c = search needs
-
-make-requires : tie.Need-make-requires
-make-requires c κs = search needs
-
-same-length : tie.Need-same-length
-same-length c = search needs
-
 returns-4 : tie.Need-returns-4
 returns-4 c =
     let m = c .before .before in
@@ -32,4 +23,4 @@ returns-4 c =
     make-made _ _ (o .if1 .left) (λ i. omega (arith, o .before .slice-known .given i)) (dimension-is (e .before .if2 .left) (e .if3 .left)) (m .make .ensures)
 
 pub make-spec : {M : Type 1} → statement M
-make-spec = tie.close (tie.spec returns returns-2 returns-3 cast-make make-requires same-length returns-4)
+make-spec = tie.close (tie.spec returns returns-2 returns-3 (search needs) (search needs) (search needs) returns-4)

@@ -7,12 +7,6 @@ use borrow.Author.Needs.{needs}
 use Rattle.router.proofs.calls.open.Statement.{statement}
 use Rattle.router.proofs.calls.open.Tie as tie
 
-open-requires : tie.Need-open-requires
-open-requires c κs = search needs
-
-same-length : tie.Need-same-length
-same-length c = search needs
-
 returns : tie.Need-returns
 returns c = call-stopped _ _ (c .before .«open» .ensures) (c .if1 .taken)
 
@@ -38,9 +32,6 @@ send-requires c κs =
       r .3,
     )
 
-same-length-2 : tie.Need-same-length-2
-same-length-2 c = search needs
-
 returns-2 : tie.Need-returns-2
 returns-2 c =
     let g = c .before .before in
@@ -49,4 +40,4 @@ returns-2 c =
     call-opens _ _ _ _ _ _ (o .«open» .ensures) (m .before .if1 .left) (λ i. omega (arith, o .before .before .slice-known .given i)) (m .circuit-of .ensures) (g .send .ensures)
 
 pub open-spec : {M : Type 1} → statement M
-open-spec = tie.close (tie.spec open-requires same-length returns circuit-of-requires send-requires same-length-2 returns-2)
+open-spec = tie.close (tie.spec (search needs) (search needs) returns circuit-of-requires send-requires (search needs) returns-2)

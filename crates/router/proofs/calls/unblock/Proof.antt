@@ -7,20 +7,11 @@ use borrow.Author.Needs.{needs}
 use Rattle.router.proofs.calls.unblock.Statement.{statement}
 use Rattle.router.proofs.calls.unblock.Tie as tie
 
-unblock-requires : tie.Need-unblock-requires
-unblock-requires c κs = search needs
-
-same-length : tie.Need-same-length
-same-length c = search needs
-
 returns : tie.Need-returns
 returns c = call-stopped _ _ (c .before .unblock .ensures) (c .if1 .taken)
 
 enable-requires : tie.Need-enable-requires
 enable-requires c κs = link-within (link-passed (c .before .before .unblock .ensures) (c .before .if1 .left))
-
-same-length-2 : tie.Need-same-length-2
-same-length-2 c = search needs
 
 returns-2 : tie.Need-returns-2
 returns-2 c =
@@ -29,4 +20,4 @@ returns-2 c =
     call-unblocks _ _ _ (e .before .unblock .ensures) (e .if1 .left) (λ i. omega (arith, e .before .before .before .slice-known .given i)) (d .enable .ensures)
 
 pub unblock-spec : {M : Type 1} → statement M
-unblock-spec = tie.close (tie.spec unblock-requires same-length returns enable-requires same-length-2 returns-2)
+unblock-spec = tie.close (tie.spec (search needs) (search needs) returns enable-requires (search needs) returns-2)

@@ -18,20 +18,11 @@ abbrev μ-loop : tie.MeasureT-loop
 loop-holds : tie.Need-loop-holds Inv-loop μ-loop
 loop-holds c = (omega arith, frees-start)
 
-mul-n : tie.Need-mul-n Inv-loop μ-loop
-mul-n c = omega arith
-
 free-group-requires : tie.Need-free-group-requires Inv-loop μ-loop
 free-group-requires c κs = let s = c .before .before .before in (s .pre, omega arith)
 
 add-free : tie.Need-add-free Inv-loop μ-loop
 add-free c = let l = c .before .before in omega (arith, l .loop .inv .1 .most, c .free-group .ensures .most)
-
-add-i : tie.Need-add-i Inv-loop μ-loop
-add-i c = omega arith
-
-loop-less : tie.Need-loop-less Inv-loop μ-loop
-loop-less c = omega arith
 
 loop-again : tie.Need-loop-again Inv-loop μ-loop
 loop-again c =
@@ -52,10 +43,10 @@ all-free-spec =
     Inv-loop
     μ-loop
     loop-holds
-    mul-n
+    (λ c. omega arith)
     free-group-requires
     add-free
-    add-i
-    loop-less
+    (λ c. omega arith)
+    (λ c. omega arith)
     loop-again
     returns)

@@ -19,9 +19,6 @@ abbrev μ-loop : tie.MeasureT-loop
 loop-holds : tie.Need-loop-holds Inv-loop μ-loop
 loop-holds c = let s = c .before .before in (omega arith, s .pre .size, counts-skip (omega arith) (λ n k l g h. absurd (omega arith)))
 
-mul-n : tie.Need-mul-n Inv-loop μ-loop
-mul-n c = omega arith
-
 hops-group-requires : tie.Need-hops-group-requires Inv-loop μ-loop
 hops-group-requires c κs =
     let l = c .before .before in
@@ -34,12 +31,6 @@ add-hops c =
     let h = c .before .before in
     let l = h .before .before .before in
     omega (arith, l .loop .inv .2 .most, h .hops-group .ensures .most)
-
-add-i : tie.Need-add-i Inv-loop μ-loop
-add-i c = omega arith
-
-loop-less : tie.Need-loop-less Inv-loop μ-loop
-loop-less c = omega arith
 
 loop-again : tie.Need-loop-again Inv-loop μ-loop
 loop-again c =
@@ -60,11 +51,11 @@ all-hops-spec =
     Inv-loop
     μ-loop
     loop-holds
-    mul-n
+    (λ c. omega arith)
     hops-group-requires
     add-hops
-    add-i
-    loop-less
+    (λ c. omega arith)
+    (λ c. omega arith)
     loop-again
     same-length
     returns)

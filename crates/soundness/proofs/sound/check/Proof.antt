@@ -10,9 +10,6 @@ use Rattle.soundness.proofs.sound.check.Tie as tie
 returns : tie.Need-returns
 returns c = wrong-length (c .before .before .args .t .now) (c .if1 .taken)
 
-dimension-requires : tie.Need-dimension-requires
-dimension-requires c κs = search needs
-
 returns-2 : tie.Need-returns-2
 returns-2 c =
     let d = c .before in
@@ -23,9 +20,6 @@ returns-3 c =
     let d = c .before .before in
     let e = d .dimension .ensures in
     large-dimension (d .before .before .before .args .t .now) (d .before .if1 .left) (omega (arith, e, c .before .if2 .left)) (omega (arith, e, c .if3 .taken))
-
-entries-sound-requires : tie.Need-entries-sound-requires
-entries-sound-requires c κs = search needs
 
 returns-4 : tie.Need-returns-4
 returns-4 c =
@@ -46,9 +40,9 @@ check-spec =
     tie.close
     (tie.spec
     returns
-    dimension-requires
+    (search needs)
     returns-2
     returns-3
-    entries-sound-requires
+    (search needs)
     returns-4
     returns-5)

@@ -10,9 +10,6 @@ use Rattle.soundness.proofs.Deciding.{sound-arms, sound-enables, refuse
 use Rattle.soundness.proofs.sound.entries_sound.Statement.{statement}
 use Rattle.soundness.proofs.sound.entries_sound.Tie as tie
 
-arms-fit-requires : tie.Need-arms-fit-requires
-arms-fit-requires c κs = search needs
-
 returns : tie.Need-returns
 returns c =
     let a = c .before in
@@ -22,9 +19,6 @@ returns c =
     refuse b (omega (arith, s .pre .stored, s .pre .most))
     (λ z. a .arms-fit .ensures .fails (not-true _ (c .if1 .taken)) (subst (ArmsFit b) (sym (s .pre .stored)) (sound-arms b (λ i. omega (arith, k .shared-slice-known .given i)) z)))
 
-enables-fit-requires : tie.Need-enables-fit-requires
-enables-fit-requires c κs = search needs
-
 returns-2 : tie.Need-returns-2
 returns-2 c =
     let e = c .before in
@@ -33,15 +27,6 @@ returns-2 c =
     let b = s .args .t .now in
     refuse b (omega (arith, s .pre .stored, s .pre .most))
     (λ z. e .enables-fit .ensures .fails (not-true _ (c .if2 .taken)) (subst (EnablesFit b) (sym (s .pre .stored)) (sound-enables b (λ i. omega (arith, k .shared-slice-known .given i)) z)))
-
-all-free-requires : tie.Need-all-free-requires
-all-free-requires c κs = search needs
-
-node-count-requires : tie.Need-node-count-requires
-node-count-requires c κs = search needs
-
-slice-aggregate-all-hops : tie.Need-slice-aggregate-all-hops
-slice-aggregate-all-hops c = search needs
 
 all-hops-requires : tie.Need-all-hops-requires
 all-hops-requires c κs =
@@ -57,9 +42,6 @@ all-hops-requires c κs =
       arms = subst (ArmsFit b) (s .pre .stored) (a .arms-fit .ensures .holds (not-false _ (i .if1 .left)));
       size = search needs;
     }
-
-add-result : tie.Need-add-result
-add-result c = search needs
 
 returns-3 : tie.Need-returns-3
 returns-3 c =
@@ -78,13 +60,13 @@ pub entries-sound-spec : {M : Type 1} → statement M
 entries-sound-spec =
     tie.close
     (tie.spec
-    arms-fit-requires
+    (search needs)
     returns
-    enables-fit-requires
+    (search needs)
     returns-2
-    all-free-requires
-    node-count-requires
-    slice-aggregate-all-hops
+    (search needs)
+    (search needs)
+    (search needs)
     all-hops-requires
-    add-result
+    (search needs)
     returns-3)

@@ -41,12 +41,6 @@ add-hops c =
     let l = h .before .before .before .before .before .before in
     omega (arith, l .loop .inv .2 .most, h .hops-to .ensures .most)
 
-add-k : tie.Need-add-k Inv-loop μ-loop
-add-k c = omega arith
-
-loop-less : tie.Need-loop-less Inv-loop μ-loop
-loop-less c = omega arith
-
 loop-again : tie.Need-loop-again Inv-loop μ-loop
 loop-again c =
     let r = c .before .before in
@@ -89,8 +83,8 @@ hops-at-spec =
     receiver-requires
     hops-to-requires
     add-hops
-    add-k
-    loop-less
+    (λ c. omega arith)
+    (λ c. omega arith)
     loop-again
     same-length
     returns)

@@ -19,9 +19,6 @@ abbrev μ-loop : tie.MeasureT-loop
 loop-holds : tie.Need-loop-holds Inv-loop μ-loop
 loop-holds c = let s = c .before .before in (omega arith, s .pre .0 .size, counts-skip (omega arith) (λ n k l g h. absurd (omega arith)))
 
-add-n : tie.Need-add-n Inv-loop μ-loop
-add-n c = omega arith
-
 hops-of-requires : tie.Need-hops-of-requires Inv-loop μ-loop
 hops-of-requires c κs =
     let l = c .before .before in
@@ -34,12 +31,6 @@ add-hops c =
     let h = c .before .before in
     let l = h .before .before .before in
     omega (arith, l .loop .inv .2 .most, h .hops-of .ensures .most)
-
-add-i : tie.Need-add-i Inv-loop μ-loop
-add-i c = omega arith
-
-loop-less : tie.Need-loop-less Inv-loop μ-loop
-loop-less c = omega arith
 
 loop-again : tie.Need-loop-again Inv-loop μ-loop
 loop-again c =
@@ -60,11 +51,11 @@ hops-from-spec =
     Inv-loop
     μ-loop
     loop-holds
-    add-n
+    (λ c. omega arith)
     hops-of-requires
     add-hops
-    add-i
-    loop-less
+    (λ c. omega arith)
+    (λ c. omega arith)
     loop-again
     same-length
     returns)

@@ -7,21 +7,9 @@ use Rattle.soundness.proofs.Counting.{counts-skip}
 use Rattle.soundness.proofs.sound.hops_group.Statement.{statement}
 use Rattle.soundness.proofs.sound.hops_group.Tie as tie
 
-receives-clear-requires : tie.Need-receives-clear-requires
-receives-clear-requires c κs = search needs
-
 returns : tie.Need-returns
 unfolding view
 returns c = counts-skip (omega arith) (λ n k l g h. c .before .receives-clear .ensures (c .if1 .taken) n k (omega arith) (omega arith) l)
 
-hops-from-requires : tie.Need-hops-from-requires
-hops-from-requires c κs = search needs
-
-same-length : tie.Need-same-length
-same-length c = search needs
-
-returns-2 : tie.Need-returns-2
-returns-2 c = search needs
-
 pub hops-group-spec : {M : Type 1} → statement M
-hops-group-spec = tie.close (tie.spec receives-clear-requires returns hops-from-requires same-length returns-2)
+hops-group-spec = tie.close (tie.spec (λ c κs. search needs) returns (λ c κs. search needs) (λ c. search needs) (λ c. search needs))

@@ -10,15 +10,9 @@ use Rattle.soundness.proofs.Deciding.{unarmed-fails, armed-held, absent
 use Rattle.soundness.proofs.sound.hops_of.Statement.{statement}
 use Rattle.soundness.proofs.sound.hops_of.Tie as tie
 
-receives-clear-requires : tie.Need-receives-clear-requires
-receives-clear-requires c κs = search needs
-
 returns : tie.Need-returns
 unfolding view
 returns c = counts-skip (omega arith) (λ n k l g h. c .before .receives-clear .ensures (c .if1 .taken) n k (omega arith) (omega arith) l)
-
-held-armed-requires : tie.Need-held-armed-requires
-held-armed-requires c κs = search needs
 
 returns-2 : tie.Need-returns-2
 returns-2 c =
@@ -44,21 +38,15 @@ hops-at-requires c κs =
     let s = a .before .before .before .before .before in
     ((s .pre .0, omega (arith, e .if3 .left)), armed-held (s .args .t .now) (s .args .n .0) (a .held-armed .ensures) (not-false _ (i .if2 .left)))
 
-same-length : tie.Need-same-length
-same-length c = search needs
-
-returns-4 : tie.Need-returns-4
-returns-4 c = search needs
-
 pub hops-of-spec : {M : Type 1} → statement M
 hops-of-spec =
     tie.close
     (tie.spec
-    receives-clear-requires
+    (λ c κs. search needs)
     returns
-    held-armed-requires
+    (λ c κs. search needs)
     returns-2
     returns-3
     hops-at-requires
-    same-length
-    returns-4)
+    (λ c. search needs)
+    (λ c. search needs))

@@ -17,15 +17,6 @@ abbrev μ-loop : tie.MeasureT-loop
 loop-holds : tie.Need-loop-holds Inv-loop μ-loop
 loop-holds c = (omega arith, refl, refl)
 
-every-offset-requires : tie.Need-every-offset-requires Inv-loop μ-loop
-every-offset-requires c κs = search needs
-
-add-bit : tie.Need-add-bit Inv-loop μ-loop
-add-bit c = omega arith
-
-loop-less : tie.Need-loop-less Inv-loop μ-loop
-loop-less c = omega arith
-
 loop-again : tie.Need-loop-again Inv-loop μ-loop
 loop-again c = (omega arith, search needs, search needs)
 
@@ -35,9 +26,6 @@ same-length c = c .before .loop .inv .1
 same-length-2 : tie.Need-same-length-2 Inv-loop μ-loop
 same-length-2 c = c .before .loop .inv .2
 
-returns : tie.Need-returns Inv-loop μ-loop
-returns c = search needs
-
 pub every-bit-spec : {M : Type 1} → statement M
 every-bit-spec =
     tie.close
@@ -45,10 +33,10 @@ every-bit-spec =
     Inv-loop
     μ-loop
     loop-holds
-    every-offset-requires
-    add-bit
-    loop-less
+    (search needs)
+    (λ c. omega arith)
+    (λ c. omega arith)
     loop-again
     same-length
     same-length-2
-    returns)
+    (search needs))

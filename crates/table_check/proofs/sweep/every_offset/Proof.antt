@@ -18,18 +18,6 @@ abbrev μ-loop : tie.MeasureT-loop
 loop-holds : tie.Need-loop-holds Inv-loop μ-loop
 loop-holds c = (omega arith, refl, refl)
 
-with-change-requires : tie.Need-with-change-requires Inv-loop μ-loop
-with-change-requires c κs = search needs
-
-count-requires : tie.Need-count-requires Inv-loop μ-loop
-count-requires c κs = search needs
-
-add-at : tie.Need-add-at Inv-loop μ-loop
-add-at c = omega arith
-
-loop-less : tie.Need-loop-less Inv-loop μ-loop
-loop-less c = omega arith
-
 loop-again : tie.Need-loop-again Inv-loop μ-loop
 loop-again c = (omega arith, search needs, search needs)
 
@@ -39,9 +27,6 @@ same-length c = c .before .loop .inv .1
 same-length-2 : tie.Need-same-length-2 Inv-loop μ-loop
 same-length-2 c = c .before .loop .inv .2
 
-returns : tie.Need-returns Inv-loop μ-loop
-returns c = search needs
-
 pub every-offset-spec : {M : Type 1} → statement M
 every-offset-spec =
     tie.close
@@ -49,11 +34,11 @@ every-offset-spec =
     Inv-loop
     μ-loop
     loop-holds
-    with-change-requires
-    count-requires
-    add-at
-    loop-less
+    (search needs)
+    (search needs)
+    (λ c. omega arith)
+    (λ c. omega arith)
     loop-again
     same-length
     same-length-2
-    returns)
+    (search needs))

@@ -17,29 +17,11 @@ abbrev μ-loop : tie.MeasureT-loop
 loop-holds : tie.Need-loop-holds Inv-loop μ-loop
 loop-holds c = (omega arith, refl)
 
-shared-slice-read-port : tie.Need-shared-slice-read-port Inv-loop μ-loop
-shared-slice-read-port c = omega arith
-
-port-requires : tie.Need-port-requires Inv-loop μ-loop
-port-requires c κs = search needs
-
-hop-requires : tie.Need-hop-requires Inv-loop μ-loop
-hop-requires c κs = search needs
-
-add-i : tie.Need-add-i Inv-loop μ-loop
-add-i c = omega arith
-
-loop-less : tie.Need-loop-less Inv-loop μ-loop
-loop-less c = omega arith
-
 loop-again : tie.Need-loop-again Inv-loop μ-loop
 loop-again c = (omega arith, search needs)
 
 same-length : tie.Need-same-length Inv-loop μ-loop
 same-length c = c .before .loop .inv .1
-
-returns : tie.Need-returns Inv-loop μ-loop
-returns c = search needs
 
 pub lay-spec : {M : Type 1} → statement M
 lay-spec =
@@ -48,11 +30,11 @@ lay-spec =
     Inv-loop
     μ-loop
     loop-holds
-    shared-slice-read-port
-    port-requires
-    hop-requires
-    add-i
-    loop-less
+    (λ c. omega arith)
+    (search needs)
+    (search needs)
+    (λ c. omega arith)
+    (λ c. omega arith)
     loop-again
     same-length
-    returns)
+    (search needs))

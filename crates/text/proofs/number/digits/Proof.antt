@@ -19,12 +19,6 @@ abbrev μ-loop : tie.MeasureT-loop
 loop-holds : tie.Need-loop-holds Inv-loop μ-loop
 loop-holds c = (omega arith, omega arith, refl)
 
-shared-slice-read-wide : tie.Need-shared-slice-read-wide Inv-loop μ-loop
-shared-slice-read-wide c = omega arith
-
-wide-requires : tie.Need-wide-requires Inv-loop μ-loop
-wide-requires c κs = search needs
-
 returns : tie.Need-returns Inv-loop μ-loop
 returns c =
     let w = c .before in
@@ -39,12 +33,6 @@ returns-2 c =
     let f = l .before .before .args .field .now in
     sym (field-high f (l .loop .n) (l .loop .i) (omega (arith, w .before .before .loop-test .taken)) (omega (arith, w .wide .ensures, c .if2 .taken))) ∙ l .loop .inv .2
 
-mul-n : tie.Need-mul-n Inv-loop μ-loop
-mul-n c = omega arith
-
-add-n : tie.Need-add-n Inv-loop μ-loop
-add-n c = omega arith
-
 returns-3 : tie.Need-returns-3 Inv-loop μ-loop
 returns-3 c =
     let w = c .before .before .before in
@@ -55,12 +43,6 @@ returns-3 c =
     let high : getD f (l .loop .i) 0 ≤ 57 = omega (arith, w .wide .ensures, c .before .if2 .left) in
     let n = 10 * l .loop .n + (getD f (l .loop .i) 0 - 48) in
     sym (said-over n (drop (l .loop .i + 1) f) (omega (arith, w .wide .ensures, c .if3 .taken))) ∙ field-digit f (l .loop .n) (l .loop .i) inside low high ∙ l .loop .inv .2
-
-add-i : tie.Need-add-i Inv-loop μ-loop
-add-i c = omega arith
-
-loop-less : tie.Need-loop-less Inv-loop μ-loop
-loop-less c = omega arith
 
 loop-again : tie.Need-loop-again Inv-loop μ-loop
 loop-again c =
@@ -85,14 +67,14 @@ digits-spec =
     Inv-loop
     μ-loop
     loop-holds
-    shared-slice-read-wide
-    wide-requires
+    (λ c. omega arith)
+    (search needs)
     returns
     returns-2
-    mul-n
-    add-n
+    (λ c. omega arith)
+    (λ c. omega arith)
     returns-3
-    add-i
-    loop-less
+    (λ c. omega arith)
+    (λ c. omega arith)
     loop-again
     returns-4)

@@ -10,20 +10,11 @@ use Rattle.text.proofs.number.read.Tie as tie
 returns : tie.Need-returns
 returns c = read-empty (c .before .before .args .field .now) (c .if1 .taken)
 
-digits-requires : tie.Need-digits-requires
-digits-requires c κs = search needs
-
 returns-2 : tie.Need-returns-2
 returns-2 c = c .digits .ensures ∙ read-one (c .before .before .before .before .args .field .now) (c .before .if2 .taken)
 
-shared-slice-read-if3 : tie.Need-shared-slice-read-if3
-shared-slice-read-if3 c = search needs
-
 returns-3 : tie.Need-returns-3
 returns-3 c = let s = c .before .before .before .before .before in read-zero (s .args .field .now) (omega (arith, c .before .before .if2 .left, c .before .before .before .if1 .left)) (c .if3 .taken)
-
-digits-requires-2 : tie.Need-digits-requires-2
-digits-requires-2 c κs = search needs
 
 returns-4 : tie.Need-returns-4
 returns-4 c =
@@ -32,4 +23,4 @@ returns-4 c =
     c .digits2 .ensures ∙ read-more (s .args .field .now) (omega (arith, e .before .before .if2 .left, e .before .before .before .if1 .left)) (e .if3 .left)
 
 pub read-spec : {M : Type 1} → statement M
-read-spec = tie.close (tie.spec returns digits-requires returns-2 shared-slice-read-if3 returns-3 digits-requires-2 returns-4)
+read-spec = tie.close (tie.spec returns (search needs) returns-2 (search needs) returns-3 (search needs) returns-4)

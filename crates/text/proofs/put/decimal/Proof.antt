@@ -16,21 +16,12 @@ Inv-loop out₀ at n end left₀ i₀ out left i = Writes n at out₀ out left i
 abbrev μ-loop : tie.MeasureT-loop
 μ-loop out₀ at n end left₀ i₀ out left i = left
 
-digit-count-requires : tie.Need-digit-count-requires Inv-loop μ-loop
-digit-count-requires c κs = search needs
-
-add-end : tie.Need-add-end Inv-loop μ-loop
-add-end c = search needs
-
 sub-i : tie.Need-sub-i Inv-loop μ-loop
 sub-i c = omega (arith, decimal-some (c .before .before .args .n))
 
 loop-holds : tie.Need-loop-holds Inv-loop μ-loop
 loop-holds c =
     record { place = omega (arith, decimal-some (c .before .before .args .n)); bytes = refl; most = omega arith; long = refl }
-
-digit-requires : tie.Need-digit-requires Inv-loop μ-loop
-digit-requires c κs = omega arith
 
 slice-write-out : tie.Need-slice-write-out Inv-loop μ-loop
 slice-write-out c =
@@ -42,14 +33,8 @@ sub-i-2 c =
     let l = c .before .before in
     omega (arith, l .loop .inv .place, long-length (l .loop .left) (c .before .loop-test .taken), decimal-some (l .loop .left / 10))
 
-loop-less : tie.Need-loop-less Inv-loop μ-loop
-loop-less c = omega arith
-
 loop-again : tie.Need-loop-again Inv-loop μ-loop
 loop-again c = last-digit (c .before .before .loop .inv) (c .before .loop-test .taken) (c .digit .ensures)
-
-digit-requires-2 : tie.Need-digit-requires-2 Inv-loop μ-loop
-digit-requires-2 c κs = omega arith
 
 slice-write-out-2 : tie.Need-slice-write-out-2 Inv-loop μ-loop
 slice-write-out-2 c =
@@ -73,16 +58,16 @@ decimal-spec =
     (tie.spec
     Inv-loop
     μ-loop
-    digit-count-requires
-    add-end
+    (search needs)
+    (search needs)
     sub-i
     loop-holds
-    digit-requires
+    (λ c. omega arith)
     slice-write-out
     sub-i-2
-    loop-less
+    (λ c. omega arith)
     loop-again
-    digit-requires-2
+    (λ c. omega arith)
     slice-write-out-2
     same-length
     returns)

@@ -16,14 +16,8 @@ Inv-loop n left₀ count₀ left count = count + length (decimal left) ≡ lengt
 abbrev μ-loop : tie.MeasureT-loop
 μ-loop n left₀ count₀ left count = left
 
-loop-holds : tie.Need-loop-holds Inv-loop μ-loop
-loop-holds c = omega arith
-
 add-count : tie.Need-add-count Inv-loop μ-loop
 add-count c = omega (arith, ten-digits (c .before .before .args .n) (omega arith))
-
-loop-less : tie.Need-loop-less Inv-loop μ-loop
-loop-less c = omega arith
 
 loop-again : tie.Need-loop-again Inv-loop μ-loop
 loop-again c = omega (arith, long-length (c .before .loop .left) (c .loop-test .taken))
@@ -33,4 +27,4 @@ returns c = omega (arith, ap length (decimal-short (c .before .loop .left) (c .l
 
 pub digit-count-spec : {M : Type 1} → statement M
 digit-count-spec =
-    tie.close (tie.spec Inv-loop μ-loop loop-holds add-count loop-less loop-again returns)
+    tie.close (tie.spec Inv-loop μ-loop (λ c. omega arith) add-count (λ c. omega arith) loop-again returns)

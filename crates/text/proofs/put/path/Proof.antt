@@ -9,17 +9,11 @@ use borrow.Author.Needs.{needs}
 use Rattle.text.proofs.put.path.Statement.{statement}
 use Rattle.text.proofs.put.path.Tie as tie
 
-least-requires : tie.Need-least-requires
-least-requires c κs = search needs
-
 byte-requires : tie.Need-byte-requires
 byte-requires c κs =
     let h = c .before .before in
     let s = h .before .before .before in
     omega (arith, ap length (no-ports (s .args .count) (s .args .buffer .now) (h .least .ensures) (c .before .if1 .taken)), s .pre)
-
-same-length : tie.Need-same-length
-same-length c = search needs
 
 returns : tie.Need-returns
 returns c =
@@ -28,23 +22,11 @@ returns c =
     let s = h .before .before .before in
     retext (no-ports (s .args .count) (s .args .buffer .now) (h .least .ensures) (w .before .before .if1 .taken)) (w .byte .ensures)
 
-sub-ports : tie.Need-sub-ports
-sub-ports c = search needs
-
-part-ports-start : tie.Need-part-ports-start
-part-ports-start c = search needs
-
-part-ports-end : tie.Need-part-ports-end
-part-ports-end c = search needs
-
 ports-requires : tie.Need-ports-requires
 ports-requires c κs =
     let h = c .before .before .before in
     let s = h .before .before .before in
     omega (arith, ap length (some-ports (s .args .count) (s .args .buffer .now) (h .least .ensures) (c .before .before .if1 .left)), s .pre)
-
-same-length-2 : tie.Need-same-length-2
-same-length-2 c = search needs
 
 returns-2 : tie.Need-returns-2
 returns-2 c =
@@ -57,13 +39,13 @@ pub path-spec : {M : Type 1} → statement M
 path-spec =
     tie.close
     (tie.spec
-    least-requires
+    (search needs)
     byte-requires
-    same-length
+    (search needs)
     returns
-    sub-ports
-    part-ports-start
-    part-ports-end
+    (search needs)
+    (search needs)
+    (search needs)
     ports-requires
-    same-length-2
+    (search needs)
     returns-2)

@@ -24,9 +24,6 @@ abbrev μ-loop : tie.MeasureT-loop
 loop-holds : tie.Need-loop-holds Inv-loop μ-loop
 loop-holds c = (omega arith, refl, refl, refl)
 
-shared-slice-read-decimal : tie.Need-shared-slice-read-decimal Inv-loop μ-loop
-shared-slice-read-decimal c = omega arith
-
 cast-decimal : tie.Need-cast-decimal Inv-loop μ-loop
 cast-decimal c = omega (arith, c .shared-slice-known2 .given (c .before .before .before .loop .i))
 
@@ -38,12 +35,6 @@ decimal-requires c κs =
     let i = l .loop .i in
     let step = turn-step w i (omega (arith, c .before .before .loop-test .taken)) in
     omega (arith, ap length step, length-append (decimal (getD w i 0)) (inTurn (drop (i + 1) w)), l .loop .inv .1, l .loop .inv .3, s .pre)
-
-add-i : tie.Need-add-i Inv-loop μ-loop
-add-i c = omega arith
-
-loop-less : tie.Need-loop-less Inv-loop μ-loop
-loop-less c = omega arith
 
 loop-again : tie.Need-loop-again Inv-loop μ-loop
 loop-again c =
@@ -81,11 +72,11 @@ ports-spec =
     Inv-loop
     μ-loop
     loop-holds
-    shared-slice-read-decimal
+    (λ c. omega arith)
     cast-decimal
     decimal-requires
-    add-i
-    loop-less
+    (λ c. omega arith)
+    (λ c. omega arith)
     loop-again
     same-length
     returns)

@@ -8,12 +8,6 @@ use Rattle.text.proofs.Rows.{row-text, number-width}
 use Rattle.text.proofs.row.write.Statement.{statement}
 use Rattle.text.proofs.row.write.Tie as tie
 
-cast-decimal : tie.Need-cast-decimal
-cast-decimal c = search needs
-
-cast-decimal-2 : tie.Need-cast-decimal-2
-cast-decimal-2 c = search needs
-
 decimal-requires : tie.Need-decimal-requires
 decimal-requires c κs =
     let s = c .before .before .before .before in
@@ -141,11 +135,11 @@ pub write-spec : {M : Type 1} → statement M
 write-spec =
     tie.close
     (tie.spec
-    cast-decimal
+    (search needs)
     decimal-requires
     write-next-requires
     byte-requires
-    cast-decimal-2
+    (search needs)
     decimal-requires-2
     write-next-requires-2
     write-next-requires-3

@@ -5,17 +5,8 @@ use Rattle.text.proofs.Writing.{_then_}
 use Rattle.text.proofs.row.write_next.Statement.{statement}
 use Rattle.text.proofs.row.write_next.Tie as tie
 
-byte-requires : tie.Need-byte-requires
-byte-requires c κs = search needs
-
-write-field-requires : tie.Need-write-field-requires
-write-field-requires c κs = search needs
-
-same-length : tie.Need-same-length
-same-length c = search needs
-
 returns : tie.Need-returns
 returns c = c .before .before .before .before .before .before .byte .ensures then c .before .before .write-field .ensures
 
 pub write-next-spec : {M : Type 1} → statement M
-write-next-spec = tie.close (tie.spec byte-requires write-field-requires same-length returns)
+write-next-spec = tie.close (tie.spec (search needs) (search needs) (search needs) returns)

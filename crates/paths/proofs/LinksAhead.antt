@@ -1,4 +1,4 @@
--- An arrival looks only at the links in its cone, those offered at nodes no farther from the target: so the hop that a scout came by, held
+-- An arrival looks only at the links ahead of it, those offered at nodes no farther from the target: so the hop that a scout came by, held
 -- behind it, changes nothing that it meets.
 -- Assumes nothing.
 use mathlib.Core.Path.{_≡_, refl, ap, fun-ext}
@@ -27,16 +27,16 @@ trying-same {f} {g} {on} {to} (p ∷ ps) ef eo c =
 
 module _ {N : Network} {t : ℕ} (near : Nearing N t) where
   -- an arrival at n asks only about the links offered at nodes no farther than n
-  cone : (f g : ℕ → ℕ → Bool) (d : ℕ) → ((m p : ℕ) → N .distance t m ≤ d → p ∈ offered N t m → f m p ≡ g m p)
+  links-ahead : (f g : ℕ → ℕ → Bool) (d : ℕ) → ((m p : ℕ) → N .distance t m ≤ d → p ∈ offered N t m → f m p ≡ g m p)
       → (k n a c : ℕ) → N .distance t n ≤ d → arriving k N f t n a c ≡ arriving k N g t n a c
   unfolding arriving
-  cone f g d e zero n a c i = refl
-  cone f g d e (suc k) n a c i =
-      rw (trying-same (helical a (offered N t n)) (λ p m. e n p i (helical-mem a _ m)) (λ p m c. cone f g d e k (N .next n p) p c (omega (arith, near .nearer n p (helical-mem a _ m)))) c)
+  links-ahead f g d e zero n a c i = refl
+  links-ahead f g d e (suc k) n a c i =
+      rw (trying-same (helical a (offered N t n)) (λ p m. e n p i (helical-mem a _ m)) (λ p m c. links-ahead f g d e k (N .next n p) p c (omega (arith, near .nearer n p (helical-mem a _ m)))) c)
 
   -- So the hop just made is no part of the search behind it: uphill, it leaves a node farther than the one reached, and otherwise it is not offered.
   pub holding-after : (f : ℕ → ℕ → Bool) (k n p c : ℕ) → arriving k N (holding f n p) t (N .next n p) p c ≡ arriving k N f t (N .next n p) p c
-  holding-after f k n p c = cone (holding f n p) f (N .distance t (N .next n p)) other k (N .next n p) p c (le-refl _)
+  holding-after f k n p c = links-ahead (holding f n p) f (N .distance t (N .next n p)) other k (N .next n p) p c (le-refl _)
     where
       other : (m q : ℕ) → N .distance t m ≤ N .distance t (N .next n p) → q ∈ offered N t m → holding f n p m q ≡ f m q
       other m q i o = unfold holding in go (eqb m n) (eqb q p) refl refl

@@ -1,20 +1,19 @@
 -- What a send makes of the answer of its search: a route rejection is judged by whether waiting helps, and everything else is handed on.
 -- Assumes nothing.
 use borrow.Author.Tests.{ne-eqb}
-use mathlib.Core.Path.{_≡_, refl, ap, sym, _∙_}
+use mathlib.Core.Path.{_≡_, sym, _∙_}
 use mathlib.Core.Logic.{_≢_}
 use mathlib.Core.Bool.{Bool, true, false}
 use mathlib.Core.List.{List}
 use Prim.Native.Nat.{ℕ}
 use native.Mathlib.Omega.{arith}
-use Rattle.paths.specs.Send.{Outcome, acknowledged, route-rejected, receive-rejected}
 use Rattle.paths.specs.Waiting.{someAttempt}
 use Rattle.paths.specs.CubeNetwork.{attempts, send}
 use Rattle.table.specs.View.{view, net, shapeOf}
 use Rattle.reach.specs.Marks.{MayAsk}
-use Rattle.answers.specs.SendOnTable.{pass-answer, waitingHelps, answerOfOutcome, sendOf}
-use Rattle.answers.specs.SendAnswer.{bytesAfterSend, sendAnswer, sends, searched, MaySend}
-use Rattle.answers.proofs.Sent.{sent-leaves, other-kept, rejected-as}
+use Rattle.answers.specs.SendOnTable.{pass-answer, waitingHelps}
+use Rattle.answers.specs.SendAnswer.{sentOnBytes, searched, MaySend}
+use Rattle.answers.proofs.SendAnswer.{sent-leaves, other-kept, rejected-as}
 
 -- what is asked after a search that leaves each byte as it was
 may-ask : {b : List ℕ} {s t c vector : ℕ} → MaySend b s t c vector → MayAsk b s t vector
@@ -28,8 +27,8 @@ module _ (b : List ℕ) (s t c type vector : ℕ) {x h k n : ℕ} {b₁ : List �
   pub may-ask-after : MaySend b s t c vector → x ≡ 10 → MayAsk b₁ s t vector
   may-ask-after may z = rw (search-leaves z) (may-ask may)
 
-  pub judged-kept : x ≢ 10 → pass-answer x h k n b₁ ≡ sends b s t c type vector
-  unfolding searched sends
+  pub judged-kept : x ≢ 10 → pass-answer x h k n b₁ ≡ sentOnBytes b s t c type vector
+  unfolding searched sentOnBytes
   judged-kept f = other-kept b c s t (waitingHelps (view b) s t type vector) _ _ got f
 
   module _ (z : x ≡ 10) {r : Bool} (asked : r ≡ someAttempt (net (view b₁)) (view b₁ .enabled) s t (attempts (shapeOf (view b₁)) type vector)) where
@@ -37,12 +36,12 @@ module _ (b : List ℕ) (s t c type vector : ℕ) {x h k n : ℕ} {b₁ : List �
     unfolding waitingHelps
     answer = rw (search-leaves z) at asked
 
-    pub judged-helps : r ≡ true → pass-answer x h k n b₁ ≡ sends b s t c type vector
-    unfolding searched sends
+    pub judged-helps : r ≡ true → pass-answer x h k n b₁ ≡ sentOnBytes b s t c type vector
+    unfolding searched sentOnBytes
     judged-helps e = rw (sym answer ∙ e) got
 
-    pub judged-blocked : r ≡ false → pass-answer 22 0 0 n b₁ ≡ sends b s t c type vector
-    unfolding searched sends
+    pub judged-blocked : r ≡ false → pass-answer 22 0 0 n b₁ ≡ sentOnBytes b s t c type vector
+    unfolding searched sentOnBytes
     judged-blocked e = rw (sym answer ∙ e) (rejected-as b c s t _ _ got z)
 
 -- A type that is none of the others makes one pass.

@@ -9,8 +9,9 @@ use native.Mathlib.Omega.{arith}
 use native.Mathlib.Numerals.{add-one}
 use lib.ListN.{length}
 use Rattle.common.specs.Lists.{_∈_}
-use Rattle.cube.specs.Cube.{next, Without}
-use Rattle.cube.specs.Helical.{helical, portsOf, firstPort, FirstTried}
+use Rattle.cube.specs.CubeContracts.{Without, FirstTried}
+use Rattle.cube.specs.Cube.{portCount, VectorOf, next}
+use Rattle.cube.specs.Helical.{helical, portsOf, firstPort}
 use Rattle.cube.proofs.Order.{byte-vector, port-tried, low-port, mem-ports, ports-mem, length-helical, helical-mem, mem-helical, helical-zero}
 use Rattle.cube.proofs.Axes.{next-inside}
 use Rattle.paths.specs.Network.{offered}
@@ -25,9 +26,9 @@ use Rattle.entries.specs.EntryContracts.{putOwner, Within}
 use Rattle.table.specs.View.{view, setOwner, receive, net, shapeOf}
 use Rattle.table.proofs.Views.{view-put-owner}
 use Rattle.answers.specs.SendOnTable.{freeIn, PassAnswer, pass-answer}
-use Rattle.answers.specs.PassAnswer.{answerOfPass, arrivalAfter, hopsLeft}
+use Rattle.answers.specs.PassOnBytes.{answerOfPass, arrivalAfter, hopsLeft}
 use Rattle.search.specs.SearchContracts.{farthestAfter, answerIn, Packed, tryAnswer, arriveAnswer, Enabled, SearchPre, MayTry, MayArrive}
-use Rattle.answers.proofs.PassAnswer.{owner-length, behind, receive-same, given-back, free-owner, port-busy, port-acknowledged, port-receive-rejected, port-route-rejected, answer-scouts, ports-over}
+use Rattle.answers.proofs.PassOnBytes.{owner-length, arrival-after, receive-same, given-back, free-owner, port-busy, port-acknowledged, port-receive-rejected, port-route-rejected, answer-scouts, ports-over}
 use Rattle.search.proofs.PackedAnswer.{in-route, in-receive, in-acknowledged}
 use Rattle.search.proofs.Narrow.{farthest-mem}
 
@@ -50,18 +51,18 @@ handed-on b t c n p h s w small z e q =
     rw (e, q)
     (ap₂ (λ N r. answerOfPass B c m (h + 1) r (arriving (N .distance t m) N (freeIn (view B)) t m p (s + 1))) (held-net b n p c w small) (receive-same (net (view b)) t near b n p c w small z t)
     ∙ ap (answerOfPass B c m (h + 1) (receive (view b) t))
-    (ap (arriving (net (view b) .distance t m) (net (view b)) (freeIn (view B)) t m p) (add-one s) ∙ behind (net (view b)) t near b n p c w small z (net (view b) .distance t m) (suc s)))
+    (ap (arriving (net (view b) .distance t m) (net (view b)) (freeIn (view B)) t m p) (add-one s) ∙ arrival-after (net (view b)) t near b n p c w small z (net (view b) .distance t m) (suc s)))
 
 -- what holds at each turn of the trying of ports: the bytes are those at the start, the ports left are ports of the vector, there is room for
 -- the scouts still to be sent, and what is left to do gives the whole
-pub record Turn (b : List ℕ) (t c n vector a h s : ℕ) (now : List ℕ) (left sent : ℕ) : Type 0 where
+pub record PortsTried (b : List ℕ) (t c n vector a h s : ℕ) (now : List ℕ) (left sent : ℕ) : Type 0 where
   pub same : now ≡ b
-  pub ports : left < 2 ^ dimensionAt b
-  pub sub : (p : ℕ) → p ∈ portsOf 8 left → p ∈ portsOf 8 vector
-  pub room : sent + length (portsOf 8 left) * (1 + waysFrom 1 (farthestAfter b t n vector)) < 2 ^ 32
+  pub ports : VectorOf (dimensionAt b) left
+  pub sub : (p : ℕ) → p ∈ portsOf portCount left → p ∈ portsOf portCount vector
+  pub room : sent + length (portsOf portCount left) * (1 + waysFrom 1 (farthestAfter b t n vector)) < 2 ^ 32
   pub rest : tryAnswer b t c n left a h sent ≡ tryAnswer b t c n vector a h s
 
-pub first-turn : {b : List ℕ} {t c n v a h s : ℕ} → MayTry b t c n v a h s → Turn b t c n v a h s b v s
+pub first-turn : {b : List ℕ} {t c n v a h s : ℕ} → MayTry b t c n v a h s → PortsTried b t c n v a h s b v s
 first-turn may = record { same = refl; ports = may .ports; sub = λ p m. m; room = may .room; rest = refl }
 
 -- the answer of a node once it has tried the ports of a list
@@ -69,8 +70,8 @@ abbrev tried : List ℕ → ℕ → ℕ → ℕ → ℕ → List ℕ → ℕ →
 tried b t c n h ps s = answerOfPass b c n h (receive (view b) t) (trying (freeIn (view b) n) (arrivalAfter (net (view b)) (freeIn (view b)) t n) ps s)
 
 -- what a node trying its ports may do with the first of those left
-module _ {b now : List ℕ} {t c n a h v left p sent s : ℕ} (may : MayTry b t c n v a h s) (inv : Turn b t c n v a h s now left sent) (some : left ≢ 0) (first : p ≡ firstPort left a) where
-  pub here-tried : FirstTried 8 left a p
+module _ {b now : List ℕ} {t c n a h v left p sent s : ℕ} (may : MayTry b t c n v a h s) (inv : PortsTried b t c n v a h s now left sent) (some : left ≢ 0) (first : p ≡ firstPort left a) where
+  pub here-tried : FirstTried portCount left a p
   here-tried = port-tried (dimensionAt b) left a p (may .here .fits) (inv .ports) some first
 
   here-port : p < dimensionAt b
@@ -82,7 +83,7 @@ module _ {b now : List ℕ} {t c n a h v left p sent s : ℕ} (may : MayTry b t 
   pub now-within : Within now n p
   now-within = rw (inv .same) here-within
 
-  here-member : p ∈ portsOf 8 left
+  here-member : p ∈ portsOf portCount left
   here-member = mem-ports 8 left p (here-tried .small) (here-tried .offered)
 
   pub now-enabled : Enabled (view b) n v → view now .enabled n p ≡ true
@@ -90,13 +91,13 @@ module _ {b now : List ℕ} {t c n a h v left p sent s : ℕ} (may : MayTry b t 
 
   here-reach : hopsLeft b t (next n p) ≤ farthestAfter b t n v
   unfolding hopsLeft farthestAfter network
-  here-reach = farthest-mem (net (view b)) t n (portsOf 8 v) p (inv .sub p here-member)
+  here-reach = farthest-mem (net (view b)) t n (portsOf portCount v) p (inv .sub p here-member)
 
   -- one port fewer
-  here-fewer : length (portsOf 8 left) ≡ suc (length (portsOf 8 (left - 2 ^ p)))
-  here-fewer = sym (length-helical a (portsOf 8 left)) ∙ ap length (here-tried .rest) ∙ ap suc (length-helical a (portsOf 8 (left - 2 ^ p)))
+  here-fewer : length (portsOf portCount left) ≡ suc (length (portsOf portCount (left - 2 ^ p)))
+  here-fewer = sym (length-helical a (portsOf portCount left)) ∙ ap length (here-tried .rest) ∙ ap suc (length-helical a (portsOf portCount (left - 2 ^ p)))
 
-  pub here-room : sent + (1 + waysFrom 1 (farthestAfter b t n v)) + length (portsOf 8 (left - 2 ^ p)) * (1 + waysFrom 1 (farthestAfter b t n v)) < 2 ^ 32
+  pub here-room : sent + (1 + waysFrom 1 (farthestAfter b t n v)) + length (portsOf portCount (left - 2 ^ p)) * (1 + waysFrom 1 (farthestAfter b t n v)) < 2 ^ 32
   here-room = let e = rw here-fewer at (inv .room) in omega (arith, e)
 
   now-held : {b₁ : List ℕ} → b₁ ≡ putOwner now n p c → b₁ ≡ putOwner b n p c
@@ -135,11 +136,11 @@ module _ {b now : List ℕ} {t c n a h v left p sent s : ℕ} (may : MayTry b t 
   left-over : {r : ℕ} → Without left p r → r ≡ left - 2 ^ p
   left-over less = omega (arith, less .value)
 
-  tail-ports : (q : ℕ) → q ∈ portsOf 8 (left - 2 ^ p) → q ∈ portsOf 8 v
-  tail-ports q m = inv .sub q (helical-mem a (portsOf 8 left) (rw (here-tried .rest) (List·Memᴰ·tail (mem-helical a (portsOf 8 (left - 2 ^ p)) m))))
+  tail-ports : (q : ℕ) → q ∈ portsOf portCount (left - 2 ^ p) → q ∈ portsOf portCount v
+  tail-ports q m = inv .sub q (helical-mem a (portsOf portCount left) (rw (here-tried .rest) (List·Memᴰ·tail (mem-helical a (portsOf portCount (left - 2 ^ p)) m))))
 
   abbrev others : List ℕ
-  others = helical a (portsOf 8 (left - 2 ^ p))
+  others = helical a (portsOf portCount (left - 2 ^ p))
 
   all-tries : tried b t c n h (p ∷ others) sent ≡ tryAnswer b t c n v a h s
   unfolding tryAnswer
@@ -149,7 +150,7 @@ module _ {b now : List ℕ} {t c n a h v left p sent s : ℕ} (may : MayTry b t 
   on = arrivalAfter (net (view b)) (freeIn (view b)) t n
 
   -- the link is not free: on with the other ports
-  pub turn-busy : freeIn (view now) n p ≡ false → {r : ℕ} → Without left p r → Turn b t c n v a h s now r sent
+  pub turn-busy : freeIn (view now) n p ≡ false → {r : ℕ} → Without left p r → PortsTried b t c n v a h s now r sent
   unfolding tryAnswer
   turn-busy e less =
       rw (left-over less)
@@ -192,7 +193,7 @@ module _ {b now : List ℕ} {t c n a h v left p sent s : ℕ} (may : MayTry b t 
         let same : x ≡ scouts (on p (suc sent)) = answer-scouts (putOwner b n p c) c (next n p) (h + 1) (receive (view b) t) (on p (suc sent)) 10 0 0 x b₂ (answer (in-route x b₂ l)) in
         omega (arith, all, m, same)
 
-    pub turn-next : x < 4294967296 → {r : ℕ} → Without left p r → {b₃ : List ℕ} → b₃ ≡ putOwner b₂ n p 0 → {d : ℕ} → d ≡ x → Turn b t c n v a h s b₃ r d
+    pub turn-next : x < 4294967296 → {r : ℕ} → Without left p r → {b₃ : List ℕ} → b₃ ≡ putOwner b₂ n p 0 → {d : ℕ} → d ≡ x → PortsTried b t c n v a h s b₃ r d
     unfolding tryAnswer
     turn-next l less u e =
         let w = port-route-rejected (freeIn (view b) n) on b c n h (receive (view b) t) p others sent free 0 0 x b₂ (answer (in-route x b₂ l)) in
@@ -206,9 +207,9 @@ module _ {b now : List ℕ} {t c n a h v left p sent s : ℕ} (may : MayTry b t 
         }
 
 -- no port left
-pub turn-over : {b : List ℕ} {t c n v a h s : ℕ} {now : List ℕ} {left sent : ℕ} → Turn b t c n v a h s now left sent → left ≡ 0 → Packed sent now (tryAnswer b t c n v a h s)
+pub turn-over : {b : List ℕ} {t c n v a h s : ℕ} {now : List ℕ} {left sent : ℕ} → PortsTried b t c n v a h s now left sent → left ≡ 0 → Packed sent now (tryAnswer b t c n v a h s)
 unfolding tryAnswer
 turn-over {b} {t} {c} {n} {v} {a} {h} {s} {now} {left} {sent} inv z =
-    let none : helical a (portsOf 8 left) ≡ [] = ap (λ x. helical a (portsOf 8 x)) z ∙ helical-zero 8 a in
+    let none : helical a (portsOf portCount left) ≡ [] = ap (λ x. helical a (portsOf portCount x)) z ∙ helical-zero 8 a in
     let over = ports-over (freeIn (view b) n) (arrivalAfter (net (view b)) (freeIn (view b)) t n) b c n h (receive (view b) t) sent in
     record { same = in-route sent now (omega (arith, inv .room)) ∙ ap (pass-answer 10 0 0 sent) (inv .same) ∙ over ∙ ap (λ ps. tried b t c n h ps sent) (sym none) ∙ inv .rest }

@@ -14,11 +14,11 @@ use borrow.Author.Tests.{eqb-true, eqb-false}
 use Rattle.common.proofs.Every.{decide}
 use Rattle.common.proofs.Tests.{same?, clash, both, and, either, or-left, or-right}
 use Rattle.cube.specs.Bits.{has}
-use Rattle.cube.specs.Cube.{sourceOf}
+use Rattle.cube.specs.Cube.{portCount, sourceOf}
 use Rattle.cube.proofs.Bits.{has-and, has-or, no-ports, zero-has}
 use Rattle.table.specs.TableContracts.{HeldBy}
 use Rattle.table.specs.View.{view, heldBy}
-use Rattle.circuit_hops.specs.Marks.{seenAt, withMarks, Seen}
+use Rattle.circuit_hops.specs.Seen.{seenAt, withMarks, Seen}
 
 module _ {b : List ℕ} {c held : ℕ} (m : List ℕ) (f : HeldBy b c (sourceOf c) held) where
   -- a circuit of which no link at its source was marked is new
@@ -36,7 +36,7 @@ module _ {b : List ℕ} {c held : ℕ} (m : List ℕ) (f : HeldBy b c (sourceOf 
       (decide 8 (has (bitAnd (getD m (sourceOf c) 0) held)))
 
   -- what is marked afterwards
-  pub marks-after : {after : List ℕ} → after ≡ withMarks m (sourceOf c) held → sourceOf c < length m → (s p : ℕ) → p < 8
+  pub marks-after : {after : List ℕ} → after ≡ withMarks m (sourceOf c) held → sourceOf c < length m → (s p : ℕ) → p < portCount
       → (seenAt after s p ≡ true → (seenAt m s p ≡ true) ⊎ (view b .owner s p ≡ c)) × (seenAt m s p ≡ true → seenAt after s p ≡ true)
       × ((s ≡ sourceOf c) → heldBy (view b) c s p ≡ true → seenAt after s p ≡ true)
   unfolding seenAt withMarks view

@@ -1,4 +1,4 @@
--- `table::free_links` meets its contract: those before place i are counted.
+-- `table::count_free_links` meets its contract: those before place i are counted.
 -- Assumes nothing.
 use mathlib.Core.Path.{_≡_, _∙_, ap}
 use mathlib.Core.Logic.{⊎-elim}
@@ -8,8 +8,8 @@ use native.Mathlib.Nat.{add-zero}
 use Rattle.layout.specs.Layout.{entryPlace, linkPart}
 use Rattle.table.specs.TableContracts.{freeCount}
 use Rattle.table.proofs.Rows.{free-yes, free-no}
-use Rattle.table.proofs.free_links.Statement.{statement}
-use Rattle.table.proofs.free_links.Tie as tie
+use Rattle.table.proofs.count_free_links.Statement.{statement}
+use Rattle.table.proofs.count_free_links.Tie as tie
 
 abbrev Inv-loop : tie.InvT-loop
 Inv-loop t nodes from count free₀ i₀ free i =
@@ -18,32 +18,8 @@ Inv-loop t nodes from count free₀ i₀ free i =
 abbrev μ-loop : tie.MeasureT-loop
 μ-loop t nodes from count free₀ i₀ free i = count - i
 
-link-place-requires : tie.Need-link-place-requires Inv-loop μ-loop
-link-place-requires c κs = omega arith
-
-mul-count : tie.Need-mul-count Inv-loop μ-loop
-mul-count c = omega arith
-
 loop-holds : tie.Need-loop-holds Inv-loop μ-loop
 loop-holds c = (omega arith, omega arith, λ n e l. simp add-zero)
-
-mul-word : tie.Need-mul-word Inv-loop μ-loop
-mul-word c = omega arith
-
-add-word : tie.Need-add-word Inv-loop μ-loop
-add-word c = omega arith
-
-word-requires : tie.Need-word-requires Inv-loop μ-loop
-word-requires c κs = omega arith
-
-add-free : tie.Need-add-free Inv-loop μ-loop
-add-free c = omega arith
-
-add-i : tie.Need-add-i Inv-loop μ-loop
-add-i c = omega arith
-
-loop-less : tie.Need-loop-less Inv-loop μ-loop
-loop-less c = omega arith
 
 loop-again : tie.Need-loop-again Inv-loop μ-loop
 loop-again c =
@@ -60,9 +36,6 @@ loop-again c =
           (c .if1 .came),
     )
 
-cast-result : tie.Need-cast-result Inv-loop μ-loop
-cast-result c = omega arith
-
 returns : tie.Need-returns Inv-loop μ-loop
 returns c =
     let l = c .before in
@@ -72,21 +45,21 @@ returns c =
     let all : 8 * s .args .n .0 + l .loop .i ≡ 8 * (s .args .n .0 + s .args .nodes) = omega arith in
     (omega arith, l .loop .inv .2 (s .args .n .0) (p .link-place .ensures .0) (omega arith) ∙ ap (freeCount b) all)
 
-pub free-links-spec : {M : Type 1} → statement M
-free-links-spec =
+pub count-free-links-spec : {M : Type 1} → statement M
+count-free-links-spec =
     tie.close
     (tie.spec
     Inv-loop
     μ-loop
-    link-place-requires
-    mul-count
+    (λ c. omega arith)
+    (λ c. omega arith)
     loop-holds
-    mul-word
-    add-word
-    word-requires
-    add-free
-    add-i
-    loop-less
+    (λ c. omega arith)
+    (λ c. omega arith)
+    (λ c. omega arith)
+    (λ c. omega arith)
+    (λ c. omega arith)
+    (λ c. omega arith)
     loop-again
-    cast-result
+    (λ c. omega arith)
     returns)

@@ -11,7 +11,7 @@ use lib.ListN.{length, set, getD, length-set}
 use lib.Seq.{set-getD, set-set, set-comm}
 use borrow.Author.Tests.{eq-eqb, ne-eqb, eqb-true, not-false}
 use Rattle.common.specs.Lists.{_∈_}
-use Rattle.cube.specs.Cube.{next}
+use Rattle.cube.specs.Cube.{channels, next}
 use Rattle.cube.specs.Helical.{helical}
 use Rattle.cube.proofs.Order.{helical-mem}
 use Rattle.paths.specs.Network.{Network, Path, offered, Nearing, link-free, link-held, link-blocked, isFree, linkState}
@@ -20,7 +20,7 @@ use Rattle.paths.specs.Send.{Receive, channel, none-available, lowestOf}
 use Rattle.paths.specs.Search.{hopOr, trying, arriving, holding}
 use Rattle.paths.proofs.Words.{free-link}
 use Rattle.paths.proofs.Depth.{trying-cons}
-use Rattle.paths.proofs.Cone.{trying-same, holding-after}
+use Rattle.paths.proofs.LinksAhead.{trying-same, holding-after}
 use Rattle.layout.specs.Layout.{entryPlace, linkPart, wordAt, ownerAt, entryAt}
 use Rattle.layout.specs.LayoutContracts.{putWord}
 use Rattle.entries.specs.EntryContracts.{putEntry, putOwner, Within}
@@ -32,7 +32,7 @@ use Rattle.table.proofs.Views.{view-put-owner}
 use Rattle.answers.specs.declared.LinkState as State
 use Rattle.answers.specs.declared.LinkState.the-variants.{Free, Held, Blocked}
 use Rattle.answers.specs.SendOnTable.{stateIn, freeIn, PassAnswer, pass-answer, stateOf}
-use Rattle.answers.specs.PassAnswer.{holdPath, answerOfPass, arrivalAfter}
+use Rattle.answers.specs.PassOnBytes.{holdPath, answerOfPass, arrivalAfter}
 
 -- A hop held and given back leaves each byte as it was.
 given-word : (b : List ℕ) (i c : ℕ) → wordAt b i ≡ 0 → putWord (putWord b i c) i 0 ≡ b
@@ -110,8 +110,8 @@ free-owner v n p e = eqb-true _ 0 (not-false _ (free-link _ _ .0 e .1))
 
 -- The arrival behind a hop just held finds what it would find on the table before.
 module _ (N : Network) (t : ℕ) (near : Nearing N t) (b : List ℕ) (n p c : ℕ) (w : Within b n p) (small : c < 65536) (h : c ≢ 0) where
-  pub behind : (k s : ℕ) → arriving k N (freeIn (view (putOwner b n p c))) t (N .next n p) p s ≡ arriving k N (freeIn (view b)) t (N .next n p) p s
-  behind k s =
+  pub arrival-after : (k s : ℕ) → arriving k N (freeIn (view (putOwner b n p c))) t (N .next n p) p s ≡ arriving k N (freeIn (view b)) t (N .next n p) p s
+  arrival-after k s =
       ap (λ f. arriving k N f t (N .next n p) p s) (ap freeIn (view-put-owner b n p c w small) ∙ free-held (view b) n p c h)
       ∙ holding-after near (freeIn (view b)) k n p s
 
@@ -125,8 +125,8 @@ refusedOf (pass-answer r h k s b) = r
 scoutsOf : PassAnswer → ℕ
 scoutsOf (pass-answer r h k s b) = s
 
-bytesOf : PassAnswer → List ℕ
-bytesOf (pass-answer r h k s b) = b
+bytesIn : PassAnswer → List ℕ
+bytesIn (pass-answer r h k s b) = b
 
 withBytes : List ℕ → PassAnswer → PassAnswer
 withBytes x (pass-answer r h k s b) = pass-answer r h k s x
@@ -177,7 +177,7 @@ module _ (free : ℕ → Bool) (on : ℕ → ℕ → PassResult) (b : List ℕ) 
           → (b′ ≡ putOwner b n p c) × (pass-answer 11 hops k d b ≡ answerOfPass b c n h r (hopOr p a (trying free on ps)))
       go r (none d) z = absurd (ten≢eleven (sym (unfold answerOfPass refusedOf in ap refusedOf z)))
       go (channel k) (found w d) z = absurd (eleven≢zero (unfold answerOfPass refusedOf in ap refusedOf z))
-      go none-available (found w d) z = (unfold answerOfPass bytesOf in ap bytesOf z, unfold answerOfPass hopOr withBytes in ap (withBytes b) z)
+      go none-available (found w d) z = (unfold answerOfPass bytesIn in ap bytesIn z, unfold answerOfPass hopOr withBytes in ap (withBytes b) z)
 
   -- route rejected: the hop is given back, and the next port is tried with the scouts sent by then
   pub port-route-rejected : free p ≡ true → (k hops d : ℕ) (b′ : List ℕ) → pass-answer 10 hops k d b′ ≡ answerOfPass (putOwner b n p c) c (next n p) (h + 1) r (on p (suc s))
@@ -187,7 +187,7 @@ module _ (free : ℕ → Bool) (on : ℕ → ℕ → PassResult) (b : List ℕ) 
     where
       go : (r : Receive) (a : PassResult) → pass-answer 10 hops k d b′ ≡ answerOfPass (putOwner b n p c) c (next n p) (h + 1) r a
           → (b′ ≡ putOwner b n p c) × (trying free on ps d ≡ hopOr p a (trying free on ps))
-      go r (none d) z = (unfold answerOfPass bytesOf in ap bytesOf z, unfold answerOfPass hopOr scoutsOf in ap (λ x. trying free on ps (scoutsOf x)) z)
+      go r (none d) z = (unfold answerOfPass bytesIn in ap bytesIn z, unfold answerOfPass hopOr scoutsOf in ap (λ x. trying free on ps (scoutsOf x)) z)
       go (channel k) (found w d) z = absurd (ten≢zero (unfold answerOfPass refusedOf in ap refusedOf z))
       go none-available (found w d) z = absurd (ten≢eleven (unfold answerOfPass refusedOf in ap refusedOf z))
 
@@ -228,11 +228,11 @@ module _ (N : Network) (free : ℕ → ℕ → Bool) (t n a s : ℕ) where
           (λ p m d. let q : N .distance t (N .next n p) ≡ k = omega (arith, near .nearer n p (helical-mem a _ m)) in ap (λ j. arriving j N free t (N .next n p) p d) q) s)
 
 -- the receive channel that a target takes is one of its eight
-pub receive-small : (v : View) (t k : ℕ) → receive v t ≡ channel k → k < 8
+pub receive-small : (v : View) (t k : ℕ) → receive v t ≡ channel k → k < channels
 unfolding receive
 receive-small v t k e = chosen (available v t) k e .0
 
-pub lowest-small : (v : View) (n : ℕ) {k : ℕ} → k ≡ lowestChannel v n → k ≢ 8 → k < 8
+pub lowest-small : (v : View) (n : ℕ) {k : ℕ} → k ≡ lowestChannel v n → k ≢ 8 → k < channels
 lowest-small v n {k} low g = receive-small v n k (unfold receive lowestOf lowestChannel in rw (← low, ne-eqb k 8 g))
 
 module _ (v : View) (b : List ℕ) (c n h s : ℕ) {k : ℕ} (low : k ≡ lowestChannel v n) where

@@ -4,8 +4,9 @@ use mathlib.Core.Path.{_≡_, refl, sym, _∙_}
 use mathlib.Core.Logic.{_≢_}
 use mathlib.Core.Bool.{Bool, true, false}
 use mathlib.Core.List.{List}
-use Prim.Native.Nat.{ℕ, _^_, _≤_, _<_}
+use Prim.Native.Nat.{ℕ, _≤_}
 use native.Mathlib.Omega.{arith}
+use Rattle.cube.specs.Cube.{largestDimension, portCount, VectorOf}
 use Rattle.cube.specs.Helical.{helical, portsOf}
 use Rattle.cube.proofs.Order.{helical-last, ports-wider, ports-mem}
 use Rattle.paths.specs.Send.{Outcome, acknowledged, route-rejected, receive-rejected, goesOn}
@@ -17,9 +18,9 @@ use Rattle.answers.specs.SendOnTable.{pass-answer, answerOfOutcome}
 use Rattle.answers.specs.SendAnswer.{bytesAfterSend, sendAnswer}
 
 -- "a send tries ports from 0 upward", as after an arrival on port 7
-pub ports-in-turn : (b : List ℕ) (vector : ℕ) → dimensionAt b ≤ 8 → vector < 2 ^ dimensionAt b → helical 7 (portsOf 8 vector) ≡ sendPorts (shapeOf (view b)) vector
+pub ports-in-turn : (b : List ℕ) (vector : ℕ) → dimensionAt b ≤ largestDimension → VectorOf (dimensionAt b) vector → helical 7 (portsOf portCount vector) ≡ sendPorts (shapeOf (view b)) vector
 ports-in-turn b vector fits small =
-    helical-last 7 (portsOf 8 vector) (λ p m. let r = ports-mem 8 vector m in omega arith)
+    helical-last 7 (portsOf portCount vector) (λ p m. let r = ports-mem 8 vector m in omega arith)
     ∙ (unfold view in ports-wider (dimensionAt b) 8 vector fits small ∙ sym (unfolded-send-ports (shapeOf (view b)) fits refl vector))
 
 -- What the answer of a send tells: whether another pass follows, as one does after a route rejection alone; that a rejection leaves each byte as it was;
