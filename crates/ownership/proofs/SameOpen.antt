@@ -6,8 +6,8 @@ use mathlib.Core.Bool.{Bool, true, false, cond, not, _&&_, Bool·not-not}
 use mathlib.Core.List.{List, [], _∷_, map}
 use Prim.Native.Nat.{ℕ, _≤_, _<_}
 use native.Mathlib.Omega.{arith}
-use lib.Dec.{eqb}
-use borrow.Author.Tests.{eq-eqb}
+use lib.Dec.{eqb, ltb}
+use borrow.Author.Tests.{eq-eqb, ltb-false}
 use Rattle.common.specs.Lists.{_∈_, any}
 use Rattle.common.specs.Tests.{refusal}
 use Rattle.common.proofs.Tests.{same?}
@@ -84,9 +84,14 @@ module _ (s c t vector : ℕ) (v w : View) (fits : v .dimension ≤ largestDimen
       ap (any findsPath) (attempts-between (shapeOf v) s t vector up (v .enabled) (w .enabled) same-enabled)
       ∙ ap (λ (D : ℕ). any findsPath (map (attempted (network (unfolded D)) (w .enabled) s t) (attempts (unfolded D) 0 vector))) (same .dimension)
 
+  -- No test tells them apart; where test 5 applies, test 9 is not asked.
   same-tests : refusal (callTests (factsOf v) (opening s c t 0 vector)) ≡ refusal (callTests (factsOf w) (opening s c t 0 vector))
-  unfolding callTests factsOf
-  same-tests = rw (same .send-channel, same .dimension)
+  unfolding callTests factsOf refusal
+  same-tests = go (ltb 7 c) refl
+    where
+      go : (x : Bool) → ltb 7 c ≡ x → refusal (callTests (factsOf v) (opening s c t 0 vector)) ≡ refusal (callTests (factsOf w) (opening s c t 0 vector))
+      go true e = rw (e, same .dimension)
+      go false e = rw (same .send-channel (omega (arith, ltb-false 7 c e)), same .dimension)
 
 -- a trace of a send channel gives the same in two histories that agree on the dimension, on whether it is open and on its path
 trace-alike : (g h : History) (s c : ℕ) (buffer : List ℕ) → g .dimension ≡ h .dimension → openOn g s c ≡ openOn h s c → listed (g .circuits) s c ≡ listed (h .circuits) s c
@@ -191,4 +196,4 @@ module _ (a b : List ℕ) (all₁ : AllBytes a) (all₂ : AllBytes b) (pass₁ :
       ∙ sym (traced-on b all₂ pass₂ s c t 0 vector (r .0) (r .1) z₂ second buffer)
 
   pub same-open : SameOpen s c t 0 vector a b
-  same-open = record { result = results-same; path = paths-same }
+  same-open = record { sent = send-is; result = results-same; path = paths-same }

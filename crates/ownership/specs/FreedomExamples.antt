@@ -15,7 +15,7 @@ use Rattle.paths.specs.Send.{acknowledged, route-rejected, lowestOf, received, 
 use Rattle.paths.specs.Waiting.{findsPath, someAttempt}
 use Rattle.paths.specs.CubeNetwork.{ports, network, sendPorts, otherPorts, attempts, send}
 use Rattle.table.specs.View.{View, fresh, setAt, setArmed, setEnabled, setOwner, setReceiver, heldIn, withoutCircuit, available, receive}
-use Rattle.answers.specs.SendOnTable.{stateIn, freeIn, sendIn, waitingHelps}
+use Rattle.answers.specs.SendOnTable.{stateIn, freeIn, sendIn, holdLinks, viewAfterSend, waitingHelps}
 
 -- a cube of four nodes, with receive channel 0 of node 1 and both 0 and 1 of node 3 armed
 abbrev square : View
@@ -31,9 +31,16 @@ firstHeld v = setOwner v 0 0 2
 abbrev farBlocked : View → View
 farBlocked v = setEnabled v 2 0 false
 
--- circuit 2 from node 0 to node 3, over nodes 1 and 3, on receive channel 0
+-- circuit 2 from node 0 to node 3, over node 1, on receive channel 0
 abbrev oneCircuit : View
 oneCircuit = setReceiver (setOwner (setOwner square 0 0 2) 1 1 2) 3 0 2
+
+-- circuit 2 from node 0 to node 1; and what a table shows after an open from node 0 to node 3
+abbrev shortCircuit : View
+shortCircuit = setReceiver (setOwner square 0 0 2) 1 0 2
+
+abbrev afterFirst : View → View
+afterFirst v = viewAfterSend v 1 0 3 (sendIn v 0 3 0 3 .outcome)
 
 abbrev freedomSends : List SendResult
 freedomSends =
@@ -46,9 +53,15 @@ freedomSends =
     -- with routing type 4 too, whose second pass has the other ports: so "a type 0 open"
     ∷ sendIn (firstBlocked square) 0 1 4 1
     ∷ sendIn (farBlocked (firstBlocked square)) 0 1 4 1
+    -- where the first link is held, and where it is blocked, it is rejected
+    ∷ sendIn (firstHeld square) 0 1 0 1
+    ∷ sendIn (firstBlocked square) 0 1 0 1
     -- after closing, an open that was acknowledged may take another path; its receive channel is the one that was available
     ∷ sendIn oneCircuit 0 3 0 3
     ∷ sendIn (withoutCircuit oneCircuit 2) 0 3 0 3
+    -- and of two opens one after another the second may then be rejected: the first takes another path, and with it the link that the second needs
+    ∷ sendIn (afterFirst shortCircuit) 1 3 0 2
+    ∷ sendIn (afterFirst (withoutCircuit shortCircuit 2)) 1 3 0 2
     ∷ []
 
 abbrev freedomAnswers : List SendResult
@@ -59,15 +72,19 @@ freedomAnswers =
     ∷ record { outcome = acknowledged (1 ∷ 1 ∷ 0 ∷ []) 0; scouts = 3 }
     ∷ record { outcome = acknowledged (1 ∷ 0 ∷ 1 ∷ []) 0; scouts = 3 }
     ∷ record { outcome = route-rejected; scouts = 2 }
+    ∷ record { outcome = route-rejected; scouts = 0 }
+    ∷ record { outcome = route-rejected; scouts = 0 }
     ∷ record { outcome = acknowledged (1 ∷ 0 ∷ []) 1; scouts = 2 }
     ∷ record { outcome = acknowledged (0 ∷ 1 ∷ []) 1; scouts = 2 }
+    ∷ record { outcome = acknowledged (1 ∷ []) 1; scouts = 1 }
+    ∷ record { outcome = route-rejected; scouts = 0 }
     ∷ []
 
 freedom-sends : freedomSends ≡ freedomAnswers
-unfolding send runs attempts attempted pass scan whole beginnings over ways scouts outcome received goesOn network ports sendPorts otherPorts present axis keep from lowest has flip uphill helical offered end freePath linkState isFree stateIn freeIn heldIn lowestOf available receive fresh setAt setArmed setEnabled setOwner setReceiver withoutCircuit
+unfolding send runs attempts attempted pass scan whole beginnings over ways scouts outcome received goesOn network ports sendPorts otherPorts present axis keep from lowest has flip uphill helical offered end freePath linkState isFree stateIn freeIn heldIn lowestOf available receive fresh setAt setArmed setEnabled setOwner setReceiver withoutCircuit viewAfterSend holdLinks
 freedom-sends = refl
 
--- A held link and a blocked one are both not free, and the open is rejected either way, but waiting helps in one of the two alone: so "free, held or blocked".
+-- Of these two rejections waiting helps in the first alone, so that one is 10 and the other 22: hence "free, held or blocked".
 abbrev waitingAnswers : List Bool
 waitingAnswers = waitingHelps (firstHeld square) 0 1 0 1 ∷ waitingHelps (firstBlocked square) 0 1 0 1 ∷ []
 

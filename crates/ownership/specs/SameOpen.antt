@@ -5,8 +5,8 @@ use mathlib.Core.List.{List}
 use Prim.Native.Nat.{ℕ, _<_}
 use Rattle.cube.specs.Cube.{channels, next}
 use Rattle.paths.specs.Between.{Between}
-use Rattle.table.specs.View.{View}
-use Rattle.answers.specs.SendOnTable.{stateIn}
+use Rattle.table.specs.View.{View, view}
+use Rattle.answers.specs.SendOnTable.{stateIn, sendIn}
 use Rattle.ownership.specs.Calls.{opening, tracing, CallResult}
 use Rattle.ownership.specs.OnTable.{openIn, takenIn, tableStep}
 
@@ -19,11 +19,13 @@ pub record SameBetween (s c t : ℕ) (v w : View) : Type 0 where
   -- which receive channels of the target are armed and which held,
   pub armed : (k : ℕ) → k < channels → v .armed t k ≡ w .armed t k
   pub held : (k : ℕ) → k < channels → takenIn v t k ≡ takenIn w t k
-  -- and whether its send channel is open"
-  pub send-channel : openIn v s c ≡ openIn w s c
+  -- and whether its send channel is open", where a node has such a channel
+  pub send-channel : c < channels → openIn v s c ≡ openIn w s c
 
 -- The open "gets the same number, path, channel and scouts" on the bytes a and b:
 pub record SameOpen (s c t type vector : ℕ) (a b : List ℕ) : Type 0 where
+  -- its search finds the same path and channel, with the same scouts, or is rejected in the same way
+  pub sent : sendIn (view a) s t type vector ≡ sendIn (view b) s t type vector
   -- its number and all that it answers beside it, hops, receive channel and scouts
   pub result : tableStep a (opening s c t type vector) .result ≡ tableStep b (opening s c t type vector) .result
   -- and, where it is acknowledged, its path: what every trace of its circuit gives afterwards
