@@ -39,7 +39,7 @@
 #include <stddef.h>
 #include <stdint.h>
 
-#define MAZE_VERSION "0.8.1" /* CHANGELOG.md says what each version changes for a caller */
+#define MAZE_VERSION "0.9.0" /* CHANGELOG.md says what each version changes for a caller */
 
 /* The functions of this header are inline and static, so that they ask nothing of the library. */
 #if defined __cplusplus || (defined __STDC_VERSION__ && __STDC_VERSION__ >= 199901L)
@@ -202,6 +202,16 @@ uint16_t maze_disarm(uint8_t *table, size_t table_len, uint16_t node, uint16_t c
  * same open stays so until a link is unblocked or the table is made anew. The paths that it may
  * try are, with MAZE_TYPE_ALTERNATE_MAZE, those of both passes; which of them the search came
  * to does not matter. Either number carries the scouts of the search.
+ *
+ * More freedom never hurts: an open that a table would accept, it would accept too after any calls
+ * that close circuits, unblock links or arm channels; the path may be another one then. That is
+ * said of one open: of several opens one after another a later one may be rejected then, since an
+ * earlier one takes other links. And an open with MAZE_TYPE_MAZE all of whose ports lead towards
+ * the target looks only between source and target: it answers and takes the same in any two sound
+ * tables of one dimension that have the same links free, held and blocked between nodes whose
+ * number has, in each bit, the source's or the target's, the same channels of the target armed and
+ * the same held, and its send channel open in both or in neither.
+ *
  * Answers 0 with hops, receive channel and scouts, or the first of 1, 2, 3, 4, 5, 7, 8, 9, 10, 11
  * and 22 that applies; 10, 11 and 22 with scouts. A target whose eight channels are all armed never
  * gives 11: where a link into it is free, one of them is not held. */

@@ -27,3 +27,5 @@ pub mod Corollaries
 pub mod Rising
 pub mod ReceiveChannels
 pub mod Waiting
+pub mod MoreFreedom
+pub mod SameOpen

@@ -59,10 +59,10 @@ same-chain : (u v w : View) → SameEnabled u v → SameEnabled v w → SameEnab
 same-chain u v w x y = record { dimension = x .dimension ∙ y .dimension; enabled = x .enabled ∙ y .enabled }
 
 -- What calls leave of a table: it passes its tests again, and what it shows is related to what it showed, where the update of each call is.
-record Kept (R : View → View → Type 0) (b after : List ℕ) : Type 0 where
-  small : AllBytes after
-  passes : refusal (tableTests after) ≡ 0
-  related : R (view after) (view b)
+pub record Kept (R : View → View → Type 0) (b after : List ℕ) : Type 0 where
+  pub small : AllBytes after
+  pub passes : refusal (tableTests after) ≡ 0
+  pub related : R (view after) (view b)
 
 module _ (R : View → View → Type 0) (self : (v : View) → R v v) (chain : (u v w : View) → R u v → R v w → R u w) {P : Call → Type 0}
     (updates : (v : View) (a : Call) → P a → R (updated v a) v) where
@@ -74,7 +74,7 @@ module _ (R : View → View → Type 0) (self : (v : View) → R v v) (chain : (
         related = ⊎-elim (λ z. rw (shows-update b small e a z) (updates (view b) a k)) (λ f. rw (table-step b a .stopped f) (self (view b))) (same? (stoppedAt b a) 0);
       }
 
-  calls-kept : (b : List ℕ) → AllBytes b → refusal (tableTests b) ≡ 0 → {calls : List Call} → Each P calls → Kept R b (tableAfter b calls)
+  pub calls-kept : (b : List ℕ) → AllBytes b → refusal (tableTests b) ≡ 0 → {calls : List Call} → Each P calls → Kept R b (tableAfter b calls)
   unfolding leaves
   calls-kept b small e no-call = record { small = small; passes = e; related = self (view b) }
   calls-kept b small e (call-more {a} k more) =

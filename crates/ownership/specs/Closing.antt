@@ -1,12 +1,12 @@
--- Lists of calls that the shift makes between two tries of a send: calls that close circuits and arm channels; and calls that repair nothing. And a table
--- on which no link is held.
+-- Lists of calls that the shift makes between two tries of a send: calls that close circuits and arm channels; calls that repair nothing; and calls that only give
+-- more freedom. And a table on which no link is held.
 -- Assumes nothing.
 use mathlib.Core.Path.{_≡_}
 use mathlib.Core.Bool.{false}
 use mathlib.Core.List.{List, [], _∷_}
 use Prim.Native.Nat.{ℕ}
 use Rattle.table.specs.View.{View, heldIn}
-use Rattle.ownership.specs.Calls.{Call, blocking, opening, closing, tracing, arming, disarming}
+use Rattle.ownership.specs.Calls.{Call, blocking, unblocking, opening, closing, tracing, arming, disarming}
 
 -- each call of a list is such a call
 pub data Each (P : Call → Type 0) : List Call → Type 0 where
@@ -25,6 +25,12 @@ pub data RepairsNothing : Call → Type 0 where
   a-trace : {s c : ℕ} {buffer : List ℕ} → RepairsNothing (tracing s c buffer)
   an-arming : {n k : ℕ} → RepairsNothing (arming n k)
   a-disarming : {n k : ℕ} → RepairsNothing (disarming n k)
+
+-- Calls that give more freedom and take none: document 02, (n), names closing; repairing a link and arming a channel are such calls too.
+pub data GivesFreedom : Call → Type 0 where
+  frees : {s c : ℕ} → GivesFreedom (closing s c)
+  repairs : {n p : ℕ} → GivesFreedom (unblocking n p)
+  readies : {n k : ℕ} → GivesFreedom (arming n k)
 
 -- no link is held
 abbrev pub NoLinkHeld : View → Type 0

@@ -12,3 +12,5 @@ pub mod FromTable
 pub mod StillOpen
 pub mod AllArmed
 pub mod Closing
+pub mod SameOpen
+pub mod FreedomExamples

@@ -7,6 +7,7 @@ pub mod Sentences
 pub mod Words
 pub mod Links
 pub mod LinksAhead
+pub mod Between
 pub mod Bound
 pub mod CubeNetwork
 pub mod Attempts

@@ -70,7 +70,7 @@ module _ (N : Network) (enabled : ℕ → ℕ → Bool) where
   not-crossed s w f x = clash (free-links N enabled s w .0 f (x .0) (x .1)) (x .2)
 
 -- a path that is free stays so with more links to take
-wider-free : (N : Network) (f g : ℕ → ℕ → Bool) → ((n p : ℕ) → f n p ≡ true → g n p ≡ true) → (s : ℕ) (w : Path) → Free N f s w → Free N g s w
+pub wider-free : (N : Network) (f g : ℕ → ℕ → Bool) → ((n p : ℕ) → f n p ≡ true → g n p ≡ true) → (s : ℕ) (w : Path) → Free N f s w → Free N g s w
 wider-free N f g more s w h = free-links N g s w .1 (λ l m. more (l .0) (l .1) (free-links N f s w .0 h l m))
 
 -- Tests that agree on every link agree on whether a path is found, in any network.

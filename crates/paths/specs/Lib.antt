@@ -10,6 +10,7 @@ pub mod OldRule
 pub mod Search
 pub mod Waiting
 pub mod Reach
+pub mod Between
 pub mod Bound
 pub mod Recover
 pub mod Examples
