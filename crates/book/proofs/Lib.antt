@@ -1,0 +1,3 @@
+-- The laws of books.
+pub mod Lines
+pub mod LookupAnswers
