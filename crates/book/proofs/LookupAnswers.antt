@@ -3,23 +3,18 @@
 use mathlib.Core.Path.{_≡_, refl, ap, ap₂, _∙_}
 use mathlib.Core.Logic.{_≢_}
 use mathlib.Core.Bool.{Bool, true, false}
-use mathlib.Core.List.{List, _++_}
+use mathlib.Core.List.{List}
 use Prim.Native.Nat.{ℕ, _+_, _-_, _≤_, _<_}
-use native.Mathlib.Nat.{zero-add}
 use native.Mathlib.Omega.{arith}
 use lib.ListN.{length, take, drop, length-take}
-use lib.Seq.{sets, sets-eq}
+use lib.Seq.{sets}
 use borrow.Author.Tests.{lt-ltb, le-ltb}
 use Rattle.common.specs.Tests.{refusal}
 use Rattle.common.proofs.Tests.{is-false}
 use Rattle.circuit_path.specs.Traced.{tracedInto}
+use Rattle.circuit_path.proofs.Tracing.{written-whole}
 use Rattle.book.specs.Lookup.{IndexLine, lines, isListed, lineOf, portsOfLine, wellFormed, lookupTests, LookupResult, lookedUp}
 use Rattle.book.proofs.Lines.{formed, LineFound, line-found, line-none}
-
--- bytes written from the start of a list
-pub written-first : (b xs : List ℕ) → length xs ≤ length b → sets b 0 xs ≡ tracedInto xs b
-unfolding tracedInto
-written-first b xs h = sets-eq xs b 0 (omega arith) ∙ ap (λ (n : ℕ). xs ++ drop n b) (zero-add (length xs))
 
 module _ (ports index : List ℕ) (circuits hops c : ℕ) (buffer : List ℕ) where
   abbrev theLine : IndexLine
@@ -64,5 +59,5 @@ module _ (ports index : List ℕ) (circuits hops c : ℕ) (buffer : List ℕ) wh
       looked-found h after e =
           let few : length (portsOfLine ports x) ≤ length buffer = omega (arith, length-take (x .hops) (drop (x .offset) ports), its-line .few) in
           let part : x .offset + x .hops - x .offset ≡ x .hops = omega arith in
-          let bytes = e ∙ ap (λ (n : ℕ). sets buffer 0 (take n (drop (x .offset) ports))) part ∙ written-first buffer (portsOfLine ports x) few in
+          let bytes = e ∙ ap (λ (n : ℕ). sets buffer 0 (take n (drop (x .offset) ports))) part ∙ written-whole (portsOfLine ports x) buffer few in
           rw (well, listed, le-ltb (length buffer) 9 h) (ap₂ (λ (b : List ℕ) (y : IndexLine). record { number = 0; hops = y .hops; buffer = b }) (bytes ∙ ap (λ (y : IndexLine). tracedInto (portsOfLine ports y) buffer) is) is)

@@ -24,7 +24,7 @@ use Rattle.table.specs.Encode.{AllBytes}
 use Rattle.soundness.specs.TableTests.{tableTests}
 use Rattle.answers.specs.SendOnTable.{stateIn, freeIn, holdLinks, viewAfterSend, sendIn}
 use Rattle.answers.specs.SendSays.{SomeRoute, CouldRoute, BlockedRoutes, Available}
-use Rattle.circuit_path.specs.OpenCircuit.{isOpenIn}
+use Rattle.circuit_path.specs.OpenCircuit.{isOpenIn, openNumbers}
 use Rattle.ownership.specs.Calls.{Call, opening, callTests}
 use Rattle.ownership.specs.Update.{updated}
 use Rattle.ownership.specs.OnTable.{openIn, factsOf, lentTests, stoppedAt, tableStep, takenIn}
@@ -38,7 +38,7 @@ use Rattle.ownership.proofs.OnSound.{open-answers}
 use Rattle.ownership.proofs.Agreement.{represents-step}
 use Rattle.ownership.proofs.FromTable.{sound-represents, keeps-sound, shows-update}
 use Rattle.ownership.proofs.Sameness.{held-same, taken-same}
-use Rattle.ownership.specs.FromTable.{openNumbers, circuitAt, historyOf}
+use Rattle.ownership.specs.FromTable.{circuitAt, historyOf}
 use Rattle.ownership.specs.History.{netOn, holdsLink, holdsReceive, heldOn, takenOn}
 
 -- two tables of one dimension with the same links enabled

@@ -1,0 +1,2 @@
+-- The laws of writing a table's book.
+pub mod BookFrom
