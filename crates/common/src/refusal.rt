@@ -59,6 +59,9 @@ pub const BOOK_SHORT: u16 = 23;
 
 pub const BOOK: u16 = 25;
 
+// A job (document 02): a length that no list of sends has.
+pub const SEND_LIST: u16 = 28;
+
 // A packet to a receive channel (document 02).
 pub const CHANNEL_STOPPED: u16 = 30;
 
