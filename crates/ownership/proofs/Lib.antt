@@ -4,6 +4,8 @@ pub mod Sameness
 pub mod InTurn
 pub mod Steps
 pub mod CircuitValid
+pub mod OpenSame
+pub mod BookSame
 pub mod Stopped
 pub mod Acknowledged
 pub mod Allowed
