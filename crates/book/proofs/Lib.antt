@@ -3,3 +3,4 @@ pub mod Lines
 pub mod LookupAnswers
 pub mod WellFormedBook
 pub mod WrittenBook
+pub mod BookOfSound

@@ -7,15 +7,15 @@ use Prim.Native.Nat.{ℕ, _+_, _*_, _/_, _%_, _≤_, _<_}
 use native.Mathlib.Nat.{div-add-mod, zero-add}
 use native.Mathlib.Omega.{arith}
 use lib.Dec.{eqb, ltb}
-use lib.ListN.{length, take, drop, length-append}
+use lib.ListN.{length, take, drop, length-append, length-drop}
 use lib.Seq.{take-append-seam, drop-at}
-use borrow.Author.Tests.{eqb-true, eq-eqb, lt-ltb, le-leb}
+use borrow.Author.Tests.{eqb-true, eq-eqb}
 use Rattle.common.specs.Tests.{test, refusal}
 use Rattle.common.specs.Lists.{_∈_, any, Pairwise}
 use Rattle.common.proofs.Tests.{clash, and}
 use Rattle.circuit_path.specs.Traced.{tracedInto}
 use Rattle.book.specs.Book.{BookCircuit, portBytes, wordBytes, indexFrom, indexBytes, hopCount}
-use Rattle.book.specs.Lookup.{IndexLine, lines, lineFits, linesFit, wellFormed, isListed, lineOf, portsOfLine, lookupTests, LookupResult, lookedUp}
+use Rattle.book.specs.Lookup.{IndexLine, lines, linesFit, wellFormed, isListed, lineOf, portsOfLine, lookupTests, LookupResult, lookedUp}
 use Rattle.book.proofs.Lines.{lines-decide}
 use Rattle.book.proofs.WellFormedBook.{fits-line}
 
@@ -38,15 +38,15 @@ lines-written at (x ∷ xs) rest =
     ∙ ap₂ (λ (n k : ℕ). record { number = x .number; offset = n; hops = k } ∷ linesOf (at + length (x .ports)) xs) (word-back at) (word-back (length (x .ports)))
 
 -- the index has six bytes a circuit
-pub index-bytes : (at : ℕ) (es : List BookCircuit) → length (indexFrom at es) ≡ 6 * length es
+pub index-length : (at : ℕ) (es : List BookCircuit) → length (indexFrom at es) ≡ 6 * length es
 unfolding indexFrom wordBytes
-index-bytes at [] = refl
-index-bytes at (x ∷ xs) = let r = index-bytes (at + length (x .ports)) xs in omega (arith, r)
+index-length at [] = refl
+index-length at (x ∷ xs) = let r = index-length (at + length (x .ports)) xs in omega (arith, r)
 
 -- a buffer that something was written to is as long as before
 pub traced-length : (w buffer : List ℕ) → length w ≤ length buffer → length (tracedInto w buffer) ≡ length buffer
 unfolding tracedInto
-traced-length w buffer h = omega (arith, length-append w (drop (length w) buffer), lib.ListN.length-drop (length w) buffer)
+traced-length w buffer h = omega (arith, length-append w (drop (length w) buffer), length-drop (length w) buffer)
 
 -- what a lookup answers where the circuit is in the book or not, and its ports
 abbrev pub portsAnswer : Bool → List ℕ → List ℕ → LookupResult
@@ -129,8 +129,14 @@ module _ (f : ℕ → List ℕ) where
     pub written-well : wellFormed (tracedInto (portBytes es) ports) (tracedInto (indexBytes es) index) (length es) (hopCount es) ≡ true
     written-well =
         lines-decide (tracedInto (portBytes es) ports) (tracedInto (indexBytes es) index) (length es) (hopCount es)
-          (omega (arith, i, traced-length (indexBytes es) index (omega (arith, i, index-bytes 0 es)))) (omega (arith, p, traced-length (portBytes es) ports p))
+          (omega (arith, i, traced-length (indexBytes es) index (omega (arith, i, index-length 0 es)))) (omega (arith, p, traced-length (portBytes es) ports p))
         ∙ rw its-lines (written-fits 0 0 (hopCount es) ns l (l .least) (zero-add (hopCount es)))
+
+    -- the line of a circuit that is among them gives its ports,
+    pub written-ports : (c : ℕ) → any (λ m. eqb m c) ns ≡ true
+        → (lineOf c (linesOf 0 es) .hops ≡ length (f c)) × (portsOfLine (tracedInto (portBytes es) ports) (lineOf c (linesOf 0 es)) ≡ f c)
+    unfolding tracedInto
+    written-ports c e = written-line c [] (drop (length (portBytes es)) ports) ns e
 
     -- and a lookup in it gives 12 for a number that is not among them, then 14, and else the ports of the circuit.
     pub lookup-written : (c : ℕ) (buffer : List ℕ)
@@ -141,7 +147,7 @@ module _ (f : ℕ → List ℕ) where
         go : (b : Bool) → any (λ m. eqb m c) ns ≡ b
             → lookedUp (tracedInto (portBytes es) ports) (tracedInto (indexBytes es) index) (length es) (hopCount es) c buffer ≡ portsAnswer b (f c) buffer
         go true e =
-            let r = written-line c [] (drop (length (portBytes es)) ports) ns e in
+            let r = written-ports c e in
             let hops = r .0 in
             let bytes = r .1 in
             rw (written-well, its-lines, written-listed c 0 ns, e) (rw (bytes, hops))
