@@ -23,10 +23,10 @@ use Rattle.paths.proofs.CubeNetwork.{unfolded-port}
 use Rattle.paths.proofs.Links.{On, on-first}
 use Rattle.layout.specs.Layout.{dimensionAt}
 use Rattle.table.specs.TableContracts.{HeldBy}
-use Rattle.table.specs.View.{view, shapeOf, net, heldBy}
+use Rattle.table.specs.View.{View, view, shapeOf, net, heldBy}
 use Rattle.circuit_path.specs.CircuitSound.{endFor, CircuitSound}
 use Rattle.circuit_hops.specs.Seen.{withMarks}
-use Rattle.circuit_hops.specs.CountHops.{TakePre, HopsFollowed, Taken}
+use Rattle.circuit_hops.specs.CountHops.{TakePre, FollowedPath, Taken, HopsPre}
 use Rattle.circuit_hops.proofs.Seen.{not-seen, seen-before, marks-after}
 use Rattle.circuit_hops.proofs.Ways.{shown}
 
@@ -69,8 +69,18 @@ nodes-most d m = omega (arith, most-nodes d)
 pub positive : {c : ℕ} → c ≢ 0 → 0 < c
 positive {c} h = ⊎-elim (λ z. absurd (h (omega arith))) (λ z. z) (below-or 1 c)
 
+pub take-pre : {b : List ℕ} {nodes c s t : ℕ} {m : List ℕ} → HopsPre b nodes m → 0 < c → t < nodes → c ≤ 8 * nodes → s ≡ sourceOf c → TakePre b nodes c s t
+take-pre pre h l k q =
+    record { known = record { bytes = pre .bytes; fits = pre .fits; circuit = h; source = omega (arith, pre .count) }; source = q; count = pre .count; target = l }
+
 pub source-small : {b : List ℕ} {nodes c s t : ℕ} → TakePre b nodes c s t → s < 256
 source-small pre = omega (arith, pre .source, pre .known .source, most-nodes (pre .known .fits))
+
+-- what following circuit c to node t comes to
+pub record HopsFollowed (v : View) (c t hops : ℕ) : Type 0 where
+  pub found : hops < 4096 → FollowedPath v c t hops
+  pub forced : (s : CircuitSound v c) → endFor v c (s .path) ≡ t → hops < 4096
+  pub most : hops < 8192
 
 -- a circuit that is followed and marked; one that was marked before; and one that cannot stand on a path to t
 module _ (b : List ℕ) (c t : ℕ) (before after : List ℕ) where
@@ -104,13 +114,13 @@ module _ (b : List ℕ) (c t : ℕ) (before after : List ℕ) where
           most = omega arith;
         }
 
-  pub taken-none : (c ≤ 8 * 2 ^ view b .dimension → CircuitSound (view b) c → ⊥) → Taken (view b) c t before after 4096
+  pub taken-none : (c ≤ 8 * 2 ^ view b .dimension → (z : CircuitSound (view b) c) → endFor (view b) c (z .path) ≡ t → ⊥) → Taken (view b) c t before after 4096
   taken-none h =
       record {
         in-range = λ k. absurd (omega arith);
         found = λ k. absurd (omega arith);
         unseen = λ k. absurd (omega arith);
         marks = λ k. absurd (omega arith);
-        forced = λ l z q u. absurd (h l z);
+        forced = λ l z q u. absurd (h l z q);
         most = omega arith;
       }

@@ -29,7 +29,8 @@ use Rattle.layout.specs.Layout.{dimensionAt}
 use Rattle.table.specs.TableContracts.{HeldBy, linksHeld}
 use Rattle.table.specs.View.{View, view, shapeOf, net, heldBy}
 use Rattle.circuit_hops.specs.CountHops.{Sole, SoleWay, Walks}
-use Rattle.circuit_hops.proofs.OneKept.{kept-one, one-kept}
+use Rattle.circuit_hops.proofs.OneKept.{one-kept, few-kept}
+use Rattle.circuit_hops.proofs.OneBit.{sole-bit}
 
 module _ (v : View) (c t : ℕ) where
   -- such a way is one of uphill hops, over links of the circuit
@@ -83,27 +84,11 @@ module _ (v : View) (c t : ℕ) where
 module _ {b : List ℕ} {c n held : ℕ} (f : HeldBy b c n held) (few : linksHeld (view b) c n ≤ 1) where
   -- where some port passes, it is the only one
   pub sole-port : {p : ℕ} → p < portCount → has held p ≡ true → Sole (view b) c n p × (held ≡ 2 ^ p)
-  unfolding Sole view
-  sole-port {p} l t = ((mine, only), same-bits 8 held (2 ^ p) (f .small) (power-small p l) bits)
-    where
-      mine : heldBy (view b) c n p ≡ true
-      mine = sym (f .held p l) ∙ t
-
-      only : (q : ℕ) → q < portCount → heldBy (view b) c n q ≡ true → q ≡ p
-      only q k o = unfold linksHeld in
-          let one = kept-one (heldBy (view b) c n) (exactly-one (keep (heldBy (view b) c n) (from 0 8)) (mem-keep (heldBy (view b) c n) (from 0 8) (mem-from 0 8 p (omega arith) (omega arith)) mine) few) in
-          one .3 q k o ∙ sym (one .3 p l mine)
-        where
-          exactly-one : (xs : List ℕ) → p ∈ xs → length xs ≤ 1 → length xs ≡ 1
-          exactly-one [] m h = absurd (List·Memᴰ·not-nil m)
-          exactly-one (x ∷ xs) m h = omega arith
-
-      power-small : (p : ℕ) → p < portCount → 2 ^ p < 256
-      power-small p l = ltb-true _ _ (at 8 (λ p. ltb (2 ^ p) 256) refl p l)
-
-      bits : (q : ℕ) → q < portCount → bitAt held q ≡ bitAt (2 ^ p) q
-      bits q k = ⊎-elim (λ e. rw e (has-bit held p t ∙ sym (bit-power p)))
-          (λ h. has-no-bit held q (is-false (has held q) (λ x. h (only q k (sym (f .held q k) ∙ x)))) ∙ sym (bit-power-other p q h)) (same? q p)
+  unfolding Sole view linksHeld
+  sole-port {p} l t =
+      let mine : heldBy (view b) c n p ≡ true = sym (f .held p l) ∙ t in
+      let only = few-kept (heldBy (view b) c n) few p l mine in
+      ((mine, only), sole-bit (f .small) (f .held) l mine only)
 
   -- where a vector has none of them, no port of it is held; where it has some, the one
   pub sole-in : (vector : ℕ) → (bitAnd held vector ≡ 0 → ⊥) → (p : ℕ) × (p < portCount) × (has held p ≡ true) × (has vector p ≡ true)
@@ -119,7 +104,7 @@ pub shown : (b : List ℕ) → view b .dimension ≡ dimensionAt b
 unfolding view
 shown b = refl
 
-one-nearer : (v : View) (t n p : ℕ) → p ∈ offered (net v) t n → net v .distance t n ≡ 1 + net v .distance t (next n p)
+pub one-nearer : (v : View) (t n p : ℕ) → p ∈ offered (net v) t n → net v .distance t n ≡ 1 + net v .distance t (next n p)
 unfolding network
 one-nearer v t n p m = let near = cube-nearing (shapeOf v) t .nearer n p m in omega arith
 

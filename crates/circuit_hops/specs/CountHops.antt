@@ -3,12 +3,12 @@
 -- Assumes nothing.
 use mathlib.Core.Path.{_≡_}
 use mathlib.Core.Logic.{_⊎_, _≢_}
-use mathlib.Core.Bool.{true}
+use mathlib.Core.Bool.{true, false}
 use mathlib.Core.List.{List, [], _∷_}
-use Prim.Native.Nat.{ℕ, _+_, _≤_, _<_}
+use Prim.Native.Nat.{ℕ, _+_, _^_, _≤_, _<_}
 use lib.ListN.{length}
 use Rattle.common.specs.Lists.{_∈_}
-use Rattle.cube.specs.Cube.{largestDimension, portCount, next, sourceOf, NodeOf, cubeNodes}
+use Rattle.cube.specs.Cube.{largestDimension, portCount, next, sourceOf, NodeOf, cubeNodes, uphill}
 use Rattle.paths.specs.Network.{Path, links, offered}
 use Rattle.paths.specs.Permitted.{Permitted}
 use Rattle.paths.specs.CubeNetwork.{ports, circuitCount}
@@ -33,10 +33,11 @@ pub record Walks (v : View) (c t n walked hops : ℕ) : Type 0 where
   pub forced : (w : Path) → SoleWay v c t n w → hops < 4096
   pub most : hops < 8192
 
-pub record WalkPre (b : List ℕ) (n t : ℕ) : Type 0 where
+pub record WalkPre (b : List ℕ) (n walked t : ℕ) : Type 0 where
   pub bytes : length b ≡ tableLength
   pub fits : dimensionAt b ≤ largestDimension
   pub start : NodeOf (dimensionAt b) n
+  pub few : walked ≤ 3
   pub target : NodeOf (dimensionAt b) t
 
 -- what looking for the path of circuit c from its source s to node t asks
@@ -46,6 +47,22 @@ pub record TakePre (b : List ℕ) (nodes c s t : ℕ) : Type 0 where
   pub count : nodes ≡ cubeNodes (dimensionAt b)
   pub target : t < nodes
 
+-- what circuit c holds where it goes out from its source over port a, straight back, and on over port q towards node t: two links at its source, of which the
+-- one by which it goes on is uphill, and at the node between the one back alone
+pub record OutAndBack (v : View) (c t a q : ℕ) : Type 0 where
+  pub present : a < v .dimension
+  pub not-uphill : uphill t (sourceOf c) a ≡ false
+  pub out : heldBy v c (sourceOf c) a ≡ true
+  pub back : Sole v c (next (sourceOf c) a) a
+  pub onward : q ∈ offered (net v) t (sourceOf c)
+  pub on : heldBy v c (sourceOf c) q ≡ true
+  pub only : (r : ℕ) → r < portCount → heldBy v c (sourceOf c) r ≡ true → (r ≡ a) ⊎ (r ≡ q)
+
+-- the link, as a vector, by which circuit c goes on from its source towards node t, where it holds several there; no link where they are not those of a path
+pub record GoesOn (v : View) (c t on : ℕ) : Type 0 where
+  pub found : on ≢ 0 → (a : ℕ) × (q : ℕ) × OutAndBack v c t a q × (on ≡ 2 ^ q)
+  pub forced : (s : CircuitSound v c) → endFor v c (s .path) ≡ t → on ≢ 0
+
 -- a permitted path to node t over links of circuit c, and the circuit's own if it stands on one that ends there
 pub record FollowedPath (v : View) (c t hops : ℕ) : Type 0 where
   pub path : Path
@@ -54,13 +71,7 @@ pub record FollowedPath (v : View) (c t hops : ℕ) : Type 0 where
   pub hop-count : hops ≡ length path
   pub whole : (s : CircuitSound v c) → endFor v c (s .path) ≡ t → s .path ≡ path
 
--- what following circuit c to node t comes to
-pub record HopsFollowed (v : View) (c t hops : ℕ) : Type 0 where
-  pub found : hops < 4096 → FollowedPath v c t hops
-  pub forced : (s : CircuitSound v c) → endFor v c (s .path) ≡ t → hops < 4096
-  pub most : hops < 8192
-
--- and where it is marked besides: a circuit that is marked already is not followed again
+-- what following circuit c to node t and marking it comes to: a circuit that is marked already is not followed again
 pub record Taken (v : View) (c t : ℕ) (before after : List ℕ) (hops : ℕ) : Type 0 where
   pub in-range : hops < 4096 → c ≤ circuitCount (shapeOf v)
   pub found : hops < 4096 → FollowedPath v c t hops

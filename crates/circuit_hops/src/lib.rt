@@ -8,18 +8,20 @@ ghost use lib.ListN.{length, getD};
 ghost use Rattle.table.specs.TableContracts.{HeldBy, linksHeld};
 ghost use Rattle.table.specs.View.{view};
 ghost use Rattle.circuit_hops.specs.Seen.{withMarks};
-ghost use Rattle.circuit_hops.specs.CountHops.{Walks, WalkPre, TakePre, HopsFollowed, Taken, HopsPre};
-use circuit_path::NONE;
+ghost use Rattle.circuit_hops.specs.CountHops.{Walks, WalkPre, TakePre, GoesOn, Taken, HopsPre};
 use cube::Circuit;
 use cube::Node;
 
-// The hops of a circuit that has made one, to a node: at each node the one link that it holds there, and uphill. NONE or more where it does not lead there.
-fn walk(t: &[u8], c: Circuit, from: Node, end: Node) -> u32
-    requires { ⌜ WalkPre (now t) (from .0) (end .0) ⌝ }
-    ensures { λ r. ⌜ Walks (view (now (t .entry))) (c .0) (end .0) (from .0) 1 r ⌝ }
+// More hops than there are links: the answer where a circuit does not lead where it should.
+pub const NONE: u32 = 4096;
+
+// The hops of a circuit that has made some, to a node: at each node the one link that it holds there, and uphill. NONE or more where it does not lead there.
+fn walk(t: &[u8], c: Circuit, from: Node, made: u32, end: Node) -> u32
+    requires { ⌜ WalkPre (now t) (from .0) made (end .0) ⌝ }
+    ensures { λ r. ⌜ Walks (view (now (t .entry))) (c .0) (end .0) (from .0) made r ⌝ }
 {
     let mut at = from;
-    let mut hops: u32 = 1;
+    let mut hops = made;
     while at.0 != end.0 {
         // The count beside the vector, and the vector behind both ends of the test: so the compiler reads the row in one go.
         let held = table::held_by(t, c, at);
@@ -35,16 +37,25 @@ fn walk(t: &[u8], c: Circuit, from: Node, end: Node) -> u32
     hops
 }
 
-// The hops of a circuit that holds several links at its source: its path comes through there again.
-fn hops_back(t: &[u8], nodes: u16, c: Circuit, source: Node, end: Node) -> u32
-    requires { ⌜ TakePre (now t) nodes (c .0) (source .0) (end .0) ⌝ }
-    ensures { λ r. ⌜ HopsFollowed (view (now (t .entry))) (c .0) (end .0) r ⌝ }
+// The link by which a circuit that holds several at its source goes on from there towards a node, as a vector: 0 where they are not those of a path. Such a path
+// goes out over a port that is not uphill, straight back, and on uphill: so these are two links, and at the node between it holds the one back alone.
+fn onward_link(t: &[u8], nodes: u16, c: Circuit, source: Node, held: u16, end: Node) -> u16
+    requires { ⌜ TakePre (now t) nodes (c .0) (source .0) (end .0) × HeldBy (now t) (c .0) (source .0) held ⌝ }
+    requires { ⌜ 1 < linksHeld (view (now t)) (c .0) (source .0) ⌝ }
+    ensures { λ r. ⌜ GoesOn (view (now (t .entry))) (c .0) (end .0) r ⌝ }
 {
-    let first = circuit_path::first_hop(t, c, source, nodes - 1);
-    if first.0 >= cube::NO_PORT {
-        return NONE;
+    if nodes <= held {
+        return 0;
     }
-    circuit_path::follow(t, c, cube::neighbour(source, first), nodes - 1, end)
+    if table::links_held(t, c, source) > 2 {
+        return 0;
+    }
+    let on = held & cube::uphill_vector(source, end);
+    let out = held ^ on;
+    if table::held_by(t, c, Node(source.0 ^ out)) != out {
+        return 0;
+    }
+    on
 }
 
 // Marks the links that a circuit holds at its source. No other circuit holds one of them: so where one was marked before, the circuit was.
@@ -62,49 +73,6 @@ fn mark_new(source: Node, held: u16, seen: &mut [u8]) -> bool
     true
 }
 
-// The hops of a circuit to a node, where it holds at most one link at its source, and where it holds several.
-fn one_link(
-    t: &[u8],
-    nodes: u16,
-    c: Circuit,
-    source: Node,
-    held: u16,
-    end: Node,
-    seen: &mut [u8],
-) -> u32
-    requires { ⌜ TakePre (now t) nodes (c .0) (source .0) (end .0) × HeldBy (now t) (c .0) (source .0) held × (held < nodes) × (length (now seen) ≡ 256) ⌝ }
-    requires { ⌜ linksHeld (view (now t)) (c .0) (source .0) ≤ 1 ⌝ }
-    ensures { λ r. ⌜ Taken (view (now (t .entry))) (c .0) (end .0) (now (seen .entry)) (now (seen .exit)) r ⌝ }
-{
-    if held == 0 {
-        return NONE;
-    }
-    if mark_new(source, held, seen) {
-        walk(t, c, Node(source.0 ^ held), end)
-    } else {
-        NONE
-    }
-}
-
-fn several_links(
-    t: &[u8],
-    nodes: u16,
-    c: Circuit,
-    source: Node,
-    held: u16,
-    end: Node,
-    seen: &mut [u8],
-) -> u32
-    requires { ⌜ TakePre (now t) nodes (c .0) (source .0) (end .0) × HeldBy (now t) (c .0) (source .0) held × (length (now seen) ≡ 256) ⌝ }
-    ensures { λ r. ⌜ Taken (view (now (t .entry))) (c .0) (end .0) (now (seen .entry)) (now (seen .exit)) r ⌝ }
-{
-    if mark_new(source, held, seen) {
-        hops_back(t, nodes, c, source, end)
-    } else {
-        NONE
-    }
-}
-
 // The hops of the circuit that holds a receive channel at a node, or 4,096 and more where its links do not fit together or it was counted before.
 pub fn hops_to(t: &[u8], nodes: u16, c: Circuit, end: Node, seen: &mut [u8]) -> u32
     requires { ⌜ HopsPre (now t) nodes (now seen) × (0 < c .0) × (end .0 < nodes) ⌝ }
@@ -115,14 +83,21 @@ pub fn hops_to(t: &[u8], nodes: u16, c: Circuit, end: Node, seen: &mut [u8]) -> 
     }
     let source = cube::source_of(c);
     let held = table::held_by(t, c, source);
+    // The link by which it goes on from there, and the hops with that.
+    let mut on = held;
+    let mut made: u32 = 1;
     if table::links_held(t, c, source) > 1 {
-        if nodes <= held {
-            return NONE;
-        }
-        return several_links(t, nodes, c, source, held, end, seen);
-    }
-    if held >= nodes {
+        on = onward_link(t, nodes, c, source, held, end);
+        made = 3;
+    } else if held >= nodes {
         return NONE;
     }
-    one_link(t, nodes, c, source, held, end, seen)
+    if on == 0 {
+        return NONE;
+    }
+    if mark_new(source, held, seen) {
+        walk(t, c, Node(source.0 ^ on), made, end)
+    } else {
+        NONE
+    }
 }

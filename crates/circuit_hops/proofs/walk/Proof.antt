@@ -12,12 +12,12 @@ use Rattle.circuit_hops.proofs.walk.Statement.{statement}
 use Rattle.circuit_hops.proofs.walk.Tie as tie
 
 abbrev Inv-loop : tie.InvT-loop
-Inv-loop t c end at₀ hops₀ at hops =
-    (at .0 < 2 ^ dimensionAt t) × (hops + net (view t) .distance (end .0) (at .0) ≤ 9)
+Inv-loop t c made end at₀ hops₀ at hops =
+    (at .0 < 2 ^ dimensionAt t) × (hops + net (view t) .distance (end .0) (at .0) ≤ 11)
     × ((r : ℕ) → Walks (view t) (c .0) (end .0) (at .0) hops r → Walks (view t) (c .0) (end .0) (at₀ .0) hops₀ r)
 
 abbrev μ-loop : tie.MeasureT-loop
-μ-loop t c end at₀ hops₀ at hops = net (view t) .distance (end .0) (at .0)
+μ-loop t c made end at₀ hops₀ at hops = net (view t) .distance (end .0) (at .0)
 
 loop-holds : tie.Need-loop-holds Inv-loop μ-loop
 loop-holds c =
