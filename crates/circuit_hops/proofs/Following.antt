@@ -1,199 +1,203 @@
--- Following a circuit from its source to a node: by the one link that it holds there, or, where it holds several, out and back and on by one of them.
+-- Following a circuit from its source to a node: over the link by which it leaves the source, and on over those that are its only uphill ones at their nodes.
 -- Assumes nothing.
 use mathlib.Core.Path.{_≡_, refl, ap, ap₂, sym, _∙_, subst}
-use mathlib.Core.Logic.{⊎-elim, _≢_}
-use mathlib.Core.Bool.{true, not}
-use mathlib.Core.List.{List, [], _∷_, _++_}
+use mathlib.Core.Logic.{_⊎_, ⊎-elim, _≢_}
+use mathlib.Core.Bool.{true, false, not, _&&_}
+use mathlib.Core.List.{List, [], _∷_}
 use Prim.Native.Nat.{ℕ, _+_, _^_, _≤_, _<_}
 use native.Mathlib.Omega.{arith}
-use lib.ListN.{length, length-append}
-use lib.Bits.{bitXor}
-use Rattle.common.proofs.Tests.{clash}
-use Rattle.common.specs.Lists.{_∈_}
-use Rattle.cube.specs.Axes.{axis}
+use lib.Bits.{bitXor, bitAnd, and-le-l, xor-lt}
+use lib.ListN.{length}
+use lib.Pow.{pow-mono}
+use borrow.Author.Tests.{not-true}
+use Rattle.common.specs.Lists.{keep, from}
+use Rattle.common.proofs.Tests.{below-or, clash, is-false, both, and}
 use Rattle.cube.specs.Bits.{has, flip}
+use Rattle.cube.specs.CubeContracts.{UphillVector}
 use Rattle.cube.specs.Cube.{largestDimension, portCount, NodeOf, next, sourceOf, uphill}
-use Rattle.cube.proofs.Bits.{flip-xor, flip-back}
 use Rattle.cube.proofs.Axes.{axis-low, next-inside}
-use Rattle.paths.specs.Network.{Path, offered, Exactly}
+use Rattle.cube.proofs.Bits.{has-room, flip-xor, zero-has}
+use Rattle.paths.specs.Network.{Path, Exactly}
 use Rattle.paths.specs.Permitted.{Onward, Permitted}
 use Rattle.paths.specs.CubeNetwork.{network, ports}
-use Rattle.paths.proofs.Apart.{permitted-inside}
-use Rattle.paths.proofs.CubeNetwork.{uphill-flipped, uphill-there, offered-port, port-offered, unfolded-port}
-use Rattle.paths.proofs.Links.{On, on-cases, on-first, on-later}
+use Rattle.paths.proofs.CubeNetwork.{port-offered, unfolded-port, cube-nearing}
+use Rattle.paths.proofs.Links.{On, on-cases, on-first, on-later, onward-near}
 use Rattle.layout.specs.Layout.{dimensionAt}
 use Rattle.table.specs.TableContracts.{HeldBy, linksHeld}
 use Rattle.table.specs.View.{View, view, shapeOf, net, heldBy}
 use Rattle.circuit_path.specs.CircuitSound.{endFor, CircuitSound}
-use Rattle.circuit_hops.specs.CountHops.{Sole, SoleWay, Walks, TakePre, OutAndBack, GoesOn, FollowedPath}
-use Rattle.circuit_hops.proofs.OneBit.{some-bit}
-use Rattle.circuit_hops.proofs.Ways.{way-onward, way-owned, way-only, onward-way, onward-once, sole-port, shown}
-use Rattle.circuit_hops.proofs.Taken.{HopsFollowed, source-held}
-use Rattle.circuit_hops.proofs.OutAndBack.{ComesBack, through}
-use Rattle.circuit_hops.proofs.OnwardLink.{same-ports, port-inside}
+use Rattle.circuit_hops.specs.CountHops.{OnePort, Sole, SoleWay, Walks, FollowedPath}
+use Rattle.circuit_hops.proofs.OneKept.{one-kept, few-kept}
+use Rattle.circuit_hops.proofs.OneBit.{sole-bit, some-bit, bit-has, bit-only, has-rest}
+use Rattle.circuit_hops.proofs.Ways.{way-onward, way-owned, way-only, onward-way, onward-once, onward-uphill, one-nearer, shown}
+use Rattle.circuit_hops.proofs.Taken.{HopsFollowed}
 
--- path u goes on from the source, behind the hops of `first`, over port p, uphill and over links that are the circuit's only ones at their nodes
-pub record Begun (v : View) (c t p : ℕ) (first u : Path) : Type 0 where
-  pub rest : Path
-  pub cut : u ≡ first ++ p ∷ rest
-  pub onward : Onward (net v) t (next (sourceOf c) p) rest
-  pub only : (m q : ℕ) → On (net v) (next (sourceOf c) p) rest m q → Sole v c m q
+-- a path on which circuit c stands, from its source over port a
+pub record Stands (v : View) (c t a : ℕ) (w : Path) : Type 0 where
+  pub permitted : Permitted (net v) (sourceOf c) (ports (shapeOf v)) t (a ∷ w)
+  pub exactly : Exactly (net v) (sourceOf c) (a ∷ w) (heldBy v c)
 
--- circuit c leaves its source towards node t over port p, behind the hops of `first`, which lead back there: a path on which it stands begins so
-pub record Leaves (v : View) (c t p : ℕ) (first : Path) : Type 0 where
-  pub permitted : (w : Path) → Onward (net v) t (next (sourceOf c) p) w → Permitted (net v) (sourceOf c) (ports (shapeOf v)) t (first ++ p ∷ w)
-  pub owned : (w : Path) → ((m q : ℕ) → On (net v) (next (sourceOf c) p) w m q → heldBy v c m q ≡ true) → (m q : ℕ) → On (net v) (sourceOf c) (first ++ p ∷ w) m q → heldBy v c m q ≡ true
-  pub begun : (z : CircuitSound v c) → endFor v c (z .path) ≡ t → Begun v c t p first (z .path)
+module _ {v : View} {c t a : ℕ} {w : Path} (d : v .dimension ≤ largestDimension) (x : Stands v c t a w) where
+  pub first-below : a < v .dimension
+  unfolding Permitted
+  first-below = unfolded-port (shapeOf v) d refl a .0 (x .permitted .0)
 
--- what walking on from there comes to, following the circuit comes to
-pub followed : {v : View} {c t p : ℕ} {first : Path} {start made hops : ℕ} → v .dimension ≤ largestDimension → Leaves v c t p first → start ≡ next (sourceOf c) p → made ≡ 1 + length first
-    → Walks v c t start made hops → HopsFollowed v c t hops
-followed {v} {c} {t} {p} {first} {start} {made} {hops} fits leaves to count walks =
-    record {
-      found = λ l. let w = walks .way l in path-of (w .0) (subst (λ (n : ℕ). SoleWay v c t n (w .0)) to (w .1)) (w .2);
-      forced = λ z e. let r = leaves .begun z e in walks .forced (r .rest) (subst (λ (n : ℕ). SoleWay v c t n (r .rest)) (sym to) (onward-way v c t _ (r .rest) (r .onward) (r .only)));
-      most = walks .most;
-    }
+  onward : Onward (net v) t (next (sourceOf c) a) w
+  unfolding Permitted network
+  onward = x .permitted .1
+
+  pub first-held : heldBy v c (sourceOf c) a ≡ true
+  unfolding On
+  first-held = x .exactly .all (sourceOf c) a (on-first (net v) (sourceOf c) a w)
+
+  later-held : (m q : ℕ) → On (net v) (next (sourceOf c) a) w m q → heldBy v c m q ≡ true
+  unfolding On network
+  later-held m q i = x .exactly .all m q (on-later (net v) (sourceOf c) a w m q i)
+
+  cases : (m q : ℕ) → heldBy v c m q ≡ true → ((m ≡ sourceOf c) × (q ≡ a)) ⊎ On (net v) (next (sourceOf c) a) w m q
+  unfolding On network
+  cases m q h = on-cases (net v) (sourceOf c) a w m q (x .exactly .only m q h)
+
+  -- where it comes through its source again, its first hop is not uphill
+  not-uphill : (q : ℕ) → On (net v) (next (sourceOf c) a) w (sourceOf c) q → uphill t (sourceOf c) a ≡ true → ⊥
+  unfolding Permitted network
+  not-uphill q i e =
+      omega (
+        arith,
+        one-nearer v t (sourceOf c) a (port-offered (shapeOf v) t (sourceOf c) a (x .permitted .0) (rw (axis-low a (omega (arith, first-below))) e)),
+        onward-near (cube-nearing (shapeOf v) t) (next (sourceOf c) a) w onward (sourceOf c) q i .0,
+      )
+
+  -- so behind it the links are the only uphill ones,
+  later-sole : (m q : ℕ) → On (net v) (next (sourceOf c) a) w m q → Sole v c t m q
+  unfolding Sole
+  later-sole m q i = (
+    later-held m q i,
+    λ r l h k. ⊎-elim (λ e. absurd (not-uphill q (subst (λ (n : ℕ). On (net v) (next (sourceOf c) a) w n q) (e .0) i) (sym (ap₂ (uphill t) (e .0) (e .1)) ∙ k)))
+        (λ j. onward-once v c t (next (sourceOf c) a) w onward m r q j i) (cases m r h),
+  )
+
+  -- and of several links at the source its first hop's alone is not uphill
+  first-alone : 1 < linksHeld v c (sourceOf c) → (uphill t (sourceOf c) a ≡ false) × ((r : ℕ) → heldBy v c (sourceOf c) r ≡ true → uphill t (sourceOf c) r ≡ false → r ≡ a)
+  unfolding linksHeld
+  first-alone more = (
+    is-false _ (λ e. omega (arith, one-kept (heldBy v c (sourceOf c)) a (omega (arith, first-below)) first-held (λ j l h. ⊎-elim (λ z. z .1) (λ i. absurd (not-uphill j i e)) (cases (sourceOf c) j h)))),
+    λ r h k. ⊎-elim (λ z. z .1) (λ i. absurd (clash (onward-uphill v c t d (next (sourceOf c) a) w onward (sourceOf c) r i) k)) (cases (sourceOf c) r h),
+  )
+
+-- a circuit that stands has such a path
+pub stands : (v : View) (c t : ℕ) (z : CircuitSound v c) → endFor v c (z .path) ≡ t → (a : ℕ) × (w : Path) × (z .path ≡ a ∷ w) × Stands v c t a w
+stands v c t z e = go (z .path) (subst (λ (n : ℕ). Permitted (net v) (sourceOf c) (ports (shapeOf v)) n (z .path)) e (z .permitted)) (z .exactly)
   where
-    path-of : (w : Path) → SoleWay v c t (next (sourceOf c) p) w → hops ≡ made + length w → FollowedPath v c t hops
-    path-of w x k =
-        record {
-          path = first ++ p ∷ w;
-          permitted = leaves .permitted w (way-onward v c t _ w x);
-          owned = λ m q i. leaves .owned w (way-owned v c t _ w x) m q (unfold On in i);
-          hop-count = omega (arith, length-append first (p ∷ w));
-          whole = λ z e. let r = leaves .begun z e in
-              r .cut ∙ ap (λ u. first ++ p ∷ u) (way-only v c t fits _ w (r .rest) x (r .onward) (λ m q i. unfold Sole in r .only m q i .0));
-        }
+    go : (u : Path) → Permitted (net v) (sourceOf c) (ports (shapeOf v)) t u → Exactly (net v) (sourceOf c) u (heldBy v c) → (a : ℕ) × (w : Path) × (u ≡ a ∷ w) × Stands v c t a w
+    go [] o x = unfold Permitted in absurd o
+    go (a ∷ w) o x = (a, w, refl, record { permitted = o; exactly = x })
 
--- by one link
-module _ {b : List ℕ} {nodes c s t p : ℕ} (pre : TakePre b nodes c s t) (low : p < view b .dimension) (sole : Sole (view b) c (sourceOf c) p) where
-  fits : view b .dimension ≤ largestDimension
-  fits = omega (arith, shown b, pre .known .fits)
+-- Of the links that circuit c holds at its source, as a vector, those by which a path to node t may leave it: one, if there is any.
+pub record Leaving (b : List ℕ) (c t first : ℕ) : Type 0 where
+  pub one : first ≢ 0 → OnePort first
+  pub held : (p : ℕ) → p < portCount → has first p ≡ true → (heldBy (view b) c (sourceOf c) p ≡ true) × (p < dimensionAt b)
+  pub leaves : (a : ℕ) (w : Path) → Stands (view b) c t a w → has first a ≡ true
 
-  unroll : (u : Path) → Permitted (net (view b)) (sourceOf c) (ports (shapeOf (view b))) t u → Exactly (net (view b)) (sourceOf c) u (heldBy (view b) c) → Begun (view b) c t p [] u
-  unfolding Permitted network On Sole
-  unroll [] o x = absurd o
-  unroll (a ∷ u) o x = subst (λ (n : ℕ). Begun (view b) c t n [] (a ∷ u)) same record { rest = u; cut = refl; onward = o .1; only = λ m q i. (mine m q i, other m q i) }
-    where
-      below : (q : ℕ) → q ∈ ports (shapeOf (view b)) → q < portCount
-      below q m = let k = unfolded-port (shapeOf (view b)) fits refl q .0 m in omega (arith, fits)
+-- where there is none, it stands on no path to t
+pub leaves-none : {b : List ℕ} {c t first : ℕ} → Leaving b c t first → first ≡ 0 → (z : CircuitSound (view b) c) → endFor (view b) c (z .path) ≡ t → ⊥
+leaves-none {b} {c} {t} l e z q = let r = stands (view b) c t z q in clash (l .leaves (r .0) (r .1) (r .3)) (ap (λ x. has x (r .0)) e ∙ zero-has (r .0))
 
-      same : a ≡ p
-      same = sole .1 a (below a (o .0)) (x .all (sourceOf c) a (on-first (net (view b)) (sourceOf c) a u))
+-- where there is one, what walking on from there comes to, following the circuit comes to
+module _ {b : List ℕ} {c s t first : ℕ} (d : dimensionAt b ≤ largestDimension) (at : s ≡ sourceOf c) (l : Leaving b c t first) (h : first ≢ 0) where
+  small : view b .dimension ≤ largestDimension
+  small = omega (arith, shown b)
 
-      mine : (m q : ℕ) → On (net (view b)) (next (sourceOf c) a) u m q → heldBy (view b) c m q ≡ true
-      mine m q i = x .all m q (on-later (net (view b)) (sourceOf c) a u m q i)
+  port : (p : ℕ) × (p < portCount) × (first ≡ 2 ^ p)
+  unfolding OnePort
+  port = l .one h
 
-      port : (m q : ℕ) → On (net (view b)) (next (sourceOf c) a) u m q → q < portCount
-      port m q i = below q (permitted-inside (shapeOf (view b)) (sourceOf c) t (a ∷ u) (rw (shown b) (pre .known .source)) o .0 m q (on-later (net (view b)) (sourceOf c) a u m q i) .1)
+  there : (heldBy (view b) c (sourceOf c) (port .0) ≡ true) × (port .0 < dimensionAt b)
+  there = l .held (port .0) (port .1) (ap (λ x. has x (port .0)) (port .2) ∙ bit-has (port .0))
 
-      other : (m q : ℕ) → On (net (view b)) (next (sourceOf c) a) u m q → (r : ℕ) → r < portCount → heldBy (view b) c m r ≡ true → r ≡ q
-      other m q i r l k =
-          ⊎-elim (λ (z : (m ≡ sourceOf c) × (r ≡ a)). z .1 ∙ same ∙ sym (sole .1 q (port m q i) (subst (λ (n : ℕ). heldBy (view b) c n q ≡ true) (z .0) (mine m q i))))
-          (λ j. onward-once (view b) c t (next (sourceOf c) a) u (o .1) m r q j i) (on-cases (net (view b)) (sourceOf c) a u m r (x .only m r k))
+  to : bitXor s first ≡ next (sourceOf c) (port .0)
+  to = ap₂ bitXor at (port .2) ∙ flip-xor (sourceOf c) (port .0) ∙ ap (flip (sourceOf c)) (sym (axis-low (port .0) (omega (arith, port .1))))
 
-  by-one : Leaves (view b) c t p []
-  unfolding Permitted network Sole
-  by-one =
+  pub leads-inside : NodeOf (dimensionAt b) (sourceOf c) → NodeOf (dimensionAt b) (bitXor s first)
+  leads-inside i = rw to (next-inside (dimensionAt b) (sourceOf c) (port .0) d i (there .1))
+
+  begins : (z : CircuitSound (view b) c) → endFor (view b) c (z .path) ≡ t → (w : Path) × (z .path ≡ port .0 ∷ w) × Stands (view b) c t (port .0) w
+  begins z e =
+      let r = stands (view b) c t z e in
+      let same : r .0 ≡ port .0 = bit-only (port .0) (r .0) (ap (λ x. has x (r .0)) (sym (port .2)) ∙ l .leaves (r .0) (r .1) (r .3)) in
+      (r .1, r .2 ∙ ap (_∷ r .1) same, subst (λ (p : ℕ). Stands (view b) c t p (r .1)) same (r .3))
+
+  pub followed : {hops : ℕ} → Walks (view b) c t (bitXor s first) 1 hops → HopsFollowed (view b) c t hops
+  followed {hops} walks =
       record {
-        permitted = λ w o. (unfolded-port (shapeOf (view b)) fits refl p .1 low, o);
-        owned = λ w own m q i. ⊎-elim (λ (e : (m ≡ sourceOf c) × (q ≡ p)). rw (e .0, e .1) (sole .0)) (own m q) (on-cases (net (view b)) (sourceOf c) p w m q i);
-        begun = λ z e. unroll (z .path) (subst (λ (n : ℕ). Permitted (net (view b)) (sourceOf c) (ports (shapeOf (view b))) n (z .path)) e (z .permitted)) (z .exactly);
-      }
-
--- out over port a, back, and on over port p
-module _ {v : View} {c t a p : ℕ} (fits : v .dimension ≤ largestDimension) (more : 1 < linksHeld v c (sourceOf c)) (h : OutAndBack v c t a p) where
-  again : next (next (sourceOf c) a) a ≡ sourceOf c
-  again = flip-back (sourceOf c) (axis a)
-
-  here : a ∈ ports (shapeOf v)
-  here = unfolded-port (shapeOf v) fits refl a .1 (h .present)
-
-  back-uphill : uphill t (next (sourceOf c) a) (axis a) ≡ true
-  back-uphill = uphill-flipped t (sourceOf c) (axis a) ∙ ap not (ap (uphill t (sourceOf c)) (axis-low a (omega (arith, h .present))) ∙ h .not-uphill)
-
-  -- a node that offers a port is not the target
-  off-target : (n q : ℕ) → uphill t n q ≡ true → n ≢ t
-  off-target n q e k = clash e (ap (λ x. uphill t x q) k ∙ uphill-there t q)
-
-  by-two : Leaves v c t p (a ∷ a ∷ [])
-  unfolding Permitted Onward network Sole
-  by-two =
-      record {
-        permitted = λ w o. (here, (off-target (next (sourceOf c) a) (axis a) back-uphill, port-offered (shapeOf v) t (next (sourceOf c) a) a here back-uphill, onward w o));
-        owned = owns;
-        begun = λ z e. go (z .path) (through v c t fits z e more);
+        found = λ k. let w = walks .way k in path-of (w .0) (subst (λ (n : ℕ). SoleWay (view b) c t n (w .0)) to (w .1)) (w .2);
+        forced = λ z e. let r = begins z e in
+            walks .forced (r .0) (subst (λ (n : ℕ). SoleWay (view b) c t n (r .0)) (sym to) (onward-way (view b) c t _ (r .0) (onward small (r .2)) (later-sole small (r .2))));
+        most = walks .most;
       }
     where
-      onward : (w : Path) → Onward (net v) t (next (sourceOf c) p) w → Onward (net v) t (next (next (sourceOf c) a) a) (p ∷ w)
-      onward w o = subst (λ (n : ℕ). Onward (net v) t n (p ∷ w)) (sym again) (off-target (sourceOf c) (axis p) (offered-port (shapeOf v) t (sourceOf c) p (h .onward) .1), h .onward, o)
-
-      owns : (w : Path) → ((m q : ℕ) → On (net v) (next (sourceOf c) p) w m q → heldBy v c m q ≡ true) → (m q : ℕ) → On (net v) (sourceOf c) (a ∷ a ∷ p ∷ w) m q → heldBy v c m q ≡ true
-      owns w own m q i =
-          ⊎-elim (λ (e : (m ≡ sourceOf c) × (q ≡ a)). rw (e .0, e .1) (h .out))
-          (λ j. ⊎-elim (λ (e : (m ≡ next (sourceOf c) a) × (q ≡ a)). rw (e .0, e .1) (h .back .0))
-          (λ k. ⊎-elim (λ (e : (m ≡ sourceOf c) × (q ≡ p)). rw (e .0, e .1) (h .on)) (own m q) (on-cases (net v) (sourceOf c) p w m q (subst (λ (n : ℕ). On (net v) n (p ∷ w) m q) again k)))
-          (on-cases (net v) (next (sourceOf c) a) a (p ∷ w) m q j))
-          (on-cases (net v) (sourceOf c) a (a ∷ p ∷ w) m q i)
-
-      go : (u : Path) → ComesBack v c t u → Begun v c t p (a ∷ a ∷ []) u
-      go u r =
-          let e = same-ports fits h (r .held) in
+      path-of : (w : Path) → SoleWay (view b) c t (next (sourceOf c) (port .0)) w → hops ≡ 1 + length w → FollowedPath (view b) c t hops
+      path-of w x k =
           record {
-            rest = r .rest;
-            cut = r .cut ∙ ap₂ (λ x y. x ∷ x ∷ y ∷ r .rest) (e .0) (e .1);
-            onward = subst (λ (n : ℕ). Onward (net v) t (next (sourceOf c) n) (r .rest)) (e .1) (r .onward);
-            only = λ m q i. r .only m q (subst (λ (n : ℕ). On (net v) (next (sourceOf c) n) (r .rest) m q) (sym (e .1)) i);
+            path = port .0 ∷ w;
+            permitted = unfold Permitted network in (unfolded-port (shapeOf (view b)) small refl (port .0) .1 (omega (arith, shown b, there .1)), way-onward (view b) c t _ w x);
+            owned = λ m q i. unfold On network in ⊎-elim (λ (e : (m ≡ sourceOf c) × (q ≡ port .0)). rw (e .0, e .1) (there .0)) (way-owned (view b) c t _ w x m q) (on-cases (net (view b)) (sourceOf c) (port .0) w m q i);
+            hop-count = omega arith;
+            whole = λ z e. let r = begins z e in r .1 ∙ ap (port .0 ∷_) (way-only (view b) c t small _ w (r .0) x (onward small (r .2)) (later-held small (r .2)));
           }
 
--- as the code has it: the link by which it leaves as a vector, and the hops with it
-pub record Departs (b : List ℕ) (c s t on made : ℕ) : Type 0 where
-  pub port : ℕ
-  pub first : Path
-  pub leaves : Leaves (view b) c t port first
-  pub few : made ≤ 3
-  pub count : made ≡ 1 + length first
-  pub to : bitXor s on ≡ next (sourceOf c) port
-  pub inside : NodeOf (dimensionAt b) (bitXor s on)
+-- the links at the source s, as the code has them
+module _ {b : List ℕ} {nodes c s held : ℕ} (t : ℕ) (d : dimensionAt b ≤ largestDimension) (count : nodes ≡ 2 ^ dimensionAt b) (at : s ≡ sourceOf c) (f : HeldBy b c s held) where
+  here : (p : ℕ) → p < portCount → has held p ≡ heldBy (view b) c (sourceOf c) p
+  unfolding view
+  here p l = f .held p l ∙ ap (λ n. heldBy (view b) c n p) at
 
--- and no link, where it stands on no path to t
-pub record Leaving (b : List ℕ) (c s t on made : ℕ) : Type 0 where
-  pub some : on ≢ 0 → Departs b c s t on made
-  pub none : on ≡ 0 → (z : CircuitSound (view b) c) → endFor (view b) c (z .path) ≡ t → ⊥
+  fits : view b .dimension ≤ largestDimension
+  fits = omega (arith, shown b)
 
-module _ {b : List ℕ} {nodes c s t on made : ℕ} (pre : TakePre b nodes c s t) where
-  departs : {port : ℕ} {first : Path} → on ≡ 2 ^ port → port < view b .dimension → made ≤ 3 → made ≡ 1 + length first → Leaves (view b) c t port first → Departs b c s t on made
-  departs {port} {first} e low few count leaves =
-      let to : bitXor s on ≡ next (sourceOf c) port = ap₂ bitXor (pre .source) e ∙ flip-xor (sourceOf c) port ∙ ap (flip (sourceOf c)) (sym (axis-low port (omega (arith, shown b, pre .known .fits)))) in
+  -- a held port is one of the cube's where the vector is one of its ports
+  inside : held < nodes → (p : ℕ) → p < portCount → heldBy (view b) c (sourceOf c) p ≡ true → p < dimensionAt b
+  inside low p l h =
+      ⊎-elim (λ y. y) (λ y. absurd (omega (arith, has-room held p (here p l ∙ h), pow-mono {i = dimensionAt b} {j = p} y))) (below-or (dimensionAt b) p)
+
+  below : {a : ℕ} {w : Path} → Stands (view b) c t a w → a < portCount
+  below x = omega (arith, fits, first-below fits x)
+
+  -- one link at most
+  pub leaving-one : linksHeld (view b) c s ≤ 1 → held < nodes → Leaving b c t held
+  unfolding linksHeld OnePort
+  leaving-one few low =
       record {
-        port = port;
-        first = first;
-        leaves = leaves;
-        few = few;
-        count = count;
-        to = to;
-        inside = rw to (next-inside (dimensionAt b) (sourceOf c) port (pre .known .fits) (pre .known .source) (omega (arith, shown b)));
+        one = λ h. let p = some-bit (f .small) here h in
+            (p .0, p .1, sole-bit (f .small) here (p .1) (p .2) (few-kept (heldBy (view b) c (sourceOf c)) (subst (λ (n : ℕ). length (keep (heldBy (view b) c n) (from 0 8)) ≤ 1) at few) (p .0) (p .1) (p .2)));
+        held = λ p l h. let k = sym (here p l) ∙ h in (k, inside low p l k);
+        leaves = λ a w x. here a (below x) ∙ first-held fits x;
       }
 
-  pub leaving-one : {held : ℕ} → HeldBy b c s held → linksHeld (view b) c s ≤ 1 → held < nodes → on ≡ held → made ≡ 1 → Leaving b c s t on made
-  leaving-one {held} at few l e k =
-      record {
-        some = λ h.
-            let p = some-bit (at .small) (λ p i. refl {a = has held p}) (λ z. h (e ∙ z)) in
-            let one = sole-port at few (p .1) (p .2) in
-            let low : p .0 < view b .dimension = omega (arith, shown b, port-inside {D = dimensionAt b} (omega (arith, pre .count)) (p .2)) in
-            departs (e ∙ one .1) low (omega arith) k (by-one pre low (subst (λ (n : ℕ). Sole (view b) c n (p .0)) (pre .source) (one .0)));
-        none = λ h z i. source-held b c (pre .known .fits) (pre .known .source) z (subst (λ (n : ℕ). HeldBy b c n held) (pre .source) at) (sym e ∙ h);
-      }
+  -- several: those that are not uphill
+  module _ {vector : ℕ} (u : UphillVector s t vector) (more : 1 < linksHeld (view b) c s) where
+    pub out-small : bitXor held (bitAnd held vector) < 256
+    out-small = xor-lt 8 held (bitAnd held vector) (f .small) (omega (arith, and-le-l held vector, f .small))
 
-  pub leaving-back : {x : ℕ} → 1 < linksHeld (view b) c s → GoesOn (view b) c t x → on ≡ x → made ≡ 3 → Leaving b c s t on made
-  leaving-back {x} more g e k =
-      let fits : view b .dimension ≤ largestDimension = omega (arith, shown b, pre .known .fits) in
-      record {
-        some = λ h.
-            let r = g .found (λ z. h (e ∙ z)) in
-            departs (e ∙ r .3) (unfolded-port (shapeOf (view b)) fits refl (r .1) .0 (offered-port (shapeOf (view b)) t (sourceOf c) (r .1) (r .2 .onward) .0)) (omega arith) k
-            (by-two fits (subst (λ (n : ℕ). 1 < linksHeld (view b) c n) (pre .source) more) (r .2));
-        none = λ h z i. g .forced z i (sym e ∙ h);
-      }
+    out-bits : (p : ℕ) → p < portCount → has (bitXor held (bitAnd held vector)) p ≡ (heldBy (view b) c (sourceOf c) p && not (uphill t (sourceOf c) p))
+    out-bits p l = has-rest held vector p ∙ ap₂ (λ x y. x && not y) (here p l) (u .bits p ∙ ap (λ n. uphill t n p) at)
+
+    alone : {a : ℕ} {w : Path} → Stands (view b) c t a w → (uphill t (sourceOf c) a ≡ false) × ((r : ℕ) → heldBy (view b) c (sourceOf c) r ≡ true → uphill t (sourceOf c) r ≡ false → r ≡ a)
+    alone x = first-alone fits x (subst (λ (n : ℕ). 1 < linksHeld (view b) c n) at more)
+
+    pub leaving-several : held < nodes → OnePort (bitXor held (bitAnd held vector)) → Leaving b c t (bitXor held (bitAnd held vector))
+    leaving-several low one =
+        record {
+          one = λ h. one;
+          held = λ p l h. let k = both _ _ (sym (out-bits p l) ∙ h) .0 in (k, inside low p l k);
+          leaves = λ a w x. out-bits a (below x) ∙ and (first-held fits x) (ap not (alone x .0));
+        }
+
+    -- where they are not one, it stands on no path to t
+    pub several-none : (OnePort (bitXor held (bitAnd held vector)) → ⊥) → (z : CircuitSound (view b) c) → endFor (view b) c (z .path) ≡ t → ⊥
+    several-none none z e = go (stands (view b) c t z e .3)
+      where
+        go : {a : ℕ} {w : Path} → Stands (view b) c t a w → ⊥
+        go {a} x =
+            unfold OnePort in
+            none (a, below x, sole-bit out-small out-bits (below x) (and (first-held fits x) (ap not (alone x .0))) (λ r l k. let h = both _ _ k in alone x .1 r (h .0) (not-true _ (h .1))))

@@ -4,6 +4,4 @@ pub mod OneBit
 pub mod Seen
 pub mod Ways
 pub mod Taken
-pub mod OutAndBack
-pub mod OnwardLink
 pub mod Following

@@ -3,15 +3,22 @@
 use mathlib.Core.Path.{_≡_, refl, ap, sym, _∙_}
 use mathlib.Core.Logic.{⊎-elim, _≢_}
 use mathlib.Core.Bool.{Bool, true, false, not, _&&_, Bool·beq}
-use Prim.Native.Nat.{ℕ, _^_, _<_}
+use Prim.Native.Nat.{ℕ, _*_, _%_, _^_, _<_}
+use native.Mathlib.Omega.{arith}
 use lib.Bits.{bitXor, bitAnd}
 use lib.Dec.{eqb, ltb}
-use borrow.Author.Tests.{ltb-true}
+use lib.Pow.{pow-mono}
+use borrow.Author.Tests.{ltb-true, eqb-true, eqb-false}
+use Rattle.common.specs.Decides.{Decides}
+use Rattle.common.specs.Lists.{lowest}
 use Rattle.common.proofs.Every.{at, decide}
-use Rattle.common.proofs.Tests.{same?, clash, is-false}
+use Rattle.common.proofs.Lowest.{lowest-most, lowest-passes, lowest-found}
+use Rattle.common.proofs.Tests.{same?, below-or, clash, is-false}
 use Rattle.cube.specs.Bits.{bitAt, has}
 use Rattle.cube.specs.Cube.{portCount}
 use Rattle.cube.proofs.Bits.{two-bits, bit-lt, bit-xor, bit-power, bit-power-other, has-and, has-bit, has-no-bit, no-ports, same-bits}
+use Rattle.cube.proofs.Ports.{port-bit}
+use Rattle.circuit_hops.specs.CountHops.{OnePort}
 
 module _ {x : ℕ} {f : ℕ → Bool} (small : x < 256) (bits : (p : ℕ) → p < portCount → has x p ≡ f p) where
   pub sole-bit : {p : ℕ} → p < portCount → f p ≡ true → ((q : ℕ) → q < portCount → f q ≡ true → q ≡ p) → x ≡ 2 ^ p
@@ -33,6 +40,22 @@ bit-has p = rw (bit-power p)
 pub bit-only : (p q : ℕ) → has (2 ^ p) q ≡ true → q ≡ p
 unfolding has
 bit-only p q t = ⊎-elim (λ e. e) (λ h. absurd (clash t (rw (bit-power-other p q h)))) (same? q p)
+
+-- a vector of one port is the bit of the lowest
+pub lowest-one : {x r : ℕ} → x < 256 → r ≡ lowest (has x) 8 0 → Decides (OnePort x) (eqb x (1 * 2 ^ r % 65536))
+unfolding OnePort
+lowest-one {x} {r} l e = record { holds = λ t. yes (eqb-true _ _ t ∙ bit); fails = λ t p. eqb-false _ _ t (p .2 ∙ ap (2 ^_) (sym (e ∙ low p)) ∙ sym bit) }
+  where
+    bit : 1 * 2 ^ r % 65536 ≡ 2 ^ r
+    bit = port-bit 16 r (omega (arith, lowest-most (has x) 8 0))
+
+    yes : x ≡ 2 ^ r → (p : ℕ) × (p < portCount) × (x ≡ 2 ^ p)
+    yes q = ⊎-elim (λ k. (r, k, q)) (λ k. absurd (omega (arith, pow-mono {i = 8} {j = r} k))) (below-or 8 r)
+
+    low : (p : (p : ℕ) × (p < portCount) × (x ≡ 2 ^ p)) → lowest (has x) 8 0 ≡ p .0
+    low p =
+        let few = lowest-found (has x) 8 0 (p .0) (omega arith) (ap (λ y. has y (p .0)) (p .2) ∙ bit-has (p .0)) in
+        bit-only (p .0) _ (ap (λ y. has y (lowest (has x) 8 0)) (sym (p .2)) ∙ lowest-passes (has x) 8 0 (omega (arith, p .1)))
 
 -- what is left of a vector without those of its ports that another has
 has-xor : (n m p : ℕ) → has (bitXor n m) p ≡ not (Bool·beq (has n p) (has m p))

@@ -1,14 +1,14 @@
 -- How many numbers below 8 pass a test: one and no other, exactly where one is kept.
 -- Assumes nothing.
-use mathlib.Core.Path.{_≡_, refl, ap, ap₂, sym, _∙_}
+use mathlib.Core.Path.{_≡_, refl, sym, _∙_}
 use mathlib.Core.Logic.{⊎-elim}
-use mathlib.Core.Bool.{Bool, true, not, _&&_}
+use mathlib.Core.Bool.{Bool, true}
 use mathlib.Core.List.{List, [], _∷_, List·Memᴰ·head, List·Memᴰ·tail, List·Memᴰ·not-nil, List·Memᴰ·cases-cons}
-use Prim.Native.Nat.{ℕ, _+_, _≤_, _<_}
+use Prim.Native.Nat.{ℕ, _≤_, _<_}
 use native.Mathlib.Omega.{arith}
 use lib.ListN.{length}
 use Rattle.common.specs.Lists.{_∈_, keep, from, Pairwise}
-use Rattle.common.proofs.Lists.{keep-mem, mem-keep, keep-keep, keep-pairwise, length-parts}
+use Rattle.common.proofs.Lists.{keep-mem, mem-keep, keep-pairwise}
 use Rattle.common.proofs.From.{from-mem, mem-from, from-pairwise, from-below, below-from}
 
 pub one-kept : (f : ℕ → Bool) (k : ℕ) → k < 8 → f k ≡ true → ((j : ℕ) → j < 8 → f j ≡ true → j ≡ k) → length (keep f (from 0 8)) ≡ 1
@@ -41,7 +41,3 @@ kept-one f e = go (keep f (from 0 8)) refl e
 -- where no more than one is kept, one that passes is the only one
 pub few-kept : (f : ℕ → Bool) → length (keep f (from 0 8)) ≤ 1 → (k : ℕ) → k < 8 → f k ≡ true → (j : ℕ) → j < 8 → f j ≡ true → j ≡ k
 few-kept f h k l t j b e = let one = kept-one f (omega (arith, some-kept f k l t)) in one .3 j b e ∙ sym (one .3 k l t)
-
--- those kept are those of them that pass a second test, and those that do not
-pub kept-parts : (f g : ℕ → Bool) → length (keep f (from 0 8)) ≡ length (keep (λ k. f k && g k) (from 0 8)) + length (keep (λ k. f k && not (g k)) (from 0 8))
-kept-parts f g = sym (length-parts g (keep f (from 0 8))) ∙ ap₂ _+_ (ap length (keep-keep g f (from 0 8))) (ap length (keep-keep (λ k. not (g k)) f (from 0 8)))

@@ -3,7 +3,7 @@
 -- Assumes nothing.
 use mathlib.Core.Path.{_≡_}
 use mathlib.Core.Logic.{_⊎_, _≢_}
-use mathlib.Core.Bool.{true, false}
+use mathlib.Core.Bool.{true}
 use mathlib.Core.List.{List, [], _∷_}
 use Prim.Native.Nat.{ℕ, _+_, _^_, _≤_, _<_}
 use lib.ListN.{length}
@@ -15,17 +15,20 @@ use Rattle.paths.specs.CubeNetwork.{ports, circuitCount}
 use Rattle.layout.specs.Layout.{tableLength, dimensionAt}
 use Rattle.table.specs.View.{View, shapeOf, net, heldBy}
 use Rattle.circuit_path.specs.CircuitSound.{endFor, CircuitSound}
-use Rattle.circuit_path.specs.Follow.{HasSource}
 use Rattle.circuit_hops.specs.Seen.{markCount, seenAt, Seen}
 
--- at node n circuit c holds the link out of port p and no other
-unfoldable pub Sole : View → ℕ → ℕ → ℕ → Type 0
-Sole v c n p = (heldBy v c n p ≡ true) × ((q : ℕ) → q < portCount → heldBy v c n q ≡ true → q ≡ p)
+-- a vector of one port
+unfoldable pub OnePort : ℕ → Type 0
+OnePort vector = (p : ℕ) × (p < portCount) × (vector ≡ 2 ^ p)
 
--- w leads on from node n to node t, uphill at every hop, over links of circuit c that are its only ones at their nodes
+-- of the links that circuit c holds at node n, the one out of port p alone is uphill towards node t
+unfoldable pub Sole : View → ℕ → ℕ → ℕ → ℕ → Type 0
+Sole v c t n p = (heldBy v c n p ≡ true) × ((q : ℕ) → q < portCount → heldBy v c n q ≡ true → uphill t n q ≡ true → q ≡ p)
+
+-- w leads on from node n to node t, uphill at every hop, over links of circuit c that are its only uphill ones at their nodes
 unfoldable pub SoleWay : View → ℕ → ℕ → ℕ → Path → Type 0
 SoleWay v c t n [] = n ≡ t
-SoleWay v c t n (p ∷ w) = (n ≢ t) × (p ∈ offered (net v) t n) × Sole v c n p × SoleWay v c t (next n p) w
+SoleWay v c t n (p ∷ w) = (n ≢ t) × (p ∈ offered (net v) t n) × Sole v c t n p × SoleWay v c t (next n p) w
 
 -- what walking on such a way from node n comes to, after some hops
 pub record Walks (v : View) (c t n walked hops : ℕ) : Type 0 where
@@ -33,35 +36,11 @@ pub record Walks (v : View) (c t n walked hops : ℕ) : Type 0 where
   pub forced : (w : Path) → SoleWay v c t n w → hops < 4096
   pub most : hops < 8192
 
-pub record WalkPre (b : List ℕ) (n walked t : ℕ) : Type 0 where
+pub record WalkPre (b : List ℕ) (n t : ℕ) : Type 0 where
   pub bytes : length b ≡ tableLength
   pub fits : dimensionAt b ≤ largestDimension
   pub start : NodeOf (dimensionAt b) n
-  pub few : walked ≤ 3
   pub target : NodeOf (dimensionAt b) t
-
--- what looking for the path of circuit c from its source s to node t asks
-pub record TakePre (b : List ℕ) (nodes c s t : ℕ) : Type 0 where
-  pub known : HasSource b c
-  pub source : s ≡ sourceOf c
-  pub count : nodes ≡ cubeNodes (dimensionAt b)
-  pub target : t < nodes
-
--- what circuit c holds where it goes out from its source over port a, straight back, and on over port q towards node t: two links at its source, of which the
--- one by which it goes on is uphill, and at the node between the one back alone
-pub record OutAndBack (v : View) (c t a q : ℕ) : Type 0 where
-  pub present : a < v .dimension
-  pub not-uphill : uphill t (sourceOf c) a ≡ false
-  pub out : heldBy v c (sourceOf c) a ≡ true
-  pub back : Sole v c (next (sourceOf c) a) a
-  pub onward : q ∈ offered (net v) t (sourceOf c)
-  pub on : heldBy v c (sourceOf c) q ≡ true
-  pub only : (r : ℕ) → r < portCount → heldBy v c (sourceOf c) r ≡ true → (r ≡ a) ⊎ (r ≡ q)
-
--- the link, as a vector, by which circuit c goes on from its source towards node t, where it holds several there; no link where they are not those of a path
-pub record GoesOn (v : View) (c t on : ℕ) : Type 0 where
-  pub found : on ≢ 0 → (a : ℕ) × (q : ℕ) × OutAndBack v c t a q × (on ≡ 2 ^ q)
-  pub forced : (s : CircuitSound v c) → endFor v c (s .path) ≡ t → on ≢ 0
 
 -- a permitted path to node t over links of circuit c, and the circuit's own if it stands on one that ends there
 pub record FollowedPath (v : View) (c t hops : ℕ) : Type 0 where
