@@ -147,8 +147,8 @@ module _ (b : List ℕ) (c n t hops : ℕ) (d : dimensionAt b ≤ largestDimensi
   walks-here e l = record { way = λ k. ([], e, omega arith); forced = λ w x. l; most = omega arith }
 
   -- not one link that is held there is uphill
-  pub walks-none : {held vector x : ℕ} → n ≢ t → HeldBy b c n held → UphillVector n t vector → (OnePort (bitAnd held vector) → ⊥) → x < 256 → Walks (view b) c t n hops (4096 + x)
-  walks-none {held} {vector} {x} h f u none l =
+  pub walks-none : {held vector : ℕ} → n ≢ t → HeldBy b c n held → UphillVector n t vector → (OnePort (bitAnd held vector) → ⊥) → Walks (view b) c t n hops 4096
+  walks-none {held} {vector} h f u none =
       record { way = λ e. absurd (omega arith); forced = λ w s. absurd (go w s); most = omega arith }
     where
       go : (w : Path) → SoleWay (view b) c t n w → ⊥

@@ -23,8 +23,7 @@ fn one_port(vector: u16) -> bool
     vector == 1 << cube::lowest_bit(vector)
 }
 
-// The hops of a circuit that has made one, to a node: at each node the link that it holds there and that is uphill, if that is one. NONE or more where it does not
-// lead there.
+// The hops of a circuit that has made one, to a node: at each node the link that it holds there and that is uphill, if that is one. NONE where it does not lead there.
 fn walk(t: &[u8], c: Circuit, from: Node, end: Node) -> u32
     requires { ⌜ WalkPre (now t) (from .0) (end .0) ⌝ }
     ensures { λ r. ⌜ Walks (view (now (t .entry))) (c .0) (end .0) (from .0) 1 r ⌝ }
@@ -37,7 +36,7 @@ fn walk(t: &[u8], c: Circuit, from: Node, end: Node) -> u32
         let on = held & cube::uphill_vector(at, end);
         if table::links_held(t, c, at) > 1 {
             if !one_port(on) {
-                return NONE + held as u32;
+                return NONE;
             }
         }
         if on == 0 {
@@ -64,7 +63,7 @@ fn mark_new(source: Node, held: u16, seen: &mut [u8]) -> bool
     true
 }
 
-// The hops of the circuit that holds a receive channel at a node, or 4,096 and more where its links do not fit together or it was counted before.
+// The hops of the circuit that holds a receive channel at a node; NONE where its links do not fit together or it was counted before.
 pub fn hops_to(t: &[u8], nodes: u16, c: Circuit, end: Node, seen: &mut [u8]) -> u32
     requires { ⌜ HopsPre (now t) nodes (now seen) × (0 < c .0) × (end .0 < nodes) ⌝ }
     ensures { λ r. ⌜ Taken (view (now (t .entry))) (c .0) (end .0) (now (seen .entry)) (now (seen .exit)) r ⌝ }

@@ -42,12 +42,6 @@ links-held-requires c κs =
 one-port-requires : tie.Need-one-port-requires Inv-loop μ-loop
 one-port-requires c κs = let u = c .before .before in uphill-small (u .before .held-by .ensures) (u .uphill-vector .ensures)
 
-cast-result : tie.Need-cast-result Inv-loop μ-loop
-cast-result c = let small = c .before .before .before .before .before .held-by .ensures .small in omega arith
-
-add-result : tie.Need-add-result Inv-loop μ-loop
-add-result c = let small = c .before .before .before .before .before .held-by .ensures .small in omega arith
-
 returns : tie.Need-returns Inv-loop μ-loop
 returns c =
     let o = c .before in
@@ -57,7 +51,7 @@ returns c =
     let l = i .before .before .before in
     let s = l .before .before in
     l .loop .inv .2 _ (walks-none (s .args .t .now) (s .args .c .0) (l .loop .at .0) (s .args .end .0) (l .loop .hops) (s .pre .fits) (i .if1 .taken)
-    (h .held-by .ensures) (u .uphill-vector .ensures) (o .one-port .ensures .fails (not-true _ (c .if3 .taken))) (h .held-by .ensures .small))
+    (h .held-by .ensures) (u .uphill-vector .ensures) (o .one-port .ensures .fails (not-true _ (c .if3 .taken))))
 
 uphill-vector-requires : tie.Need-uphill-vector-requires Inv-loop μ-loop
 uphill-vector-requires c κs = tt
@@ -69,8 +63,8 @@ returns-2 c =
     let i = h .before in
     let l = i .before .before .before in
     let s = l .before .before in
-    l .loop .inv .2 _ (walks-none (s .args .t .now) (s .args .c .0) (l .loop .at .0) (s .args .end .0) (l .loop .hops) (s .pre .fits) {x = 0} (i .if1 .taken)
-    (h .held-by .ensures) (u .uphill-vector .ensures) (λ p. not-none p (c .if4 .taken)) (omega arith))
+    l .loop .inv .2 _ (walks-none (s .args .t .now) (s .args .c .0) (l .loop .at .0) (s .args .end .0) (l .loop .hops) (s .pre .fits) (i .if1 .taken)
+    (h .held-by .ensures) (u .uphill-vector .ensures) (λ p. not-none p (c .if4 .taken)))
 
 add-hops : tie.Need-add-hops Inv-loop μ-loop
 add-hops c = let l = c .before .before .before .before .before .before .before .before .before in omega (arith, l .loop .inv .1)
@@ -123,8 +117,6 @@ walk-spec =
     uphill-vector-requires
     links-held-requires
     one-port-requires
-    cast-result
-    add-result
     returns
     returns-2
     add-hops
