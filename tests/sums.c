@@ -2,7 +2,8 @@
  *
  *     sums [tables [seed]]
  *
- * Each table holds circuits that were opened, and then one deed is done to it that keeps the number of held links equal to the hops to all receive
+ * First tables worked by hand, of circuits that come through their source again, and every set of links that one circuit can hold in a small cube. Then
+ * each table holds circuits that were opened, and then one deed is done to it that keeps the number of held links equal to the hops to all receive
  * channels, or that a test by counting may not see for another reason. Calls at random never make such tables. 300 tables of each deed without an
  * argument. */
 #include "draw.h"
@@ -212,9 +213,87 @@ static const struct {
     {"a link more, and another received again", link_more_and_received_again, 0, 1},
 };
 
+/* ---- tables worked by hand ---- */
+
+/* What a call answers of the table: 5, for a channel that no node has, where it is sound. The library and the reference, and the bytes stay. */
+static void answers(const char *what, unsigned long which, uint16_t expected) {
+    uint8_t buffer[MAZE_TRACE_BYTES], before[MAZE_TABLE_BYTES];
+    uint16_t number, reference;
+    memcpy(before, table, MAZE_TABLE_BYTES);
+    number = maze_trace(table, MAZE_TABLE_BYTES, 0, 8, buffer, sizeof buffer).number;
+    reference = ref_trace(table, MAZE_TABLE_BYTES, 0, 8, buffer, sizeof buffer).number;
+    expect(number == expected && reference == expected && memcmp(before, table, MAZE_TABLE_BYTES) == 0, what, which, number);
+}
+
+static void empty(unsigned of) {
+    dimension = of;
+    nodes = 1u << of;
+    ref_make(table, MAZE_TABLE_BYTES, (uint16_t)of);
+    memset(table + MAZE_ARMED_AT, 255, nodes);
+}
+
+/* Circuits 1 and 2 of node 0 in a cube of dimension 3: the ports that a circuit takes from a node on, and where it is received. Several that are not sound
+ * have as many hops to their receive channels as links held. */
+static const struct by_hand {
+    const char *what;
+    struct { unsigned circuit, from; const char *ports; } ways[3];
+    struct { unsigned circuit, node; } receives[3];
+    uint16_t number;
+} by_hand[] = {
+    {"out, back and on", {{1, 0, "220"}}, {{1, 1}}, MAZE_BAD_CHANNEL},
+    {"out, back and on to the farthest node", {{1, 0, "0012"}}, {{1, 6}}, MAZE_BAD_CHANNEL},
+    {"out and back", {{1, 0, "11"}}, {{1, 0}}, MAZE_BAD_CHANNEL},
+    {"out, back and on beside a circuit of one hop", {{1, 0, "220"}, {2, 0, "1"}}, {{1, 1}, {2, 2}}, MAZE_BAD_CHANNEL},
+    {"three links at the source", {{1, 0, "220"}, {1, 0, "1"}, {2, 5, "1"}}, {{1, 1}, {1, 2}}, MAZE_NOT_SOUND},
+    {"three links at the source, one uphill", {{1, 0, "220"}, {1, 0, "1"}, {2, 3, "2"}}, {{1, 1}, {2, 7}}, MAZE_NOT_SOUND},
+    {"a second link at the node between", {{1, 0, "220"}, {1, 4, "1"}, {2, 1, "1"}}, {{1, 1}, {1, 6}}, MAZE_NOT_SOUND},
+    {"back and on, received at the source", {{1, 0, "220"}}, {{1, 0}}, MAZE_NOT_SOUND},
+    {"back and on, received at the source and behind it", {{1, 0, "220"}, {2, 6, "00"}}, {{1, 0}, {1, 1}}, MAZE_NOT_SOUND},
+    {"out by an uphill port, back and on", {{1, 0, "0010"}}, {{1, 3}}, MAZE_NOT_SOUND},
+    {"out and on, and back at another node", {{1, 0, "20"}, {1, 1, "0"}, {1, 0, "0"}}, {{1, 1}}, MAZE_NOT_SOUND},
+    {"the way back another's", {{1, 0, "2"}, {1, 0, "0"}, {2, 4, "2"}}, {{1, 1}}, MAZE_NOT_SOUND},
+    {"two circuits out and back, each on by the other's link", {{1, 0, "22"}, {2, 0, "00"}, {1, 0, "1"}}, {{1, 0}, {2, 2}}, MAZE_NOT_SOUND},
+};
+
+static void tables_by_hand(void) {
+    for (size_t i = 0; i < sizeof by_hand / sizeof *by_hand; i++) {
+        empty(3);
+        for (unsigned w = 0; w < 3 && by_hand[i].ways[w].circuit; w++) {
+            unsigned node = by_hand[i].ways[w].from;
+            for (const char *p = by_hand[i].ways[w].ports; *p; p++) {
+                put(MAZE_LINKS_AT, node, (unsigned)(*p - '0'), by_hand[i].ways[w].circuit);
+                node ^= 1u << (*p - '0');
+            }
+        }
+        for (unsigned r = 0; r < 3 && by_hand[i].receives[r].circuit; r++) receive(by_hand[i].receives[r].node, by_hand[i].receives[r].circuit);
+        answers(by_hand[i].what, i, by_hand[i].number);
+    }
+}
+
+/* Every set of links that one circuit can hold in a cube of dimension 2, from every source to every node, beside the reference. */
+static void every_set_of_links(void) {
+    uint8_t buffer[MAZE_TRACE_BYTES];
+    unsigned long sound = 0;
+    for (unsigned source = 0; source < 4; source++)
+        for (unsigned end = 0; end < 4; end++)
+            for (unsigned set = 0; set < 256; set++) {
+                uint16_t number;
+                empty(2);
+                for (unsigned link = 0; link < 8; link++)
+                    if (set >> link & 1) put(MAZE_LINKS_AT, link / 2, link % 2, MAZE_CIRCUIT(source, 3));
+                receive(end, MAZE_CIRCUIT(source, 3));
+                number = ref_trace(table, MAZE_TABLE_BYTES, 0, 8, buffer, sizeof buffer).number;
+                sound += number == MAZE_BAD_CHANNEL;
+                answers("a set of links", 1024 * source + 256 * end + set, number);
+            }
+    printf("%-42s %6lu sound %6lu not sound\n", "every set of links of one circuit", sound, 4096 - sound);
+}
+
 int main(int count, char **arguments) {
     unsigned long tables = count > 1 ? strtoul(arguments[1], NULL, 10) : 300;
     random_state = count > 2 ? strtoul(arguments[2], NULL, 10) : 1;
+    tables_by_hand();
+    every_set_of_links();
     for (size_t d = 0; d < sizeof deeds / sizeof *deeds; d++) {
         unsigned long sound = 0, unsound = 0;
         for (unsigned long done = 0; done < tables;) {

@@ -1,193 +1,203 @@
--- Following a circuit from its source to a node: by the one link that it holds there, or, where it comes through its source again, by its path.
+-- Following a circuit from its source to a node: over the link by which it leaves the source, and on over those that are its only uphill ones at their nodes.
 -- Assumes nothing.
-use mathlib.Core.Path.{_≡_, refl, ap, sym, _∙_, subst}
-use mathlib.Core.Logic.{⊎-elim, _≢_}
-use mathlib.Core.Bool.{true}
+use mathlib.Core.Path.{_≡_, refl, ap, ap₂, sym, _∙_, subst}
+use mathlib.Core.Logic.{_⊎_, ⊎-elim, _≢_}
+use mathlib.Core.Bool.{true, false, not, _&&_}
 use mathlib.Core.List.{List, [], _∷_}
-use Prim.Native.Nat.{ℕ, _+_, _-_, _^_, _≤_, _<_}
+use Prim.Native.Nat.{ℕ, _+_, _^_, _≤_, _<_}
 use native.Mathlib.Omega.{arith}
+use lib.Bits.{bitXor, bitAnd, and-le-l, xor-lt}
 use lib.ListN.{length}
-use lib.Bits.{bitXor}
 use lib.Pow.{pow-mono}
-use Rattle.common.proofs.Every.{decide}
-use Rattle.common.specs.Lists.{_∈_}
-use Rattle.common.proofs.Tests.{below-or}
+use borrow.Author.Tests.{not-true}
+use Rattle.common.specs.Lists.{keep, from}
+use Rattle.common.proofs.Tests.{below-or, clash, is-false, both, and}
 use Rattle.cube.specs.Bits.{has, flip}
-use Rattle.cube.specs.Cube.{largestDimension, portCount, NodeOf, next, sourceOf}
-use Rattle.cube.proofs.Bits.{no-ports, has-room, flip-xor}
+use Rattle.cube.specs.CubeContracts.{UphillVector}
+use Rattle.cube.specs.Cube.{largestDimension, portCount, NodeOf, next, sourceOf, uphill}
 use Rattle.cube.proofs.Axes.{axis-low, next-inside}
-use Rattle.paths.specs.Network.{Path, end, links, Exactly}
+use Rattle.cube.proofs.Bits.{has-room, flip-xor, zero-has}
+use Rattle.paths.specs.Network.{Path, Exactly}
 use Rattle.paths.specs.Permitted.{Onward, Permitted}
 use Rattle.paths.specs.CubeNetwork.{network, ports}
-use Rattle.paths.proofs.Apart.{LaterApart, apart-permitted, permitted-inside}
-use Rattle.paths.proofs.CubeNetwork.{unfolded-port}
-use Rattle.paths.proofs.Links.{On, on-cases, on-first, on-later}
-use Rattle.paths.proofs.Walks.{path-owned, path-apart}
+use Rattle.paths.proofs.CubeNetwork.{port-offered, unfolded-port, cube-nearing}
+use Rattle.paths.proofs.Links.{On, on-cases, on-first, on-later, onward-near}
 use Rattle.layout.specs.Layout.{dimensionAt}
 use Rattle.table.specs.TableContracts.{HeldBy, linksHeld}
 use Rattle.table.specs.View.{View, view, shapeOf, net, heldBy}
 use Rattle.circuit_path.specs.CircuitSound.{endFor, CircuitSound}
-use Rattle.circuit_path.specs.PathOf.{pathOf, isEmpty}
-use Rattle.circuit_path.specs.Follow.{linksFollowed, firstHop, FollowsTo}
-use Rattle.circuit_hops.specs.CountHops.{Sole, SoleWay, Walks, TakePre, FollowedPath, HopsFollowed}
-use Rattle.circuit_path.proofs.CircuitSound.{path-is, not-empty, sound-open}
-use Rattle.circuit_path.proofs.Examine.{hop-below, path-after}
-use Rattle.circuit_hops.proofs.Ways.{way-onward, way-owned, way-only, onward-way, onward-once, sole-port, shown}
+use Rattle.circuit_hops.specs.CountHops.{OnePort, Sole, SoleWay, Walks, FollowedPath}
+use Rattle.circuit_hops.proofs.OneKept.{one-kept, few-kept}
+use Rattle.circuit_hops.proofs.OneBit.{sole-bit, some-bit, bit-has, bit-only, has-rest}
+use Rattle.circuit_hops.proofs.Ways.{way-onward, way-owned, way-only, onward-way, onward-once, onward-uphill, one-nearer, shown}
+use Rattle.circuit_hops.proofs.Taken.{HopsFollowed}
 
--- a circuit that holds one link at its source: its port, and the node that it leads to
-pub record OneLink (b : List ℕ) (c s held : ℕ) : Type 0 where
-  pub port : ℕ
-  pub sole : Sole (view b) c s port
-  pub low : port < dimensionAt b
-  pub to : bitXor s held ≡ next s port
-  pub inside : NodeOf (dimensionAt b) (bitXor s held)
+-- a path on which circuit c stands, from its source over port a
+pub record Stands (v : View) (c t a : ℕ) (w : Path) : Type 0 where
+  pub permitted : Permitted (net v) (sourceOf c) (ports (shapeOf v)) t (a ∷ w)
+  pub exactly : Exactly (net v) (sourceOf c) (a ∷ w) (heldBy v c)
 
-pub one-link : {b : List ℕ} {nodes c s t held : ℕ} → TakePre b nodes c s t → HeldBy b c s held → linksHeld (view b) c s ≤ 1 → held < nodes → held ≢ 0 → OneLink b c s held
-one-link {b} {nodes} {c} {s} {t} {held} pre f few l h = ⊎-elim (λ r. found (r .0) (r .1) (r .2)) (λ r. absurd (h (no-ports 8 held (f .small) r))) (decide 8 (has held))
-  where
-    found : (p : ℕ) → p < portCount → has held p ≡ true → OneLink b c s held
-    found p k x =
-        let one = sole-port f few k x in
-        let low : p < dimensionAt b = ⊎-elim (λ y. y) (λ y. absurd (omega (arith, has-room held p x, pow-mono {i = dimensionAt b} {j = p} y, pre .count))) (below-or (dimensionAt b) p) in
-        let to : bitXor s held ≡ next s p = ap (bitXor s) (one .1) ∙ flip-xor s p ∙ ap (flip s) (sym (axis-low p (omega arith))) in
-        record {
-          port = p;
-          sole = one .0;
-          low = low;
-          to = to;
-          inside = rw to (next-inside (dimensionAt b) s p (pre .known .fits) (omega (arith, pre .source, pre .known .source)) low);
-        }
+module _ {v : View} {c t a : ℕ} {w : Path} (d : v .dimension ≤ largestDimension) (x : Stands v c t a w) where
+  pub first-below : a < v .dimension
+  unfolding Permitted
+  first-below = unfolded-port (shapeOf v) d refl a .0 (x .permitted .0)
 
--- the walk of a circuit that holds one link at its source, over port p
-module _ {b : List ℕ} {nodes c s t p start hops : ℕ} (pre : TakePre b nodes c s t) (one : Sole (view b) c s p) (low : p < dimensionAt b) (to : start ≡ next s p) (walks : Walks (view b) c t start 1 hops) where
-  v : View
-  v = view b
-
-  fits : v .dimension ≤ largestDimension
-  unfolding v
-  fits = omega (arith, shown b, pre .known .fits)
-
-  sole : Sole v c (sourceOf c) p
-  unfolding v
-  sole = subst (λ (x : ℕ). Sole (view b) c x p) (pre .source) one
-
-  begins : start ≡ next (sourceOf c) p
-  begins = to ∙ ap (λ x. next x p) (pre .source)
-
-  -- a path on which the circuit stands begins over that port, and goes on over links that are its only ones
-  record Unrolled (u : Path) : Type 0 where
-    rest : Path
-    cut : u ≡ p ∷ rest
-    onward : Onward (net v) t (next (sourceOf c) p) rest
-    owned : (m q : ℕ) → On (net v) (next (sourceOf c) p) rest m q → heldBy v c m q ≡ true
-    only : (m q : ℕ) → On (net v) (next (sourceOf c) p) rest m q → Sole v c m q
-
-  unroll : (u : Path) → Permitted (net v) (sourceOf c) (ports (shapeOf v)) t u → Exactly (net v) (sourceOf c) u (heldBy v c) → Unrolled u
+  onward : Onward (net v) t (next (sourceOf c) a) w
   unfolding Permitted network
-  unroll [] o x = absurd o
-  unroll (a ∷ u) o x = begin same
-    where
-      below : (q : ℕ) → q ∈ ports (shapeOf v) → q < portCount
-      below q m = let k = unfolded-port (shapeOf v) fits refl q .0 m in omega (arith, fits)
+  onward = x .permitted .1
 
-      same : a ≡ p
-      same = unfold Sole On in sole .1 a (below a (o .0)) (x .all (sourceOf c) a (on-first (net v) (sourceOf c) a u))
+  pub first-held : heldBy v c (sourceOf c) a ≡ true
+  unfolding On
+  first-held = x .exactly .all (sourceOf c) a (on-first (net v) (sourceOf c) a w)
 
-      begin : a ≡ p → Unrolled (a ∷ u)
-      begin e =
-          record {
-            rest = u;
-            cut = ap (_∷ u) e;
-            onward = subst (λ (y : ℕ). Onward (net v) t (next (sourceOf c) y) u) e (o .1);
-            owned = λ m q i. mine m q (back m q i);
-            only = λ m q i. unfold Sole in (mine m q (back m q i), λ r l k. other m q r (back m q i) l k);
-          }
-        where
-          back : (m q : ℕ) → On (net v) (next (sourceOf c) p) u m q → On (net v) (next (sourceOf c) a) u m q
-          back m q i = subst (λ (y : ℕ). On (net v) (next (sourceOf c) y) u m q) (sym e) i
+  later-held : (m q : ℕ) → On (net v) (next (sourceOf c) a) w m q → heldBy v c m q ≡ true
+  unfolding On network
+  later-held m q i = x .exactly .all m q (on-later (net v) (sourceOf c) a w m q i)
 
-          mine : (m q : ℕ) → On (net v) (next (sourceOf c) a) u m q → heldBy v c m q ≡ true
-          mine m q i = unfold On in x .all m q (on-later (net v) (sourceOf c) a u m q i)
+  cases : (m q : ℕ) → heldBy v c m q ≡ true → ((m ≡ sourceOf c) × (q ≡ a)) ⊎ On (net v) (next (sourceOf c) a) w m q
+  unfolding On network
+  cases m q h = on-cases (net v) (sourceOf c) a w m q (x .exactly .only m q h)
 
-          port : (m q : ℕ) → On (net v) (next (sourceOf c) a) u m q → q < portCount
-          port m q i = below q (permitted-inside (shapeOf v) (sourceOf c) t (a ∷ u) (unfold v in rw (shown b) (pre .known .source)) o .0 m q (on-later (net v) (sourceOf c) a u m q i) .1)
+  -- where it comes through its source again, its first hop is not uphill
+  not-uphill : (q : ℕ) → On (net v) (next (sourceOf c) a) w (sourceOf c) q → uphill t (sourceOf c) a ≡ true → ⊥
+  unfolding Permitted network
+  not-uphill q i e =
+      omega (
+        arith,
+        one-nearer v t (sourceOf c) a (port-offered (shapeOf v) t (sourceOf c) a (x .permitted .0) (rw (axis-low a (omega (arith, first-below))) e)),
+        onward-near (cube-nearing (shapeOf v) t) (next (sourceOf c) a) w onward (sourceOf c) q i .0,
+      )
 
-          other : (m q r : ℕ) → On (net v) (next (sourceOf c) a) u m q → r < 8 → heldBy v c m r ≡ true → r ≡ q
-          other m q r i l k =
-              ⊎-elim (λ (z : (m ≡ sourceOf c) × (r ≡ a)). z .1 ∙ e ∙ sym (unfold Sole in sole .1 q (port m q i) (subst (λ (y : ℕ). heldBy v c y q ≡ true) (z .0) (mine m q i))))
-              (λ j. onward-once v c t (next (sourceOf c) a) u (o .1) m r q j i) (on-cases (net v) (sourceOf c) a u m r (unfold On in x .only m r k))
+  -- so behind it the links are the only uphill ones,
+  later-sole : (m q : ℕ) → On (net v) (next (sourceOf c) a) w m q → Sole v c t m q
+  unfolding Sole
+  later-sole m q i = (
+    later-held m q i,
+    λ r l h k. ⊎-elim (λ e. absurd (not-uphill q (subst (λ (n : ℕ). On (net v) (next (sourceOf c) a) w n q) (e .0) i) (sym (ap₂ (uphill t) (e .0) (e .1)) ∙ k)))
+        (λ j. onward-once v c t (next (sourceOf c) a) w onward m r q j i) (cases m r h),
+  )
 
-  standing : (z : CircuitSound v c) → endFor v c (z .path) ≡ t → Unrolled (z .path)
-  standing z e = unroll (z .path) (subst (λ (y : ℕ). Permitted (net v) (sourceOf c) (ports (shapeOf v)) y (z .path)) e (z .permitted)) (z .exactly)
+  -- and of several links at the source its first hop's alone is not uphill
+  first-alone : 1 < linksHeld v c (sourceOf c) → (uphill t (sourceOf c) a ≡ false) × ((r : ℕ) → heldBy v c (sourceOf c) r ≡ true → uphill t (sourceOf c) r ≡ false → r ≡ a)
+  unfolding linksHeld
+  first-alone more = (
+    is-false _ (λ e. omega (arith, one-kept (heldBy v c (sourceOf c)) a (omega (arith, first-below)) first-held (λ j l h. ⊎-elim (λ z. z .1) (λ i. absurd (not-uphill j i e)) (cases (sourceOf c) j h)))),
+    λ r h k. ⊎-elim (λ z. z .1) (λ i. absurd (clash (onward-uphill v c t d (next (sourceOf c) a) w onward (sourceOf c) r i) k)) (cases (sourceOf c) r h),
+  )
 
-  pub one-followed : HopsFollowed (view b) c t hops
-  one-followed =
+-- a circuit that stands has such a path
+pub stands : (v : View) (c t : ℕ) (z : CircuitSound v c) → endFor v c (z .path) ≡ t → (a : ℕ) × (w : Path) × (z .path ≡ a ∷ w) × Stands v c t a w
+stands v c t z e = go (z .path) (subst (λ (n : ℕ). Permitted (net v) (sourceOf c) (ports (shapeOf v)) n (z .path)) e (z .permitted)) (z .exactly)
+  where
+    go : (u : Path) → Permitted (net v) (sourceOf c) (ports (shapeOf v)) t u → Exactly (net v) (sourceOf c) u (heldBy v c) → (a : ℕ) × (w : Path) × (u ≡ a ∷ w) × Stands v c t a w
+    go [] o x = unfold Permitted in absurd o
+    go (a ∷ w) o x = (a, w, refl, record { permitted = o; exactly = x })
+
+-- Of the links that circuit c holds at its source, as a vector, those by which a path to node t may leave it: one, if there is any.
+pub record Leaving (b : List ℕ) (c t first : ℕ) : Type 0 where
+  pub one : first ≢ 0 → OnePort first
+  pub held : (p : ℕ) → p < portCount → has first p ≡ true → (heldBy (view b) c (sourceOf c) p ≡ true) × (p < dimensionAt b)
+  pub leaves : (a : ℕ) (w : Path) → Stands (view b) c t a w → has first a ≡ true
+
+-- where there is none, it stands on no path to t
+pub leaves-none : {b : List ℕ} {c t first : ℕ} → Leaving b c t first → first ≡ 0 → (z : CircuitSound (view b) c) → endFor (view b) c (z .path) ≡ t → ⊥
+leaves-none {b} {c} {t} l e z q = let r = stands (view b) c t z q in clash (l .leaves (r .0) (r .1) (r .3)) (ap (λ x. has x (r .0)) e ∙ zero-has (r .0))
+
+-- where there is one, what walking on from there comes to, following the circuit comes to
+module _ {b : List ℕ} {c s t first : ℕ} (d : dimensionAt b ≤ largestDimension) (at : s ≡ sourceOf c) (l : Leaving b c t first) (h : first ≢ 0) where
+  small : view b .dimension ≤ largestDimension
+  small = omega (arith, shown b)
+
+  port : (p : ℕ) × (p < portCount) × (first ≡ 2 ^ p)
+  unfolding OnePort
+  port = l .one h
+
+  there : (heldBy (view b) c (sourceOf c) (port .0) ≡ true) × (port .0 < dimensionAt b)
+  there = l .held (port .0) (port .1) (ap (λ x. has x (port .0)) (port .2) ∙ bit-has (port .0))
+
+  to : bitXor s first ≡ next (sourceOf c) (port .0)
+  to = ap₂ bitXor at (port .2) ∙ flip-xor (sourceOf c) (port .0) ∙ ap (flip (sourceOf c)) (sym (axis-low (port .0) (omega (arith, port .1))))
+
+  pub leads-inside : NodeOf (dimensionAt b) (sourceOf c) → NodeOf (dimensionAt b) (bitXor s first)
+  leads-inside i = rw to (next-inside (dimensionAt b) (sourceOf c) (port .0) d i (there .1))
+
+  begins : (z : CircuitSound (view b) c) → endFor (view b) c (z .path) ≡ t → (w : Path) × (z .path ≡ port .0 ∷ w) × Stands (view b) c t (port .0) w
+  begins z e =
+      let r = stands (view b) c t z e in
+      let same : r .0 ≡ port .0 = bit-only (port .0) (r .0) (ap (λ x. has x (r .0)) (sym (port .2)) ∙ l .leaves (r .0) (r .1) (r .3)) in
+      (r .1, r .2 ∙ ap (_∷ r .1) same, subst (λ (p : ℕ). Stands (view b) c t p (r .1)) same (r .3))
+
+  pub followed : {hops : ℕ} → Walks (view b) c t (bitXor s first) 1 hops → HopsFollowed (view b) c t hops
+  followed {hops} walks =
       record {
-        found = λ l. let w = walks .way l in path-of (w .0) (subst (λ (y : ℕ). SoleWay (view b) c t y (w .0)) begins (w .1)) (w .2);
-        forced = λ z e. unfold v in let r = standing z e in
-            walks .forced (r .rest) (subst (λ (y : ℕ). SoleWay (view b) c t y (r .rest)) (sym begins) (onward-way (view b) c t _ (r .rest) (r .onward) (r .only)));
+        found = λ k. let w = walks .way k in path-of (w .0) (subst (λ (n : ℕ). SoleWay (view b) c t n (w .0)) to (w .1)) (w .2);
+        forced = λ z e. let r = begins z e in
+            walks .forced (r .0) (subst (λ (n : ℕ). SoleWay (view b) c t n (r .0)) (sym to) (onward-way (view b) c t _ (r .0) (onward small (r .2)) (later-sole small (r .2))));
         most = walks .most;
       }
     where
-      owns : (w : Path) → SoleWay (view b) c t (next (sourceOf c) p) w → (m q : ℕ) → On (net (view b)) (sourceOf c) (p ∷ w) m q → heldBy (view b) c m q ≡ true
-      owns w x m q i = unfold v Sole network in ⊎-elim (λ (e : (m ≡ sourceOf c) × (q ≡ p)). rw (e .0, e .1) (sole .0)) (λ j. way-owned (view b) c t _ w x m q j) (on-cases (net (view b)) (sourceOf c) p w m q i)
-
-      path-of : (w : Path) → SoleWay (view b) c t (next (sourceOf c) p) w → hops ≡ 1 + length w → FollowedPath (view b) c t hops
+      path-of : (w : Path) → SoleWay (view b) c t (next (sourceOf c) (port .0)) w → hops ≡ 1 + length w → FollowedPath (view b) c t hops
       path-of w x k =
-          unfold v in
           record {
-            path = p ∷ w;
-            permitted = unfold Permitted network in (unfolded-port (shapeOf (view b)) fits refl p .1 (rw (shown b) low), way-onward (view b) c t _ w x);
-            owned = λ m q i. owns w x m q (unfold On in i);
+            path = port .0 ∷ w;
+            permitted = unfold Permitted network in (unfolded-port (shapeOf (view b)) small refl (port .0) .1 (omega (arith, shown b, there .1)), way-onward (view b) c t _ w x);
+            owned = λ m q i. unfold On network in ⊎-elim (λ (e : (m ≡ sourceOf c) × (q ≡ port .0)). rw (e .0, e .1) (there .0)) (way-owned (view b) c t _ w x m q) (on-cases (net (view b)) (sourceOf c) (port .0) w m q i);
             hop-count = omega arith;
-            whole = λ z e. let r = standing z e in r .cut ∙ ap (p ∷_) (way-only (view b) c t fits _ w (r .rest) x (r .onward) (r .owned));
+            whole = λ z e. let r = begins z e in r .1 ∙ ap (port .0 ∷_) (way-only (view b) c t small _ w (r .0) x (onward small (r .2)) (later-held small (r .2)));
           }
 
--- a circuit that comes through its source again: a is the first hop of its path
-module _ {b : List ℕ} {nodes c s t a : ℕ} (pre : TakePre b nodes c s t) (e : a ≡ firstHop (view b) c s (nodes - 1)) where
-  count : nodes ≡ 2 ^ view b .dimension
-  count = pre .count ∙ ap (2 ^_) (sym (shown b))
+-- the links at the source s, as the code has them
+module _ {b : List ℕ} {nodes c s held : ℕ} (t : ℕ) (d : dimensionAt b ≤ largestDimension) (count : nodes ≡ 2 ^ dimensionAt b) (at : s ≡ sourceOf c) (f : HeldBy b c s held) where
+  here : (p : ℕ) → p < portCount → has held p ≡ heldBy (view b) c (sourceOf c) p
+  unfolding view
+  here p l = f .held p l ∙ ap (λ n. heldBy (view b) c n p) at
 
-  most : view b .dimension ≤ largestDimension
-  most = omega (arith, shown b, pre .known .fits)
+  fits : view b .dimension ≤ largestDimension
+  fits = omega (arith, shown b)
 
-  stands-open : CircuitSound (view b) c → a < portCount
-  stands-open z = hop-below (view b) c refl most count (sound-open (view b) c z) (pre .source) e
+  -- a held port is one of the cube's where the vector is one of its ports
+  inside : held < nodes → (p : ℕ) → p < portCount → heldBy (view b) c (sourceOf c) p ≡ true → p < dimensionAt b
+  inside low p l h =
+      ⊎-elim (λ y. y) (λ y. absurd (omega (arith, has-room held p (here p l ∙ h), pow-mono {i = dimensionAt b} {j = p} y))) (below-or (dimensionAt b) p)
 
-  pub back-none : 8 ≤ a → HopsFollowed (view b) c t 4096
-  back-none l = record { found = λ k. absurd (omega arith); forced = λ z q. absurd (omega (arith, stands-open z)); most = omega arith }
+  below : {a : ℕ} {w : Path} → Stands (view b) c t a w → a < portCount
+  below x = omega (arith, fits, first-below fits x)
 
-  module _ {start hops : ℕ} (l : a < portCount) (to : start ≡ next s a) (f : FollowsTo (view b) c start (nodes - 1) t hops) where
-    path-is-followed : pathOf (view b) c ≡ a ∷ linksFollowed (view b) c start (nodes - 1)
-    path-is-followed = path-after (view b) c refl most count (pre .source) e l to
+  -- one link at most
+  pub leaving-one : linksHeld (view b) c s ≤ 1 → held < nodes → Leaving b c t held
+  unfolding linksHeld OnePort
+  leaving-one few low =
+      record {
+        one = λ h. let p = some-bit (f .small) here h in
+            (p .0, p .1, sole-bit (f .small) here (p .1) (p .2) (few-kept (heldBy (view b) c (sourceOf c)) (subst (λ (n : ℕ). length (keep (heldBy (view b) c n) (from 0 8)) ≤ 1) at few) (p .0) (p .1) (p .2)));
+        held = λ p l h. let k = sym (here p l) ∙ h in (k, inside low p l k);
+        leaves = λ a w x. here a (below x) ∙ first-held fits x;
+      }
 
-    path-end : endFor (view b) c (pathOf (view b) c) ≡ end (net (view b)) start (linksFollowed (view b) c start (nodes - 1))
-    path-end = ap (endFor (view b) c) path-is-followed ∙ (unfold end network in ap (λ x. end (net (view b)) x (linksFollowed (view b) c start (nodes - 1))) (sym (to ∙ ap (λ x. next x a) (pre .source))))
+  -- several: those that are not uphill
+  module _ {vector : ℕ} (u : UphillVector s t vector) (more : 1 < linksHeld (view b) c s) where
+    pub out-small : bitXor held (bitAnd held vector) < 256
+    out-small = xor-lt 8 held (bitAnd held vector) (f .small) (omega (arith, and-le-l held vector, f .small))
 
-    pub back-followed : HopsFollowed (view b) c t hops
-    back-followed =
+    out-bits : (p : ℕ) → p < portCount → has (bitXor held (bitAnd held vector)) p ≡ (heldBy (view b) c (sourceOf c) p && not (uphill t (sourceOf c) p))
+    out-bits p l = has-rest held vector p ∙ ap₂ (λ x y. x && not y) (here p l) (u .bits p ∙ ap (λ n. uphill t n p) at)
+
+    alone : {a : ℕ} {w : Path} → Stands (view b) c t a w → (uphill t (sourceOf c) a ≡ false) × ((r : ℕ) → heldBy (view b) c (sourceOf c) r ≡ true → uphill t (sourceOf c) r ≡ false → r ≡ a)
+    alone x = first-alone fits x (subst (λ (n : ℕ). 1 < linksHeld (view b) c n) at more)
+
+    pub leaving-several : held < nodes → OnePort (bitXor held (bitAnd held vector)) → Leaving b c t (bitXor held (bitAnd held vector))
+    leaving-several low one =
         record {
-          found = λ k. path-of (f .ends k .0) (f .ends k .1);
-          forced = λ z q. f .forced (sym q ∙ ap (endFor (view b) c) (sym (path-is (view b) c z)) ∙ path-end);
-          most = f .most;
+          one = λ h. one;
+          held = λ p l h. let k = both _ _ (sym (out-bits p l) ∙ h) .0 in (k, inside low p l k);
+          leaves = λ a w x. out-bits a (below x) ∙ and (first-held fits x) (ap not (alone x .0));
         }
+
+    -- where they are not one, it stands on no path to t
+    pub several-none : (OnePort (bitXor held (bitAnd held vector)) → ⊥) → (z : CircuitSound (view b) c) → endFor (view b) c (z .path) ≡ t → ⊥
+    several-none none z e = go (stands (view b) c t z e .3)
       where
-        there : pathOf (view b) c ≢ []
-        there q = not-empty (a ∷ linksFollowed (view b) c start (nodes - 1)) (unfold isEmpty in refl) (sym path-is-followed ∙ q)
-
-        path-of : t ≡ end (net (view b)) start (linksFollowed (view b) c start (nodes - 1)) → hops ≡ 1 + length (linksFollowed (view b) c start (nodes - 1)) → FollowedPath (view b) c t hops
-        path-of q k =
-            record {
-              path = pathOf (view b) c;
-              permitted = subst (λ (x : ℕ). Permitted (net (view b)) (sourceOf c) (ports (shapeOf (view b))) x (pathOf (view b) c)) (path-end ∙ sym q)
-                  (apart-permitted (shapeOf (view b)) (sourceOf c) (pathOf (view b) c) (apart there));
-              owned = λ m r o. owns m r o;
-              hop-count = omega (arith, ap length path-is-followed);
-              whole = λ z x. sym (path-is (view b) c z);
-            }
-          where
-            apart : pathOf (view b) c ≢ [] → LaterApart (shapeOf (view b)) (pathOf (view b) c)
-            apart h = unfold pathOf in path-apart (shapeOf (view b)) (heldBy (view b) c) (sourceOf c) h
-
-            owns : (m r : ℕ) → (m, r) ∈ links (net (view b)) (sourceOf c) (pathOf (view b) c) → heldBy (view b) c m r ≡ true
-            owns m r o = unfold pathOf On in path-owned (shapeOf (view b)) (heldBy (view b) c) (sourceOf c) m r o
+        go : {a : ℕ} {w : Path} → Stands (view b) c t a w → ⊥
+        go {a} x =
+            unfold OnePort in
+            none (a, below x, sole-bit out-small out-bits (below x) (and (first-held fits x) (ap not (alone x .0))) (λ r l k. let h = both _ _ k in alone x .1 r (h .0) (not-true _ (h .1))))

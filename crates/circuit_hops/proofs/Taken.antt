@@ -3,30 +3,26 @@
 use mathlib.Core.Path.{_≡_, refl, ap, sym, _∙_, subst}
 use mathlib.Core.Logic.{_⊎_, inl, inr, ⊎-elim, _≢_}
 use mathlib.Core.Bool.{Bool, true, false}
-use mathlib.Core.List.{List, [], _∷_}
+use mathlib.Core.List.{List}
 use Prim.Native.Nat.{ℕ, _*_, _^_, _≤_, _<_}
 use native.Mathlib.Omega.{arith}
 use lib.Dec.{eqb}
 use lib.ListN.{length, getD}
 use lib.Bits.{bitAnd}
-use Rattle.common.specs.Lists.{_∈_}
 use Rattle.common.proofs.Tests.{below-or, clash, is-false}
 use Rattle.cube.specs.Bits.{has}
 use Rattle.cube.specs.Cube.{largestDimension, portCount, NodeOf, VectorOf, sourceOf}
-use Rattle.cube.proofs.Bits.{zero-has, high-has, no-bit-above}
+use Rattle.cube.proofs.Bits.{high-has, no-bit-above}
 use Rattle.cube.proofs.Ports.{most-nodes}
-use Rattle.paths.specs.Network.{Path, links}
-use Rattle.paths.specs.Permitted.{Permitted}
-use Rattle.paths.specs.CubeNetwork.{ports}
 use Rattle.paths.proofs.Apart.{permitted-inside}
 use Rattle.paths.proofs.CubeNetwork.{unfolded-port}
-use Rattle.paths.proofs.Links.{On, on-first}
+use Rattle.paths.proofs.Links.{On}
 use Rattle.layout.specs.Layout.{dimensionAt}
 use Rattle.table.specs.TableContracts.{HeldBy}
-use Rattle.table.specs.View.{view, shapeOf, net, heldBy}
+use Rattle.table.specs.View.{View, view, shapeOf, net, heldBy}
 use Rattle.circuit_path.specs.CircuitSound.{endFor, CircuitSound}
 use Rattle.circuit_hops.specs.Seen.{withMarks}
-use Rattle.circuit_hops.specs.CountHops.{TakePre, HopsFollowed, Taken}
+use Rattle.circuit_hops.specs.CountHops.{FollowedPath, Taken, HopsPre}
 use Rattle.circuit_hops.proofs.Seen.{not-seen, seen-before, marks-after}
 use Rattle.circuit_hops.proofs.Ways.{shown}
 
@@ -43,18 +39,7 @@ module _ (b : List ℕ) (c : ℕ) (d : dimensionAt b ≤ largestDimension) (i : 
   pub held-inside : (m q : ℕ) → heldBy (view b) c m q ≡ true → (NodeOf (dimensionAt b) m) × (q < dimensionAt b)
   held-inside m q o = link-inside m q (unfold On in s .exactly .only m q o)
 
-  -- so one at its source at least, and all of those in a vector of the cube's ports
-  pub source-held : {held : ℕ} → HeldBy b c (sourceOf c) held → held ≡ 0 → ⊥
-  source-held {held} f z = go (s .path) (s .permitted) (λ m q o. s .exactly .all m q o)
-    where
-      go : (u : Path) → Permitted (net (view b)) (sourceOf c) (ports (shapeOf (view b))) (endFor (view b) c (s .path)) u → ((m q : ℕ) → (m, q) ∈ links (net (view b)) (sourceOf c) u → heldBy (view b) c m q ≡ true) → ⊥
-      go [] o all = unfold Permitted in o
-      go (a ∷ u) o all =
-          unfold Permitted in
-          let k = unfolded-port (shapeOf (view b)) small refl a .0 (o .0) in
-          let l : a < portCount = omega (arith, shown b) in
-          clash (f .held a l ∙ (unfold view in all (sourceOf c) a (unfold On in on-first (net (view b)) (sourceOf c) a u))) (ap (λ x. has x a) z ∙ zero-has a)
-
+  -- so those at its source are in a vector of the cube's ports
   pub vector-inside : {held : ℕ} → HeldBy b c (sourceOf c) held → VectorOf (dimensionAt b) held
   vector-inside {held} f = no-bit-above (dimensionAt b) held (λ p l. is-false (has held p) (λ t. go p l t (below-or 8 p)))
     where
@@ -69,11 +54,28 @@ nodes-most d m = omega (arith, most-nodes d)
 pub positive : {c : ℕ} → c ≢ 0 → 0 < c
 positive {c} h = ⊎-elim (λ z. absurd (h (omega arith))) (λ z. z) (below-or 1 c)
 
-pub source-small : {b : List ℕ} {nodes c s t : ℕ} → TakePre b nodes c s t → s < 256
-source-small pre = omega (arith, pre .source, pre .known .source, most-nodes (pre .known .fits))
+pub source-inside : {b : List ℕ} {nodes c : ℕ} {m : List ℕ} → HopsPre b nodes m → 0 < c → c ≤ 8 * nodes → NodeOf (dimensionAt b) (sourceOf c)
+source-inside pre h k = omega (arith, pre .count)
 
--- a circuit that is followed and marked; one that was marked before; and one that cannot stand on a path to t
+-- what following circuit c to node t comes to
+pub record HopsFollowed (v : View) (c t hops : ℕ) : Type 0 where
+  pub found : hops < 4096 → FollowedPath v c t hops
+  pub forced : (s : CircuitSound v c) → endFor v c (s .path) ≡ t → hops < 4096
+  pub most : hops < 8192
+
+-- a circuit that cannot stand on a path to t; one that is followed and marked; one that was marked before; and one with a link that the cube lacks
 module _ (b : List ℕ) (c t : ℕ) (before after : List ℕ) where
+  pub taken-none : (c ≤ 8 * 2 ^ view b .dimension → (z : CircuitSound (view b) c) → endFor (view b) c (z .path) ≡ t → ⊥) → Taken (view b) c t before after 4096
+  taken-none h =
+      record {
+        in-range = λ k. absurd (omega arith);
+        found = λ k. absurd (omega arith);
+        unseen = λ k. absurd (omega arith);
+        marks = λ k. absurd (omega arith);
+        forced = λ l z q u. absurd (h l z q);
+        most = omega arith;
+      }
+
   module _ {s held : ℕ} (q : s ≡ sourceOf c) (at : HeldBy b c s held) where
     f : HeldBy b c (sourceOf c) held
     f = subst (λ (x : ℕ). HeldBy b c x held) q at
@@ -104,13 +106,5 @@ module _ (b : List ℕ) (c t : ℕ) (before after : List ℕ) where
           most = omega arith;
         }
 
-  pub taken-none : (c ≤ 8 * 2 ^ view b .dimension → CircuitSound (view b) c → ⊥) → Taken (view b) c t before after 4096
-  taken-none h =
-      record {
-        in-range = λ k. absurd (omega arith);
-        found = λ k. absurd (omega arith);
-        unseen = λ k. absurd (omega arith);
-        marks = λ k. absurd (omega arith);
-        forced = λ l z q u. absurd (h l z);
-        most = omega arith;
-      }
+    pub taken-absent : {nodes : ℕ} {m : List ℕ} → HopsPre b nodes m → NodeOf (dimensionAt b) (sourceOf c) → nodes ≤ held → Taken (view b) c t before after 4096
+    taken-absent pre i l = taken-none (λ k z e. omega (arith, pre .count, vector-inside b c (pre .fits) i z f))

@@ -5,27 +5,30 @@ use mathlib.Core.Path.{_≡_}
 use mathlib.Core.Logic.{_⊎_, _≢_}
 use mathlib.Core.Bool.{true}
 use mathlib.Core.List.{List, [], _∷_}
-use Prim.Native.Nat.{ℕ, _+_, _≤_, _<_}
+use Prim.Native.Nat.{ℕ, _+_, _^_, _≤_, _<_}
 use lib.ListN.{length}
 use Rattle.common.specs.Lists.{_∈_}
-use Rattle.cube.specs.Cube.{largestDimension, portCount, next, sourceOf, NodeOf, cubeNodes}
+use Rattle.cube.specs.Cube.{largestDimension, portCount, next, sourceOf, NodeOf, cubeNodes, uphill}
 use Rattle.paths.specs.Network.{Path, links, offered}
 use Rattle.paths.specs.Permitted.{Permitted}
 use Rattle.paths.specs.CubeNetwork.{ports, circuitCount}
 use Rattle.layout.specs.Layout.{tableLength, dimensionAt}
 use Rattle.table.specs.View.{View, shapeOf, net, heldBy}
 use Rattle.circuit_path.specs.CircuitSound.{endFor, CircuitSound}
-use Rattle.circuit_path.specs.Follow.{HasSource}
 use Rattle.circuit_hops.specs.Seen.{markCount, seenAt, Seen}
 
--- at node n circuit c holds the link out of port p and no other
-unfoldable pub Sole : View → ℕ → ℕ → ℕ → Type 0
-Sole v c n p = (heldBy v c n p ≡ true) × ((q : ℕ) → q < portCount → heldBy v c n q ≡ true → q ≡ p)
+-- a vector of one port
+unfoldable pub OnePort : ℕ → Type 0
+OnePort vector = (p : ℕ) × (p < portCount) × (vector ≡ 2 ^ p)
 
--- w leads on from node n to node t, uphill at every hop, over links of circuit c that are its only ones at their nodes
+-- of the links that circuit c holds at node n, the one out of port p alone is uphill towards node t
+unfoldable pub Sole : View → ℕ → ℕ → ℕ → ℕ → Type 0
+Sole v c t n p = (heldBy v c n p ≡ true) × ((q : ℕ) → q < portCount → heldBy v c n q ≡ true → uphill t n q ≡ true → q ≡ p)
+
+-- w leads on from node n to node t, uphill at every hop, over links of circuit c that are its only uphill ones at their nodes
 unfoldable pub SoleWay : View → ℕ → ℕ → ℕ → Path → Type 0
 SoleWay v c t n [] = n ≡ t
-SoleWay v c t n (p ∷ w) = (n ≢ t) × (p ∈ offered (net v) t n) × Sole v c n p × SoleWay v c t (next n p) w
+SoleWay v c t n (p ∷ w) = (n ≢ t) × (p ∈ offered (net v) t n) × Sole v c t n p × SoleWay v c t (next n p) w
 
 -- what walking on such a way from node n comes to, after some hops
 pub record Walks (v : View) (c t n walked hops : ℕ) : Type 0 where
@@ -39,13 +42,6 @@ pub record WalkPre (b : List ℕ) (n t : ℕ) : Type 0 where
   pub start : NodeOf (dimensionAt b) n
   pub target : NodeOf (dimensionAt b) t
 
--- what looking for the path of circuit c from its source s to node t asks
-pub record TakePre (b : List ℕ) (nodes c s t : ℕ) : Type 0 where
-  pub known : HasSource b c
-  pub source : s ≡ sourceOf c
-  pub count : nodes ≡ cubeNodes (dimensionAt b)
-  pub target : t < nodes
-
 -- a permitted path to node t over links of circuit c, and the circuit's own if it stands on one that ends there
 pub record FollowedPath (v : View) (c t hops : ℕ) : Type 0 where
   pub path : Path
@@ -54,13 +50,7 @@ pub record FollowedPath (v : View) (c t hops : ℕ) : Type 0 where
   pub hop-count : hops ≡ length path
   pub whole : (s : CircuitSound v c) → endFor v c (s .path) ≡ t → s .path ≡ path
 
--- what following circuit c to node t comes to
-pub record HopsFollowed (v : View) (c t hops : ℕ) : Type 0 where
-  pub found : hops < 4096 → FollowedPath v c t hops
-  pub forced : (s : CircuitSound v c) → endFor v c (s .path) ≡ t → hops < 4096
-  pub most : hops < 8192
-
--- and where it is marked besides: a circuit that is marked already is not followed again
+-- what following circuit c to node t and marking it comes to: a circuit that is marked already is not followed again
 pub record Taken (v : View) (c t : ℕ) (before after : List ℕ) (hops : ℕ) : Type 0 where
   pub in-range : hops < 4096 → c ≤ circuitCount (shapeOf v)
   pub found : hops < 4096 → FollowedPath v c t hops

@@ -1,19 +1,29 @@
 // The hops of one circuit from its source to a node, each circuit counted once.
 ghost use mathlib.Core.Path.{_≡_};
 ghost use mathlib.Core.Bool.{true};
-ghost use Prim.Native.Nat.{_<_, _≤_};
+ghost use Prim.Native.Nat.{_<_};
 ghost use lib.Dec.{eqb};
 ghost use lib.Bits.{bitAnd};
 ghost use lib.ListN.{length, getD};
-ghost use Rattle.table.specs.TableContracts.{HeldBy, linksHeld};
+ghost use Rattle.common.specs.Decides.{Decides};
 ghost use Rattle.table.specs.View.{view};
 ghost use Rattle.circuit_hops.specs.Seen.{withMarks};
-ghost use Rattle.circuit_hops.specs.CountHops.{Walks, WalkPre, TakePre, HopsFollowed, Taken, HopsPre};
-use circuit_path::NONE;
+ghost use Rattle.circuit_hops.specs.CountHops.{OnePort, Walks, WalkPre, Taken, HopsPre};
 use cube::Circuit;
 use cube::Node;
 
-// The hops of a circuit that has made one, to a node: at each node the one link that it holds there, and uphill. NONE or more where it does not lead there.
+// More hops than there are links: the answer where a circuit does not lead where it should.
+pub const NONE: u32 = 4096;
+
+// Whether a vector has exactly one port.
+fn one_port(vector: u16) -> bool
+    requires { ⌜ vector < 256 ⌝ }
+    ensures { λ r. ⌜ Decides (OnePort vector) r ⌝ }
+{
+    vector == 1 << cube::lowest_bit(vector)
+}
+
+// The hops of a circuit that has made one, to a node: at each node the link that it holds there and that is uphill, if that is one. NONE where it does not lead there.
 fn walk(t: &[u8], c: Circuit, from: Node, end: Node) -> u32
     requires { ⌜ WalkPre (now t) (from .0) (end .0) ⌝ }
     ensures { λ r. ⌜ Walks (view (now (t .entry))) (c .0) (end .0) (from .0) 1 r ⌝ }
@@ -23,28 +33,19 @@ fn walk(t: &[u8], c: Circuit, from: Node, end: Node) -> u32
     while at.0 != end.0 {
         // The count beside the vector, and the vector behind both ends of the test: so the compiler reads the row in one go.
         let held = table::held_by(t, c, at);
+        let on = held & cube::uphill_vector(at, end);
         if table::links_held(t, c, at) > 1 {
-            return NONE + held as u32;
+            if !one_port(on) {
+                return NONE;
+            }
         }
-        if held & cube::uphill_vector(at, end) == 0 {
+        if on == 0 {
             return NONE;
         }
-        at = Node(at.0 ^ held);
+        at = Node(at.0 ^ on);
         hops += 1;
     }
     hops
-}
-
-// The hops of a circuit that holds several links at its source: its path comes through there again.
-fn hops_back(t: &[u8], nodes: u16, c: Circuit, source: Node, end: Node) -> u32
-    requires { ⌜ TakePre (now t) nodes (c .0) (source .0) (end .0) ⌝ }
-    ensures { λ r. ⌜ HopsFollowed (view (now (t .entry))) (c .0) (end .0) r ⌝ }
-{
-    let first = circuit_path::first_hop(t, c, source, nodes - 1);
-    if first.0 >= cube::NO_PORT {
-        return NONE;
-    }
-    circuit_path::follow(t, c, cube::neighbour(source, first), nodes - 1, end)
 }
 
 // Marks the links that a circuit holds at its source. No other circuit holds one of them: so where one was marked before, the circuit was.
@@ -62,50 +63,7 @@ fn mark_new(source: Node, held: u16, seen: &mut [u8]) -> bool
     true
 }
 
-// The hops of a circuit to a node, where it holds at most one link at its source, and where it holds several.
-fn one_link(
-    t: &[u8],
-    nodes: u16,
-    c: Circuit,
-    source: Node,
-    held: u16,
-    end: Node,
-    seen: &mut [u8],
-) -> u32
-    requires { ⌜ TakePre (now t) nodes (c .0) (source .0) (end .0) × HeldBy (now t) (c .0) (source .0) held × (held < nodes) × (length (now seen) ≡ 256) ⌝ }
-    requires { ⌜ linksHeld (view (now t)) (c .0) (source .0) ≤ 1 ⌝ }
-    ensures { λ r. ⌜ Taken (view (now (t .entry))) (c .0) (end .0) (now (seen .entry)) (now (seen .exit)) r ⌝ }
-{
-    if held == 0 {
-        return NONE;
-    }
-    if mark_new(source, held, seen) {
-        walk(t, c, Node(source.0 ^ held), end)
-    } else {
-        NONE
-    }
-}
-
-fn several_links(
-    t: &[u8],
-    nodes: u16,
-    c: Circuit,
-    source: Node,
-    held: u16,
-    end: Node,
-    seen: &mut [u8],
-) -> u32
-    requires { ⌜ TakePre (now t) nodes (c .0) (source .0) (end .0) × HeldBy (now t) (c .0) (source .0) held × (length (now seen) ≡ 256) ⌝ }
-    ensures { λ r. ⌜ Taken (view (now (t .entry))) (c .0) (end .0) (now (seen .entry)) (now (seen .exit)) r ⌝ }
-{
-    if mark_new(source, held, seen) {
-        hops_back(t, nodes, c, source, end)
-    } else {
-        NONE
-    }
-}
-
-// The hops of the circuit that holds a receive channel at a node, or 4,096 and more where its links do not fit together or it was counted before.
+// The hops of the circuit that holds a receive channel at a node; NONE where its links do not fit together or it was counted before.
 pub fn hops_to(t: &[u8], nodes: u16, c: Circuit, end: Node, seen: &mut [u8]) -> u32
     requires { ⌜ HopsPre (now t) nodes (now seen) × (0 < c .0) × (end .0 < nodes) ⌝ }
     ensures { λ r. ⌜ Taken (view (now (t .entry))) (c .0) (end .0) (now (seen .entry)) (now (seen .exit)) r ⌝ }
@@ -115,14 +73,25 @@ pub fn hops_to(t: &[u8], nodes: u16, c: Circuit, end: Node, seen: &mut [u8]) -> 
     }
     let source = cube::source_of(c);
     let held = table::held_by(t, c, source);
+    let mut first = held;
     if table::links_held(t, c, source) > 1 {
+        // Its path comes through its source again, so it went out over a port that is not uphill, and the others are uphill.
+        first = held ^ (held & cube::uphill_vector(source, end));
+        if !one_port(first) {
+            return NONE;
+        }
         if nodes <= held {
             return NONE;
         }
-        return several_links(t, nodes, c, source, held, end, seen);
-    }
-    if held >= nodes {
+    } else if held >= nodes {
         return NONE;
     }
-    one_link(t, nodes, c, source, held, end, seen)
+    if first == 0 {
+        return NONE;
+    }
+    if mark_new(source, held, seen) {
+        walk(t, c, Node(source.0 ^ first), end)
+    } else {
+        NONE
+    }
 }

@@ -7,7 +7,6 @@ use Prim.Native.Nat.{ℕ, zero, suc, _+_, _/_, _%_, _^_, _≤_, _<_}
 use native.Mathlib.Omega.{arith}
 use native.Mathlib.Numerals.{add-one}
 use borrow.Author.Tests.{eq-eqb, ne-eqb}
-use Rattle.paths.specs.Network.{end}
 use Rattle.common.specs.Lists.{_∈_, keep, from, lowest}
 use Rattle.common.proofs.Lists.{keep-yes, keep-no, keep-nil, keep-mem, keep-keep, keep-same}
 use Rattle.cube.specs.Bits.{bitAt, has}
@@ -129,16 +128,6 @@ module _ (v : View) (c n vector : ℕ) where
   follow-end q e h =
       let z : q ≡ firstOr 8 taken = e ∙ lowest-taken in
       walk-none (net v) (heldBy v c) 8 (portsOf portCount vector) n (first-none taken (λ p m. taken-port p m .0) (omega arith))
-
--- one hop of the walk: what is left ends where all of it ends
-module _ (v : View) (c n vector q rest m : ℕ) (e : q ≡ lowest (takes v c n vector) 8 0) (h : q < portCount) (w : Without vector q rest) (to : m ≡ next n q) where
-  pub hop-ends : end (net v) m (linksFollowed v c m rest) ≡ end (net v) n (linksFollowed v c n vector)
-  unfolding end network
-  hop-ends = rw (follow-on v c n vector q rest e h w, to)
-
-pub walk-ends : (v : View) (c n vector q : ℕ) → q ≡ lowest (takes v c n vector) 8 0 → 8 ≤ q → n ≡ end (net v) n (linksFollowed v c n vector)
-unfolding end
-walk-ends v c n vector q e h = rw (follow-end v c n vector q e h)
 
 pub hop-port : (v : View) (c n vector p : ℕ) → p ∈ firstHopChoices (net v) (portsOf portCount vector) (heldBy v c) n → p < portCount
 hop-port v c n vector p m = ports-mem 8 vector (first-choice (net v) (portsOf portCount vector) (heldBy v c) n p m .0) .0

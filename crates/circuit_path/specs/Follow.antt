@@ -3,12 +3,12 @@
 use mathlib.Core.Path.{_≡_}
 use mathlib.Core.Bool.{Bool, _&&_}
 use mathlib.Core.List.{List}
-use Prim.Native.Nat.{ℕ, _+_, _≤_, _<_}
+use Prim.Native.Nat.{ℕ, _≤_, _<_}
 use lib.ListN.{length}
 use Rattle.cube.specs.Bits.{has}
 use Rattle.cube.specs.Cube.{largestDimension, portCount, next, sourceOf, NodeOf}
 use Rattle.cube.specs.Helical.{portsOf, firstOr, noPort}
-use Rattle.paths.specs.Network.{Path, end}
+use Rattle.paths.specs.Network.{Path}
 use Rattle.paths.specs.Recover.{walkFrom, firstHopChoices}
 use Rattle.layout.specs.Layout.{tableLength, dimensionAt}
 use Rattle.table.specs.View.{View, net, heldBy}
@@ -35,9 +35,3 @@ pub record HasSource (b : List ℕ) (c : ℕ) : Type 0 where
   pub fits : dimensionAt b ≤ largestDimension
   pub circuit : 0 < c
   pub source : NodeOf (dimensionAt b) (sourceOf c)
-
--- what following the links of circuit c from a node over the ports of a vector comes to, where it should end at node t, after one hop
-pub record FollowsTo (v : View) (c start vector t hops : ℕ) : Type 0 where
-  pub ends : hops < 4096 → (t ≡ end (net v) start (linksFollowed v c start vector)) × (hops ≡ 1 + length (linksFollowed v c start vector))
-  pub forced : t ≡ end (net v) start (linksFollowed v c start vector) → hops < 4096
-  pub most : hops < 8192

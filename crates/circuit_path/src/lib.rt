@@ -12,13 +12,10 @@ ghost use Rattle.circuit_path.specs.CircuitSound.{endFor};
 ghost use Rattle.circuit_path.specs.PathOf.{pathOf};
 ghost use Rattle.circuit_path.specs.OpenCircuit.{isOpenIn};
 ghost use Rattle.circuit_path.specs.Traced.{tracedInto};
-ghost use Rattle.circuit_path.specs.Follow.{takes, comesBack, firstHop, HasSource, FollowsTo};
+ghost use Rattle.circuit_path.specs.Follow.{takes, comesBack, firstHop, HasSource};
 use cube::Circuit;
 use cube::Node;
 use cube::Port;
-
-// More hops than there are links: the answer where a circuit does not lead where it should.
-pub const NONE: u32 = 4096;
 
 // How many hops a path has, and the node where it ends.
 pub struct WrittenPath {
@@ -82,7 +79,7 @@ fn first_of(found: Port, p: Port) -> Port
 }
 
 // The first hop of a circuit's path from its source: one whose way back it holds too, or else the lowest. 8 where it holds none.
-pub fn first_hop(t: &[u8], c: Circuit, s: Node, vector: u16) -> Port
+fn first_hop(t: &[u8], c: Circuit, s: Node, vector: u16) -> Port
     requires { ⌜ Within (now t) (s .0) 0 ⌝ }
     ensures { λ r. ⌜ r .0 ≡ firstHop (view (now (t .entry))) (c .0) (s .0) vector ⌝ }
 {
@@ -107,30 +104,6 @@ pub fn is_open(t: &[u8], c: Circuit) -> bool
 {
     let nodes = cube::node_count(table::dimension(t));
     table::held_by(t, c, cube::source_of(c)) & (nodes - 1) != 0
-}
-
-// Follows the links of a circuit from a node over the ports of a vector, each once. Answers how many hops that is, and one before them, where it ends at
-// a known node; NONE where it does not. The test of a lent table asks for it between reads of rows: with a call of `write_path` in its place the compiler keeps
-// less of those in registers, and a full table takes a tenth longer (docs/PERFORMANCE.md).
-pub fn follow(t: &[u8], c: Circuit, start: Node, vector: u16, end: Node) -> u32
-    requires { ⌜ (vector < 256) × Within (now t) (start .0) 0 ⌝ }
-    ensures { λ r. ⌜ FollowsTo (view (now (t .entry))) (c .0) (start .0) vector (end .0) r ⌝ }
-{
-    let mut at = start;
-    let mut left = vector;
-    let mut count: u32 = 1;
-    loop {
-        let q = held_port(t, c, at, left);
-        if q.0 >= cube::NO_PORT {
-            if at.0 == end.0 {
-                return count;
-            }
-            return NONE;
-        }
-        count += 1;
-        at = cube::neighbour(at, q);
-        left = cube::without(left, q);
-    }
 }
 
 // Writes the ports of an open circuit from the start of a buffer, one byte a hop in path order.

@@ -10,7 +10,7 @@ ghost use Rattle.table.specs.View.{view};
 ghost use Rattle.soundness.specs.Counting.{Counts, Frees};
 ghost use Rattle.soundness.specs.SoundTest.{soundTest};
 ghost use Rattle.soundness.specs.TestContracts.{Usable, ReceivePre, TableAnswer};
-use circuit_path::NONE;
+use circuit_hops::NONE;
 use common::refusal;
 use cube::Circuit;
 use cube::Node;

@@ -1,13 +1,15 @@
 -- `circuit_hops::walk` meets its contract: what the rest of the way comes to, the whole way comes to.
 -- Assumes nothing.
+use mathlib.Core.Logic.{⊎-elim}
 use Prim.Native.Nat.{ℕ, _+_, _^_, _≤_, _<_}
 use native.Mathlib.Omega.{arith}
 use lib.Dec.{lit<}
+use borrow.Author.Tests.{not-true, not-false}
 use Rattle.cube.proofs.Ports.{below-256}
 use Rattle.layout.specs.Layout.{dimensionAt}
 use Rattle.table.specs.View.{view, net}
 use Rattle.circuit_hops.specs.CountHops.{Walks}
-use Rattle.circuit_hops.proofs.Ways.{walks-here, walks-several, walks-flat, walks-on, turn, distance-most, shown}
+use Rattle.circuit_hops.proofs.Ways.{uphill-small, few-one, not-none, walks-here, walks-none, walks-on, turn, distance-most, shown}
 use Rattle.circuit_hops.proofs.walk.Statement.{statement}
 use Rattle.circuit_hops.proofs.walk.Tie as tie
 
@@ -33,38 +35,36 @@ held-by-requires c κs =
 
 links-held-requires : tie.Need-links-held-requires Inv-loop μ-loop
 links-held-requires c κs =
-    let l = c .before .before .before .before in
+    let l = c .before .before .before .before .before in
     let s = l .before .before in
     record { bytes = s .pre .bytes; node = below-256 (s .pre .fits) (l .loop .inv .0); port = lit< tt }
 
-cast-result : tie.Need-cast-result Inv-loop μ-loop
-cast-result c = let small = c .before .before .held-by .ensures .small in omega arith
-
-add-result : tie.Need-add-result Inv-loop μ-loop
-add-result c = let small = c .before .before .held-by .ensures .small in omega arith
+one-port-requires : tie.Need-one-port-requires Inv-loop μ-loop
+one-port-requires c κs = let u = c .before .before in uphill-small (u .before .held-by .ensures) (u .uphill-vector .ensures)
 
 returns : tie.Need-returns Inv-loop μ-loop
 returns c =
-    let k = c .before in
-    let h = k .before in
+    let o = c .before in
+    let u = o .before .before .before in
+    let h = u .before in
     let i = h .before in
     let l = i .before .before .before in
     let s = l .before .before in
-    l .loop .inv .2 _ (walks-several (s .args .t .now) (s .args .c .0) (l .loop .at .0) (s .args .end .0) (l .loop .hops) (s .pre .fits) (i .if1 .taken)
-    (omega (arith, k .links-held .ensures, c .if2 .taken)) (h .held-by .ensures .small))
+    l .loop .inv .2 _ (walks-none (s .args .t .now) (s .args .c .0) (l .loop .at .0) (s .args .end .0) (l .loop .hops) (s .pre .fits) (i .if1 .taken)
+    (h .held-by .ensures) (u .uphill-vector .ensures) (o .one-port .ensures .fails (not-true _ (c .if3 .taken))))
 
 uphill-vector-requires : tie.Need-uphill-vector-requires Inv-loop μ-loop
 uphill-vector-requires c κs = tt
 
 returns-2 : tie.Need-returns-2 Inv-loop μ-loop
 returns-2 c =
-    let u = c .before in
-    let h = u .before .before .before in
+    let u = c .before .before .before in
+    let h = u .before in
     let i = h .before in
     let l = i .before .before .before in
     let s = l .before .before in
-    l .loop .inv .2 _ (walks-flat (s .args .t .now) (s .args .c .0) (l .loop .at .0) (s .args .end .0) (l .loop .hops) (s .pre .fits) (i .if1 .taken)
-    (h .held-by .ensures) (u .uphill-vector .ensures) (c .if3 .taken))
+    l .loop .inv .2 _ (walks-none (s .args .t .now) (s .args .c .0) (l .loop .at .0) (s .args .end .0) (l .loop .hops) (s .pre .fits) (i .if1 .taken)
+    (h .held-by .ensures) (u .uphill-vector .ensures) (λ p. not-none p (c .if4 .taken)))
 
 add-hops : tie.Need-add-hops Inv-loop μ-loop
 add-hops c = let l = c .before .before .before .before .before .before .before .before .before in omega (arith, l .loop .inv .1)
@@ -72,29 +72,29 @@ add-hops c = let l = c .before .before .before .before .before .before .before .
 loop-less : tie.Need-loop-less Inv-loop μ-loop
 loop-less c =
     let e = c .before in
-    let u = e .before in
-    let k = u .before .before in
-    let h = k .before in
+    let j = e .before in
+    let k = j .before in
+    let u = k .before in
+    let h = u .before in
     let i = h .before in
     let l = i .before .before .before in
     let s = l .before .before in
-    omega (
-      arith,
-      turn (s .args .t .now) (s .args .c .0) (l .loop .at .0) (s .args .end .0) (l .loop .hops) (s .pre .fits) (h .held-by .ensures)
-          (omega (arith, k .links-held .ensures, u .before .if2 .left)) (u .uphill-vector .ensures) (e .if3 .left) (l .loop .inv .0) (s .pre .target) .nearer,
-    )
+    let one = ⊎-elim (λ w. w .1 .ensures .holds (not-false _ (w .2 .left))) (λ w. few-one (h .held-by .ensures) (u .uphill-vector .ensures) (omega (arith, k .links-held .ensures, w .left)) (e .if4 .left)) (j .if2 .came) in
+    let x = turn (s .args .t .now) (s .args .c .0) (l .loop .at .0) (s .args .end .0) (l .loop .hops) (s .pre .fits) (h .held-by .ensures) (u .uphill-vector .ensures) one (l .loop .inv .0) (s .pre .target) in
+    omega (arith, x .nearer)
 
 loop-again : tie.Need-loop-again Inv-loop μ-loop
 loop-again c =
     let e = c .before in
-    let u = e .before in
-    let k = u .before .before in
-    let h = k .before in
+    let j = e .before in
+    let k = j .before in
+    let u = k .before in
+    let h = u .before in
     let i = h .before in
     let l = i .before .before .before in
     let s = l .before .before in
-    let x = turn (s .args .t .now) (s .args .c .0) (l .loop .at .0) (s .args .end .0) (l .loop .hops) (s .pre .fits) (h .held-by .ensures)
-    (omega (arith, k .links-held .ensures, u .before .if2 .left)) (u .uphill-vector .ensures) (e .if3 .left) (l .loop .inv .0) (s .pre .target) in (
+    let one = ⊎-elim (λ w. w .1 .ensures .holds (not-false _ (w .2 .left))) (λ w. few-one (h .held-by .ensures) (u .uphill-vector .ensures) (omega (arith, k .links-held .ensures, w .left)) (e .if4 .left)) (j .if2 .came) in
+    let x = turn (s .args .t .now) (s .args .c .0) (l .loop .at .0) (s .args .end .0) (l .loop .hops) (s .pre .fits) (h .held-by .ensures) (u .uphill-vector .ensures) one (l .loop .inv .0) (s .pre .target) in (
       x .inside,
       omega (arith, x .nearer, l .loop .inv .1),
       λ r w. l .loop .inv .2 r (walks-on (s .args .t .now) (s .args .c .0) (l .loop .at .0) (s .args .end .0) (l .loop .hops) (s .pre .fits) (i .if1 .taken) x w),
@@ -114,11 +114,10 @@ walk-spec =
     μ-loop
     loop-holds
     held-by-requires
-    links-held-requires
-    cast-result
-    add-result
-    returns
     uphill-vector-requires
+    links-held-requires
+    one-port-requires
+    returns
     returns-2
     add-hops
     loop-less
