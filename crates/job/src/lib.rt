@@ -4,6 +4,7 @@ ghost use mathlib.Core.List.{[], _∷_};
 ghost use Prim.Native.Nat.{_≤_};
 ghost use lib.ListN.{length};
 ghost use Rattle.common.specs.Tests.{refusal};
+ghost use Rattle.cube.specs.Helical.{FirstPorts};
 ghost use Rattle.soundness.specs.TableTests.{tableTests};
 ghost use Rattle.ownership.specs.Sends.{sendsIn};
 ghost use Rattle.ownership.specs.Calls.{opening-all, inTurn};
@@ -33,8 +34,9 @@ fn copy(from: &[u8], to: &mut [u8])
 }
 
 // Opens the send at a place of a list, from 0, on a table that passed its tests. Its five numbers take two bytes each, low byte first.
-fn open_at(t: &mut [u8], sends: &[u8], place: usize) -> u16
+fn open_at(t: &mut [u8], sends: &[u8], place: usize, first: &[u8; 2048]) -> u16
     requires { ⌜ MayOpen (now t) (now sends) place ⌝ }
+    requires { ⌜ FirstPorts (now first) ⌝ }
     ensures { λ r. ⌜ OpenedAt (now (t .entry)) (now (sends .entry)) place r (now (t .exit)) ⌝ }
 {
     let at = SEND_BYTES * place;
@@ -48,19 +50,20 @@ fn open_at(t: &mut [u8], sends: &[u8], place: usize) -> u16
         return refused;
     }
     let c = cube::circuit_of(source, channel);
-    send::send(t, source, target, c, routing, vector).number
+    send::send_by(t, source, target, c, routing, vector, first).number
 }
 
-// Opens the sends of a list one after another, up to the first that is refused.
+// Opens the sends of a list one after another, up to the first that is refused. The table of first ports is taken once for all of them.
 fn open_in_turn(t: &mut [u8], sends: &[u8]) -> OpenedAll
     requires { ⌜ refusal (tableTests (now t)) ≡ 0 ⌝ }
     requires { ⌜ length (now sends) ≤ 640 ⌝ }
     ensures { λ r. ⌜ jobOf (now (t .exit)) (r .number) (r .sends) ≡ inTurn opensOn (now (t .entry)) (sendsIn (now (sends .entry))) ⌝ }
 {
+    let first = cube::first_ports();
     let count = sends.len() / SEND_BYTES;
     let mut i = 0;
     while i < count {
-        let number = open_at(t, sends, i);
+        let number = open_at(t, sends, i, &first);
         if number != refusal::ACCEPTED {
             return OpenedAll {
                 number,

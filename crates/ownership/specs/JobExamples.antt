@@ -10,6 +10,7 @@ use Rattle.cube.specs.Bits.{has, flip}
 use Rattle.cube.specs.Cube.{uphill}
 use Rattle.cube.specs.Axes.{axis, present}
 use Rattle.cube.specs.Helical.{helical}
+use Rattle.soundness.specs.TableTests.{tableTests}
 use Rattle.paths.specs.Network.{offered, end, links, hasLink, linkState, isFree, freePath}
 use Rattle.paths.specs.Pass.{over, ways, beginnings, scan, whole, pass, scouts}
 use Rattle.paths.specs.Send.{received, outcome, attempted, goesOn, runs, lowestOf}
@@ -18,6 +19,7 @@ use Rattle.paths.specs.Waiting.{findsPath, someAttempt}
 use Rattle.ownership.specs.Sends.{sendAt, sendsIn}
 use Rattle.ownership.specs.Calls.{making, opening, arming, opening-all, CallResult, answered, callTests, resultOf, callOn, inTurn, afterJob}
 use Rattle.ownership.specs.History.{History, holdsLink, holdsReceive, belongs, enabledOn, heldOn, freeOn, takenOn, openOn, armedOn, receiveOn, waitingOn, factsOn, stoppedOn, sendOn, withOpened, jobOn, applied, historyStep, newHistory}
+use Rattle.ownership.specs.OnTable.{lentTests, stoppedAt}
 use Rattle.ownership.specs.Agrees.{historyAfter, historyResults, leaves, answers}
 
 -- a send as the ten bytes of a list, where its numbers are below 256
@@ -35,6 +37,11 @@ lengths : map (λ (n : ℕ). refusal (callTests (factsOn (newHistory 1)) (openin
     ≡ 0 ∷ 28 ∷ 28 ∷ 0 ∷ 28 ∷ 0 ∷ 0 ∷ 28 ∷ 28 ∷ 28 ∷ []
 unfolding callTests refusal
 lengths = refl
+
+-- "tested after 3": the tests of the table come first, here that of its length
+table-first : stoppedAt [] (opening-all (replicate 9 0)) ≡ 1
+unfolding stoppedAt lentTests tableTests callTests refusal
+table-first = refl
 
 -- Dimension 2, with receive channel 0 armed at nodes 1 and 3. Channel 0 of node 0 to node 1, and channel 1 of node 0 to node 3 by way of node 2, go together.
 abbrev ready : History

@@ -2,9 +2,8 @@
 -- Assumes nothing.
 use mathlib.Core.List.{List, map}
 use Prim.Native.Nat.{ℕ, _+_, _*_, _/_}
-use lib.ListN.{length}
+use lib.ListN.{length, getD}
 use Rattle.common.specs.Lists.{from}
-use Rattle.layout.specs.Layout.{wordAt}
 
 -- "(node, channel, target, type, vector, ..)"
 pub record Send : Type 0 where
@@ -20,7 +19,7 @@ sendBytes = 10
 
 -- ".. two bytes each, low first": of the send at place i, counted from 0, the number at place k of its five
 abbrev pub numberAt : List ℕ → ℕ → ℕ → ℕ
-numberAt bytes i k = wordAt bytes (sendBytes * i + 2 * k)
+numberAt bytes i k = let j = sendBytes * i + 2 * k in getD bytes j 0 + 256 * getD bytes (j + 1) 0
 
 unfoldable pub sendAt : List ℕ → ℕ → Send
 sendAt bytes i =

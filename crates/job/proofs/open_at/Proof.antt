@@ -35,27 +35,27 @@ are-read c =
 returns : tie.Need-returns
 returns c =
     let a = c .before in
-    open-refused (start a .args .t .now) (start a .args .sends .now) (start a .args .place) (are-read a) (start a .pre .tests) (a .open-arguments .ensures) (c .if1 .taken)
+    open-refused (start a .args .t .now) (start a .args .sends .now) (start a .args .place) (are-read a) (start a .pre .0 .tests) (a .open-arguments .ensures) (c .if1 .taken)
 
 circuit-of-requires : tie.Need-circuit-of-requires
 circuit-of-requires c κs =
     let a = c .before in
-    let r = open-passed _ (stopped (start a .args .t .now) (start a .args .sends .now) (start a .args .place) (are-read a) (start a .pre .tests) (a .open-arguments .ensures)) (c .if1 .left) in
+    let r = open-passed _ (stopped (start a .args .t .now) (start a .args .sends .now) (start a .args .place) (are-read a) (start a .pre .0 .tests) (a .open-arguments .ensures)) (c .if1 .left) in
     small-source (r .0) (r .1)
 
-send-requires : tie.Need-send-requires
-send-requires c κs =
+send-by-requires : tie.Need-send-by-requires
+send-by-requires c κs =
     let m = c .before in
     let a = m .before .before in
-    may-send _ _ _ _ _ _ (stopped (start a .args .t .now) (start a .args .sends .now) (start a .args .place) (are-read a) (start a .pre .tests) (a .open-arguments .ensures)) (m .before .if1 .left) (m .circuit-of .ensures)
+    (start a .pre .1, may-send _ _ _ _ _ _ (stopped (start a .args .t .now) (start a .args .sends .now) (start a .args .place) (are-read a) (start a .pre .0 .tests) (a .open-arguments .ensures)) (m .before .if1 .left) (m .circuit-of .ensures))
 
 returns-2 : tie.Need-returns-2
 returns-2 c =
     let o = c .before .before in
     let m = o .before .before in
     let a = m .before .before in
-    open-sent (start a .args .t .now) (start a .args .sends .now) (start a .args .place) (are-read a) (start a .pre .tests) (a .open-arguments .ensures) (m .before .if1 .left)
-    (λ i. omega (arith, a .before .before .before .before .before .before .before .before .slice-known .given i)) (m .circuit-of .ensures) (o .send .ensures)
+    open-sent (start a .args .t .now) (start a .args .sends .now) (start a .args .place) (are-read a) (start a .pre .0 .tests) (a .open-arguments .ensures) (m .before .if1 .left)
+    (λ i. omega (arith, a .before .before .before .before .before .before .before .before .slice-known .given i)) (m .circuit-of .ensures) (o .send-by .ensures)
 
 pub open-at-spec : {M : Type 1} → statement M
 open-at-spec =
@@ -75,6 +75,6 @@ open-at-spec =
     (search needs)
     returns
     circuit-of-requires
-    send-requires
+    send-by-requires
     (search needs)
     returns-2)
