@@ -8,7 +8,7 @@ ghost use Rattle.book.specs.BookContracts.{lineIs};
 use common::refusal;
 use cube::Circuit;
 
-// What an open circuit has at least; with a lookup, what its buffer has to have.
+// The most hops that a circuit has; with a lookup, the bytes that its buffer has to have.
 const LONGEST_PATH: u16 = 9;
 
 const LARGEST_CIRCUIT: u16 = 2048;

@@ -49,7 +49,7 @@ asTrace x = record { number = x .number; values = x .hops ∷ []; buffers = x .b
 module _ (b : List ℕ) (s c : ℕ) (node : NodeOf (dimensionAt b) s) (small : c < channels) (buffer : List ℕ) where
   -- a trace on a table that passes its tests, of a send channel of the cube
   trace-answers : refusal (tableTests b) ≡ 0 → asTrace (portsAnswer (isOpenIn (view b) (circuitOf s c)) (pathOf (view b) (circuitOf s c)) buffer) ≡ tableStep b (tracing s c buffer) .result
-  unfolding tableStep callOn resultOf factsOf openIn view
+  unfolding tableStep callOn resultOf callTests factsOf openIn view
   trace-answers e = go (eqb n 0) refl ∙ ap (λ (m : ℕ). cond (eqb m 0) traced (refusedWith m (tracing s c buffer))) (sym stops)
     where
       n : ℕ
@@ -59,9 +59,7 @@ module _ (b : List ℕ) (s c : ℕ) (node : NodeOf (dimensionAt b) s) (small : c
       traced = record { number = 0; values = length (pathOf (view b) (circuitOf s c)) ∷ []; buffers = tracedInto (pathOf (view b) (circuitOf s c)) buffer ∷ [] }
 
       stops : stoppedAt b (tracing s c buffer) ≡ n
-      stops =
-          let p = pass-tests b e in
-          stopped-is b (p .0) (p .1) (p .2) (p .3) (tracing s c buffer) ∙ (unfold callTests in passed 4 _ (is-below s _ node)) ∙ passed 5 _ (channel-is c small)
+      stops = let p = pass-tests b e in stopped-is b (p .0) (p .1) (p .2) (p .3) (tracing s c buffer) ∙ passed 4 _ (is-below s _ node) ∙ passed 5 _ (channel-is c small)
 
       go : (x : Bool) → eqb n 0 ≡ x → asTrace (portsAnswer (isOpenIn (view b) (circuitOf s c)) (pathOf (view b) (circuitOf s c)) buffer) ≡ cond (eqb n 0) traced (refusedWith n (tracing s c buffer))
       go true q = rw q
@@ -72,13 +70,13 @@ module _ (b : List ℕ) (s c : ℕ) (node : NodeOf (dimensionAt b) s) (small : c
       → asTrace (lookedUp (bookPorts (tableStep b (booking ports index) .result)) (bookIndex (tableStep b (booking ports index) .result)) (bookCircuits (tableStep b (booking ports index) .result))
             (bookHops (tableStep b (booking ports index) .result)) (circuitOf s c) buffer)
         ≡ tableStep b (tracing s c buffer) .result
-  unfolding resultOf factsOf Allowed
+  unfolding resultOf factsOf Allowed view
   book-traces ports index written =
       let a = booking ports index in
       let z = table-step b a .passed written in
       let e = none-stops-lent b a refl z in
       let p = pass-tests b e in
       let r = allowed (factsOf (view b)) a (none-stops b a z) in
+      let high : circuitOf s c ≤ channels * 2 ^ dimensionAt b = omega (arith, node, small) in
       rw (table-step b a .result z)
-      (ap asTrace (book-lookup (view b) (unfold view in p .2) (λ k f o. open-sound (view b) (p .3) k f o) ports index (r .0) (r .1) (circuitOf s c) (omega arith) (unfold view in omega (arith, node, small)) buffer)
-      ∙ trace-answers e)
+      (ap asTrace (book-lookup (view b) (p .2) (open-sound (view b) (p .3)) ports index (r .0) (r .1) (circuitOf s c) (omega arith) high buffer) ∙ trace-answers e)
