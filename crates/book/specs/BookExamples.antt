@@ -51,9 +51,14 @@ books =
     ∷ formedAs (indexOf 1 0 1 2 2) 2 3
     ∷ formedAs (indexOf 1 0 2 2 1) 2 3
     ∷ formedAs (indexOf 1 0 1 2 1) 2 3
+    -- the largest number, 8 · 256, and one more; nine hops, and ten
+    ∷ formedAs (0 ∷ 8 ∷ 0 ∷ 0 ∷ 1 ∷ 0 ∷ []) 1 1
+    ∷ formedAs (1 ∷ 8 ∷ 0 ∷ 0 ∷ 1 ∷ 0 ∷ []) 1 1
+    ∷ wellFormed (replicate 10 0) (1 ∷ 0 ∷ 0 ∷ 0 ∷ 9 ∷ 0 ∷ []) 1 9
+    ∷ wellFormed (replicate 10 0) (1 ∷ 0 ∷ 0 ∷ 0 ∷ 10 ∷ 0 ∷ []) 1 10
     ∷ []
 
-well-formed-books : books ≡ (true ∷ true ∷ true ∷ false ∷ false ∷ false ∷ false ∷ false ∷ false ∷ false ∷ false ∷ false ∷ false ∷ false ∷ [])
+well-formed-books : books ≡ (true ∷ true ∷ true ∷ false ∷ false ∷ false ∷ false ∷ false ∷ false ∷ false ∷ false ∷ false ∷ false ∷ false ∷ true ∷ false ∷ true ∷ false ∷ [])
 unfolding wellFormed lines lineFits linesFit
 well-formed-books = refl
 

@@ -110,7 +110,8 @@ fn line_of(index: &[u8], circuits: u16, c: Circuit) -> BookLine
 
 // Writes the ports of a circuit of a book to the start of a buffer. A refused lookup writes nothing.
 pub fn lookup(ports: &[u8], index: &[u8], circuits: u16, hops: u16, c: Circuit, buffer: &mut [u8]) -> LookedUp
-    ensures { λ r. ⌜ record { number = r .number; hops = r .hops; buffer = now (buffer .exit) } ≡ lookedUp (now (ports .entry)) (now (index .entry)) circuits hops (c .0) (now (buffer .entry)) ⌝ }
+    ensures { λ r. ⌜ (record { number = r .number; hops = r .hops; buffer = now (buffer .exit) } ≡ lookedUp (now (ports .entry)) (now (index .entry)) circuits hops (c .0) (now (buffer .entry)))
+        × (now (ports .exit) ≡ now (ports .entry)) × (now (index .exit) ≡ now (index .entry)) ⌝ }
 {
     if !well_formed(ports, index, circuits, hops) {
         return LookedUp { number: refusal::BOOK, hops: 0 };
