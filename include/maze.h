@@ -153,7 +153,8 @@ typedef struct {
 
 typedef struct {
     uint16_t number;
-    uint16_t sends; /* accepted: how many sends; else the place, from 0, of the one refused */
+    uint16_t sends; /* accepted: how many sends; else the place, from 0, of the one refused, or 0
+                     * with 1, 2, 3 and 28, where no send was looked at */
 } maze_opened_all;
 
 typedef struct {

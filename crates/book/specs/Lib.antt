@@ -4,3 +4,4 @@ pub mod BookOf
 pub mod Lookup
 pub mod WellFormed
 pub mod BookContracts
+pub mod BookExamples

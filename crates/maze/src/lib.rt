@@ -108,7 +108,8 @@ pub extern "C" fn maze_book_lookup(
     circuit: u16,
     buffer: &mut [u8],
 ) -> Traced
-    ensures { λ r. ⌜ record { number = r .number; hops = r .hops; buffer = now (buffer .exit) } ≡ lookedUp (now (ports .entry)) (now (index .entry)) circuits hops circuit (now (buffer .entry)) ⌝ }
+    ensures { λ r. ⌜ (record { number = r .number; hops = r .hops; buffer = now (buffer .exit) } ≡ lookedUp (now (ports .entry)) (now (index .entry)) circuits hops circuit (now (buffer .entry)))
+        × (now (ports .exit) ≡ now (ports .entry)) × (now (index .exit) ≡ now (index .entry)) ⌝ }
 {
     let found = book::lookup(ports, index, circuits, hops, Circuit(circuit), buffer);
     Traced {

@@ -36,7 +36,7 @@ a-type y = one-of _ _ (equals y 0) (one-of _ _ (equals y 1) (one-of _ _ (equals 
 pub is-below : (n m : ℕ) → n < m → not (ltb n m) ≡ false
 is-below n m h = ap not (lt-ltb n m h)
 
-channel-is : (c : ℕ) → c < channels → ltb 7 c ≡ false
+pub channel-is : (c : ℕ) → c < channels → ltb 7 c ≡ false
 channel-is c h = le-ltb 7 c (omega (arith, h))
 
 pub channel-small : (c : ℕ) → ltb 7 c ≡ false → c < channels

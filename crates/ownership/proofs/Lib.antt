@@ -24,6 +24,7 @@ pub mod BytesAfter
 pub mod Refused
 pub mod Agreement
 pub mod OnSound
+pub mod BookLookup
 pub mod TypesOnTable
 pub mod HistoryOf
 pub mod FromTable

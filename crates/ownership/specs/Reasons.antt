@@ -1,4 +1,4 @@
--- Why a call is stopped: each number of document 01's table of refusals, and 21 and 28 of document 02, that a call can answer for its arguments, with the reason in the
+-- Why a call is stopped: each number of document 01's table of refusals, and 21, 23 and 28 of document 02, that a call can answer for its arguments, with the reason in the
 -- words of the papers.
 -- What these tests answer is the lowest number whose reason holds (proved: Reasons), and 0 where none does. The lent table's numbers, 1 to 3, come before them
 -- (OnTable); 10, 11 and 22 are the search's.

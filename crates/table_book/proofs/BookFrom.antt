@@ -1,7 +1,7 @@
 -- The book of a table, circuit number by circuit number.
 -- Assumes nothing.
 use mathlib.Core.Path.{_≡_, refl, ap, ap₂, sym, _∙_}
-use mathlib.Core.Bool.{Bool, true, false, cond, not}
+use mathlib.Core.Bool.{Bool, true, false, cond}
 use mathlib.Core.List.{List, [], _∷_, _++_, map, append-assoc, append-nil}
 use Prim.Native.Nat.{ℕ, zero, suc, _+_, _-_, _*_, _^_, _≤_, _<_}
 use native.Mathlib.Nat.{add-zero}
@@ -12,17 +12,16 @@ use borrow.Author.Tests.{lt-ltb, ltb-false}
 use lib.ListN.{length, take, drop, length-append, length-drop}
 use lib.Seq.{take-append-seam}
 use Rattle.common.specs.Lists.{keep, from}
-use Rattle.common.proofs.Tests.{clash}
 use Rattle.cube.specs.Cube.{largestDimension, sourceOf, channels, cubeNodes}
 use Rattle.layout.specs.Layout.{dimensionAt}
 use Rattle.table.specs.View.{View, view, shapeOf}
-use Rattle.circuit_path.specs.PathOf.{pathOf, isEmpty}
+use Rattle.circuit_path.specs.PathOf.{pathOf}
 use Rattle.circuit_path.specs.OpenCircuit.{isOpenIn, openNumbers}
 use Rattle.circuit_path.specs.Traced.{tracedInto}
 use Rattle.circuit_path.specs.Follow.{HasSource}
-use Rattle.circuit_path.proofs.CircuitSound.{open-path}
 use Rattle.book.specs.Book.{BookCircuit, portBytes, wordBytes, indexFrom, hopCount}
 use Rattle.book.specs.BookOf.{bookOf}
+use Rattle.book.proofs.BookOfSound.{open-hops}
 use Rattle.table_book.specs.Writing.{bookFrom, circuitIf, BookPre}
 
 -- parts of a book one behind the other
@@ -78,15 +77,6 @@ pub book-end : (v : View) (c last : ℕ) → last < c → bookFrom v c (last + 1
 unfolding bookFrom from keep
 book-end v c last h = let k : last + 1 - c ≡ 0 = omega arith in ap (bookFrom v c) k
 
--- a circuit that is not open has no hop, and one that is has one
-pub some-hops : (v : View) (c : ℕ) → isOpenIn v c ≡ true → 1 ≤ length (pathOf v c)
-unfolding isEmpty
-some-hops v c e = go (pathOf v c) (sym (open-path v c) ∙ e)
-  where
-    go : (w : List ℕ) → not (isEmpty w) ≡ true → 1 ≤ length w
-    go [] h = absurd (clash h refl)
-    go (p ∷ w) h = omega arith
-
 -- the hops of one number
 pub hops-open : (v : View) (c : ℕ) → isOpenIn v c ≡ true → hopCount (circuitIf v c) ≡ length (pathOf v c)
 unfolding portBytes
@@ -125,7 +115,7 @@ pub one-if : (v : View) (c : ℕ) → cond (ltb 0 (hopCount (circuitIf v c))) 1 
 one-if v c = go (isOpenIn v c) refl
   where
     go : (b : Bool) → isOpenIn v c ≡ b → cond (ltb 0 (hopCount (circuitIf v c))) 1 0 ≡ length (circuitIf v c)
-    go true e = ap (λ (x : Bool). cond x 1 0) (lt-ltb 0 (hopCount (circuitIf v c)) (omega (arith, hops-open v c e, some-hops v c e))) ∙ sym (ap length (one-open v c e))
+    go true e = ap (λ (x : Bool). cond x 1 0) (lt-ltb 0 (hopCount (circuitIf v c)) (omega (arith, hops-open v c e, open-hops v c e))) ∙ sym (ap length (one-open v c e))
     go false e = ap (λ (n : ℕ). cond (ltb 0 n) 1 0) (hops-closed v c e) ∙ sym (ap length (one-closed v c e))
 
 pub one-most : (n : ℕ) → (cond (ltb 0 n) 1 0 ≤ 1) × (n ≤ 9 → n ≤ 9 * cond (ltb 0 n) 1 0)

@@ -2,7 +2,7 @@
 -- Assumes nothing.
 use mathlib.Core.Path.{_≡_, refl, ap, ap₂, sym, _∙_}
 use mathlib.Core.Bool.{cond}
-use mathlib.Core.List.{List, [], _∷_, _++_}
+use mathlib.Core.List.{List}
 use Prim.Native.Nat.{ℕ, _+_, _-_, _*_, _≤_, _<_}
 use native.Mathlib.Nat.{zero-add}
 use native.Mathlib.Omega.{arith}
@@ -15,16 +15,11 @@ use Rattle.layout.specs.Layout.{dimensionAt}
 use Rattle.table.specs.View.{View, view}
 use Rattle.circuit_path.specs.Traced.{tracedInto}
 use Rattle.circuit_path.proofs.Tracing.{written-whole}
-use Rattle.book.specs.Book.{BookCircuit, portBytes, wordBytes, indexFrom, indexBytes, hopCount}
+use Rattle.book.specs.Book.{BookCircuit, portBytes, indexFrom, indexBytes, hopCount}
 use Rattle.book.specs.BookOf.{bookOf}
+use Rattle.book.proofs.WrittenBook.{index-length}
 use Rattle.table_book.specs.Writing.{bookFrom, circuitIf}
 use Rattle.table_book.proofs.BookFrom.{ports-append, index-append, book-next, length-next, hops-next, book-whole, book-end, one-if, one-most}
-
--- six bytes a circuit
-pub index-length : (at : ℕ) (xs : List BookCircuit) → length (indexFrom at xs) ≡ 6 * length xs
-unfolding indexFrom wordBytes
-index-length at [] = refl
-index-length at (x ∷ xs) = let r = index-length (at + length (x .ports)) xs in omega (arith, r)
 
 -- the circuits of the numbers from c on are left
 pub record Filling (v : View) (last : ℕ) (ports₀ index₀ ports index : List ℕ) (circuits hops c : ℕ) : Type 0 where

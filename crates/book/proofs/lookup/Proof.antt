@@ -1,6 +1,6 @@
 -- `book::lookup` meets its contract: its tests in their order, and then the ports of the circuit's line.
 -- Assumes nothing.
-use mathlib.Core.Path.{_≡_, ap, sym, _∙_}
+use mathlib.Core.Path.{_≡_, refl, ap, sym, _∙_}
 use mathlib.Core.List.{[]}
 use Prim.Native.Nat.{_+_, _-_}
 use native.Mathlib.Omega.{arith}
@@ -14,19 +14,19 @@ use Rattle.book.proofs.lookup.Statement.{statement}
 use Rattle.book.proofs.lookup.Tie as tie
 
 returns : tie.Need-returns
-returns c = looked-ill _ _ _ _ _ _ (sym (c .before .well-formed .ensures) ∙ not-true _ (c .if1 .taken))
+returns c = (looked-ill _ _ _ _ _ _ (sym (c .before .well-formed .ensures) ∙ not-true _ (c .if1 .taken)), refl, refl)
 
 line-of-requires : tie.Need-line-of-requires
 line-of-requires c κs = formed _ _ _ _ (sym (c .before .well-formed .ensures) ∙ not-false _ (c .if1 .left)) .0
 
 returns-2 : tie.Need-returns-2
-returns-2 c = looked-none _ _ _ _ _ _ (sym (c .before .before .before .before .well-formed .ensures) ∙ not-false _ (c .before .before .before .if1 .left)) (sym (ap (λ (x : IndexLine). x .hops) (c .before .before .line-of .ensures)) ∙ c .if2 .taken)
+returns-2 c = (looked-none _ _ _ _ _ _ (sym (c .before .before .before .before .well-formed .ensures) ∙ not-false _ (c .before .before .before .if1 .left)) (sym (ap (λ (x : IndexLine). x .hops) (c .before .before .line-of .ensures)) ∙ c .if2 .taken), refl, refl)
 
 returns-3 : tie.Need-returns-3
 returns-3 c =
     let well = sym (c .before .before .before .before .before .well-formed .ensures) ∙ not-false _ (c .before .before .before .before .if1 .left) in
     let is = c .before .before .before .line-of .ensures in
-    looked-short _ _ _ _ _ _ well _ is (c .before .if2 .left) (omega arith)
+    (looked-short _ _ _ _ _ _ well _ is (c .before .if2 .left) (omega arith), refl, refl)
 
 part-text-end : tie.Need-part-text-end
 part-text-end c =
@@ -48,7 +48,7 @@ returns-4 : tie.Need-returns-4
 returns-4 c =
     let well = sym (c .before .before .before .before .before .before .before .before .before .before .before .before .well-formed .ensures) ∙ not-false _ (c .before .before .before .before .before .before .before .before .before .before .before .if1 .left) in
     let is = c .before .before .before .before .before .before .before .before .before .before .line-of .ensures in
-    looked-found _ _ _ _ _ _ well _ is (c .before .before .before .before .before .before .before .before .if2 .left) (omega (arith, c .before .before .before .before .before .before .before .if3 .left)) _ (c .before .before .text .ensures .bytes)
+    (looked-found _ _ _ _ _ _ well _ is (c .before .before .before .before .before .before .before .before .if2 .left) (omega (arith, c .before .before .before .before .before .before .before .if3 .left)) _ (c .before .before .text .ensures .bytes), refl, refl)
 
 pub lookup-spec : {M : Type 1} → statement M
 lookup-spec =
