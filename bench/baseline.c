@@ -353,14 +353,13 @@ static int may_help(const uint8_t *table, unsigned node, unsigned target, unsign
     }
 }
 
-maze_opened base_open(uint8_t *table, size_t table_len, uint16_t node, uint16_t channel, uint16_t target, uint16_t type, uint16_t vector) {
+/* An open on a table that passed its tests. */
+static maze_opened open_sound(uint8_t *table, unsigned node, unsigned channel, unsigned target, unsigned type, unsigned vector) {
     maze_opened answer = {0, 0, 0, 0};
     struct search search;
     uint8_t *receive_row;
     unsigned ports, available;
 
-    answer.number = refuse_table(table, table_len);
-    if (answer.number) return answer;
     ports = (1u << table[0]) - 1;
     if ((node | target) & ~ports) answer.number = MAZE_BAD_NODE;
     else if (channel >= MAZE_CHANNELS) answer.number = MAZE_BAD_CHANNEL;
@@ -388,6 +387,33 @@ maze_opened base_open(uint8_t *table, size_t table_len, uint16_t node, uint16_t 
         answer.hops = (uint16_t)search.hops;
         answer.receive = (uint16_t)lowest(available);
         set_entry(receive_row, answer.receive, search.circuit);
+    }
+    return answer;
+}
+
+maze_opened base_open(uint8_t *table, size_t table_len, uint16_t node, uint16_t channel, uint16_t target, uint16_t type, uint16_t vector) {
+    maze_opened answer = {0, 0, 0, 0};
+    answer.number = refuse_table(table, table_len);
+    return answer.number ? answer : open_sound(table, node, channel, target, type, vector);
+}
+
+/* The table is tested once, kept, and copied back where a send is refused. */
+maze_opened_all base_open_all(uint8_t *table, size_t table_len, const uint8_t *sends, size_t sends_len) {
+    maze_opened_all answer = {0, 0};
+    uint8_t kept[MAZE_TABLE_BYTES];
+    answer.number = refuse_table(table, table_len);
+    if (answer.number) return answer;
+    if (sends_len % MAZE_SEND_BYTES || sends_len > MAZE_SENDS_LARGEST * MAZE_SEND_BYTES) {
+        answer.number = MAZE_BAD_SEND_LIST;
+        return answer;
+    }
+    memcpy(kept, table, sizeof kept);
+    for (; sends_len; sends_len -= MAZE_SEND_BYTES, sends += MAZE_SEND_BYTES, answer.sends++) {
+        answer.number = open_sound(table, entry(sends, 0), entry(sends, 1), entry(sends, 2), entry(sends, 3), entry(sends, 4)).number;
+        if (answer.number) {
+            memcpy(table, kept, sizeof kept);
+            return answer;
+        }
     }
     return answer;
 }

@@ -11,6 +11,7 @@ uint16_t base_unblock(uint8_t *table, size_t table_len, uint16_t node, uint16_t 
 uint16_t base_arm(uint8_t *table, size_t table_len, uint16_t node, uint16_t channel);
 uint16_t base_disarm(uint8_t *table, size_t table_len, uint16_t node, uint16_t channel);
 maze_opened base_open(uint8_t *table, size_t table_len, uint16_t node, uint16_t channel, uint16_t target, uint16_t type, uint16_t vector);
+maze_opened_all base_open_all(uint8_t *table, size_t table_len, const uint8_t *sends, size_t sends_len);
 uint16_t base_close(uint8_t *table, size_t table_len, uint16_t node, uint16_t channel);
 maze_traced base_trace(const uint8_t *table, size_t table_len, uint16_t node, uint16_t channel, uint8_t *buffer, size_t buffer_len);
 maze_word_read_answer base_word_read(uint16_t word);
@@ -27,6 +28,7 @@ uint16_t sse_unblock(uint8_t *table, size_t table_len, uint16_t node, uint16_t p
 uint16_t sse_arm(uint8_t *table, size_t table_len, uint16_t node, uint16_t channel);
 uint16_t sse_disarm(uint8_t *table, size_t table_len, uint16_t node, uint16_t channel);
 maze_opened sse_open(uint8_t *table, size_t table_len, uint16_t node, uint16_t channel, uint16_t target, uint16_t type, uint16_t vector);
+maze_opened_all sse_open_all(uint8_t *table, size_t table_len, const uint8_t *sends, size_t sends_len);
 uint16_t sse_close(uint8_t *table, size_t table_len, uint16_t node, uint16_t channel);
 maze_traced sse_trace(const uint8_t *table, size_t table_len, uint16_t node, uint16_t channel, uint8_t *buffer, size_t buffer_len);
 maze_word_read_answer sse_word_read(uint16_t word);

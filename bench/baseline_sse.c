@@ -6,6 +6,7 @@
 #define base_arm sse_arm
 #define base_disarm sse_disarm
 #define base_open sse_open
+#define base_open_all sse_open_all
 #define base_close sse_close
 #define base_trace sse_trace
 #define base_word_read sse_word_read

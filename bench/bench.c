@@ -21,6 +21,7 @@ struct calls {
     uint16_t (*arm)(uint8_t *, size_t, uint16_t, uint16_t);
     uint16_t (*disarm)(uint8_t *, size_t, uint16_t, uint16_t);
     maze_opened (*open)(uint8_t *, size_t, uint16_t, uint16_t, uint16_t, uint16_t, uint16_t);
+    maze_opened_all (*open_all)(uint8_t *, size_t, const uint8_t *, size_t);
     uint16_t (*close)(uint8_t *, size_t, uint16_t, uint16_t);
     maze_traced (*trace)(const uint8_t *, size_t, uint16_t, uint16_t, uint8_t *, size_t);
     maze_word_read_answer (*word_read)(uint16_t);
@@ -32,13 +33,13 @@ struct calls {
     uint32_t (*receive_overshoot)(maze_receive_channel);
 };
 
-static const struct calls plain = {base_make, base_block, base_unblock, base_arm, base_disarm, base_open, base_close, base_trace,
+static const struct calls plain = {base_make, base_block, base_unblock, base_arm, base_disarm, base_open, base_open_all, base_close, base_trace,
                                    base_word_read, base_word_write, base_arbitrate, base_receive_start, base_receive_data, base_receive_word,
                                    base_receive_overshoot};
-static const struct calls sse = {sse_make, sse_block, sse_unblock, sse_arm, sse_disarm, sse_open, sse_close, sse_trace,
+static const struct calls sse = {sse_make, sse_block, sse_unblock, sse_arm, sse_disarm, sse_open, sse_open_all, sse_close, sse_trace,
                                  sse_word_read, sse_word_write, sse_arbitrate, sse_receive_start, sse_receive_data, sse_receive_word,
                                  sse_receive_overshoot};
-static const struct calls library = {maze_make, maze_block, maze_unblock, maze_arm, maze_disarm, maze_open, maze_close, maze_trace,
+static const struct calls library = {maze_make, maze_block, maze_unblock, maze_arm, maze_disarm, maze_open, maze_open_all, maze_close, maze_trace,
                                      maze_word_read, maze_word_write, maze_arbitrate, maze_receive_start, maze_receive_data, maze_receive_word,
                                      maze_receive_overshoot};
 
@@ -190,6 +191,22 @@ static unsigned long turn_open_close(const struct calls *c, struct with with) {
     return sum;
 }
 
+/* A job of `type` sends, from node i to node i + 64 over port 6. The send at place `other` is refused, where there is one. What is opened is taken
+ * back by a copy of the table, as closes would be measured too. */
+static unsigned long turn_job(const struct calls *c, struct with with) {
+    static uint8_t kept[BYTES], list[MAZE_SEND_BYTES * MAZE_SENDS_LARGEST];
+    maze_opened_all opened;
+    memset(list, 0, sizeof list);
+    for (unsigned i = 0; i < MAZE_SENDS_LARGEST; i++) {
+        uint8_t *send = list + MAZE_SEND_BYTES * i;
+        send[0] = (uint8_t)i, send[4] = (uint8_t)(i ^ with.node), send[8] = (uint8_t)with.vector, send[7] = i == with.other;
+    }
+    memcpy(kept, table, BYTES);
+    opened = c->open_all(table, BYTES, list, MAZE_SEND_BYTES * with.type);
+    memcpy(table, kept, BYTES);
+    return opened.number + 100ul * opened.sends;
+}
+
 static unsigned long turn_block(const struct calls *c, struct with with) {
     unsigned long number = c->block(table, BYTES, with.node, with.other);
     return number + c->unblock(table, BYTES, with.node, with.other);
@@ -286,6 +303,9 @@ static const struct {
     {"open of type 3, rejected", last_of_eight, turn_open, {0, 255, 255, MAZE_TYPE_FIXED}, MAZE_NO_ROUTE, 5000, 1},
     {"open, 8 hops, receive rejected", made_8, turn_open, {0, 255, 255, 0}, MAZE_RECEIVE_REJECTED, 5000, 1},
     {"open, 77,940 scouts, rejected", walled, turn_open, {0, 254, 255, 0}, MAZE_NO_ROUTE, 10, 1},
+    {"a job of 1 send", armed_8, turn_job, {64, 64, 64, 1}, MAZE_ACCEPTED, 2000, 1},
+    {"a job of 64 sends of 1 hop", armed_8, turn_job, {64, 64, 64, 64}, MAZE_ACCEPTED, 300, 1},
+    {"a job of 64 sends of 1 hop, the last refused", armed_8, turn_job, {64, 63, 64, 64}, MAZE_BAD_ROUTING_TYPE, 300, 1},
     {"block and unblock", armed_8, turn_block, {200, 5, 0, 0}, MAZE_ACCEPTED, 5000, 1},
     {"disarm and arm", armed_8, turn_arm, {200, 5, 0, 0}, MAZE_ACCEPTED, 5000, 1},
     {"trace of 9 hops", nine_hops, turn_trace, {0, 0, 0, 0}, MAZE_ACCEPTED, 5000, 1},

@@ -1,4 +1,4 @@
-/* The library on a board with no C library: this file brings memset, which is all that the library asks for, a start and a way out. It opens
+/* The library on a board with no C library: this file brings memset and memcpy, which are all that the library asks for, a start and a way out. It opens
  * the circuit of the patent's figure 7, and says over which ports.
  *
  *     gcc -O2 -ffreestanding -nostdlib -static -Iinclude examples/freestanding.c target/staticlib/libmaze.a -o freestanding
@@ -8,11 +8,18 @@
 
 static uint8_t table[MAZE_TABLE_BYTES];
 
-/* Through a volatile pointer, so that the compiler does not make a call of memset out of this loop. */
+/* Through a volatile pointer, so that the compiler does not make a call of the function itself out of its loop. */
 void *memset(void *bytes, int value, size_t count) {
     volatile uint8_t *at = bytes;
     while (count--) *at++ = (uint8_t)value;
     return bytes;
+}
+
+void *memcpy(void *to, const void *from, size_t count) {
+    volatile uint8_t *at = to;
+    const uint8_t *next = from;
+    while (count--) *at++ = *next++;
+    return to;
 }
 
 /* ---- The board ---- */

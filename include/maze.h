@@ -4,8 +4,9 @@
  * Every call finishes, takes any numbers, and answers MAZE_ACCEPTED or a refusal number;
  * maze_receive_start and maze_receive_overshoot, which refuse nothing, answer a channel and a
  * count. The tests of a call run in rising order of number, and the first that applies is the
- * answer. A refused call alters no byte lent to it and answers zero beside its number; only
- * MAZE_ROUTE_REJECTED, MAZE_RECEIVE_REJECTED and MAZE_NO_ROUTE carry their scouts, and a receive
+ * answer; a job (maze_open_all) tests its list before its sends. A refused call alters no byte lent
+ * to it and answers zero beside its number; only MAZE_ROUTE_REJECTED, MAZE_RECEIVE_REJECTED and
+ * MAZE_NO_ROUTE carry their scouts, a job tells which of its sends was refused, and a receive
  * channel comes back as it was. Numbers are tested at their whole width and never cut: node 256 is
  * not node 0. But C itself cuts a number that is wider than the parameter before the call is made,
  * so that 65536 arrives as 0; the warning -Wconversion tells.
@@ -17,7 +18,7 @@
  * - The memory of a table is writable, for every call but maze_trace: an open writes to the table
  *   while it searches, also where it is rejected in the end. maze_trace and the reading functions
  *   only read it. The memory of a buffer is writable.
- * - The buffer of maze_trace does not overlap the table.
+ * - The buffer of maze_trace does not overlap the table, nor does the list of maze_open_all.
  * - The arbiter lent to maze_arbitrate is a maze_arbiter of the caller's, aligned as C aligns one
  *   and never null, that nobody else reads or writes during the call.
  * - While a call that may write a table runs, nobody else reads or writes that table: a search
@@ -28,18 +29,18 @@
  * The padding of an answer struct has no meaning.
  *
  * Linking: the library is for x86-64 with SSE2, by the System V rules for calls, so the stack is
- * aligned to 16 bytes where a call is made. It needs memset and nothing else, has no data of its
- * own that is written, and defines no symbol but the calls below. A call takes less than 8
- * kilobytes of stack (maze_open; every other call less than 1) and may use the 128 bytes below the
- * stack pointer, the red zone. The archive links into programs at a fixed place, into programs at
- * any place (PIE) and into shared objects. */
+ * aligned to 16 bytes where a call is made. It needs memset and memcpy and nothing else, has no
+ * data of its own that is written, and defines no symbol but the calls below. maze_open_all takes
+ * less than 16 kilobytes of stack, maze_open less than 8 and every other call less than 1, and each
+ * may use the 128 bytes below the stack pointer, the red zone. The archive links into programs at a
+ * fixed place, into programs at any place (PIE) and into shared objects. */
 #ifndef MAZE_H
 #define MAZE_H
 
 #include <stddef.h>
 #include <stdint.h>
 
-#define MAZE_VERSION "0.9.0" /* CHANGELOG.md says what each version changes for a caller */
+#define MAZE_VERSION "0.10.0" /* CHANGELOG.md says what each version changes for a caller */
 
 /* The functions of this header are inline and static, so that they ask nothing of the library. */
 #if defined __cplusplus || (defined __STDC_VERSION__ && __STDC_VERSION__ >= 199901L)
@@ -78,6 +79,7 @@ extern "C" {
 #define MAZE_UNREADABLE_LINE 20   /* the line cannot be read; the printed list alone gives it */
 #define MAZE_CHANNEL_HELD 21      /* a circuit holds the receive channel */
 #define MAZE_NO_ROUTE 22          /* every path that the type may try crosses a blocked link */
+#define MAZE_BAD_SEND_LIST 28     /* the list of sends is no multiple of ten bytes or above 640 */
 #define MAZE_CHANNEL_STOPPED 30   /* the receive channel is stopped */
 #define MAZE_BAD_REQUESTER 31     /* a request bit is at 26 or above, or the record is above 25 */
 
@@ -130,6 +132,8 @@ extern "C" {
 #define MAZE_HOPS_LARGEST 9        /* a permitted path has 1 to dimension + 1 hops */
 #define MAZE_SCOUTS_LARGEST 123300 /* no send sends more; of type 3 at most 9, of type 1 72 */
 #define MAZE_TRACE_BYTES 9         /* what maze_trace asks of its buffer */
+#define MAZE_SEND_BYTES 10         /* of a send in a list of maze_open_all */
+#define MAZE_SENDS_LARGEST 64      /* sends in such a list */
 
 typedef struct {
     uint16_t number;
@@ -137,6 +141,11 @@ typedef struct {
     uint16_t receive; /* the receive channel taken at the target */
     uint32_t scouts;  /* address packets sent, in all passes or over all paths tried */
 } maze_opened;
+
+typedef struct {
+    uint16_t number;
+    uint16_t sends; /* accepted: how many sends; else the place, from 0, of the one refused */
+} maze_opened_all;
 
 typedef struct {
     uint16_t number;
@@ -217,6 +226,20 @@ uint16_t maze_disarm(uint8_t *table, size_t table_len, uint16_t node, uint16_t c
  * gives 11: where a link into it is free, one of them is not held. */
 maze_opened maze_open(uint8_t *table, size_t table_len, uint16_t node, uint16_t channel,
                       uint16_t target, uint16_t type, uint16_t vector);
+
+/* A job: opens the circuits of all sends of a list, or none of them.
+ *
+ * The list has MAZE_SEND_BYTES bytes for each send and MAZE_SENDS_LARGEST sends at most. The ten
+ * bytes are the five numbers of maze_open in its order, node, channel, target, type and vector, two
+ * bytes each, low byte first. The sends are opened one after another as maze_open does it, each on
+ * the table that those before it left. If all are accepted, the table is the one after them. At the
+ * first that is refused the job ends, and each byte of the table is as it was before the job. The
+ * list is only read.
+ * Answers 0 with the number of sends, or the first of 1, 2, 3 and 28 that applies, with 0, or the
+ * number that maze_open gives the first send refused, with the place of that send in the list, from
+ * 0, and without its scouts. An empty list is accepted, with 0. */
+maze_opened_all maze_open_all(uint8_t *table, size_t table_len, const uint8_t *sends,
+                              size_t sends_len);
 
 /* Closes the circuit of a send channel of a node: frees its links and its receive channel, disarms
  * that channel, and leaves the rest alone. The channel has to be armed again before another circuit
@@ -463,6 +486,7 @@ MAZE_INLINE const char *maze_refusal_text(unsigned number) {
     case MAZE_UNREADABLE_LINE: return "the line cannot be read";
     case MAZE_CHANNEL_HELD: return "a circuit holds the receive channel";
     case MAZE_NO_ROUTE: return "every path that the type may try crosses a blocked link";
+    case MAZE_BAD_SEND_LIST: return "the list of sends is no multiple of ten bytes or above 640";
     case MAZE_CHANNEL_STOPPED: return "the receive channel is stopped";
     case MAZE_BAD_REQUESTER: return "a request bit is at 26 or above, or the record is above 25";
     default: return "unknown number";

@@ -1,4 +1,4 @@
-/* The calls on a table from C, beside vectors worked by hand from document 01 and requests (a), (b), (c) and (f) of document 02: the examples with the
+/* The calls on a table from C, beside vectors worked by hand from document 01 and requests (a), (b), (c), (f) and (j) of document 02: the examples with the
  * bytes of their tables, each refusal at its edge, and that a refused call alters nothing.
  *
  * A byte of a table is given by its place: the link out of port p of node n is held at 257 + 16 n + 2 p, receive channel c of node n at
@@ -861,6 +861,18 @@ static void refused_arm(unsigned number, size_t length, unsigned node, unsigned 
     refused(number, maze_disarm(table, length, (uint16_t)node, (uint16_t)channel), "refused disarm", node);
 }
 
+/* The list lent to a job, which goes on behind what is lent, and what it was before. */
+static uint8_t list[660], kept_list[660];
+
+static void refused_job(unsigned number, unsigned place, size_t length, size_t list_length) {
+    maze_opened_all got;
+    keep();
+    memcpy(kept_list, list, sizeof list);
+    got = maze_open_all(table, length, list, list_length);
+    expect(got.number == number && got.sends == place, "refused job", number, got.number);
+    expect(unaltered() && memcmp(kept_list, list, sizeof list) == 0, "altered by a job refused as", number, list_length);
+}
+
 /* Every call but making is refused with this number, also where later tests apply. */
 static void all_refused(unsigned number, size_t length) {
     refused_block(number, length, 0, 0);
@@ -873,6 +885,10 @@ static void all_refused(unsigned number, size_t length) {
     refused_close(number, length, 65535, 65535);
     refused_trace(number, length, 0, 0, BUFFER);
     refused_trace(number, length, 65535, 65535, 0);
+    refused_job(number, 0, length, 0);
+    refused_job(number, 0, length, 10);
+    refused_job(number, 0, length, 9);
+    refused_job(number, 0, length, 650);
 }
 
 static void lengths(void) {
@@ -898,6 +914,7 @@ static void lengths(void) {
         expect(opened.number == 1 && opened.hops == 0 && opened.receive == 0 && opened.scouts == 0, "no table, open", i, 0);
         expect(maze_close(none, 0, 0, 0) == 1, "no table, close", i, 0);
         expect(traced.number == 1 && traced.hops == 0, "no table, trace", i, 0);
+        expect(maze_open_all(none, 0, none, 0).number == 1, "no table, job", i, 0);
     }
 }
 
@@ -1124,6 +1141,129 @@ static void alignments(void) {
     }
 }
 
+/* ---- jobs ---- */
+
+/* A send at a place of the list: node, channel, target, type and vector, two bytes each, low byte first. */
+static void put(unsigned place, unsigned node, unsigned channel, unsigned target, unsigned type, unsigned vector) {
+    const unsigned numbers[] = {node, channel, target, type, vector};
+    for (unsigned i = 0; i < 5; i++) list[10 * place + 2 * i] = (uint8_t)(numbers[i] % 256), list[10 * place + 2 * i + 1] = (uint8_t)(numbers[i] / 256);
+}
+
+static void accepted_job(const char *what, unsigned sends) {
+    maze_opened_all got;
+    memcpy(kept_list, list, sizeof list);
+    got = maze_open_all(table, BYTES, list, 10 * sends);
+    expect(got.number == 0 && got.sends == sends, what, got.number, got.sends);
+    expect(memcmp(kept_list, list, sizeof list) == 0, "the list of an accepted job", sends, 0);
+}
+
+/* Dimension 3, from 0 to 7, all ports: the first send goes by ports 0, 1, 2, the second by 1, 2, 0 and the third by 2, 0, 1, each past the links that those
+ * before it hold, to receive channels 0, 1 and 2. A fourth has no link out of node 0 left. */
+static void three_to_seven(void) {
+    for (unsigned place = 0; place < 4; place++) put(place, 0, place, 7, 0, 7);
+}
+
+static void jobs(void) {
+    static const struct place two[] = {{257, 1}, {275, 1}, {309, 1}, {4465, 1}, {259, 2}, {293, 2}, {353, 2}, {4467, 2}, {0, 0}};
+    static const struct place three[] = {{257, 1}, {275, 1}, {309, 1}, {4465, 1}, {259, 2}, {293, 2}, {353, 2}, {4467, 2}, {261, 3}, {321, 3}, {339, 3}, {4469, 3}, {0, 0}};
+    static const struct place one[] = {{309, 25}, {4465, 25}, {0, 0}};
+    fresh_armed(3);
+    three_to_seven();
+    accepted_job("two sends", 2);
+    expect_table("two sends", 3, two);
+    expect_trace("the first of two", 0, 0, "012");
+    expect_trace("the second of two", 0, 1, "120");
+    refused_job(9, 0, BYTES, 20); /* both channels have a circuit now */
+    memcpy(list, list + 20, 20); /* what is left of the four: the third is accepted by itself, and then none */
+    refused_job(10, 1, BYTES, 20);
+    expect_table("a job refused beside two circuits", 3, two);
+    accepted_job("the third alone", 1);
+    expect_table("three sends", 3, three);
+
+    fresh_armed(3);
+    three_to_seven();
+    accepted_job("no send", 0);
+    expect_table("no send", 3, NULL);
+    expect(maze_open_all(table, BYTES, NULL, 0).number == 0, "no send and no list", 0, 0);
+    accepted_job("three sends", 3);
+    expect_table("three sends in one job", 3, three);
+
+    /* the last is refused: the three before it are given back, each byte of them, beside a circuit that stood there */
+    fresh_armed(3);
+    expect(maze_open(table, BYTES, 3, 0, 7, 0, 4).number == 0, "open from 3 to 7", 3, 7);
+    for (unsigned place = 0; place < 3; place++) put(place, 0, place, 7, 0, 7);
+    put(3, 0, 3, 7, 0, 7);
+    refused_job(10, 2, BYTES, 40); /* 3 to 7 is held: two ways into 7 are left */
+    expect_table("the circuit from 3 to 7 alone", 3, one);
+    fresh_armed(3);
+    refused_job(10, 3, BYTES, 40);
+    refused_job(10, 3, BYTES, 50); /* whatever stands behind it */
+    expect_table("nothing opened", 3, NULL);
+}
+
+/* One send between two that would be accepted, at place 0, 1 and 2: its number, whatever number it is. The low byte of each wide number alone would pass. */
+static void refused_sends(void) {
+    static const struct { unsigned number; uint16_t send[5]; } bad[] = {
+        {4, {8, 7, 7, 0, 7}}, {4, {256, 7, 7, 0, 7}}, {4, {65535, 7, 7, 0, 7}}, {4, {1, 7, 8, 0, 7}}, {4, {1, 7, 263, 0, 7}},
+        {5, {1, 8, 7, 0, 7}}, {5, {1, 256, 7, 0, 7}}, {7, {1, 7, 7, 2, 7}}, {7, {1, 7, 7, 5, 7}}, {7, {1, 7, 7, 256, 7}},
+        {8, {1, 7, 7, 0, 0}}, {8, {1, 7, 7, 0, 8}}, {8, {1, 7, 7, 0, 263}}, {9, {6, 6, 7, 0, 7}},
+        {10, {6, 7, 7, 3, 1}}, {11, {1, 7, 0, 0, 1}}, {22, {2, 7, 3, 3, 1}},
+        /* the lowest number of several */
+        {4, {8, 8, 8, 2, 0}}, {5, {1, 8, 7, 2, 0}}, {7, {1, 7, 7, 2, 0}}, {8, {6, 6, 7, 0, 0}},
+    };
+    static const struct place places[] = {{353, 55}, {4465, 55}, {3, 6}, {8449, 0}, {0, 0}};
+    for (size_t i = 0; i < sizeof bad / sizeof *bad; i++)
+        for (unsigned place = 0; place < 3; place++) {
+            const uint16_t *send = bad[i].send;
+            /* circuit 55 holds 6 to 7, 2 to 3 is blocked, no channel of node 0 is armed */
+            fresh_armed(3);
+            expect(maze_open(table, BYTES, 6, 6, 7, 0, 1).number == 0 && maze_block(table, BYTES, 2, 0) == 0, "open from 6 to 7", 6, 7);
+            for (uint16_t channel = 0; channel < 8; channel++) expect(maze_disarm(table, BYTES, 0, channel) == 0, "disarm", 0, channel);
+            put(0, 4, 0, 5, 0, 1), put(1, 5, 0, 4, 0, 1), put(2, 4, 1, 6, 0, 2);
+            put(place, send[0], send[1], send[2], send[3], send[4]);
+            refused_job(bad[i].number, place, BYTES, 30);
+            expect_table("a job refused", 3, places);
+        }
+}
+
+/* 64 sends over port 6, from node i to node i + 64, each to receive channel 0: circuit 8 i + 1. */
+static void long_jobs(void) {
+    static const size_t wrong[] = {1, 9, 11, 19, 21, 629, 631, 635, 639, 641, 645, 649, 650, 651, 655, 660};
+    static struct place places[4 * 64 + 1];
+    for (unsigned i = 0; i < 64; i++) {
+        const unsigned circuit = 8 * i + 1, link = 257 + 16 * i + 12, receive = 4353 + 16 * (i + 64);
+        put(i, i, 0, i + 64, i % 2 ? 3 : 0, 64);
+        places[4 * i].at = link, places[4 * i].value = circuit % 256, places[4 * i + 1].at = link + 1, places[4 * i + 1].value = circuit / 256;
+        places[4 * i + 2].at = receive, places[4 * i + 2].value = circuit % 256, places[4 * i + 3].at = receive + 1, places[4 * i + 3].value = circuit / 256;
+    }
+    put(64, 64, 0, 0, 0, 64); /* a send behind the last, which no list may have */
+    fresh_armed(8);
+    accepted_job("64 sends", 64);
+    expect_table("64 sends", 8, places);
+    refused_job(9, 0, BYTES, 640);
+    fresh_armed(8);
+    for (size_t i = 0; i < sizeof wrong / sizeof *wrong; i++) refused_job(28, 0, BYTES, wrong[i]);
+    for (unsigned place = 0; place < 64; place++) {
+        put(place, 256, 0, place + 64, 0, 64);
+        refused_job(4, place, BYTES, 640);
+        put(place, place, 0, place + 64, 0, 64);
+    }
+    expect_table("no send of 64", 8, NULL);
+    accepted_job("63 sends", 63);
+    memset(list, 0, sizeof list);
+    refused_job(8, 0, BYTES, 640);
+    /* 1, 2 and 3 come before 28, and 28 before what a send is refused for */
+    put(0, 65535, 65535, 65535, 65535, 65535);
+    refused_job(4, 0, BYTES, 10);
+    refused_job(28, 0, BYTES, 9);
+    refused_job(28, 0, BYTES, 11);
+    table[263] = 9;
+    refused_job(3, 0, BYTES, 9);
+    table[0] = 9;
+    refused_job(2, 0, BYTES, 9);
+    refused_job(1, 0, BYTES - 1, 9);
+}
+
 /* ---- sound tables and others, each circuit 1 of dimension 3 on ports 0, 1, 2, with every channel armed, but for the places given ---- */
 
 static const struct {
@@ -1255,6 +1395,9 @@ int main(void) {
     buffers();
     long_buffers();
     alignments();
+    jobs();
+    refused_sends();
+    long_jobs();
     soundness();
     absent_nodes_armed();
     return verdict();

@@ -10,6 +10,7 @@ _Static_assert(sizeof(maze_word_written) == 4 && offsetof(maze_word_written, wor
 _Static_assert(sizeof(maze_opened) == 12 && offsetof(maze_opened, hops) == 2 && offsetof(maze_opened, receive) == 4 && offsetof(maze_opened, scouts) == 8, "an open is three 16-bit numbers and a 32-bit number");
 _Static_assert(sizeof(maze_receive_channel) == 12 && offsetof(maze_receive_channel, count) == 4 && offsetof(maze_receive_channel, running) == 8 && offsetof(maze_receive_channel, overflow) == 9 && offsetof(maze_receive_channel, ignores) == 10, "a channel is two 32-bit numbers and three bytes");
 _Static_assert(sizeof(maze_received) == 16 && offsetof(maze_received, number) == 12, "a packet's answer is a channel and a 16-bit number");
+_Static_assert(sizeof(maze_opened_all) == 4 && offsetof(maze_opened_all, sends) == 2, "a job is two 16-bit numbers");
 _Static_assert(sizeof(maze_traced) == 4 && offsetof(maze_traced, hops) == 2, "a trace is two 16-bit numbers");
 
 _Static_assert(sizeof(maze_arbiter) == 2 && _Alignof(maze_arbiter) == _Alignof(uint16_t), "a record is one 16-bit number");
@@ -22,6 +23,7 @@ HAS_TYPE(maze_unblock, uint16_t, uint8_t *, size_t, uint16_t, uint16_t);
 HAS_TYPE(maze_arm, uint16_t, uint8_t *, size_t, uint16_t, uint16_t);
 HAS_TYPE(maze_disarm, uint16_t, uint8_t *, size_t, uint16_t, uint16_t);
 HAS_TYPE(maze_open, maze_opened, uint8_t *, size_t, uint16_t, uint16_t, uint16_t, uint16_t, uint16_t);
+HAS_TYPE(maze_open_all, maze_opened_all, uint8_t *, size_t, const uint8_t *, size_t);
 HAS_TYPE(maze_close, uint16_t, uint8_t *, size_t, uint16_t, uint16_t);
 HAS_TYPE(maze_trace, maze_traced, const uint8_t *, size_t, uint16_t, uint16_t, uint8_t *, size_t);
 HAS_TYPE(maze_arbitrate, maze_served, maze_arbiter *, uint32_t);
@@ -58,6 +60,7 @@ static const struct {
     NAME(MAZE_UNREADABLE_LINE, 20),
     NAME(MAZE_CHANNEL_HELD, 21),
     NAME(MAZE_NO_ROUTE, 22),
+    NAME(MAZE_BAD_SEND_LIST, 28),
     NAME(MAZE_CHANNEL_STOPPED, 30),
     NAME(MAZE_BAD_REQUESTER, 31),
     NAME(MAZE_TABLE_BYTES, 8705),
@@ -77,6 +80,8 @@ static const struct {
     NAME(MAZE_HOPS_LARGEST, 9),
     NAME(MAZE_SCOUTS_LARGEST, 123300),
     NAME(MAZE_TRACE_BYTES, 9),
+    NAME(MAZE_SEND_BYTES, 10),
+    NAME(MAZE_SENDS_LARGEST, 64),
     NAME(MAZE_WORD_TYPE_PLACE, 1024),
     NAME(MAZE_WORD_COMMAND_PLACE, 64),
     NAME(MAZE_WORD_LARGEST, 4095),

@@ -29,6 +29,10 @@ int main() {
     check(maze_close(table.data(), table.size(), 0, 0) == MAZE_ACCEPTED && !MAZE_RECEIVE_ARMED(table.data(), 7, 0), "close");
     check(maze_close(table.data(), table.size(), 0, 0) == MAZE_NO_CIRCUIT, "close again");
     check(maze_unblock(table.data(), table.size(), 1, 2) == MAZE_ACCEPTED, "unblock");
+    const std::vector<uint8_t> sends = {0, 0, 0, 0, 7, 0, 0, 0, 7, 0, 0, 0, 1, 0, 7, 0, 0, 0, 7, 0};
+    const maze_opened_all job = maze_open_all(table.data(), table.size(), sends.data(), sends.size());
+    check(job.number == MAZE_RECEIVE_REJECTED && job.sends == 0, "a job with no channel armed");
+    check(maze_open_all(table.data(), table.size(), sends.data(), sends.size() - 1).number == MAZE_BAD_SEND_LIST, "a list of 19 bytes");
     check(maze_word_read(2437).command == 6, "read a word");
     check(maze_word_write(1, 0).word == 2112, "write a word");
     maze_arbiter arbiter = {MAZE_REQUESTERS - 1};

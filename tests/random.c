@@ -4,8 +4,8 @@
  *
  * runs that many streams of calls of each kind and dimension (20 without an argument), each from a seed of its own. At the first difference it
  * shortens the list of calls as long as they still differ, prints it and stops. Otherwise it prints how often each case has occurred. Calls are
- * written as in the printed list, and beside them `T node channel` traces, `P place value` writes one byte of the table, and `/ table of N` or
- * `/ buffer of N` behind a call says that it was lent N bytes. */
+ * written as in the printed list, and beside them `T node channel` traces, `J` opens the sends that follow it together, each as behind S,
+ * `P place value` writes one byte of the table, and `/ table of N`, `/ buffer of N` or `/ list of N` behind a call says that it was lent N bytes. */
 #include "draw.h"
 #include "reference.h"
 #include "subject.h"
@@ -14,7 +14,7 @@
 #include <stdlib.h>
 #include <string.h>
 
-enum { SPARE = 32, BUFFER = 24, MOST_CALLS = 60000, LETTERS = 9, NUMBERS = MAZE_NO_ROUTE + 1 };
+enum { SPARE = 32, BUFFER = 24, MOST_CALLS = 60000, LETTERS = 10, NUMBERS = MAZE_BAD_SEND_LIST + 1, MOST_JOBS = 4000, LIST = 660 };
 
 static int one_in(unsigned count) {
     return below(count) == 0;
@@ -22,7 +22,7 @@ static int one_in(unsigned count) {
 
 /* ---- calls, and both tables ---- */
 
-static const char letters[] = "FBESCRDTP";
+static const char letters[] = "FBESCRDTJP";
 
 static size_t letter_place(char letter) {
     return (size_t)(strchr(letters, letter) - letters);
@@ -31,8 +31,13 @@ static size_t letter_place(char letter) {
 struct call {
     char letter;
     uint16_t argument[5];
-    uint16_t table_len, buffer_len;
+    uint16_t table_len, buffer_len; /* buffer_len: of a trace's buffer or of a job's list */
+    uint16_t job;                   /* which list of sends */
 };
+
+/* The lists of sends of a stream. They go on behind what is lent. */
+static uint8_t lists[MOST_JOBS][LIST];
+static unsigned jobs;
 
 struct pair {
     uint8_t table[2][MAZE_TABLE_BYTES + SPARE]; /* the library's and the reference's; more bytes than are lent */
@@ -41,7 +46,7 @@ struct pair {
 
 /* The answers of one call, of both sides. */
 struct answers {
-    unsigned long value[2][4]; /* number, hops, receive channel, scouts */
+    unsigned long value[2][4]; /* number, hops or sends, receive channel, scouts */
 };
 
 static struct pair now;
@@ -53,6 +58,7 @@ static struct answers run(const struct call *call, struct pair *on) {
     size_t length = call->table_len;
     maze_opened opened[2] = {{0, 0, 0, 0}, {0, 0, 0, 0}};
     maze_traced traced[2] = {{0, 0}, {0, 0}};
+    maze_opened_all opened_all[2] = {{0, 0}, {0, 0}};
     uint16_t number[2] = {0, 0};
 
     switch (call->letter) {
@@ -70,11 +76,15 @@ static struct answers run(const struct call *call, struct pair *on) {
         traced[0] = maze_trace(lib, length, a[0], a[1], on->buffer[0], call->buffer_len);
         traced[1] = ref_trace(ref, length, a[0], a[1], on->buffer[1], call->buffer_len);
         break;
+    case 'J':
+        opened_all[0] = maze_open_all(lib, length, lists[call->job], call->buffer_len);
+        opened_all[1] = ref_open_all(ref, length, lists[call->job], call->buffer_len);
+        break;
     default: lib[a[0]] = ref[a[0]] = (uint8_t)a[1]; break; /* P */
     }
     for (int i = 0; i < 2; i++) {
-        answers.value[i][0] = (unsigned long)number[i] + opened[i].number + traced[i].number; /* two of the three are 0 */
-        answers.value[i][1] = (unsigned long)opened[i].hops + traced[i].hops;
+        answers.value[i][0] = (unsigned long)number[i] + opened[i].number + traced[i].number + opened_all[i].number; /* three of the four are 0 */
+        answers.value[i][1] = (unsigned long)opened[i].hops + traced[i].hops + opened_all[i].sends;
         answers.value[i][2] = opened[i].receive;
         answers.value[i][3] = opened[i].scouts;
     }
@@ -98,10 +108,13 @@ static struct call list[MOST_CALLS];
 static size_t calls;
 
 static void print_call(const struct call *call) {
-    static const int arguments[LETTERS] = {1, 2, 2, 5, 2, 2, 2, 2, 2};
+    static const int arguments[LETTERS] = {1, 2, 2, 5, 2, 2, 2, 2, 0, 2};
     int count = arguments[letter_place(call->letter)];
     printf("%c", call->letter);
     for (int i = 0; i < count; i++) printf(" %u", (unsigned)call->argument[i]);
+    for (unsigned i = 0; call->letter == 'J' && i < call->buffer_len / 2u; i++)
+        printf("%s%u", i % 5 == 0 && i > 0 ? ", " : " ", lists[call->job][2 * i] + 256u * lists[call->job][2 * i + 1]);
+    if (call->letter == 'J') printf(" / list of %u", (unsigned)call->buffer_len);
     if (call->table_len != MAZE_TABLE_BYTES) printf(" / table of %u", (unsigned)call->table_len);
     if (call->letter == 'T' && call->buffer_len != BUFFER) printf(" / buffer of %u", (unsigned)call->buffer_len);
     printf("\n");
@@ -145,7 +158,7 @@ static void report(unsigned dimension, const char *kind, uint64_t seed) {
         answers = run(&list[i], &pair);
     }
     for (int i = 0; i < 2; i++)
-        printf("%s answers %lu, hops %lu, receive channel %lu, scouts %lu\n", i == 0 ? "library" : "reference", answers.value[i][0],
+        printf("%s answers %lu, hops or sends %lu, receive channel %lu, scouts %lu\n", i == 0 ? "library" : "reference", answers.value[i][0],
                answers.value[i][1], answers.value[i][2], answers.value[i][3]);
     for (size_t i = 0, shown = 0; i < sizeof pair.table[0] && shown < 10; i++)
         if (pair.table[0][i] != pair.table[1][i])
@@ -163,6 +176,7 @@ static struct {
         several_changed, several_changed_sound, mask_changed, mask_changed_sound, moved, laid, laid_sound, wrong_length, short_buffer;
     unsigned long receive_ended, receive_ended_no_port, route_then_receive, passed_over, armed_again, armed_held, disarmed_again;
     unsigned long rejected[2][MAZE_TYPE_ALTERNATE_MAZE + 1], no_route_idle, no_route_unscouted, helped_past_blocked; /* 10 and then 22, by type */
+    unsigned long job_several, job_long, job_empty, job_first, job_middle, job_last;
     unsigned long helix_first, helix_later, helix_none, helix_received, helix_received_later, fixed_taken, fixed_rejected, fixed_received, partly_free;
 } seen;
 
@@ -185,6 +199,12 @@ static void tally(const struct call *call, const struct answers *answers, unsign
     seen.answers[letter_place(call->letter)][number]++;
     seen.wrong_length += number == MAZE_BAD_LENGTH;
     seen.short_buffer += number == MAZE_BUFFER_SHORT;
+    if (call->letter == 'J') {
+        unsigned long sends = call->buffer_len / MAZE_SEND_BYTES, place = answers->value[1][1];
+        if (number == MAZE_ACCEPTED) seen.job_empty += sends == 0, seen.job_several += sends > 1, seen.job_long += sends == MAZE_SENDS_LARGEST;
+        else if (number >= MAZE_BAD_NODE && number != MAZE_BAD_SEND_LIST && sends > 1)
+            *(place == 0 ? &seen.job_first : place + 1 == sends ? &seen.job_last : &seen.job_middle) += 1;
+    }
     if (call->letter != 'S') return;
     if (!(number == MAZE_ACCEPTED || number == MAZE_ROUTE_REJECTED || number == MAZE_RECEIVE_REJECTED || number == MAZE_NO_ROUTE)) return;
     if (number == MAZE_ROUTE_REJECTED || number == MAZE_NO_ROUTE) {
@@ -263,7 +283,7 @@ static void make_call(struct call call) {
 /* ---- choosing calls ---- */
 
 static struct call plain(char letter, unsigned a, unsigned b) {
-    struct call call = {letter, {(uint16_t)a, (uint16_t)b, 0, 0, 0}, MAZE_TABLE_BYTES, BUFFER};
+    struct call call = {letter, {(uint16_t)a, (uint16_t)b, 0, 0, 0}, MAZE_TABLE_BYTES, BUFFER, 0};
     return call;
 }
 
@@ -317,6 +337,41 @@ static struct call any_send(unsigned dimension) {
     return sending(node, one_in(8) ? below(8) : free_channel(node), target, any_type(), any_vector(dimension, node, target));
 }
 
+/* A number near a limit, or anywhere. */
+static unsigned odd_number(unsigned limit) {
+    switch (below(6)) {
+    case 0: return limit;
+    case 1: return limit - 1;
+    case 2: return limit + 1;
+    case 3: return 256 * (1 + below(255)) + below(limit); /* its low byte alone would pass */
+    case 4: return below(65536);
+    default: return below(limit);
+    }
+}
+
+/* Sends for a job. Those from one node are on channels of their own, but for some; now and then one of them, or the length of the list, is wrong. */
+static struct call any_job(unsigned dimension) {
+    static const unsigned counts[] = {0, 1, 2, 2, 3, 4, 6, 10};
+    unsigned sends = one_in(12) ? 60 + below(5) : counts[below(8)], used[MAZE_NODES] = {0}, wrong = one_in(3) ? below(sends + 1) : sends;
+    struct call call = plain('J', 0, 0);
+    uint8_t *list = lists[jobs];
+    for (unsigned i = 0; i < LIST; i++) list[i] = (uint8_t)below(256);
+    for (unsigned i = 0; i < sends; i++) {
+        struct call send = any_send(dimension);
+        uint16_t *a = send.argument;
+        if (sends >= 60 && !one_in(100)) a[2] = (uint16_t)(a[0] ^ (a[4] = (uint16_t)(1u << below(dimension)))), a[3] = 0;
+        a[1] = (uint16_t)((a[1] + used[a[0]]) % 8);
+        used[a[0]] += !one_in(20);
+        if (i == wrong) a[below(5)] = (uint16_t)odd_number(one_in(2) ? 8 : 1u << dimension);
+        for (unsigned k = 0; k < 5; k++) list[10 * i + 2 * k] = (uint8_t)a[k], list[10 * i + 2 * k + 1] = (uint8_t)(a[k] >> 8);
+    }
+    call.buffer_len = (uint16_t)(MAZE_SEND_BYTES * sends);
+    if (one_in(20)) call.buffer_len = (uint16_t)(one_in(2) ? below(LIST) : call.buffer_len + 1 + below(9));
+    call.job = (uint16_t)jobs;
+    if (jobs < MOST_JOBS - 1) jobs++;
+    return call;
+}
+
 /* A circuit that is open, by chance; or any node and channel. */
 static void any_circuit(unsigned dimension, unsigned *node, unsigned *channel) {
     for (int tries = 0; tries < 20; tries++) {
@@ -346,26 +401,16 @@ static struct call on_receive(char letter, unsigned dimension) {
     return plain(letter, any_node(dimension), below(8));
 }
 
-/* A number near a limit, or anywhere. */
-static unsigned odd_number(unsigned limit) {
-    switch (below(6)) {
-    case 0: return limit;
-    case 1: return limit - 1;
-    case 2: return limit + 1;
-    case 3: return 256 * (1 + below(255)) + below(limit); /* its low byte alone would pass */
-    case 4: return below(65536);
-    default: return below(limit);
-    }
-}
-
 /* A call some of whose numbers are out of range. */
 static struct call odd_call(unsigned dimension) {
     static const uint16_t lengths[] = {0, 1, 256, MAZE_ARMED_AT, MAZE_TABLE_BYTES - 1, MAZE_TABLE_BYTES + 1, MAZE_TABLE_BYTES + SPARE};
     static const unsigned types[] = {0, 4, 1, 2, 3, 5, 6, 7, 8, 256, 257, 259, 260, 65535};
     struct call call = any_send(dimension);
-    call.letter = "FBESSSCTRD"[below(10)];
+    call.letter = "FBESSSCTRDJ"[below(11)];
     if (call.letter == 'F') {
         call.argument[0] = (uint16_t)(one_in(4) ? 256 + dimension : one_in(2) ? 0 : 9 + below(60000));
+    } else if (call.letter == 'J') {
+        call = any_job(dimension);
     } else if (call.letter == 'S') {
         if (one_in(3)) call.argument[0] = (uint16_t)odd_number(1u << dimension);
         if (one_in(3)) call.argument[1] = (uint16_t)odd_number(8);
@@ -386,7 +431,8 @@ static struct call odd_call(unsigned dimension) {
 static struct call any_call(unsigned dimension) {
     unsigned choice = below(100);
     struct call call;
-    if (choice < 44) return any_send(dimension);
+    if (choice < 40) return any_send(dimension);
+    if (choice < 44) return any_job(dimension);
     if (choice < 57) return on_circuit('C', dimension);
     if (choice < 69) {
         call = on_circuit('T', dimension);
@@ -658,12 +704,32 @@ static void stopped(unsigned dimension) {
     }
 }
 
+/* Jobs. The first has a send over each link of the first nodes, 64 of them where the cube has so many, and is accepted, or refused at one of them. */
+static void together(unsigned dimension) {
+    struct call call = any_job(dimension);
+    unsigned links = dimension << dimension, sends = links < MAZE_SENDS_LARGEST ? links : MAZE_SENDS_LARGEST;
+    arm_nodes(dimension, one_in(3) ? 2 : 1);
+    for (unsigned i = 0; i < sends; i++) {
+        const unsigned node = i / dimension, port = i % dimension, numbers[] = {node, port, node ^ 1u << port, good_type(), 1u << port};
+        for (unsigned k = 0; k < 5; k++) lists[call.job][10 * i + 2 * k] = (uint8_t)numbers[k], lists[call.job][10 * i + 2 * k + 1] = 0;
+    }
+    call.buffer_len = (uint16_t)(MAZE_SEND_BYTES * sends);
+    if (one_in(3)) lists[call.job][10 * below(sends) + 2 * below(5)] = (uint8_t)below(256);
+    make_call(call);
+    for (unsigned i = 0; i < 40; i++) {
+        make_call(on_circuit('C', dimension));
+        make_call(on_receive('R', dimension));
+        make_call(any_job(dimension));
+    }
+}
+
 static const struct {
     const char *name;
     void (*run)(unsigned);
 } kinds[] = {
     {"mixed", mixed},     {"refusals", refusals},   {"filled", filled}, {"thinned", thinned},     {"walled", walled},
     {"damaged", damaged}, {"rewritten", rewritten}, {"laid", laid},     {"contended", contended}, {"stopped", stopped},
+    {"together", together},
 };
 
 static void print_seen(void) {
@@ -694,6 +760,8 @@ static void print_seen(void) {
     printf(", of these with no circuit: %lu; with circuits and no scout: %lu\n", seen.no_route_idle, seen.no_route_unscouted);
     printf("opens that passed over a channel not armed: %lu; armed ones armed again: %lu, of these held: %lu; disarmed ones again: %lu\n",
            seen.passed_over, seen.armed_again, seen.armed_held, seen.disarmed_again);
+    printf("jobs of several sends accepted: %lu, of 64: %lu, of none: %lu; of several refused at the first: %lu, at the last: %lu, between: %lu\n",
+           seen.job_several, seen.job_long, seen.job_empty, seen.job_first, seen.job_last, seen.job_middle);
     printf("rejected after 1,000 scouts or more: %lu; after 10,000 or more: %lu; most scouts of a send: %lu\n", seen.rejected_1000,
            seen.rejected_10000, seen.most_scouts);
     printf("opens with nine tenths of the links held: %lu, accepted: %lu; with all held: %lu; with all receive channels held: %lu\n",
@@ -714,7 +782,7 @@ int main(int count, char **arguments) {
             for (unsigned dimension = 1; dimension <= MAZE_DIMENSION_LARGEST; dimension++) {
                 uint64_t own = seed * 1000000007u + stream * 1009 + kind * 16 + dimension;
                 random_state = own;
-                calls = 0;
+                calls = jobs = 0;
                 start(&now);
                 make_call(plain('F', dimension, 0));
                 kinds[kind].run(dimension);
@@ -784,6 +852,17 @@ int main(int count, char **arguments) {
             {"a receive channel moved", seen.moved},
             {"a circuit written entry by entry, sound", seen.laid_sound},
             {"a circuit written entry by entry, not sound", seen.laid - seen.laid_sound},
+            {"a job of several sends accepted", seen.job_several},
+            {"a job of 64 sends accepted", seen.job_long},
+            {"a job of no send", seen.job_empty},
+            {"a job refused at its first send", seen.job_first},
+            {"a job refused at its last send", seen.job_last},
+            {"a job refused between", seen.job_middle},
+            {"a list of a wrong length", seen.answers[letter_place('J')][MAZE_BAD_SEND_LIST]},
+            {"a job on a channel in use", seen.answers[letter_place('J')][MAZE_CHANNEL_IN_USE]},
+            {"a job that is route rejected", seen.answers[letter_place('J')][MAZE_ROUTE_REJECTED]},
+            {"a job that is receive rejected", seen.answers[letter_place('J')][MAZE_RECEIVE_REJECTED]},
+            {"a job with a send that no closing helps", seen.answers[letter_place('J')][MAZE_NO_ROUTE]},
             {"a wrong length", seen.wrong_length},
             {"a short buffer", seen.short_buffer},
         };

@@ -456,6 +456,25 @@ maze_opened ref_open(uint8_t *table, size_t table_len, uint16_t node, uint16_t c
     return answer;
 }
 
+/* Request (j): the sends are opened one by one on a copy, which takes the table's place only where each of them was accepted. */
+maze_opened_all ref_open_all(uint8_t *table, size_t table_len, const uint8_t *sends, size_t sends_len) {
+    maze_opened_all answer = {0, 0};
+    uint8_t tried[8705];
+    struct call call;
+    begin(&call, table, table_len);
+    test(&call, sends_len > 640 || sends_len - sends_len / 10 * 10 != 0, MAZE_BAD_SEND_LIST);
+    if (call.number == MAZE_ACCEPTED) memcpy(tried, table, sizeof tried);
+    for (size_t send = 0; call.number == MAZE_ACCEPTED && send < sends_len / 10; send++) {
+        uint16_t numbers[5];
+        for (size_t i = 0; i < 5; i++) numbers[i] = (uint16_t)(sends[10 * send + 2 * i] | sends[10 * send + 2 * i + 1] << 8);
+        call.number = ref_open(tried, sizeof tried, numbers[0], numbers[1], numbers[2], numbers[3], numbers[4]).number;
+        if (call.number == MAZE_ACCEPTED) answer.sends++;
+    }
+    if (call.number == MAZE_ACCEPTED) memcpy(table, tried, sizeof tried);
+    answer.number = (uint16_t)call.number;
+    return answer;
+}
+
 /* The tests that close and trace share. */
 static void begin_circuit(struct call *call, const uint8_t *table, size_t table_len, uint16_t node, uint16_t channel, unsigned circuit) {
     begin(call, table, table_len);

@@ -1,4 +1,4 @@
-/* The calls on a table once more, written for checking: an independent reading of document 01 with requests (a), (b), (c) and (f) of document 02, which
+/* The calls on a table once more, written for checking: an independent reading of document 01 with requests (a), (b), (c), (f) and (j) of document 02, which
  * shares nothing with the library but the header's names. Signatures and answers are those of maze.h. */
 #ifndef REFERENCE_H
 #define REFERENCE_H
@@ -11,6 +11,7 @@ uint16_t ref_unblock(uint8_t *table, size_t table_len, uint16_t node, uint16_t p
 uint16_t ref_arm(uint8_t *table, size_t table_len, uint16_t node, uint16_t channel);
 uint16_t ref_disarm(uint8_t *table, size_t table_len, uint16_t node, uint16_t channel);
 maze_opened ref_open(uint8_t *table, size_t table_len, uint16_t node, uint16_t channel, uint16_t target, uint16_t type, uint16_t vector);
+maze_opened_all ref_open_all(uint8_t *table, size_t table_len, const uint8_t *sends, size_t sends_len);
 uint16_t ref_close(uint8_t *table, size_t table_len, uint16_t node, uint16_t channel);
 maze_traced ref_trace(const uint8_t *table, size_t table_len, uint16_t node, uint16_t channel, uint8_t *buffer, size_t buffer_len);
 

@@ -1,5 +1,5 @@
 /* How many bytes of stack a call takes: each is made on a stack of its own, filled before with one byte, and what it changed is measured. The header says that
- * maze_open takes less than 8 kilobytes and every other call less than 1. A call takes the most where a search is deepest: nine hops, in a cube of dimension 8. */
+ * maze_open_all takes less than 16 kilobytes, maze_open less than 8 and every other call less than 1. A call takes the most where a search is deepest: nine hops, in a cube of dimension 8. */
 #define _GNU_SOURCE
 #include "expect.h"
 
@@ -7,7 +7,7 @@
 #include <string.h>
 #include <ucontext.h>
 
-enum { STACK_BYTES = 65536, FILLED = 0xa5, OPEN_BYTES = 8192, OTHER_BYTES = 1024 };
+enum { STACK_BYTES = 65536, FILLED = 0xa5, OPEN_BYTES = 8192, JOB_BYTES = 16384, OTHER_BYTES = 1024 };
 
 static _Alignas(16) unsigned char stack[STACK_BYTES];
 static uint8_t table[MAZE_TABLE_BYTES], ports[MAZE_TRACE_BYTES];
@@ -23,6 +23,11 @@ static void unblock(void) { answer = maze_unblock(table, sizeof table, 1, 1); }
 static void arm(void) { answer = maze_arm(table, sizeof table, 1, 1); }
 static void disarm(void) { answer = maze_disarm(table, sizeof table, 1, 1); }
 static void open_one(void) { answer = maze_open(table, sizeof table, given[0], 0, given[1], given[2], given[3]).number; }
+static void open_all(void) {
+    uint8_t send[MAZE_SEND_BYTES] = {0};
+    send[0] = (uint8_t)given[0], send[4] = (uint8_t)given[1], send[6] = (uint8_t)given[2], send[8] = (uint8_t)given[3];
+    answer = maze_open_all(table, sizeof table, send, sizeof send).number;
+}
 static void close_one(void) { answer = maze_close(table, sizeof table, 0, 0); }
 static void trace(void) { answer = maze_trace(table, sizeof table, 0, 0, ports, sizeof ports).number; }
 static void word_read(void) { answer = maze_word_read(2437).number; }
@@ -62,8 +67,8 @@ static void holds(const char *name, unsigned long bytes, unsigned long limit) {
     expect(bytes > 0 && bytes < limit, name, bytes, limit);
 }
 
-/* Opens of every routing type and send vector: accepted, with no receive channel armed, and with every link into the target blocked. */
-static unsigned long most_of_opens(void) {
+/* Opens of every routing type and send vector, alone or as a job: accepted, with no receive channel armed, and with every link into the target blocked. */
+static unsigned long most_of_opens(void (*open_way)(void)) {
     static const uint16_t types[] = {MAZE_TYPE_MAZE, MAZE_TYPE_HELIX, MAZE_TYPE_FIXED, MAZE_TYPE_ALTERNATE_MAZE};
     unsigned long most = 0;
     unsigned hops[2] = {0, 0};
@@ -74,7 +79,7 @@ static unsigned long most_of_opens(void) {
         for (unsigned type = 0; type < sizeof types / sizeof *types; type++)
             for (unsigned vector = 1; vector < 256; vector++) {
                 given[0] = 0, given[1] = 254, given[2] = types[type], given[3] = (uint16_t)vector;
-                unsigned long bytes = bytes_of(open_one);
+                unsigned long bytes = bytes_of(open_way);
                 expect(round == 0 ? answer == MAZE_ACCEPTED : answer >= MAZE_ROUTE_REJECTED, "an open", round, answer);
                 if (bytes > most) most = bytes;
                 if (answer != MAZE_ACCEPTED) continue;
@@ -98,7 +103,8 @@ int main(void) {
         {"the receive channel", receive, 0},
     };
     for (unsigned at = 0; at < sizeof calls / sizeof *calls; at++) holds(calls[at].name, taken_by(calls[at].function, calls[at].expected, calls[at].name), OTHER_BYTES);
-    holds("maze_open", most_of_opens(), OPEN_BYTES);
+    holds("maze_open", most_of_opens(open_one), OPEN_BYTES);
+    holds("maze_open_all", most_of_opens(open_all), JOB_BYTES);
     make();
     maze_arm(table, sizeof table, 254, 0);
     maze_open(table, sizeof table, 0, 0, 254, MAZE_TYPE_MAZE, 1);

@@ -22,6 +22,7 @@
 #define maze_arm base_arm
 #define maze_disarm base_disarm
 #define maze_open base_open
+#define maze_open_all base_open_all
 #define maze_close base_close
 #define maze_trace base_trace
 #endif
@@ -34,6 +35,7 @@
 #define maze_arm ref_arm
 #define maze_disarm ref_disarm
 #define maze_open ref_open
+#define maze_open_all ref_open_all
 #define maze_close ref_close
 #define maze_trace ref_trace
 #endif

@@ -1,14 +1,13 @@
 -- The tests of a call, one after another: what each return of the functions that make them answers, and what is known where none applies.
 -- Assumes nothing.
-use mathlib.Core.Path.{_≡_, refl, ap, ap₂, sym, _∙_}
+use mathlib.Core.Path.{_≡_, refl, ap, ap₂, sym, _∙_, subst}
 use mathlib.Core.Logic.{_≢_}
 use mathlib.Core.Bool.{Bool, true, false, not, _||_}
 use mathlib.Core.List.{List, [], _∷_, _++_}
-use Prim.Native.Nat.{ℕ, _^_, _≤_, _<_}
+use Prim.Native.Nat.{ℕ, _^_, _%_, _≤_, _<_}
 use native.Mathlib.Omega.{arith}
 use lib.Dec.{eqb, ltb}
 use lib.ListN.{length}
-use lib.Pow.{pow-mono}
 use borrow.Author.Tests.{eq-eqb, ne-eqb, lt-ltb, le-ltb}
 use Rattle.common.specs.Tests.{Test, test, refusal}
 use Rattle.common.proofs.Tests.{or-left, or-right, refused, passed, accepted, refusal-after, refusal-before}
@@ -18,14 +17,17 @@ use Rattle.table.specs.View.{view}
 use Rattle.cube.specs.Cube.{largestDimension, channels, NodeOf, circuitOf}
 use Rattle.cube.proofs.Bits.{no-bit-above}
 use Rattle.cube.proofs.Circuits.{source-of-circuit}
-use Rattle.cube.proofs.Ports.{most-nodes, below-256}
+use Rattle.cube.proofs.Ports.{below-256}
 use Rattle.soundness.specs.Sound.{Sound}
 use Rattle.soundness.specs.TableTests.{tableTests}
 use Rattle.circuit_path.specs.Follow.{HasSource}
-use Rattle.ownership.specs.Calls.{Call, form, absent, blocking, unblocking, opening, closing, tracing, arming, disarming}
+use Rattle.answers.specs.SendAnswer.{MaySend}
+use Rattle.ownership.specs.Calls.{Call, form, absent, blocking, unblocking, opening, closing, tracing, arming, disarming, opening-all, listLength}
 use Rattle.ownership.specs.Allowed.{Allowed}
-use Rattle.ownership.specs.OnTable.{openIn, factsOf, stoppedAt}
+use Rattle.ownership.specs.TableFacts.{openIn}
+use Rattle.ownership.specs.OnTable.{factsOf, stoppedAt}
 use Rattle.ownership.proofs.Allowed.{below, allowed}
+use Rattle.ownership.proofs.OnSound.{may-open}
 use Rattle.ownership.proofs.Stops.{pass-tests, table-numbered, none-stops, none-stops-lent}
 
 -- What a call answers at each return of its tests: a test of the lent table stops it;
@@ -77,6 +79,16 @@ module _ (m : ℕ) (ts : List Test) where
 
       pub past-both : {n : ℕ} → second ≡ false → n ≡ refusal ts → n ≡ refusal (test (u || w) m ∷ ts)
       past-both g q = q ∙ sym (passed m ts (ap₂ _||_ (sym e ∙ f) (sym d ∙ g)))
+
+-- of a job, whose list has a length that is no multiple of ten, or is too long, or is right;
+pub list-uneven : (sends : List ℕ) → length sends % 10 ≢ 0 → 28 ≡ refusal (listLength sends ∷ [])
+list-uneven sends f = sym (refused 28 [] (or-left _ (ap not (ne-eqb (length sends % 10) 0 f))))
+
+pub list-long : (sends : List ℕ) → 640 < length sends → 28 ≡ refusal (listLength sends ∷ [])
+list-long sends h = sym (refused 28 [] (or-right (not (eqb (length sends % 10) 0)) (lt-ltb 640 (length sends) h)))
+
+pub list-taken : (sends : List ℕ) → length sends % 10 ≡ 0 → length sends ≤ 640 → 0 ≡ refusal (listLength sends ∷ [])
+list-taken sends e h = sym (passed 28 [] (ap₂ _||_ (ap not (eq-eqb (length sends % 10) 0 e)) (le-ltb 640 (length sends) h)) ∙ accepted)
 
 -- and no test is left.
 pub none : 0 ≡ refusal []
@@ -153,9 +165,14 @@ module _ {b : List ℕ} {s c : ℕ} where
   unfolding Allowed factsOf view
   trace-passed buffer e z = let r = none-applies b (tracing s c buffer) refl e z in ((inside b (r .0) (r .1 .0) (r .1 .0), r .1 .1, r .1 .2), r .1 .3)
 
--- A cube has 2 to 256 nodes.
-pub node-room : {b : List ℕ} {s t : ℕ} → Inside b s t → (2 ≤ 2 ^ dimensionAt b) × (2 ^ dimensionAt b ≤ 256)
-node-room {b} h = (pow-mono {i = 1} {j = dimensionAt b} (h .least), most-nodes (h .most))
+pub job-passed : (b sends : List ℕ) {n : ℕ} → n ≡ stoppedAt b (opening-all sends) → n ≡ 0
+    → (refusal (tableTests b) ≡ 0) × (length sends % 10 ≡ 0) × (length sends ≤ 640)
+unfolding Allowed
+job-passed b sends e z = let r = none-applies b (opening-all sends) refl e z in (r .0, r .1 .0, r .1 .1)
+
+-- What an open that no test stops asks of its send.
+pub may-send : (b : List ℕ) (s c t y v : ℕ) {n k : ℕ} → n ≡ stoppedAt b (opening s c t y v) → n ≡ 0 → k ≡ circuitOf s c → MaySend b s t k v × (v ≢ 0)
+may-send b s c t y v e z q = (subst (λ k. MaySend b s t k v) (sym q) (may-open b s c t y v (sym e ∙ z)), open-passed y e z .3)
 
 -- A link of the cube lies in the table, and so does a receive channel.
 pub link-within : {b : List ℕ} {m p : ℕ} → Inside b m m × (p < dimensionAt b) → Within b m p

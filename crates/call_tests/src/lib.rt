@@ -7,14 +7,20 @@ ghost use Rattle.common.specs.Tests.{refusal};
 ghost use Rattle.cube.specs.Cube.{channels};
 ghost use Rattle.table.specs.View.{view};
 ghost use Rattle.soundness.specs.TableTests.{tableTests};
-ghost use Rattle.ownership.specs.Calls.{blocking, unblocking, opening, closing, tracing, arming, disarming, absent, port, routingType, sendVector};
-ghost use Rattle.ownership.specs.OnTable.{openIn, factsOf, stoppedAt};
+ghost use Rattle.ownership.specs.Calls.{blocking, unblocking, opening, closing, tracing, arming, disarming, opening-all, absent, port, routingType, sendVector, callTests};
+ghost use Rattle.ownership.specs.TableFacts.{openIn};
+ghost use Rattle.ownership.specs.OnTable.{factsOf, stoppedAt};
 use common::refusal;
 use cube::Node;
 use cube::Port;
 
 // A node has send channels 0 to 7, and as many receive channels.
 const LAST_CHANNEL: u16 = 7;
+
+// A list of sends has ten bytes for each, and 64 at most.
+pub const SEND_BYTES: usize = 10;
+
+const LONGEST_LIST: usize = 640;
 
 // The tests. One that reads the table asks that the table passed its own tests, and where it reads an entry, that the entry is there.
 fn is_absent(t: &[u8], n: Node) -> bool
@@ -102,13 +108,18 @@ pub fn unblock(t: &[u8], node: Node, port: Port) -> u16
     refusal::ACCEPTED
 }
 
-pub fn open(t: &[u8], source: Node, channel: u16, target: Node, routing: u16, vector: u16) -> u16
-    ensures { λ r. ⌜ r ≡ stoppedAt (now (t .entry)) (opening (source .0) channel (target .0) routing vector) ⌝ }
+// Those of an open behind the tests of the lent table, which a job makes once for all its sends.
+pub fn open_arguments(
+    t: &[u8],
+    source: Node,
+    channel: u16,
+    target: Node,
+    routing: u16,
+    vector: u16,
+) -> u16
+    requires { ⌜ refusal (tableTests (now t)) ≡ 0 ⌝ }
+    ensures { λ r. ⌜ r ≡ refusal (callTests (factsOf (view (now (t .entry)))) (opening (source .0) channel (target .0) routing vector)) ⌝ }
 {
-    let refused = soundness::check(t);
-    if refused != refusal::ACCEPTED {
-        return refused;
-    }
     if is_absent(t, source) {
         return refusal::NODE;
     }
@@ -128,6 +139,16 @@ pub fn open(t: &[u8], source: Node, channel: u16, target: Node, routing: u16, ve
         return refusal::CHANNEL_IN_USE;
     }
     refusal::ACCEPTED
+}
+
+pub fn open(t: &[u8], source: Node, channel: u16, target: Node, routing: u16, vector: u16) -> u16
+    ensures { λ r. ⌜ r ≡ stoppedAt (now (t .entry)) (opening (source .0) channel (target .0) routing vector) ⌝ }
+{
+    let refused = soundness::check(t);
+    if refused != refusal::ACCEPTED {
+        return refused;
+    }
+    open_arguments(t, source, channel, target, routing, vector)
 }
 
 pub fn close(t: &[u8], source: Node, channel: u16) -> u16
@@ -202,6 +223,22 @@ pub fn disarm(t: &[u8], node: Node, channel: u16) -> u16
     }
     if table::receiver(t, node, channel).0 != 0 {
         return refusal::CHANNEL_HELD;
+    }
+    refusal::ACCEPTED
+}
+
+pub fn open_all(t: &[u8], sends: &[u8]) -> u16
+    ensures { λ r. ⌜ r ≡ stoppedAt (now (t .entry)) (opening-all (now (sends .entry))) ⌝ }
+{
+    let refused = soundness::check(t);
+    if refused != refusal::ACCEPTED {
+        return refused;
+    }
+    if sends.len() % SEND_BYTES != 0 {
+        return refusal::SEND_LIST;
+    }
+    if sends.len() > LONGEST_LIST {
+        return refusal::SEND_LIST;
     }
     refusal::ACCEPTED
 }

@@ -54,6 +54,9 @@ pub const CHANNEL_HELD: u16 = 21;
 // Open, after the search: beside a route rejection, where waiting does not help.
 pub const NO_ROUTE: u16 = 22;
 
+// A job (document 02): a length that no list of sends has.
+pub const SEND_LIST: u16 = 28;
+
 // A packet to a receive channel (document 02).
 pub const CHANNEL_STOPPED: u16 = 30;
 

@@ -21,7 +21,7 @@ use Rattle.table.specs.View.{view, shapeOf, fresh}
 use Rattle.circuit_path.specs.PathOf.{pathOf}
 use Rattle.circuit_path.specs.Traced.{tracedInto}
 use Rattle.circuit_path.proofs.CircuitSound.{path-is}
-use Rattle.ownership.specs.Calls.{Call, making, blocking, unblocking, opening, closing, tracing, arming, disarming, CallResult, hopsOf, receiveOf, scoutsOf, bufferOf, carriesScouts, resultOf, After}
+use Rattle.ownership.specs.Calls.{Call, making, blocking, unblocking, opening, closing, tracing, arming, disarming, opening-all, CallResult, hopsOf, receiveOf, scoutsOf, bufferOf, carriesScouts, resultOf, After}
 use Rattle.ownership.specs.OnTable.{factsOf, stoppedAt, tableStep}
 use Rattle.ownership.specs.Allowed.{Allowed}
 use Rattle.ownership.proofs.Allowed.{allowed}
@@ -76,6 +76,7 @@ ArgumentsFit (closing s c) = (s < 65536) × (c < 65536)
 ArgumentsFit (tracing s c buffer) = Unit
 ArgumentsFit (arming n k) = (n < 65536) × (k < 65536)
 ArgumentsFit (disarming n k) = (n < 65536) × (k < 65536)
+ArgumentsFit (opening-all sends) = Unit
 
 given-letter : (x : ℕ) (ns : List ℕ) → Small ns → IfRead ArgumentsFit (byLetter x ns)
 unfolding byLetter
@@ -186,6 +187,7 @@ module _ (b : List ℕ) (n : ℕ) (small : n < 65536) where
       rw row-length (omega (arith, five-digits n small, answer-digits (arming m k), five-digits m (g .0), five-digits k (g .1)))
   call-length (disarming m k) g =
       rw row-length (omega (arith, five-digits n small, answer-digits (disarming m k), five-digits m (g .0), five-digits k (g .1)))
+  call-length (opening-all sends) g = rw row-length (omega (arith, five-digits n small, answer-digits (opening-all sends)))
 
   unreadable-length : length (rowText (unreadable n)) ≤ 24
   unfolding unreadable fieldBytes

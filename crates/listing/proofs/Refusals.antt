@@ -12,10 +12,15 @@ use borrow.Author.Tests.{ne-eqb, eqb-true, eqb-false, ltb-true, not-true}
 use Rattle.common.specs.Tests.{Test, test, refusal}
 use Rattle.common.proofs.Tests.{same?, both, refused, passed, accepted as tests-accepted}
 use Rattle.paths.specs.Send.{Outcome, acknowledged, route-rejected, receive-rejected}
+use Rattle.table.specs.View.{View}
+use Rattle.answers.specs.SendOnTable.{sendIn}
 use Rattle.soundness.specs.TableTests.{tableTests}
-use Rattle.ownership.specs.Calls.{Call, making, blocking, unblocking, opening, closing, tracing, arming, disarming, answered, carriesScouts, CallFacts, callTests, resultOf, After}
-use Rattle.ownership.specs.OnTable.{lentTests, stoppedAt, tableStep}
-use Rattle.ownership.proofs.Steps.{table-step}
+use Rattle.ownership.specs.Calls.{Call, making, blocking, unblocking, opening, closing, tracing, arming, disarming, opening-all, openingOf, answered, carriesScouts, callTests, resultOf, noJob, singleOpen, After}
+use Rattle.ownership.specs.Sends.{Send, sendsIn}
+use Rattle.ownership.specs.TableFacts.{factsWith, opened, jobIn}
+use Rattle.ownership.proofs.InTurn.{turn-number}
+use Rattle.ownership.specs.OnTable.{factsOf, lentTests, stoppedAt, tableStep}
+use Rattle.ownership.proofs.Steps.{step-says, table-step}
 use Rattle.text.specs.Lines.{cut, lines}
 use Rattle.text.specs.Row.{nothing, shows, inOrder, rowsText}
 use Rattle.input_line.specs.Line.{asks}
@@ -70,6 +75,7 @@ scouts-row makes state line (closing s c) = ((λ p. absurd p), (λ p. p .0))
 scouts-row makes state line (tracing s c buffer) = ((λ p. absurd p), (λ p. p .0))
 scouts-row makes state line (arming n k) = ((λ p. absurd p), (λ p. p .0))
 scouts-row makes state line (disarming n k) = ((λ p. absurd p), (λ p. p .0))
+scouts-row makes state line (opening-all sends) = ((λ p. absurd p), (λ p. p .0))
 
 -- No call answers 20: only a line that cannot be read does. And every answer of a call has at most two digits. Both are one test of a number,
 abbrev isAnswer : ℕ → Bool
@@ -96,6 +102,7 @@ stopped-by b (closing s c) = search (other, nil, needs) depth 12
 stopped-by b (tracing s c buffer) = search (other, nil, needs) depth 12
 stopped-by b (arming n k) = search (other, nil, needs) depth 12
 stopped-by b (disarming n k) = search (other, nil, needs) depth 12
+stopped-by b (opening-all sends) = search (other, nil, needs) depth 12
 
 -- and what a call answers that none of them stops
 sent-answer : (helps : Bool) (o : Outcome) (n : ℕ) → isAnswer (answered helps o n .number) ≡ true
@@ -105,16 +112,30 @@ sent-answer true route-rejected n = refl
 sent-answer false route-rejected n = refl
 sent-answer helps receive-rejected n = refl
 
-result-answer : (f : CallFacts) (a : Call) → isAnswer (resultOf f a .number) ≡ true
-unfolding resultOf
-result-answer f (making D) = refl
-result-answer f (blocking n p) = refl
-result-answer f (unblocking n p) = refl
-result-answer f (opening s c t y v) = sent-answer (f .waiting s t y v) (f .sends s t y v .outcome) (f .sends s t y v .scouts)
-result-answer f (closing s c) = refl
-result-answer f (tracing s c buffer) = refl
-result-answer f (arming n k) = refl
-result-answer f (disarming n k) = refl
+-- also a job, whose number is that of a single open
+open-answer : (v : View) (x : Send) → isAnswer (singleOpen (factsWith noJob) opened v x .result .number) ≡ true
+unfolding resultOf callTests
+open-answer v x =
+    let n = refusal (callTests (factsWith noJob v) (openingOf x)) in
+    let says = step-says v (opened v x) (factsWith noJob v) n (openingOf x) in
+    let tests : isAnswer n ≡ true = search (other, nil, needs) depth 12 in
+    ⊎-elim (λ e. rw (says .result e) (sent-answer _ (sendIn v (x .source) (x .target) (x .type) (x .vector) .outcome) _)) (λ f. rw (says .stopped f) tests) (same? n 0)
+
+job-answer : (v : View) (xs : List Send) → isAnswer (jobIn v xs .result .number) ≡ true
+unfolding jobIn
+job-answer v xs = turn-number (singleOpen (factsWith noJob) opened) (λ w. Unit) (λ w x i e. tt) (λ n. isAnswer n ≡ true) refl (λ w x i. open-answer w x) xs v tt
+
+result-answer : (v : View) (a : Call) → isAnswer (resultOf (factsOf v) a .number) ≡ true
+unfolding resultOf factsOf
+result-answer v (making D) = refl
+result-answer v (blocking n p) = refl
+result-answer v (unblocking n p) = refl
+result-answer u (opening s c t y v) = sent-answer _ (sendIn u s t y v .outcome) _
+result-answer v (closing s c) = refl
+result-answer v (tracing s c buffer) = refl
+result-answer v (arming n k) = refl
+result-answer v (disarming n k) = refl
+result-answer v (opening-all sends) = job-answer v (sendsIn sends)
 
 call-answer : (b : List ℕ) (a : Call) → isAnswer (tableStep b a .result .number) ≡ true
 call-answer b a =

@@ -2,7 +2,7 @@
 -- Assumes nothing.
 use mathlib.Core.Path.{_≡_}
 use mathlib.Core.Logic.{_⊎_}
-use Rattle.ownership.specs.Calls.{Call, making, blocking, unblocking, opening, closing, tracing, arming, disarming, CallResult}
+use Rattle.ownership.specs.Calls.{Call, making, blocking, unblocking, opening, closing, tracing, arming, disarming, opening-all, CallResult}
 use Rattle.text.specs.Row.{Field, nothing, shows, letter, path}
 
 -- a field that shows a number
@@ -22,6 +22,7 @@ IsOpen (closing s c) = ⊥
 IsOpen (tracing s c buffer) = ⊥
 IsOpen (arming n k) = ⊥
 IsOpen (disarming n k) = ⊥
+IsOpen (opening-all sends) = ⊥
 
 -- "S answered 0, 10 or 11", and 22 of document 02, (c), "carrying and printing the same scouts"
 abbrev pub WasSent : Call → CallResult → Type 0

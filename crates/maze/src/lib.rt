@@ -3,7 +3,7 @@ ghost use mathlib.Core.Path.{_≡_};
 ghost use mathlib.Core.List.{[], _∷_};
 ghost use Rattle.arbiter.specs.Arbiter.{arbitrated, choice};
 ghost use Rattle.command_word.specs.Word.{readWord, writeWord};
-ghost use Rattle.ownership.specs.Calls.{making, blocking, unblocking, opening, closing, tracing, arming, disarming};
+ghost use Rattle.ownership.specs.Calls.{making, blocking, unblocking, opening, closing, tracing, arming, disarming, opening-all};
 ghost use Rattle.ownership.specs.OnTable.{tableStep, done};
 ghost use Rattle.receiver.specs.Receive.{dataPacket, commandWord, started, received, overshoot};
 use arbiter::Arbiter;
@@ -13,6 +13,7 @@ use command_word::WordRead;
 use command_word::WordWritten;
 use cube::Node;
 use cube::Port;
+use job::OpenedAll;
 use receiver::Channel;
 use receiver::Received;
 use router::Opened;
@@ -65,6 +66,13 @@ pub extern "C" fn maze_open(
     ensures { λ r. ⌜ done (now (table .exit)) (r .number) (r .hops ∷ r .receive ∷ r .scouts ∷ []) [] ≡ tableStep (now (table .entry)) (opening node channel target routing vector) ⌝ }
 {
     router::open(table, Node(node), channel, Node(target), routing, vector)
+}
+
+#[no_mangle]
+pub extern "C" fn maze_open_all(table: &mut [u8], sends: &[u8]) -> OpenedAll
+    ensures { λ r. ⌜ done (now (table .exit)) (r .number) (r .sends ∷ []) (now (sends .exit) ∷ []) ≡ tableStep (now (table .entry)) (opening-all (now (sends .entry))) ⌝ }
+{
+    job::open_all(table, sends)
 }
 
 #[no_mangle]

@@ -22,7 +22,9 @@ use Rattle.soundness.specs.TableTests.{tableTests}
 use Rattle.table.specs.Encode.{encode}
 use Rattle.table.proofs.Encode.{encode-view}
 use Rattle.table.proofs.Encoded.{encode-bytes, view-encode}
-use Rattle.ownership.specs.Calls.{Call, making, blocking, unblocking, opening, closing, tracing, arming, disarming, CallResult, refusedWith, answered, callTests, resultOf}
+use Rattle.ownership.specs.Calls.{Call, making, blocking, unblocking, opening, closing, tracing, arming, disarming, opening-all, CallResult, refusedWith, answered, callTests, resultOf, Job}
+use Rattle.ownership.specs.Sends.{sendsIn, JobResult}
+use Rattle.ownership.specs.TableFacts.{jobIn}
 use Rattle.ownership.specs.Update.{updated}
 use Rattle.ownership.specs.OnTable.{factsOf, stoppedAt, tableStep}
 use Rattle.ownership.specs.History.{History, factsOn, stoppedOn, listed, applied, historyStep, newHistory}
@@ -39,7 +41,7 @@ use Rattle.ownership.proofs.Sameness.{send-same, waiting-same}
 use Rattle.ownership.proofs.CircuitValid.{armed-inside, valid-sound}
 use Rattle.ownership.proofs.Stopped.{path-listed, stopped-same}
 use Rattle.ownership.proofs.ValidAfter.{made-valid, applied-valid}
-use Rattle.ownership.proofs.Applied.{made-view, applied-view}
+use Rattle.ownership.proofs.Applied.{made-view, job-same, applied-view}
 use Rattle.ownership.proofs.Steps.{table-step, history-step}
 use Rattle.answers.specs.SendOnTable.{waitingHelps, sendIn}
 
@@ -85,6 +87,9 @@ module _ (b : List ℕ) (h : History) (k : Represents b h) where
   results-alike (closing s c) e = refl
   results-alike (arming n k) e = refl
   results-alike (disarming n k) e = refl
+  results-alike (opening-all sends) e =
+      ap (λ (j : JobResult). record { number = j .number; values = j .sends ∷ []; buffers = sends ∷ [] })
+      (ap (λ u. jobIn u (sendsIn sends) .result) (k .shows) ∙ ap (λ (j : Job View). j .result) (job-same h (k .valid) (sendsIn sends)))
   results-alike (tracing s c buffer) e = ap (λ (w : Path). record { number = 0; values = length w ∷ []; buffers = tracedInto w buffer ∷ [] }) path-alike
     where
       path-alike : pathOf (view b) (circuitOf s c) ≡ listed (h .circuits) s c

@@ -1,8 +1,8 @@
 -- What a table that agrees with the history shows after a call that no test stops is the update of what it showed.
 -- Assumes nothing.
-use mathlib.Core.Path.{_≡_, refl, sym, _∙_, ap}
+use mathlib.Core.Path.{_≡_, refl, sym, _∙_, ap, ap₂}
 use mathlib.Core.Bool.{Bool, true, false, cond, not, _&&_, _||_, and-true}
-use mathlib.Core.List.{[], _∷_}
+use mathlib.Core.List.{List, [], _∷_}
 use Prim.Native.Nat.{ℕ, _^_}
 use lib.Dec.{eqb, ltb}
 use Rattle.common.specs.Lists.{keep}
@@ -11,14 +11,20 @@ use Rattle.paths.specs.Network.{Path, links, hasLink}
 use Rattle.paths.specs.Send.{Outcome, acknowledged, route-rejected, receive-rejected, SendResult}
 use Rattle.paths.specs.CubeNetwork.{Shape, network}
 use Rattle.table.specs.View.{View, setAt, setOwner, setReceiver, setEnabled, setArmed, withoutCircuit, fresh}
-use Rattle.ownership.specs.Calls.{Call, making, blocking, unblocking, opening, closing, tracing, arming, disarming}
-use Rattle.ownership.specs.History.{Circuit, History, shapeOn, netOn, holdsLink, holdsReceive, belongs, enabledOn, armedOn, stoppedOn, sendOn, withOpened, applied, newHistory}
+use Rattle.ownership.specs.Sends.{Send, sendsIn}
+use Rattle.ownership.specs.Calls.{Call, making, blocking, unblocking, opening, closing, tracing, arming, disarming, opening-all, openingOf, answered, callTests, resultOf, noJob, singleOpen, afterJob}
+use Rattle.ownership.specs.TableFacts.{factsWith, opened, jobIn}
+use Rattle.ownership.specs.OnTable.{factsOf}
+use Rattle.ownership.specs.History.{Circuit, History, shapeOn, netOn, holdsLink, holdsReceive, belongs, enabledOn, armedOn, stoppedOn, sendOn, factsOn, factsOnWith, withOpened, openedOn, jobOn, applied, newHistory}
 use Rattle.ownership.specs.Invariant.{Valid}
 use Rattle.ownership.specs.HistoryView.{numberOf, viewOf}
 use Rattle.answers.specs.SendOnTable.{holdLinks, viewAfterSend}
 use Rattle.ownership.specs.Update.{updated}
 use Rattle.ownership.proofs.Circuits.{Once, number-drop}
-use Rattle.ownership.proofs.Sameness.{send-same}
+use Rattle.ownership.proofs.Sameness.{send-same, waiting-same}
+use Rattle.ownership.proofs.InTurn.{sameCall, sameJob, call-same, turn-same, after-same}
+use Rattle.ownership.proofs.Stopped.{stopped-same}
+use Rattle.ownership.proofs.ValidAfter.{open-valid}
 use Rattle.ownership.proofs.CircuitValid.{links-once, receives-once}
 use Rattle.ownership.proofs.Allowed.{unblock-facts, close-facts}
 use Rattle.ownership.proofs.Enabled.{block-enabled, unblock-enabled}
@@ -58,13 +64,36 @@ held-path v S c n (p ∷ w) =
     joined true false x = refl
     joined false b x = refl
 
-module _ (h : History) (valid : Valid h) where
+module _ (h : History) where
   added-view : (s c t : ℕ) (o : Outcome) → viewOf (withOpened h s c t o) ≡ viewAfterSend (viewOf h) (circuitOf s c) s t o
   unfolding withOpened viewAfterSend viewOf numberOf holdsLink holdsReceive enabledOn armedOn setReceiver setAt
   added-view s c t (acknowledged w k) = sym (ap (λ (v : View). setReceiver v t k (circuitOf s c)) (held-path (viewOf h) (shapeOn h) (circuitOf s c) s w))
   added-view s c t route-rejected = refl
   added-view s c t receive-rejected = refl
 
+  opened-view : (x : Send) → viewOf (openedOn h x) ≡ opened (viewOf h) x
+  opened-view x =
+      added-view (x .source) (x .channel) (x .target) (sendOn h (x .source) (x .target) (x .type) (x .vector) .outcome)
+      ∙ ap (λ (y : SendResult). viewAfterSend (viewOf h) (circuitOf (x .source) (x .channel)) (x .source) (x .target) (y .outcome)) (sym (send-same h (x .source) (x .target) (x .type) (x .vector)))
+
+-- A single open and a job come to the same on a table that agrees with the history, and leave what the history then says.
+pub open-same : (h : History) (x : Send) → Valid h → singleOpen (factsWith noJob) opened (viewOf h) x ≡ sameCall viewOf (singleOpen (factsOnWith noJob) openedOn h x)
+unfolding resultOf stoppedOn callTests factsOf factsOn
+open-same h x valid =
+    rw (sym (opened-view h x))
+    (call-same viewOf h (openedOn h x) (factsWith noJob (viewOf h)) (factsOnWith noJob h) (openingOf x) (stopped-same h valid (openingOf x))
+    (ap₂ (λ (helps : Bool) (y : SendResult). answered helps (y .outcome) (y .scouts)) (waiting-same h (x .source) (x .target) (x .type) (x .vector)) (send-same h (x .source) (x .target) (x .type) (x .vector))))
+
+module _ (h : History) (valid : Valid h) (xs : List Send) where
+  pub job-same : jobIn (viewOf h) xs ≡ sameJob viewOf (jobOn h xs)
+  unfolding jobIn jobOn
+  job-same = turn-same viewOf _ _ Valid open-valid open-same xs h valid
+
+  job-view : viewOf (afterJob h (jobOn h xs)) ≡ afterJob (viewOf h) (jobIn (viewOf h) xs)
+  unfolding jobIn jobOn
+  job-view = sym (after-same viewOf _ _ Valid open-valid open-same xs h valid)
+
+module _ (h : History) (valid : Valid h) where
   -- What a table that agrees with the history shows after the call is the update of what it showed before.
   pub applied-view : (a : Call) → stoppedOn h a ≡ 0 → viewOf (applied h a) ≡ updated (viewOf h) a
   unfolding applied updated viewOf
@@ -85,8 +114,7 @@ module _ (h : History) (valid : Valid h) where
         receiver = viewOf h .receiver;
         armed = armedOn h;
       }
-  applied-view (opening s c t y v) e =
-      added-view s c t (sendOn h s t y v .outcome) ∙ ap (λ (x : SendResult). viewAfterSend (viewOf h) (circuitOf s c) s t (x .outcome)) (sym (send-same h s t y v))
+  applied-view (opening s c t y v) e = opened-view h (record { source = s; channel = c; target = t; type = y; vector = v })
   applied-view (closing s c) e = λ i. unfold withoutCircuit enabledOn in
       record {
         dimension = h .dimension;
@@ -116,3 +144,4 @@ module _ (h : History) (valid : Valid h) where
         receiver = viewOf h .receiver;
         armed = λ m q. disarm-armed h n k m q i;
       }
+  applied-view (opening-all sends) e = job-view h valid (sendsIn sends)

@@ -17,7 +17,9 @@ use Rattle.table.proofs.Encode.{encode-view}
 use Rattle.table.proofs.Encoded.{encode-shown}
 use Rattle.table.proofs.Views.{view-put-enabled, view-put-armed}
 use Rattle.answers.specs.SendAnswer.{bytesAfterSend}
-use Rattle.ownership.specs.Calls.{Call, making, blocking, unblocking, opening, closing, tracing, arming, disarming, form}
+use Rattle.ownership.specs.Calls.{Call, making, blocking, unblocking, opening, closing, tracing, arming, disarming, opening-all, form, afterJob}
+use Rattle.ownership.specs.TableFacts.{jobIn}
+use Rattle.ownership.specs.Sends.{sendsIn}
 use Rattle.ownership.specs.Allowed.{Allowed}
 use Rattle.ownership.specs.Update.{updated}
 use Rattle.ownership.specs.OnTable.{factsOf, stoppedAt, tableStep}
@@ -51,6 +53,7 @@ writtenBy b (closing s c) = encode (withoutCircuit (view b) (circuitOf s c))
 writtenBy b (tracing s c buffer) = b
 writtenBy b (arming n k) = putArmed b n k true
 writtenBy b (disarming n k) = putArmed b n k false
+writtenBy b (opening-all sends) = encode (afterJob (view b) (jobIn (view b) (sendsIn sends)))
 
 module _ (b : List ℕ) (small : AllBytes b) (a : Call) (e : stoppedAt b a ≡ 0) where
   bytes : Bytes b
@@ -76,6 +79,7 @@ module _ (b : List ℕ) (small : AllBytes b) (a : Call) (e : stoppedAt b a ≡ 0
   encoded (disarming n k) most r =
       let m = most refl in
       armed-encoded b bytes n k false record { bytes = bytes .long; node = below-256 m (r .0); port = r .1 }
+  encoded (opening-all sends) most r = refl
 
   -- A call that no test stops leaves what they write.
   pub written-bytes : tableStep b a .state ≡ writtenBy b a

@@ -23,7 +23,7 @@ use Rattle.ownership.specs.History.{Circuit, History, shapeOn, netOn, li
 use Rattle.ownership.specs.Agrees.{tableAfter, tableResults, historyAfter, Accepted, leaves}
 use Rattle.ownership.specs.Invariant.{Disjoint, Represents}
 use Rattle.ownership.specs.HistoryView.{viewOf}
-use Rattle.ownership.specs.StillOpen.{numbered, StillOpen, OpenedBy}
+use Rattle.ownership.specs.StillOpen.{countsAs, numbered, counted, StillOpen, OpenedBy}
 use Rattle.ownership.proofs.Circuits.{pairwise-one, belongs-parts}
 use Rattle.ownership.proofs.ValidAfter.{open-send}
 use Rattle.ownership.proofs.OpenedBy.{opened-later, listed-by}
@@ -74,11 +74,12 @@ module _ (b : List ℕ) (h : History) (D : ℕ) (e : Accepted b (making D)) (cal
   pub listed-exactly : (s c : ℕ) → (openOn history s c ≡ true) ↔ StillOpen s c (numbered (making D ∷ calls) (tableResults b (making D ∷ calls)))
   listed-exactly s c = rw (demand-3 b h D e calls .results) (open-exactly s c h D (making-passes b h D e) calls)
 
-  -- each listed circuit has the path and the receive channel of an acknowledged open of the list, and no accepted call after that open ends it
-  pub listed-opened : (x : Circuit) → x ∈ history .circuits → OpenedBy h (making D ∷ calls) x
-  unfolding leaves
+  -- each listed circuit has the path and the receive channel of an acknowledged open of the list, or of an accepted job in it, and no accepted call after that
+  -- open ends it
+  pub listed-opened : (x : Circuit) → x ∈ history .circuits → OpenedBy h (counted h (making D ∷ calls)) x
+  unfolding leaves counted countsAs
   listed-opened x m =
-      ⊎-elim (λ k. absurd (List·Memᴰ·not-nil (subst (λ (u : List Circuit). x ∈ u) (made-clears b h D e) (k .0)))) (λ z. opened-later h (making D) calls x z) (listed-by calls (historyStep h (making D) .state) x m)
+      ⊎-elim (λ k. absurd (List·Memᴰ·not-nil (subst (λ (u : List Circuit). x ∈ u) (made-clears b h D e) (k .0)))) (λ z. opened-later h (making D) (counted (historyStep h (making D) .state) calls) x z) (listed-by calls (historyStep h (making D) .state) x m)
 
   still-open : (s c : ℕ) {Holds : Circuit → Type 0} → Listed s c Holds → StillOpen s c (numbered (making D ∷ calls) (tableResults b (making D ∷ calls)))
   still-open s c r = listed-exactly s c .0 (open-send history (r .0) (r .1) s c (r .2 .0) (r .2 .1))

@@ -28,7 +28,7 @@ use Rattle.ownership.proofs.Agreement.{represents-not-stopped, represen
 use Rattle.ownership.proofs.HistoryOf.{shows-same, table-valid}
 
 -- no bytes show a channel armed beyond the eight of a node
-eight : (b : List ℕ) (n k : ℕ) → view b .armed n k ≡ true → k < channels
+pub eight : (b : List ℕ) (n k : ℕ) → view b .armed n k ≡ true → k < channels
 unfolding view armedAt maskAt
 eight b n k e = both-below {n = n} {a = 256} (both (inTable n k) _ e .0) .1
 

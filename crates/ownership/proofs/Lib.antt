@@ -1,6 +1,8 @@
 -- The laws of the calls and of the ownership history.
 pub mod Circuits
 pub mod Sameness
+pub mod InTurn
+pub mod Steps
 pub mod CircuitValid
 pub mod Stopped
 pub mod Acknowledged
@@ -10,7 +12,7 @@ pub mod Enabled
 pub mod Armed
 pub mod ValidAfter
 pub mod Applied
-pub mod Steps
+pub mod Counted
 pub mod StillOpen
 pub mod OpenedBy
 pub mod Range
@@ -23,8 +25,10 @@ pub mod OnSound
 pub mod TypesOnTable
 pub mod HistoryOf
 pub mod FromTable
+pub mod JobSays
 pub mod Corollaries
 pub mod Rising
+pub mod LinksInto
 pub mod ReceiveChannels
 pub mod Waiting
 pub mod MoreFreedom

@@ -26,7 +26,8 @@ use Rattle.answers.specs.SendSays.{SomeRoute, Available}
 use Rattle.circuit_path.specs.OpenCircuit.{isOpenIn}
 use Rattle.ownership.specs.Calls.{Call, opening, closing}
 use Rattle.ownership.specs.Update.{updated}
-use Rattle.ownership.specs.OnTable.{openIn, factsOf, stoppedAt, tableStep}
+use Rattle.ownership.specs.TableFacts.{openIn}
+use Rattle.ownership.specs.OnTable.{factsOf, stoppedAt, tableStep}
 use Rattle.ownership.specs.Agrees.{tableAfter, leaves, Accepted}
 use Rattle.ownership.specs.Closing.{Each, no-call, call-more, GivesFreedom, frees, repairs, readies}
 use Rattle.ownership.specs.Allowed.{Allowed}

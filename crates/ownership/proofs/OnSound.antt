@@ -27,8 +27,9 @@ use Rattle.answers.specs.SendOnTable.{pass-answer, answerOfOutcome}
 use Rattle.answers.specs.SendAnswer.{sendAnswer, sentOnBytes, MaySend}
 use Rattle.answers.specs.SendSays.{SendSays}
 use Rattle.answers.proofs.SendSays.{demand-2}
-use Rattle.ownership.specs.Calls.{Call, making, blocking, unblocking, opening, closing, tracing, arming, disarming, callTests, CallResult, hopsOf, receiveOf, scoutsOf, only, answered, resultOf}
-use Rattle.ownership.specs.OnTable.{openIn, takenIn, factsOf, lentTests, stoppedAt, tableStep, done}
+use Rattle.ownership.specs.Calls.{Call, making, blocking, unblocking, opening, closing, tracing, arming, disarming, opening-all, callTests, CallResult, hopsOf, receiveOf, scoutsOf, only, answered, resultOf}
+use Rattle.ownership.specs.TableFacts.{openIn, takenIn}
+use Rattle.ownership.specs.OnTable.{factsOf, lentTests, stoppedAt, tableStep, done}
 use Rattle.ownership.specs.Allowed.{Allowed}
 use Rattle.ownership.proofs.Allowed.{allowed, allowed-passes}
 use Rattle.ownership.proofs.Stops.{lent-both, lent-numbered, none-stops, none-stops-lent, pass-tests, stopped-is}
@@ -39,7 +40,7 @@ use Rattle.ownership.proofs.StepBytes.{blocking-again, unblocking-again
 use Rattle.ownership.proofs.BytesAfter.{writtenBy, written-bytes}
 
 -- what the tests that have passed say of an open
-may-open : (b : List ℕ) (s c t y v : ℕ) → stoppedAt b (opening s c t y v) ≡ 0 → MaySend b s t (circuitOf s c) v
+pub may-open : (b : List ℕ) (s c t y v : ℕ) → stoppedAt b (opening s c t y v) ≡ 0 → MaySend b s t (circuitOf s c) v
 unfolding Allowed factsOf view
 may-open b s c t y v e =
     let p = pass-tests b (none-stops-lent b (opening s c t y v) refl e) in
@@ -103,6 +104,7 @@ no-three b a = never-answered 3 (callTests (factsOf (view b)) a) (others a) (λ 
     others (tracing s c buffer) = avoiding 3 _ refl
     others (arming n k) = avoiding 3 _ refl
     others (disarming n k) = avoiding 3 _ refl
+    others (opening-all sends) = avoiding 3 _ refl
 
 pub stopped-three : (b : List ℕ) (a : Call) → stoppedAt b a ≡ 3 → Sound (view b) → ⊥
 unfolding stoppedAt avoids

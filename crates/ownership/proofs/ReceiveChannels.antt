@@ -1,168 +1,40 @@
--- At most eight links lead into a node. In a sound table each circuit that holds a receive channel there holds one of them, so a free link into the
--- node leaves a receive channel unheld: where all eight are armed, no send to it is receive rejected, and no open answers 11.
+-- No open answers 11 where the receive channels of its target are all armed, and no call where those of all nodes are.
 -- Assumes nothing.
-use mathlib.Core.Path.{_≡_, refl, ap, sym, _∙_, subst}
+use mathlib.Core.Path.{_≡_, refl, ap, sym, _∙_}
 use mathlib.Core.Logic.{⊎-elim, _≢_}
-use mathlib.Core.Bool.{Bool, true, not, _&&_, false}
-use mathlib.Core.List.{List, [], _∷_, map, Memᴰ·of-map, List·Memᴰ·head, List·Memᴰ·tail, List·Memᴰ·cases-cons}
-use Prim.Native.Nat.{ℕ, _^_, _≤_, _<_}
+use mathlib.Core.Bool.{Bool, true, false}
+use mathlib.Core.List.{List}
+use Prim.Native.Nat.{ℕ, _≤_, _<_}
 use native.Mathlib.Omega.{arith}
-use lib.Dec.{eqb}
-use lib.ListN.{length}
-use borrow.Author.Tests.{eqb-true, eqb-false, eq-eqb, ne-eqb}
-use Rattle.common.specs.Lists.{_∈_, keep, from, Pairwise}
-use Rattle.common.proofs.Lists.{mem-keep, keep-shorter}
-use Rattle.common.proofs.From.{mem-from, from-pairwise, length-from, from-below}
+use Rattle.common.specs.Tests.{refusal}
 use Rattle.common.proofs.Tests.{same?, avoids, avoiding, never-answered}
-use Rattle.cube.specs.Cube.{largestDimension, portCount, channels, NodeOf, next, sourceOf}
-use Rattle.cube.specs.Axes.{axis}
-use Rattle.cube.proofs.Bits.{flip-back}
-use Rattle.paths.specs.Network.{Path, end, links}
-use Rattle.paths.specs.Permitted.{Permitted}
-use Rattle.paths.specs.Send.{none-available, Outcome, acknowledged, route-rejected, receive-rejected}
-use Rattle.paths.specs.Sentences.{Free, AttemptsSay}
-use Rattle.paths.specs.CubeNetwork.{Shape, ports, network, attempts}
-use Rattle.paths.proofs.Links.{On, on-first, on-later}
-use Rattle.paths.proofs.Apart.{permitted-inside}
-use Rattle.paths.proofs.Sentences.{permitted-end}
-use Rattle.paths.proofs.CubeNetwork.{unfolded-port}
-use Rattle.paths.proofs.Attempts.{said-by, receive-rejected-says}
-use Rattle.paths.proofs.Send.{tries-permitted}
-use Rattle.paths.proofs.Words.{free-links}
-use Rattle.table.specs.View.{View, view, available, receive, shapeOf, net, heldBy}
-use Rattle.table.proofs.Receives.{none-chosen}
-use Rattle.circuit_path.specs.CircuitSound.{CircuitSound}
+use Rattle.cube.specs.Cube.{largestDimension, channels, NodeOf}
+use Rattle.paths.specs.Send.{Outcome, acknowledged, route-rejected, receive-rejected}
+use Rattle.paths.proofs.Send.{send-says}
+use Rattle.table.specs.View.{View, view, receive, shapeOf}
 use Rattle.soundness.specs.Sound.{Sound}
-use Rattle.circuit_path.specs.PathOf.{pathOf}
 use Rattle.soundness.specs.TableTests.{tableTests}
-use Rattle.circuit_path.proofs.CircuitSound.{path-is}
-use Rattle.soundness.proofs.Soundness.{receive-stands}
-use Rattle.answers.specs.SendOnTable.{freeIn, PassAnswer, pass-answer, answerOfOutcome}
-use Rattle.answers.specs.SendAnswer.{sendAnswer}
-use Rattle.answers.proofs.PassOnBytes.{free-owner}
-use Rattle.ownership.specs.Calls.{Call, making, blocking, unblocking, opening, closing, tracing, arming, disarming, callTests, resultOf}
+use Rattle.answers.specs.SendOnTable.{freeIn}
+use Rattle.ownership.specs.Calls.{Call, making, blocking, unblocking, opening, closing, tracing, arming, disarming, opening-all, openingOf, answered, callTests, resultOf, noJob, After, Job, singleOpen}
+use Rattle.ownership.specs.Sends.{Send, sendsIn}
+use Rattle.ownership.specs.TableFacts.{factsWith, opened, jobIn}
+use Rattle.ownership.specs.History.{History, armedOn, factsOnWith, withOpened, openedOn, jobOn}
+use Rattle.ownership.specs.Invariant.{Valid}
+use Rattle.ownership.specs.HistoryView.{viewOf}
+use Rattle.ownership.specs.FromTable.{historyOf}
 use Rattle.ownership.specs.OnTable.{factsOf, lentTests, stoppedAt, tableStep}
 use Rattle.ownership.specs.AllArmed.{AllArmed, CubeArmed}
-use Rattle.ownership.proofs.Steps.{table-step}
+use Rattle.ownership.proofs.Steps.{StepSays, step-says, table-step}
+use Rattle.ownership.proofs.InTurn.{turn-number}
+use Rattle.ownership.proofs.CircuitValid.{valid-sound}
+use Rattle.ownership.proofs.ValidAfter.{open-valid}
+use Rattle.ownership.proofs.Applied.{open-same, job-same}
+use Rattle.ownership.proofs.HistoryOf.{shows-same, table-valid}
+use Rattle.ownership.proofs.FromTable.{eight}
 use Rattle.ownership.specs.Allowed.{Allowed}
 use Rattle.ownership.proofs.Allowed.{allowed}
 use Rattle.ownership.proofs.Stops.{none-stops, none-stops-lent, pass-tests}
-use Rattle.ownership.proofs.OnSound.{open-answers}
-
--- a list without repetition is no longer than one that has all its members
-fits : (xs ys : List ℕ) → Pairwise _≢_ xs → ((x : ℕ) → x ∈ xs → x ∈ ys) → length xs ≤ length ys
-unfolding Pairwise
-fits [] ys s h = omega arith
-fits (x ∷ xs) ys s h =
-    let others : ℕ → Bool = λ y. not (eqb y x) in
-    let less = keep-shorter others ys x (h x (List·Memᴰ·head refl)) (ap not (eq-eqb x x refl)) in
-    let rest = fits xs (keep others ys) (s .1) (λ y m. mem-keep others ys (h y (List·Memᴰ·tail m)) (ap not (ne-eqb y x (λ e. s .0 y m (sym e))))) in
-    omega (arith, less, rest)
-
--- eight numbers below eight, no two the same, leave none out
-pub all-taken : (g : ℕ → ℕ) → ((j : ℕ) → j < 8 → g j < 8) → ((i j : ℕ) → i < 8 → j < 8 → g i ≡ g j → i ≡ j) → (q : ℕ) → q < portCount → ((j : ℕ) → j < 8 → g j ≢ q) → ⊥
-unfolding Pairwise from
-all-taken g small once q h none =
-    let long : length (q ∷ map g (from 0 8)) ≡ 9 = refl in
-    omega (arith, long, length-from 0 8, fits (q ∷ map g (from 0 8)) (from 0 8) ((λ x m. away x m), distinct (from 0 8) (from-pairwise 0 8) (λ j m. m)) members)
-  where
-    below : (j : ℕ) → j ∈ from 0 8 → j < 8
-    below j m = from-below 8 j m
-
-    away : (x : ℕ) → x ∈ map g (from 0 8) → q ≢ x
-    away x m e = let r = Memᴰ·of-map g (from 0 8) m in none (r .0) (below (r .0) (r .1)) (r .2 ∙ sym e)
-
-    apart : (x : ℕ) (xs : List ℕ) → Pairwise _<_ (x ∷ xs) → ((j : ℕ) → j ∈ (x ∷ xs) → j ∈ from 0 8) → (y : ℕ) → y ∈ map g xs → g x ≢ y
-    apart x xs s sub y m e =
-        let r = Memᴰ·of-map g xs m in
-        let l : x < r .0 = s .0 (r .0) (r .1) in
-        let same = once x (r .0) (below x (sub x (List·Memᴰ·head refl))) (below (r .0) (sub (r .0) (List·Memᴰ·tail (r .1)))) (e ∙ sym (r .2)) in
-        omega (arith, l, same)
-
-    distinct : (xs : List ℕ) → Pairwise _<_ xs → ((j : ℕ) → j ∈ xs → j ∈ from 0 8) → Pairwise _≢_ (map g xs)
-    distinct [] s sub = tt
-    distinct (x ∷ xs) s sub = (apart x xs s sub, distinct xs (s .1) (λ j m. sub j (List·Memᴰ·tail m)))
-
-    members : (x : ℕ) → x ∈ (q ∷ map g (from 0 8)) → x ∈ from 0 8
-    members x m =
-        ⊎-elim (λ e. rw e (mem-from 0 8 q (omega arith) (omega arith)))
-        (λ k. let r = Memᴰ·of-map g (from 0 8) k in let l = small (r .0) (below (r .0) (r .1)) in mem-from 0 8 x (omega arith) (omega (arith, r .2, l))) (List·Memᴰ·cases-cons m)
-
--- the port by which a path comes in at its end, and the link out of it
-arrival : Path → ℕ
-arrival [] = 0
-arrival (p ∷ []) = p
-arrival (p ∷ r ∷ w) = arrival (r ∷ w)
-
-arrives : (S : Shape) (n p : ℕ) (w : Path) → On (network S) n (p ∷ w) (next (end (network S) n (p ∷ w)) (arrival (p ∷ w))) (arrival (p ∷ w))
-unfolding arrival end network
-arrives S n p [] = rw (flip-back n (axis p)) (on-first (network S) n p [])
-arrives S n p (r ∷ w) = on-later (network S) n p (r ∷ w) _ _ (arrives S (next n p) r w)
-
-module _ (v : View) (sound : Sound v) (most : v .dimension ≤ largestDimension) (t : ℕ) where
-  -- a permitted path to t comes in over a link of t's ports
-  comes-in : (s : ℕ) (w : Path) → NodeOf (v .dimension) s → Permitted (net v) s (ports (shapeOf v)) t w → ((next t (arrival w), arrival w) ∈ links (net v) s w) × (arrival w < 8)
-  unfolding On
-  comes-in s [] i o = unfold Permitted in absurd o
-  comes-in s (p ∷ w) i o =
-      let e = permitted-end (net v) s (ports (shapeOf v)) t (p ∷ w) o in
-      let on = subst (λ (x : ℕ). (next x (arrival (p ∷ w)), arrival (p ∷ w)) ∈ links (net v) s (p ∷ w)) e (arrives (shapeOf v) s p w) in
-      let q = permitted-inside (shapeOf v) s t (p ∷ w) i o .0 (next t (arrival (p ∷ w))) (arrival (p ∷ w)) on .1 in
-      (on, omega (arith, unfolded-port (shapeOf v) most refl (arrival (p ∷ w)) .0 q, most))
-
-  -- the circuit of a receive channel that is held, and the port by which its path comes in
-  module _ (full : (j : ℕ) → j < 8 → v .receiver t j ≢ 0) where
-    abbrev circuit : ℕ → ℕ
-    circuit j = v .receiver t j
-
-    stands : (j : ℕ) → j < 8 → CircuitSound v (circuit j)
-    stands j h = receive-stands v sound t j (full j h)
-
-    inside : (j : ℕ) → j < 8 → sourceOf (circuit j) < 2 ^ v .dimension
-    inside j h = omega (arith, sound .receive-number t j, full j h)
-
-    into : (j : ℕ) (h : j < 8) → ((next t (arrival (stands j h .path)), arrival (stands j h .path)) ∈ links (net v) (sourceOf (circuit j)) (stands j h .path)) × (arrival (stands j h .path) < 8)
-    into j h =
-        let s = stands j h in
-        let e = s .once t j refl .0 in
-        comes-in (sourceOf (circuit j)) (s .path) (inside j h) (subst (λ (x : ℕ). Permitted (net v) (sourceOf (circuit j)) (ports (shapeOf v)) x (s .path)) (sym e) (s .permitted))
-
-    abbrev port : ℕ → ℕ
-    port j = arrival (pathOf v (circuit j))
-
-    port-is : (j : ℕ) (h : j < 8) → arrival (stands j h .path) ≡ port j
-    port-is j h = ap arrival (sym (path-is v (circuit j) (stands j h)))
-
-    holds : (j : ℕ) → j < 8 → v .owner (next t (port j)) (port j) ≡ circuit j
-    holds j h = eqb-true _ (circuit j) (subst (λ (q : ℕ). heldBy v (circuit j) (next t q) q ≡ true) (port-is j h) (stands j h .exactly .all _ _ (into j h .0)))
-
-    same-channel : (i j : ℕ) → i < 8 → j < 8 → port i ≡ port j → i ≡ j
-    same-channel i j h l e =
-        let c : circuit j ≡ circuit i = sym (holds j l) ∙ ap (λ q. v .owner (next t q) q) (sym e) ∙ holds i h in
-        stands i h .once t i refl .1 ∙ sym (stands i h .once t j c .1)
-
-    -- so every link into t is held
-    pub no-way-in : (q : ℕ) → q < portCount → v .owner (next t q) q ≢ 0
-    no-way-in q h z =
-        all-taken port (λ j l. subst (_< 8) (port-is j l) (into j l .1)) same-channel q h
-        (λ j l e. full j l (sym (holds j l) ∙ ap (λ p. v .owner (next t p) p) e ∙ z))
-
-  -- Where a free permitted path leads to t and its channels are armed, a receive channel of t is available.
-  pub receives : ((k : ℕ) → k < channels → v .armed t k ≡ true) → (s : ℕ) (w : Path) → NodeOf (v .dimension) s → Permitted (net v) s (ports (shapeOf v)) t w
-      → Free (net v) (freeIn v) s w → receive v t ≢ none-available
-  unfolding receive available
-  receives armed s w i o free e =
-      let c = comes-in s w i o in
-      no-way-in (λ j h. eqb-false _ 0 (ap (_&& eqb (v .receiver t j) 0) (sym (armed j h)) ∙ none-chosen _ e j h)) (arrival w) (c .1)
-      (free-owner v _ _ (free-links (net v) (freeIn v) s w .0 free _ (c .0)))
-
-  -- So no send to it is receive rejected.
-  send-receives : ((k : ℕ) → k < channels → v .armed t k ≡ true) → (s : ℕ) → NodeOf (v .dimension) s → (type vector : ℕ) (o : Outcome) (n : ℕ)
-      → AttemptsSay (net v) s t (freeIn v) (receive v t) (attempts (shapeOf v) type vector) o n → o ≢ receive-rejected
-  send-receives armed s i type vector o n a q =
-      let x = said-by (net v) s t (freeIn v) (receive v t) (attempts (shapeOf v) type vector) receive-rejected n (rw q at a) in
-      let y = receive-rejected-says (net v) s t (freeIn v) (receive v t) (x .0) (x .2 .0) (x .2 .1) in
-      receives armed s (y .0 .0) i (tries-permitted (shapeOf v) s t type vector (x .0) (x .1) (y .0 .0) (y .0 .1)) (y .0 .2) (y .1)
+use Rattle.ownership.proofs.LinksInto.{send-receives}
 
 -- no test has the number 11
 stopped-otherwise : (b : List ℕ) (a : Call) → stoppedAt b a ≢ 11
@@ -175,27 +47,68 @@ stopped-otherwise b (closing s c) = never-answered 11 _ (avoiding 11 _ refl) (λ
 stopped-otherwise b (tracing s c buffer) = never-answered 11 _ (avoiding 11 _ refl) (λ z. omega arith)
 stopped-otherwise b (arming n k) = never-answered 11 _ (avoiding 11 _ refl) (λ z. omega arith)
 stopped-otherwise b (disarming n k) = never-answered 11 _ (avoiding 11 _ refl) (λ z. omega arith)
+stopped-otherwise b (opening-all sends) = never-answered 11 _ (avoiding 11 _ refl) (λ z. omega arith)
 
--- the number that a pass or a send settles on, and the outcome of which it is 11
-answerNumber : PassAnswer → ℕ
-answerNumber (pass-answer x h k n b) = x
+-- the outcome of which an open answers 11
+rejected : (helps : Bool) (o : Outcome) (n : ℕ) → answered helps o n .number ≡ 11 → o ≡ receive-rejected
+unfolding answered
+rejected helps (acknowledged w k) n e = absurd (omega (arith, e))
+rejected true route-rejected n e = absurd (omega (arith, e))
+rejected false route-rejected n e = absurd (omega (arith, e))
+rejected helps receive-rejected n e = refl
 
-rejected : (helps : Bool) (o : Outcome) (n : ℕ) (b : List ℕ) → answerNumber (answerOfOutcome helps o n b) ≡ 11 → o ≡ receive-rejected
-unfolding answerOfOutcome answerNumber
-rejected helps (acknowledged w k) n b e = absurd (omega (arith, e))
-rejected true route-rejected n b e = absurd (omega (arith, e))
-rejected false route-rejected n b e = absurd (omega (arith, e))
-rejected helps receive-rejected n b e = refl
+-- so an open that no test stops does not answer it where the receive channels of its target are all armed, on a table
+sent-otherwise : (w : View) → Sound w → w .dimension ≤ largestDimension → (s c t y v : ℕ) → ((k : ℕ) → k < channels → w .armed t k ≡ true) → Allowed (factsOf w) (opening s c t y v)
+    → resultOf (factsOf w) (opening s c t y v) .number ≢ 11
+unfolding Allowed factsOf resultOf
+sent-otherwise w sound most s c t y v armed r e =
+    send-receives w sound most t armed s (r .0) y v _ _ (send-says (shapeOf w) (freeIn w) (receive w t) s v t y most (r .0) (r .1)) (rejected _ _ _ e)
 
 open-otherwise : (b : List ℕ) (s c t y v : ℕ) → AllArmed b t → stoppedAt b (opening s c t y v) ≡ 0
     → tableStep b (opening s c t y v) .result .number ≢ 11
-unfolding Allowed factsOf view sendAnswer answerNumber
+unfolding view
 open-otherwise b s c t y v armed z e =
     let p = pass-tests b (none-stops-lent b (opening s c t y v) refl z) in
-    let r = allowed (factsOf (view b)) (opening s c t y v) (none-stops b (opening s c t y v) z) in
-    let x = open-answers b s c t y v z in
-    send-receives (view b) (p .3) (p .2) t armed s (r .0) y v (x .outcome) _ (x .says)
-    (rejected _ (x .outcome) _ _ (sym (ap answerNumber (x .answer)) ∙ e))
+    sent-otherwise (view b) (p .3) (p .2) s c t y v armed (allowed (factsOf (view b)) (opening s c t y v) (none-stops b (opening s c t y v) z)) (rw (table-step b (opening s c t y v) .result z) at e)
+
+-- and in a history with the receive channels of all nodes armed, which each send of a job keeps so
+record EveryArmed (h : History) : Type 0 where
+  valid : Valid h
+  armed : (n k : ℕ) → NodeOf (h .dimension) n → k < channels → armedOn h n k ≡ true
+
+added-armed : (h : History) → EveryArmed h → (s c t : ℕ) (o : Outcome) → Valid (withOpened h s c t o) → EveryArmed (withOpened h s c t o)
+unfolding withOpened armedOn
+added-armed h every s c t (acknowledged w k) valid = record { valid = valid; armed = every .armed }
+added-armed h every s c t route-rejected valid = every
+added-armed h every s c t receive-rejected valid = every
+
+module _ (h : History) (x : Send) (every : EveryArmed h) where
+  says : StepSays h (openedOn h x) (factsOnWith noJob h) (refusal (callTests (factsOnWith noJob h) (openingOf x))) (openingOf x) (singleOpen (factsOnWith noJob) openedOn h x)
+  says = step-says h (openedOn h x) (factsOnWith noJob h) _ (openingOf x)
+
+  send-armed : singleOpen (factsOnWith noJob) openedOn h x .result .number ≡ 0 → EveryArmed (singleOpen (factsOnWith noJob) openedOn h x .state)
+  send-armed e = rw (says .accepted e) (added-armed h every _ _ _ _ (rw (says .accepted e) at (open-valid h x (every .valid) e)))
+
+  send-otherwise : singleOpen (factsOnWith noJob) openedOn h x .result .number ≢ 11
+  unfolding Allowed factsOf callTests resultOf viewOf armedOn avoids
+  send-otherwise e =
+      let v = viewOf h in
+      let n = refusal (callTests (factsWith noJob v) (openingOf x)) in
+      let shown = step-says v (opened v x) (factsWith noJob v) n (openingOf x) in
+      let eleven : singleOpen (factsWith noJob) opened v x .result .number ≡ 11 = ap (λ (y : After View). y .result .number) (open-same h x (every .valid)) ∙ e in
+      ⊎-elim
+      (λ z.
+      let may = allowed (factsWith noJob v) (openingOf x) z in
+      sent-otherwise v (valid-sound h (every .valid)) (every .valid .most) (x .source) (x .channel) (x .target) (x .type) (x .vector) (λ k l. every .armed (x .target) k (may .1) l) may (rw (shown .result z) at eleven))
+      (λ f. never-answered 11 (callTests (factsWith noJob v) (openingOf x)) (avoiding 11 _ refl) (λ q. omega arith) (rw (shown .stopped f) at eleven)) (same? n 0)
+
+job-otherwise : (h : History) → EveryArmed h → (xs : List Send) → jobOn h xs .result .number ≢ 11
+unfolding jobOn
+job-otherwise h every xs = turn-number (singleOpen (factsOnWith noJob) openedOn) EveryArmed send-armed (λ n. n ≢ 11) (λ z. omega arith) send-otherwise xs h every
+
+table-armed : (b : List ℕ) → CubeArmed b → view b ≡ viewOf (historyOf (view b)) → Valid (historyOf (view b)) → EveryArmed (historyOf (view b))
+unfolding historyOf viewOf view
+table-armed b armed shows valid = record { valid = valid; armed = λ n k i l. sym (ap (λ (v : View). v .armed n k) shows) ∙ armed n i k l }
 
 -- a call that some test stops answers another number
 never-stopped : (b : List ℕ) (a : Call) → (stoppedAt b a ≡ 0 → tableStep b a .result .number ≢ 11) → tableStep b a .result .number ≢ 11
@@ -218,6 +131,13 @@ passed-otherwise b armed (closing s c) z e = omega (arith, rw (table-step b (clo
 passed-otherwise b armed (tracing s c buffer) z e = omega (arith, rw (table-step b (tracing s c buffer) .result z) at e)
 passed-otherwise b armed (arming n k) z e = omega (arith, rw (table-step b (arming n k) .result z) at e)
 passed-otherwise b armed (disarming n k) z e = omega (arith, rw (table-step b (disarming n k) .result z) at e)
+passed-otherwise b armed (opening-all sends) z e =
+    let p = pass-tests b (none-stops-lent b (opening-all sends) refl z) in
+    let h = historyOf (view b) in
+    let shows = shows-same (view b) (p .3) (eight b) in
+    let valid = table-valid (view b) (p .3) (eight b) (p .1) (p .2) in
+    let eleven : jobIn (view b) (sendsIn sends) .result .number ≡ 11 = rw (table-step b (opening-all sends) .result z) at e in
+    job-otherwise h (table-armed b armed shows valid) (sendsIn sends) (sym (ap (λ (j : Job View). j .result .number) (ap (λ v. jobIn v (sendsIn sends)) shows ∙ job-same h valid (sendsIn sends))) ∙ eleven)
 
 pub armed-never-full : (b : List ℕ) → CubeArmed b → (a : Call) → tableStep b a .result .number ≢ 11
 armed-never-full b armed a = never-stopped b a (passed-otherwise b armed a)

@@ -8,24 +8,27 @@ use lib.ListN.{replicate}
 use Rattle.common.proofs.Tests.{same?}
 use Rattle.paths.specs.Send.{Outcome, acknowledged, route-rejected, receive-rejected}
 use Rattle.table.specs.View.{view}
-use Rattle.ownership.specs.Calls.{Call, making, blocking, unblocking, opening, closing, tracing, arming, disarming, form, lent}
+use Rattle.ownership.specs.Calls.{Call, making, blocking, unblocking, opening, closing, tracing, arming, disarming, opening-all, form, lent}
+use Rattle.ownership.specs.Sends.{sendsIn}
 use Rattle.ownership.specs.Calls.{CallResult, scoutsOf, answered, CallFacts, resultOf}
 use Rattle.ownership.specs.OnTable.{factsOf, stoppedAt, tableStep}
 use Rattle.ownership.specs.Agrees.{tableAfter, leaves}
 use Rattle.ownership.proofs.Steps.{table-step}
 use mathlib.Core.Bool.{Bool, true, false}
 
--- "When refused, all but the number are 0, except that 10 and 11 carry their scouts", and so does 22.
+-- "When refused, all but the number are 0, except that 10 and 11 carry their scouts", and so does 22; a job that a send's refusal ends gives the send's place.
 abbrev pub Zero : Call → CallResult → Type 0
-Zero a g = (g .values ≡ replicate (form a .valueCount) 0) ⊎ (((g .number ≡ 10) ⊎ (g .number ≡ 22) ⊎ (g .number ≡ 11)) × (g .values ≡ 0 ∷ 0 ∷ scoutsOf g ∷ []))
+Zero a g =
+    (g .values ≡ replicate (form a .valueCount) 0) ⊎ (((g .number ≡ 10) ⊎ (g .number ≡ 22) ⊎ (g .number ≡ 11)) × (g .values ≡ 0 ∷ 0 ∷ scoutsOf g ∷ []))
+    ⊎ ((sends : List ℕ) × (place : ℕ) × (a ≡ opening-all sends) × (g .values ≡ place ∷ []))
 
 -- what a call that no test stops gives where it is refused: its buffers as they were lent, and such values
 send-zero : (a : Call) (helps : Bool) (o : Outcome) (n : ℕ) → answered helps o n .number ≢ 0 → (answered helps o n .buffers ≡ []) × Zero a (answered helps o n)
 unfolding answered
 send-zero a helps (acknowledged w k) n f = absurd (f refl)
-send-zero a true route-rejected n f = (refl, inr (inl refl, refl))
-send-zero a false route-rejected n f = (refl, inr (inr (inl refl), refl))
-send-zero a helps receive-rejected n f = (refl, inr (inr (inr refl), refl))
+send-zero a true route-rejected n f = (refl, inr (inl (inl refl, refl)))
+send-zero a false route-rejected n f = (refl, inr (inl (inr (inl refl), refl)))
+send-zero a helps receive-rejected n f = (refl, inr (inl (inr (inr refl), refl)))
 
 result-refused : (f : CallFacts) (a : Call) → resultOf f a .number ≢ 0 → (resultOf f a .buffers ≡ lent a) × Zero a (resultOf f a)
 unfolding resultOf
@@ -37,6 +40,7 @@ result-refused f (closing s c) h = absurd (h refl)
 result-refused f (tracing s c buffer) h = absurd (h refl)
 result-refused f (arming n k) h = absurd (h refl)
 result-refused f (disarming n k) h = absurd (h refl)
+result-refused f (opening-all sends) h = (refl, inr (inr (sends, f .job (sendsIn sends) .sends, refl, refl)))
 
 module _ (b : List ℕ) (a : Call) (f : tableStep b a .result .number ≢ 0) where
   refused-result : (tableStep b a .result .buffers ≡ lent a) × Zero a (tableStep b a .result)

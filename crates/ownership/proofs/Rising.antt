@@ -6,7 +6,7 @@ use Prim.Native.Nat.{ℕ}
 use Rattle.common.specs.Tests.{Test}
 use Rattle.soundness.specs.TableTests.{tableTests}
 use Rattle.table.specs.View.{view}
-use Rattle.ownership.specs.Calls.{Call, making, blocking, unblocking, opening, closing, tracing, arming, disarming, callTests}
+use Rattle.ownership.specs.Calls.{Call, making, blocking, unblocking, opening, closing, tracing, arming, disarming, opening-all, callTests}
 use Rattle.ownership.specs.OnTable.{factsOf, lentTests}
 
 abbrev numbers : List ℕ → Call → List ℕ
@@ -44,3 +44,8 @@ module _ (b : List ℕ) where
   disarming-numbers : (n k : ℕ) → numbers b (disarming n k) ≡ 1 ∷ 2 ∷ 3 ∷ 4 ∷ 5 ∷ 21 ∷ []
   unfolding lentTests tableTests callTests
   disarming-numbers n k = refl
+
+  -- document 02, (j): 28, "tested after 3"
+  job-numbers : (sends : List ℕ) → numbers b (opening-all sends) ≡ 1 ∷ 2 ∷ 3 ∷ 28 ∷ []
+  unfolding lentTests tableTests callTests
+  job-numbers sends = refl

@@ -25,7 +25,8 @@ use Rattle.table.specs.Encode.{AllBytes}
 use Rattle.soundness.specs.TableTests.{tableTests}
 use Rattle.answers.specs.SendOnTable.{stateIn, freeIn, sendIn, waitingHelps}
 use Rattle.ownership.specs.Calls.{Call, opening, tracing, CallResult, refusedWith, answered, callTests, resultOf, callOn}
-use Rattle.ownership.specs.OnTable.{openIn, takenIn, factsOf, stoppedAt, tableStep}
+use Rattle.ownership.specs.TableFacts.{openIn, takenIn}
+use Rattle.ownership.specs.OnTable.{factsOf, stoppedAt, tableStep}
 use Rattle.ownership.specs.History.{History, belongs, openOn, listed, factsOn, stoppedOn, withOpened, applied, historyStep, sendOn}
 use Rattle.ownership.specs.FromTable.{historyOf}
 use Rattle.ownership.specs.SameOpen.{SameBetween, SameOpen}

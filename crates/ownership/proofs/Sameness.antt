@@ -9,7 +9,7 @@ use Rattle.paths.specs.CubeNetwork.{send}
 use Rattle.table.specs.View.{heldIn, available, receive}
 use Rattle.paths.specs.Send.{lowestOf}
 use Rattle.answers.specs.SendOnTable.{freeIn, stateIn, waitingHelps, sendIn}
-use Rattle.ownership.specs.OnTable.{takenIn}
+use Rattle.ownership.specs.TableFacts.{takenIn}
 use Rattle.ownership.specs.History.{History, shapeOn, netOn, holdsLink, holdsReceive, enabledOn, heldOn, freeOn, takenOn, armedOn, receiveOn, sendOn, waitingOn}
 use Rattle.ownership.specs.HistoryView.{viewOf}
 use Rattle.ownership.proofs.Circuits.{number-any}

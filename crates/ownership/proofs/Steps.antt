@@ -26,7 +26,7 @@ module _ {S : Type 0} (before after : S) (a : CallFacts) (n : ℕ) (call : Call)
   unfolding callOn
   is-stopped f = rw (ne-eqb n 0 f) (rw (ne-eqb n 0 f))
 
-  step-says : StepSays before after a n call (callOn before after a n call)
+  pub step-says : StepSays before after a n call (callOn before after a n call)
   step-says =
       record {
         result = λ e. unfold callOn in rw (eq-eqb n 0 e);

@@ -13,10 +13,12 @@ use Rattle.common.specs.Lists.{any, keep}
 use Rattle.common.proofs.Tests.{same?, clash, is-false, both, and, either, or-left, or-right}
 use Rattle.common.proofs.Lists.{keep-mem, mem-keep, any-some, some-any}
 use Rattle.paths.specs.Send.{Outcome, acknowledged, route-rejected, receive-rejected}
-use Rattle.ownership.specs.Calls.{Call, making, blocking, unblocking, opening, closing, tracing, arming, disarming, CallResult, answered, resultOf}
+use Rattle.ownership.specs.Calls.{Call, making, blocking, unblocking, opening, closing, tracing, arming, disarming, opening-all, CallResult, answered, resultOf}
 use Rattle.ownership.specs.History.{Circuit, History, belongs, openOn, factsOn, stoppedOn, sendOn, withOpened, applied, historyStep, waitingOn, newHistory}
 use Rattle.ownership.specs.Agrees.{historyAfter, historyResults, leaves, answers}
-use Rattle.ownership.specs.StillOpen.{numbered, Ends, Lasts, StillOpen}
+use Rattle.ownership.specs.StillOpen.{countsAs, numbered, Ends, Lasts, StillOpen}
+use Rattle.ownership.specs.Closing.{Each, no-call, call-more}
+use Rattle.ownership.proofs.Counted.{Single, counted-after, counted-numbers, counted-single}
 use Rattle.ownership.proofs.Circuits.{belongs-parts, parts-belong}
 use Rattle.ownership.proofs.Steps.{history-step}
 
@@ -93,26 +95,27 @@ module _ (s c : ℕ) where
       owned x e f = let r = belongs-parts s c x e in let q = belongs-parts m d x f in (sym (q .0) ∙ r .0, sym (q .1) ∙ r .1)
 
   -- any accepted call, then any call
-  step-accepted : (h : History) (a : Call) → resultOf (factsOn h) a .number ≡ 0 → Step h (applied h a) a 0
-  unfolding applied resultOf factsOn Ends openOn
-  step-accepted h (making D) e = step-making h D
-  step-accepted h (blocking m p) e =
+  step-accepted : (h : History) (a : Call) → Single a → resultOf (factsOn h) a .number ≡ 0 → Step h (applied h a) a 0
+  unfolding applied resultOf factsOn Ends openOn countsAs
+  step-accepted h (making D) single e = step-making h D
+  step-accepted h (blocking m p) single e =
       step-same h _ (blocking m p) 0 refl (λ o. let u : _≡_ {A = ℕ} 0 1 = cc (o .3) in absurd (omega arith)) (λ z ends. absurd ends)
-  step-accepted h (unblocking m p) e =
+  step-accepted h (unblocking m p) single e =
       step-same h _ (unblocking m p) 0 refl (λ o. let u : _≡_ {A = ℕ} 0 1 = cc (o .3) in absurd (omega arith)) (λ z ends. absurd ends)
-  step-accepted h (opening m d t y v) e = step-opening h m d t y v _ (waitingOn h m t y v) (sendOn h m t y v .outcome) e
-  step-accepted h (closing m d) e = step-closing h m d
-  step-accepted h (tracing m d buffer) e =
+  step-accepted h (opening m d t y v) single e = step-opening h m d t y v _ (waitingOn h m t y v) (sendOn h m t y v .outcome) e
+  step-accepted h (closing m d) single e = step-closing h m d
+  step-accepted h (tracing m d buffer) single e =
       step-same h h (tracing m d buffer) 0 refl (λ o. let u : _≡_ {A = ℕ} 0 1 = cc (o .3) in absurd (omega arith)) (λ z ends. absurd ends)
-  step-accepted h (arming m k) e =
+  step-accepted h (arming m k) single e =
       step-same h _ (arming m k) 0 refl (λ o. let u : _≡_ {A = ℕ} 0 1 = cc (o .3) in absurd (omega arith)) (λ z ends. absurd ends)
-  step-accepted h (disarming m k) e =
+  step-accepted h (disarming m k) single e =
       step-same h _ (disarming m k) 0 refl (λ o. let u : _≡_ {A = ℕ} 0 1 = cc (o .3) in absurd (omega arith)) (λ z ends. absurd ends)
+  step-accepted h (opening-all sends) single e = let u : _≡_ {A = ℕ} 0 1 = cc (single 1) in absurd (omega arith)
 
-  step-told : (h : History) (a : Call) → Step h (historyStep h a .state) a (historyStep h a .result .number)
-  step-told h a =
+  step-told : (h : History) (a : Call) → Single a → Step h (historyStep h a .state) a (historyStep h a .result .number)
+  step-told h a single =
       let g = history-step h a in
-      ⊎-elim (λ e. rw (g .accepted e, e) (step-accepted h a (rw (g .result (g .passed e)) at e))) (λ f. rw (g .refused f) (step-same h h a _ refl (λ o. f (o .4)) (λ z ends. f z)))
+      ⊎-elim (λ e. rw (g .accepted e, e) (step-accepted h a single (rw (g .result (g .passed e)) at e))) (λ f. rw (g .refused f) (step-same h h a _ refl (λ o. f (o .4)) (λ z ends. f z)))
       (same? (historyStep h a .result .number) 0)
 
   -- LISTS, of calls with the numbers that they answered
@@ -171,15 +174,23 @@ module _ (s c : ℕ) where
       back (inl o) = ⊎-elim (λ r. inr (step .opens (r .0), r .1)) inl (still-cases a n ps o)
       back (inr r) = let l = lasts-first a n ps (r .1) in inr (step .spares (r .0) (l .0), l .1)
 
-  -- From any history on:
+  -- From any history on, by single calls
+  abbrev Exactly : History → List Call → Type 0
+  Exactly h calls =
+      (openOn (historyAfter h calls) s c ≡ true) ↔ (StillOpen s c (numbered calls (historyResults h calls)) ⊎ ((openOn h s c ≡ true) × Lasts s c (numbered calls (historyResults h calls))))
+
+  open-after-single : (h : History) {calls : List Call} → Each Single calls → Exactly h calls
+  unfolding leaves answers numbered Lasts
+  open-after-single h no-call = ((λ o. inr (o, λ a m. absurd (List·Memᴰ·not-nil m))), ⊎-elim (λ o. absurd (still-none o)) (λ r. r .0))
+  open-after-single h (call-more {a} {calls = more} single rest) =
+      let ih = open-after-single (historyStep h a .state) rest in
+      let one = by-one h (historyStep h a .state) a (historyStep h a .result .number) (step-told h a single) (numbered more (historyResults (historyStep h a .state) more)) in
+      rw (single (historyStep h a .result .number)) ((λ o. one .0 (ih .0 o)), λ r. ih .1 (one .1 r))
+
+  -- and by any calls:
   pub open-after : (h : History) (calls : List Call)
       → (openOn (historyAfter h calls) s c ≡ true) ↔ (StillOpen s c (numbered calls (historyResults h calls)) ⊎ ((openOn h s c ≡ true) × Lasts s c (numbered calls (historyResults h calls))))
-  unfolding leaves answers numbered Lasts
-  open-after h [] = ((λ o. inr (o, λ a m. absurd (List·Memᴰ·not-nil m))), ⊎-elim (λ o. absurd (still-none o)) (λ r. r .0))
-  open-after h (a ∷ more) =
-      let ih = open-after (historyStep h a .state) more in
-      let one = by-one h (historyStep h a .state) a (historyStep h a .result .number) (step-told h a) (numbered more (historyResults (historyStep h a .state) more)) in
-      ((λ o. one .0 (ih .0 o)), λ r. ih .1 (one .1 r))
+  open-after h calls = rw (← counted-after calls h, ← counted-numbers calls h) (open-after-single h (counted-single calls h))
 
   -- From an accepted making on: the list has an acknowledged open of the channel, and no accepted making and no accepted close of it afterwards.
   pub open-exactly : (h : History) (D : ℕ) → stoppedOn h (making D) ≡ 0 → (calls : List Call)
@@ -193,5 +204,5 @@ module _ (s c : ℕ) where
 
       ended : Lasts s c (numbered (making D ∷ calls) (historyResults h (making D ∷ calls))) → ⊥
       ended l =
-          unfold answers numbered Ends in
+          unfold answers numbered countsAs Ends in
           lasts-first (making D) (historyStep h (making D) .result .number) (numbered calls (historyResults (historyStep h (making D) .state) calls)) l .0 accepted tt

@@ -17,9 +17,10 @@ use Rattle.paths.specs.CubeNetwork.{ports}
 use Rattle.table.specs.View.{shapeOf, heldBy}
 use Rattle.circuit_path.specs.PathOf.{pathOf}
 use Rattle.circuit_path.proofs.CircuitSound.{path-is, sound-open}
-use Rattle.ownership.specs.Calls.{Call, making, blocking, unblocking, opening, closing, tracing, arming, disarming, channelNumber, callTests}
+use Rattle.ownership.specs.Calls.{Call, making, blocking, unblocking, opening, closing, tracing, arming, disarming, opening-all, channelNumber, callTests}
 use Rattle.circuit_path.specs.OpenCircuit.{isOpenIn}
-use Rattle.ownership.specs.OnTable.{openIn, factsOf}
+use Rattle.ownership.specs.TableFacts.{openIn}
+use Rattle.ownership.specs.OnTable.{factsOf}
 use Rattle.ownership.specs.History.{Circuit, History, belongs, openOn, listed, factsOn, stoppedOn}
 use Rattle.ownership.specs.Invariant.{Valid}
 use Rattle.ownership.specs.HistoryView.{viewOf}
@@ -88,3 +89,4 @@ stopped-same h valid (tracing s c buffer) =
     past _ _ _ (past-channel c _ _ (λ l. ap (λ (b : Bool). refusal (test (not b) 12 ∷ test (ltb (length buffer) 9) 14 ∷ [])) (open-same h valid s c l)))
 stopped-same h valid (arming n k) = refl
 stopped-same h valid (disarming n k) = past _ _ _ (past _ _ _ (ap (λ (taken : ℕ → ℕ → Bool). refusal (test (taken n k) 21 ∷ [])) (taken-same h)))
+stopped-same h valid (opening-all sends) = refl

@@ -9,6 +9,7 @@ use lib.Dec.{eqb}
 use borrow.Author.Tests.{eqb-true, not-true}
 use Rattle.cube.specs.Cube.{largestDimension, channels, NodeOf}
 use Rattle.common.specs.Lists.{_∈_, keep, Pairwise}
+use Rattle.common.specs.Tests.{refusal}
 use Rattle.common.proofs.Tests.{clash, is-false, both}
 use Rattle.common.proofs.Lists.{keep-mem, keep-pairwise, some-any}
 use Rattle.paths.specs.Network.{Path, Link, links}
@@ -16,8 +17,9 @@ use Rattle.paths.specs.Send.{Outcome, acknowledged, route-rejected, receive-rej
 use Rattle.paths.specs.CubeNetwork.{send}
 use Rattle.paths.proofs.Words.{free-link}
 use Rattle.table.specs.View.{setAt}
-use Rattle.ownership.specs.Calls.{Call, making, blocking, unblocking, opening, closing, tracing, arming, disarming}
-use Rattle.ownership.specs.History.{Circuit, History, shapeOn, netOn, linksOf, holdsLink, holdsReceive, belongs, enabledOn, heldOn, freeOn, takenOn, openOn, armedOn, receiveOn, factsOn, stoppedOn, sendOn, withBlocked, withCircuits, withArmed, withoutEntry, withOpened, applied, newHistory}
+use Rattle.ownership.specs.Sends.{Send, sendsIn}
+use Rattle.ownership.specs.Calls.{Call, making, blocking, unblocking, opening, closing, tracing, arming, disarming, opening-all, openingOf, callTests, noJob, singleOpen, afterJob}
+use Rattle.ownership.specs.History.{Circuit, History, shapeOn, netOn, linksOf, holdsLink, holdsReceive, belongs, enabledOn, heldOn, freeOn, takenOn, openOn, armedOn, receiveOn, factsOn, factsOnWith, stoppedOn, sendOn, withBlocked, withCircuits, withArmed, withoutEntry, withOpened, openedOn, jobOn, applied, newHistory}
 use Rattle.ownership.specs.Invariant.{CircuitValid, Disjoint, Valid}
 use Rattle.ownership.proofs.Circuits.{parts-belong, belongs-number}
 use Rattle.ownership.proofs.CircuitValid.{link-holds, receive-holds, receiver-of}
@@ -25,6 +27,8 @@ use Rattle.answers.proofs.AfterSend.{SendTakes, send-taken}
 use Rattle.ownership.proofs.Acknowledged.{receive-free}
 use Rattle.ownership.specs.Allowed.{Allowed}
 use Rattle.ownership.proofs.Allowed.{allowed-on, made-facts, block-facts, unblock-facts, close-facts, arm-facts, disarm-facts}
+use Rattle.ownership.proofs.InTurn.{after-keeps}
+use Rattle.ownership.proofs.Steps.{step-says}
 use Rattle.ownership.proofs.Enabled.{block-enabled, unblock-enabled}
 use Rattle.ownership.proofs.Armed.{arm-armed, disarm-armed, close-armed}
 
@@ -149,24 +153,36 @@ module _ (h : History) (valid : Valid h) where
   opened-valid s c t y v r route-rejected e = valid
   opened-valid s c t y v r receive-rejected e = valid
 
+-- An acknowledged open of a job keeps the history valid, and so do all of them.
+pub open-valid : (h : History) (x : Send) → Valid h → singleOpen (factsOnWith noJob) openedOn h x .result .number ≡ 0 → Valid (singleOpen (factsOnWith noJob) openedOn h x .state)
+unfolding stoppedOn callTests factsOn
+open-valid h x valid e =
+    let says = step-says h (openedOn h x) (factsOnWith noJob h) (refusal (callTests (factsOnWith noJob h) (openingOf x))) (openingOf x) in
+    rw (says .accepted e) (opened-valid h valid (x .source) (x .channel) (x .target) (x .type) (x .vector) (allowed-on h (openingOf x) (says .passed e)) _ refl)
+
+pub job-valid : (h : History) → Valid h → (xs : List Send) → Valid (afterJob h (jobOn h xs))
+unfolding jobOn
+job-valid h valid xs = after-keeps (singleOpen (factsOnWith noJob) openedOn) Valid open-valid xs h valid
+
+module _ (h : History) (valid : Valid h) where
   -- A call that no test stops keeps the history valid.
   pub applied-valid : (a : Call) → stoppedOn h a ≡ 0 → Valid (applied h a)
   unfolding applied
   applied-valid (making D) e = let r = made-facts h D e in made-valid D (r .0) (r .1)
   applied-valid (blocking n p) e =
       let r = block-facts h n p e in
-      blocked-valid ((n, p) ∷ h .blocked)
+      blocked-valid h valid ((n, p) ∷ h .blocked)
       (λ l m.
       ⊎-elim (λ q. subst (λ (x : Link). (x .0 < 2 ^ h .dimension) × (x .1 < h .dimension)) (sym q) (r .0, r .1)) (λ k. valid .blocked l k)
       (List·Memᴰ·cases-cons m))
       (λ m q held on. block-enabled h n p m q ∙ other-cleared (enabledOn h) n p m q on (λ x y. clash held (rw (x, y) (r .2))))
   applied-valid (unblocking n p) e =
       let r = unblock-facts h n p e in
-      blocked-valid (withoutEntry n p (h .blocked)) (λ l m. valid .blocked l (unfold withoutEntry in keep-mem _ (h .blocked) m .0))
+      blocked-valid h valid (withoutEntry n p (h .blocked)) (λ l m. valid .blocked l (unfold withoutEntry in keep-mem _ (h .blocked) m .0))
       (λ m q held on. unblock-enabled h n p (r .0) (r .1) m q ∙ set-again (enabledOn h) n p m q on)
-  applied-valid (opening s c t y v) e = opened-valid s c t y v (allowed-on h (opening s c t y v) e) (sendOn h s t y v .outcome) refl
+  applied-valid (opening s c t y v) e = opened-valid h valid s c t y v (allowed-on h (opening s c t y v) e) (sendOn h s t y v .outcome) refl
   applied-valid (closing s c) e =
-      circuits-valid (keep other (h .circuits)) (applied h (closing s c) .armed) (λ l m. valid .armed l (keep-mem _ (h .armed) m .0))
+      circuits-valid h valid (keep other (h .circuits)) (applied h (closing s c) .armed) (λ l m. valid .armed l (keep-mem _ (h .armed) m .0))
       (λ x m. let k = keep-mem other (h .circuits) m in (valid .stands x (k .0), unfold armedOn in still-armed x (k .0) (not-true _ (k .1))))
       (keep-pairwise other (Disjoint (netOn h)) (h .circuits) (valid .apart))
     where
@@ -182,14 +198,15 @@ module _ (h : History) (valid : Valid h) where
           ∙ (rw (receiver-of h valid x m, belongs-number s c x small (stands .channel), f) (stands .armed))
   applied-valid (tracing s c buffer) e = valid
   applied-valid (arming n k) e =
-      circuits-valid (h .circuits) ((n, k) ∷ h .armed)
+      circuits-valid h valid (h .circuits) ((n, k) ∷ h .armed)
       (λ l m.
       ⊎-elim (λ q. subst (λ (x : ℕ × ℕ). (x .0 < 2 ^ h .dimension) × (x .1 < 8)) (sym q) (arm-facts h n k e)) (λ i. valid .armed l i)
       (List·Memᴰ·cases-cons m))
       (λ x m. let s = valid .stands x m in (s, arm-armed h n k _ _ ∙ set-again (armedOn h) n k _ _ (s .armed))) (valid .apart)
   applied-valid (disarming n k) e =
-      circuits-valid (h .circuits) (withoutEntry n k (h .armed)) (λ l m. valid .armed l (unfold withoutEntry in keep-mem _ (h .armed) m .0))
+      circuits-valid h valid (h .circuits) (withoutEntry n k (h .armed)) (λ l m. valid .armed l (unfold withoutEntry in keep-mem _ (h .armed) m .0))
       (λ x m.
       let s = valid .stands x m in
       let other : x .target ≡ n → x .receive ≡ k → ⊥ = λ i j. clash (taken-receive h x m n k (sym i) (sym j)) (disarm-facts h n k e) in
       (s, disarm-armed h n k _ _ ∙ other-cleared (armedOn h) n k _ _ (s .armed) other)) (valid .apart)
+  applied-valid (opening-all sends) e = job-valid h valid (sendsIn sends)

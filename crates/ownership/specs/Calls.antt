@@ -2,17 +2,18 @@
 -- Assumes nothing.
 use mathlib.Core.Bool.{Bool, true, false, cond, not, _||_}
 use mathlib.Core.List.{List, [], _∷_}
-use Prim.Native.Nat.{ℕ, _^_}
+use Prim.Native.Nat.{ℕ, suc, _^_, _%_}
 use lib.Dec.{eqb, ltb}
 use lib.ListN.{length, getD, replicate}
-use Rattle.common.specs.Tests.{Test, test}
+use Rattle.common.specs.Tests.{Test, test, refusal}
 use Rattle.paths.specs.Network.{Path}
 use Rattle.paths.specs.Send.{Outcome, acknowledged, route-rejected, receive-rejected, SendResult}
 use Rattle.circuit_path.specs.Traced.{tracedInto}
 use Rattle.cube.specs.Cube.{cubeNodes}
 use Rattle.soundness.specs.TableTests.{dimensionTest}
+use Rattle.ownership.specs.Sends.{Send, sendBytes, sendsIn, JobResult}
 
--- A call with its arguments. A trace is lent a buffer, which comes with its bytes; the table is not an argument.
+-- A call with its arguments. A trace is lent a buffer, which comes with its bytes, and a job its list of sends; the table is not an argument.
 pub data Call : Type 0 where
   making : (dimension : ℕ) → Call
   blocking : (node port : ℕ) → Call
@@ -22,6 +23,11 @@ pub data Call : Type 0 where
   tracing : (source channel : ℕ) → (buffer : List ℕ) → Call
   arming : (node channel : ℕ) → Call
   disarming : (node channel : ℕ) → Call
+  opening-all : (sends : List ℕ) → Call
+
+-- a send of a job as the single open that it asks for
+abbrev pub openingOf : Send → Call
+openingOf x = opening (x .source) (x .channel) (x .target) (x .type) (x .vector)
 
 -- what a call is, whatever it is made on
 pub record CallForm : Type 0 where
@@ -46,6 +52,8 @@ form (closing s c) = plain
 form (tracing s c buffer) = record { isMaking = false; valueCount = 1; buffers = buffer ∷ [] }
 form (arming n k) = plain
 form (disarming n k) = plain
+-- document 02, (j): "the answer gives that refusal's number and the send's place from 0, no scouts"; the list is lent
+form (opening-all sends) = record { isMaking = false; valueCount = 1; buffers = sends ∷ [] }
 
 abbrev pub lent : Call → List (List ℕ)
 lent a = form a .buffers
@@ -104,6 +112,12 @@ pub record CallFacts : Type 0 where
   pub waiting : ℕ → ℕ → ℕ → ℕ → Bool
   -- the ports of the circuit of a send channel, by source and channel
   pub path : ℕ → ℕ → Path
+  -- document 02, (j): what sends opened one after another come to
+  pub job : List Send → JobResult
+
+-- a single call asks nothing of a job
+abbrev pub noJob : List Send → JobResult
+noJob xs = record { number = 0; sends = 0 }
 
 -- "a node, source or target, not below 2^D"; "channel above 7"; "port not below D"
 abbrev pub absent : CallFacts → ℕ → Bool
@@ -145,6 +159,10 @@ shortBuffer buffer = test (ltb (length buffer) 9) 14
 abbrev pub channelHeld : CallFacts → ℕ → ℕ → Test
 channelHeld a n k = test (a .isTaken n k) 21
 
+-- document 02, (j): "A list length not a multiple of ten, or above 640, is 28"
+abbrev pub listLength : List ℕ → Test
+listLength sends = test (not (eqb (length sends % sendBytes) 0) || ltb 640 (length sends)) 28
+
 -- "Within one call the tests run in rising order of number." Those of each call behind the tests of the lent table:
 unfoldable pub callTests : CallFacts → Call → List Test
 callTests a (making D) = dimensionTest D ∷ []
@@ -156,6 +174,8 @@ callTests a (tracing s c buffer) = node a s ∷ channelNumber c ∷ noCircuit a 
 callTests a (arming n k) = node a n ∷ channelNumber k ∷ []
 -- "after 5"
 callTests a (disarming n k) = node a n ∷ channelNumber k ∷ channelHeld a n k ∷ []
+-- "tested after 3"
+callTests a (opening-all sends) = listLength sends ∷ []
 
 -- what a call gives where no test applies
 unfoldable pub resultOf : CallFacts → Call → CallResult
@@ -167,6 +187,8 @@ resultOf a (closing s c) = only 0
 resultOf a (tracing s c buffer) = let w = a .path s c in record { number = 0; values = length w ∷ []; buffers = tracedInto w buffer ∷ [] }
 resultOf a (arming n k) = only 0
 resultOf a (disarming n k) = only 0
+-- "Success answers 0 and the number of sends"; else the first refusal's number and its place
+resultOf a (opening-all sends) = let j = a .job (sendsIn sends) in record { number = j .number; values = j .sends ∷ []; buffers = sends ∷ [] }
 
 -- what a call leaves of what it is made on, the bytes of a table or the history, and what it gives
 pub record After (S : Type 0) : Type 0 where
@@ -178,3 +200,31 @@ pub record After (S : Type 0) : Type 0 where
 unfoldable pub callOn : {S : Type 0} → S → S → CallFacts → ℕ → Call → After S
 callOn before after a n call =
     let g = cond (eqb n 0) (resultOf a call) (refusedWith n call) in record { state = cond (eqb (g .number) 0) after before; result = g }
+
+-- Document 02, (j). A job from a state on: what its sends come to, and the state that those before the first refused one leave.
+pub record Job (S : Type 0) : Type 0 where
+  pub result : JobResult
+  pub state : S
+
+-- one send more in front, which was acknowledged
+abbrev pub oneMore : {S : Type 0} → Job S → Job S
+oneMore j = record { result = record { number = j .result .number; sends = suc (j .result .sends) }; state = j .state }
+
+-- no send more is opened: the number of one that is refused, or 0 where none is left
+abbrev pub endsWith : {S : Type 0} → S → ℕ → Job S
+endsWith s n = record { result = record { number = n; sends = 0 }; state = s }
+
+-- "opening them one after another", up to the first refusal, where `opens` is a single open
+module _ {S : Type 0} (opens : S → Send → After S) where
+  unfoldable pub inTurn : S → List Send → Job S
+  inTurn s [] = endsWith s 0
+  inTurn s (x ∷ more) =
+      let y = opens s x in cond (eqb (y .result .number) 0) (oneMore (inTurn (y .state) more)) (endsWith s (y .result .number))
+
+-- a single open on a state, from what a call asks of the state and what the open makes of it
+abbrev pub singleOpen : {S : Type 0} → (S → CallFacts) → (S → Send → S) → S → Send → After S
+singleOpen facts opened s x = callOn s (opened s x) (facts s) (refusal (callTests (facts s) (openingOf x))) (openingOf x)
+
+-- "The outcome equals opening them one after another if all are acknowledged; at the first refusal the table is as before"
+unfoldable pub afterJob : {S : Type 0} → S → Job S → S
+afterJob before j = cond (eqb (j .result .number) 0) (j .state) before

@@ -10,7 +10,8 @@ use Rattle.paths.specs.Network.{Network, Path, Link, links, hasLink, linkState,
 use Rattle.paths.specs.Send.{Receive, channel, Outcome, acknowledged, route-rejected, receive-rejected, SendResult, lowestOf}
 use Rattle.paths.specs.Waiting.{someAttempt}
 use Rattle.paths.specs.CubeNetwork.{Shape, network, attempts, send, unfolded, isLinkOf}
-use Rattle.ownership.specs.Calls.{Call, making, blocking, unblocking, opening, closing, tracing, arming, disarming, CallFacts, callTests, After, callOn}
+use Rattle.ownership.specs.Sends.{Send, sendsIn, JobResult}
+use Rattle.ownership.specs.Calls.{Call, making, blocking, unblocking, opening, closing, tracing, arming, disarming, opening-all, CallFacts, noJob, callTests, After, callOn, Job, inTurn, singleOpen, afterJob}
 
 -- "each open circuit with the links and receive channel it holds": its source and send channel, its path, and the receive channel at the path's end
 pub record Circuit : Type 0 where
@@ -95,22 +96,6 @@ sendOn h s t y v = send y (shapeOn h) (freeOn h) (receiveOn h t) s v t
 unfoldable pub waitingOn : History → ℕ → ℕ → ℕ → ℕ → Bool
 waitingOn h s t y v = someAttempt (netOn h) (enabledOn h) s t (attempts (shapeOn h) y v)
 
--- "The tests are read off it; of 1 to 3, only a making's 2 arises on this table."
-unfoldable pub factsOn : History → CallFacts
-factsOn h =
-    record {
-      dimension = h .dimension;
-      held = heldOn h;
-      isOpen = openOn h;
-      isTaken = takenOn h;
-      sends = sendOn h;
-      waiting = waitingOn h;
-      path = listed (h .circuits);
-    }
-
-unfoldable pub stoppedOn : History → Call → ℕ
-stoppedOn h a = refusal (callTests (factsOn h) a)
-
 -- the history with other blocked links, with other circuits, or with other armed channels
 abbrev pub withBlocked : History → List Link → History
 withBlocked h ls = record { dimension = h .dimension; blocked = ls; circuits = h .circuits; armed = h .armed }
@@ -131,12 +116,41 @@ withOpened h s c t (acknowledged w k) = withCircuits h (record { source = s; cha
 withOpened h s c t route-rejected = h
 withOpened h s c t receive-rejected = h
 
+-- what a call asks of the history, with what a job comes to
+abbrev pub factsOnWith : (List Send → JobResult) → History → CallFacts
+factsOnWith job h =
+    record {
+      dimension = h .dimension;
+      held = heldOn h;
+      isOpen = openOn h;
+      isTaken = takenOn h;
+      sends = sendOn h;
+      waiting = waitingOn h;
+      path = listed (h .circuits);
+      job = job;
+    }
+
+-- "an open adds its circuit with path and channel by the rules above, read on this record"
+abbrev pub openedOn : History → Send → History
+openedOn h x = withOpened h (x .source) (x .channel) (x .target) (sendOn h (x .source) (x .target) (x .type) (x .vector) .outcome)
+
+-- Document 02, (j): the sends of a job, each entered in the history that the one before it left.
+unfoldable pub jobOn : History → List Send → Job History
+jobOn h xs = inTurn (singleOpen (factsOnWith noJob) openedOn) h xs
+
+-- "The tests are read off it; of 1 to 3, only a making's 2 arises on this table."
+unfoldable pub factsOn : History → CallFacts
+factsOn h = factsOnWith (λ xs. jobOn h xs .result) h
+
+unfoldable pub stoppedOn : History → Call → ℕ
+stoppedOn h a = refusal (callTests (factsOn h) a)
+
 -- "Else a making sets the dimension and clears the rest; a block adds a link, an unblock drops it; an open adds its circuit ..; a close drops its circuit."
 unfoldable pub applied : History → Call → History
 applied h (making D) = newHistory D
 applied h (blocking n p) = withBlocked h ((n, p) ∷ h .blocked)
 applied h (unblocking n p) = withBlocked h (withoutEntry n p (h .blocked))
-applied h (opening s c t y v) = withOpened h s c t (sendOn h s t y v .outcome)
+applied h (opening s c t y v) = openedOn h (record { source = s; channel = c; target = t; type = y; vector = v })
 -- and document 02, (a): "Closing a circuit disarms its channel"
 applied h (closing s c) =
     withArmed (withCircuits h (keep (λ x. not (belongs s c x)) (h .circuits)))
@@ -144,6 +158,8 @@ applied h (closing s c) =
 applied h (tracing s c buffer) = h
 applied h (arming n k) = withArmed h ((n, k) ∷ h .armed)
 applied h (disarming n k) = withArmed h (withoutEntry n k (h .armed))
+-- document 02, (j): "The ownership history counts such a call as its single opens, or as nothing."
+applied h (opening-all sends) = afterJob h (jobOn h (sendsIn sends))
 
 -- a call entered in the history; "A refused call and a trace change nothing."
 unfoldable pub historyStep : History → Call → After History

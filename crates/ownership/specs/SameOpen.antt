@@ -8,7 +8,8 @@ use Rattle.paths.specs.Between.{Between}
 use Rattle.table.specs.View.{View, view}
 use Rattle.answers.specs.SendOnTable.{stateIn, sendIn}
 use Rattle.ownership.specs.Calls.{opening, tracing, CallResult}
-use Rattle.ownership.specs.OnTable.{openIn, takenIn, tableStep}
+use Rattle.ownership.specs.TableFacts.{openIn, takenIn}
+use Rattle.ownership.specs.OnTable.{tableStep}
 
 -- Two tables of which an open from send channel c of node s to node t sees the same:
 pub record SameBetween (s c t : ℕ) (v w : View) : Type 0 where

@@ -36,8 +36,39 @@ fn search_by_type(
     search::maze(t, source, target, c, vector, first)
 }
 
-// A send of a routing type. Where its search is route rejected, it asks whether a path that it may try has no blocked link: with none, waiting does not help.
-// The table of first ports is built once for all its hops.
+// A send of a routing type, by a table of first ports. Where its search is route rejected, it asks whether a path that it may try has no blocked link: with none,
+// waiting does not help.
+pub fn send_by(
+    t: &mut [u8],
+    source: Node,
+    target: Node,
+    c: Circuit,
+    routing: u16,
+    vector: u16,
+    first: &[u8; 2048],
+) -> Opened
+    requires { ⌜ FirstPorts (now first) ⌝ }
+    requires { ⌜ MaySend (now t) (source .0) (target .0) (c .0) vector ⌝ }
+    requires { ⌜ vector ≢ 0 ⌝ }
+    ensures { λ r. ⌜ pass-answer (r .number) (r .hops) (r .receive) (r .scouts) (now (t .exit)) ≡ sentOnBytes (now (t .entry)) (source .0) (target .0) (c .0) routing vector ⌝ }
+{
+    let answer = search_by_type(t, source, target, c, routing, vector, first);
+    if answer.number != refusal::ROUTE_REJECTED {
+        return answer;
+    }
+    if reach::some_path_enabled(t, source, target, routing, vector, first) {
+        return answer;
+    }
+    let scouts = answer.scouts;
+    Opened {
+        number: refusal::NO_ROUTE,
+        hops: 0,
+        receive: 0,
+        scouts,
+    }
+}
+
+// The same, with the table built once for all its hops.
 pub fn send(
     t: &mut [u8],
     source: Node,
@@ -51,18 +82,5 @@ pub fn send(
     ensures { λ r. ⌜ pass-answer (r .number) (r .hops) (r .receive) (r .scouts) (now (t .exit)) ≡ sentOnBytes (now (t .entry)) (source .0) (target .0) (c .0) routing vector ⌝ }
 {
     let first = cube::FIRST_PORTS;
-    let answer = search_by_type(t, source, target, c, routing, vector, &first);
-    if answer.number != refusal::ROUTE_REJECTED {
-        return answer;
-    }
-    if reach::some_path_enabled(t, source, target, routing, vector, &first) {
-        return answer;
-    }
-    let scouts = answer.scouts;
-    Opened {
-        number: refusal::NO_ROUTE,
-        hops: 0,
-        receive: 0,
-        scouts,
-    }
+    send_by(t, source, target, c, routing, vector, &first)
 }

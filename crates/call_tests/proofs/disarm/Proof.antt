@@ -3,7 +3,8 @@
 use borrow.Author.Needs.{needs}
 use Rattle.table.specs.View.{view}
 use Rattle.ownership.specs.Calls.{callTests}
-use Rattle.ownership.specs.OnTable.{takenIn, factsOf, lentTests, stoppedAt}
+use Rattle.ownership.specs.TableFacts.{takenIn}
+use Rattle.ownership.specs.OnTable.{factsOf, lentTests, stoppedAt}
 use Rattle.call_tests.proofs.Stopping.{stops, passed-before, node-passed, below-eight, receive-within}
 use Rattle.call_tests.proofs.disarm.Statement.{statement}
 use Rattle.call_tests.proofs.disarm.Tie as tie

@@ -3,7 +3,7 @@
 use mathlib.Core.Path.{ap, _∙_}
 use Rattle.call_tests.proofs.Stopping.{node-passed, small-source, has-source}
 use Rattle.circuit_path.specs.OpenCircuit.{isOpenIn}
-use Rattle.ownership.specs.OnTable.{openIn}
+use Rattle.ownership.specs.TableFacts.{openIn}
 use Rattle.call_tests.proofs.has_circuit.Statement.{statement}
 use Rattle.call_tests.proofs.has_circuit.Tie as tie
 

@@ -1,53 +1,18 @@
--- `send::send` meets its contract: the search of its type and, where that is route rejected, whether waiting helps.
+-- `send::send` meets its contract: the table that it lends is that of first ports.
 -- Assumes nothing.
 use mathlib.Core.Path.{refl}
 use Rattle.cube.specs.Helical.{firstPort}
 use Rattle.cube.proofs.Order.{table-of}
-use Rattle.send.proofs.ByWaiting.{may-ask-after, judged-kept, judged-helps, judged-blocked}
 use borrow.Author.Needs.{needs}
 use Rattle.send.proofs.send.Statement.{statement}
 use Rattle.send.proofs.send.Tie as tie
 
-search-by-type-requires : tie.Need-search-by-type-requires
+send-by-requires : tie.Need-send-by-requires
 unfolding firstPort
-search-by-type-requires c κs = let s = c .before .before .before in (table-of _ refl refl, s .pre)
+send-by-requires c κs = let s = c .before .before .before in (table-of _ refl refl, s .pre)
 
 returns : tie.Need-returns
-returns c =
-    let g = c .before .before .before .before in
-    judged-kept _ _ _ _ _ _ (g .search-by-type .ensures) (c .if1 .taken)
-
-some-path-enabled-requires : tie.Need-some-path-enabled-requires
-unfolding firstPort
-some-path-enabled-requires c κs =
-    let e = c .before .before in
-    let g = e .before .before .before .before in
-    let s = g .before .before .before .before in
-    (table-of _ refl refl, may-ask-after _ _ _ _ _ _ (g .search-by-type .ensures) (s .pre .0) (e .if1 .left))
-
-returns-2 : tie.Need-returns-2
-returns-2 c =
-    let a = c .before in
-    let e = a .before .before .before in
-    let g = e .before .before .before .before in
-    judged-helps _ _ _ _ _ _ (g .search-by-type .ensures) (e .if1 .left) (a .some-path-enabled .ensures) (c .if2 .taken)
-
-returns-3 : tie.Need-returns-3
-returns-3 c =
-    let a = c .before in
-    let e = a .before .before .before in
-    let g = e .before .before .before .before in
-    judged-blocked _ _ _ _ _ _ (g .search-by-type .ensures) (e .if1 .left) (a .some-path-enabled .ensures) (c .if2 .left)
+returns c = c .before .before .send-by .ensures
 
 pub send-spec : {M : Type 1} → statement M
-send-spec =
-    tie.close
-    (tie.spec
-    search-by-type-requires
-    (search needs)
-    returns
-    some-path-enabled-requires
-    (search needs)
-    returns-2
-    (search needs)
-    returns-3)
+send-spec = tie.close (tie.spec send-by-requires (search needs) returns)

@@ -1,7 +1,7 @@
 -- `router::calls::open` meets its contract: its tests, then the send of its routing type.
 -- Assumes nothing.
 use native.Mathlib.Omega.{arith}
-use Rattle.call_tests.proofs.Stopping.{open-passed, small-source, node-room}
+use Rattle.call_tests.proofs.Stopping.{open-passed, small-source, may-send}
 use Rattle.router.proofs.TableStep.{call-stopped, call-opens}
 use borrow.Author.Needs.{needs}
 use Rattle.router.proofs.calls.open.Statement.{statement}
@@ -18,19 +18,7 @@ circuit-of-requires c κs =
 send-requires : tie.Need-send-requires
 send-requires c κs =
     let m = c .before in
-    let r = open-passed _ (m .before .before .«open» .ensures) (m .before .if1 .left) in
-    let nodes = node-room (r .0) in (
-      record {
-        bytes = r .0 .long;
-        fits = r .0 .most;
-        source = omega (arith, r .0 .source);
-        target = omega (arith, r .0 .source, r .0 .target);
-        ports = omega (arith, nodes .0, r .2);
-        circuit = λ z. omega (arith, m .circuit-of .ensures, z);
-        small = omega (arith, nodes .1, r .0 .source, r .1, m .circuit-of .ensures);
-      },
-      r .3,
-    )
+    may-send _ _ _ _ _ _ (m .before .before .«open» .ensures) (m .before .if1 .left) (m .circuit-of .ensures)
 
 returns-2 : tie.Need-returns-2
 returns-2 c =

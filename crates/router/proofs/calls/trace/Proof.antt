@@ -2,7 +2,7 @@
 -- Assumes nothing.
 use mathlib.Core.Path.{ap, _∙_}
 use Rattle.circuit_path.specs.OpenCircuit.{isOpenIn}
-use Rattle.ownership.specs.OnTable.{openIn}
+use Rattle.ownership.specs.TableFacts.{openIn}
 use Rattle.call_tests.proofs.Stopping.{trace-passed, small-source, has-source}
 use Rattle.router.proofs.TableStep.{call-stopped, call-traces}
 use native.Mathlib.Omega.{arith}

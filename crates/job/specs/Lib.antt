@@ -1,0 +1,2 @@
+-- A job's sends, as the code opens them.
+pub mod JobContracts
