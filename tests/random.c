@@ -4,8 +4,8 @@
  *
  * runs that many streams of calls of each kind and dimension (20 without an argument), each from a seed of its own. At the first difference it
  * shortens the list of calls as long as they still differ, prints it and stops. Otherwise it prints how often each case has occurred. Calls are
- * written as in the printed list, and beside them `T node channel` traces, `J` opens the sends that follow it, each as behind S, `P place value` writes one byte
- * of the table, and `/ table of N`, `/ buffer of N` or `/ list of N` behind a call says that it was lent N bytes. */
+ * written as in the printed list, and beside them `T node channel` traces, `J` opens the sends that follow it together, each as behind S,
+ * `P place value` writes one byte of the table, and `/ table of N`, `/ buffer of N` or `/ list of N` behind a call says that it was lent N bytes. */
 #include "draw.h"
 #include "reference.h"
 #include "subject.h"
@@ -202,7 +202,8 @@ static void tally(const struct call *call, const struct answers *answers, unsign
     if (call->letter == 'J') {
         unsigned long sends = call->buffer_len / MAZE_SEND_BYTES, place = answers->value[1][1];
         if (number == MAZE_ACCEPTED) seen.job_empty += sends == 0, seen.job_several += sends > 1, seen.job_long += sends == MAZE_SENDS_LARGEST;
-        else if (number >= MAZE_BAD_NODE && number != MAZE_BAD_SEND_LIST && sends > 1) *(place == 0 ? &seen.job_first : place + 1 == sends ? &seen.job_last : &seen.job_middle) += 1;
+        else if (number >= MAZE_BAD_NODE && number != MAZE_BAD_SEND_LIST && sends > 1)
+            *(place == 0 ? &seen.job_first : place + 1 == sends ? &seen.job_last : &seen.job_middle) += 1;
     }
     if (call->letter != 'S') return;
     if (!(number == MAZE_ACCEPTED || number == MAZE_ROUTE_REJECTED || number == MAZE_RECEIVE_REJECTED || number == MAZE_NO_ROUTE)) return;
