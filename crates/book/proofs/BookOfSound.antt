@@ -20,11 +20,11 @@ use Rattle.paths.proofs.CubeNetwork.{path-hops}
 use Rattle.table.specs.View.{View, shapeOf}
 use Rattle.circuit_path.specs.CircuitSound.{endFor, CircuitSound}
 use Rattle.circuit_path.specs.PathOf.{pathOf, isEmpty}
-use Rattle.circuit_path.specs.OpenCircuit.{isOpenIn, openNumbers}
+use Rattle.circuit_path.specs.OpenCircuit.{isOpenIn}
 use Rattle.circuit_path.specs.Traced.{tracedInto}
 use Rattle.circuit_path.proofs.CircuitSound.{path-is, open-path}
 use Rattle.book.specs.Book.{portBytes, indexBytes, hopCount}
-use Rattle.book.specs.BookOf.{bookOf}
+use Rattle.book.specs.BookOf.{openNumbers, bookOf}
 use Rattle.book.specs.Lookup.{wellFormed, lookedUp}
 use Rattle.book.proofs.WrittenBook.{portsAnswer, Listable, written-well, lookup-written}
 
