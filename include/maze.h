@@ -138,7 +138,7 @@ extern "C" {
 
 #define MAZE_HOPS_LARGEST 9        /* a permitted path has 1 to dimension + 1 hops */
 #define MAZE_SCOUTS_LARGEST 123300 /* no send sends more; of type 3 at most 9, of type 1 72 */
-#define MAZE_TRACE_BYTES 9         /* what maze_trace asks of its buffer */
+#define MAZE_TRACE_BYTES 9         /* what maze_trace and maze_book_lookup ask of their buffer */
 #define MAZE_SEND_BYTES 10         /* of a send in a list of maze_open_all */
 #define MAZE_SENDS_LARGEST 64      /* sends in such a list */
 #define MAZE_BOOK_LINE_BYTES 6     /* of a circuit in the index of a book */
