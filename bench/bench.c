@@ -201,8 +201,8 @@ static unsigned long turn_open_close(const struct calls *c, struct with with) {
     return sum;
 }
 
-/* A job of `type` sends, from node i to node i + 64 over port 6. The send at place `other` is refused, where there is one. What is opened is taken back by a copy of
- * the table, as closes would be measured too. */
+/* A job of `type` sends, from node i to node i + 64 over port 6. The send at place `other` is refused, where there is one. What is opened is taken
+ * back by a copy of the table, as closes would be measured too. */
 static unsigned long turn_job(const struct calls *c, struct with with) {
     static uint8_t kept[BYTES], list[MAZE_SEND_BYTES * MAZE_SENDS_LARGEST];
     maze_opened_all opened;

@@ -4,7 +4,7 @@
  *
  * runs that many streams of calls of each kind and dimension (20 without an argument), each from a seed of its own. At the first difference it
  * shortens the list of calls as long as they still differ, prints it and stops. Otherwise it prints how often each case has occurred. Calls are
- * written as in the printed list, and beside them `T node channel` traces, `J` opens the sends that follow it, each as behind S, `K` writes the book of the table,
+ * written as in the printed list, and beside them `T node channel` traces, `J` opens the sends that follow it together, each as behind S, `K` writes the book of the table,
  * `L circuit circuits hops` looks a circuit up in the book that stands there, `P place value` writes one byte of the table and `W place value` one of the book's index,
  * and `/ table of N`, `/ buffer of N`, `/ list of N`, `/ ports of N` or `/ index of N` behind a call says that it was lent N bytes. */
 #include "draw.h"
@@ -248,7 +248,8 @@ static void tally(const struct call *call, const struct answers *answers, unsign
     if (call->letter == 'J') {
         unsigned long sends = call->buffer_len / MAZE_SEND_BYTES, place = answers->value[1][1];
         if (number == MAZE_ACCEPTED) seen.job_empty += sends == 0, seen.job_several += sends > 1, seen.job_long += sends == MAZE_SENDS_LARGEST;
-        else if (number >= MAZE_BAD_NODE && number != MAZE_BAD_SEND_LIST && sends > 1) *(place == 0 ? &seen.job_first : place + 1 == sends ? &seen.job_last : &seen.job_middle) += 1;
+        else if (number >= MAZE_BAD_NODE && number != MAZE_BAD_SEND_LIST && sends > 1)
+            *(place == 0 ? &seen.job_first : place + 1 == sends ? &seen.job_last : &seen.job_middle) += 1;
     }
     if (call->letter == 'K') {
         unsigned long circuits = answers->value[1][4], hops = answers->value[1][1];

@@ -20,11 +20,11 @@ use Rattle.paths.proofs.CubeNetwork.{path-hops}
 use Rattle.table.specs.View.{View, shapeOf}
 use Rattle.circuit_path.specs.CircuitSound.{endFor, CircuitSound}
 use Rattle.circuit_path.specs.PathOf.{pathOf, isEmpty}
-use Rattle.circuit_path.specs.OpenCircuit.{isOpenIn, openNumbers}
+use Rattle.circuit_path.specs.OpenCircuit.{isOpenIn}
 use Rattle.circuit_path.specs.Traced.{tracedInto}
 use Rattle.circuit_path.proofs.CircuitSound.{path-is, open-path}
 use Rattle.book.specs.Book.{portBytes, indexBytes, hopCount}
-use Rattle.book.specs.BookOf.{bookOf}
+use Rattle.book.specs.BookOf.{openNumbers, bookOf}
 use Rattle.book.specs.Lookup.{wellFormed, lookedUp}
 use Rattle.book.proofs.WrittenBook.{portsAnswer, Listable, written-well, lookup-written}
 
@@ -37,9 +37,10 @@ module _ (v : View) where
   -- and are exactly those numbers of the cube that are open
   pub open-exactly : (c : ℕ) → (c ∈ openNumbers v) ↔ ((isOpenIn v c ≡ true) × (1 ≤ c) × (c ≤ circuitCount (shapeOf v)))
   unfolding openNumbers
-  open-exactly c =
-      ((λ m. let k = keep-mem (isOpenIn v) (from 1 (circuitCount (shapeOf v))) m in let r = from-mem 1 (circuitCount (shapeOf v)) (k .0) in (k .1, r .0, omega arith)),
-        λ h. let most = h .2 in mem-keep (isOpenIn v) (from 1 (circuitCount (shapeOf v))) (mem-from 1 (circuitCount (shapeOf v)) c (h .1) (omega arith)) (h .0))
+  open-exactly c = (
+    (λ m. let k = keep-mem (isOpenIn v) (from 1 (circuitCount (shapeOf v))) m in let r = from-mem 1 (circuitCount (shapeOf v)) (k .0) in (k .1, r .0, omega arith)),
+    λ h. let most = h .2 in mem-keep (isOpenIn v) (from 1 (circuitCount (shapeOf v))) (mem-from 1 (circuitCount (shapeOf v)) c (h .1) (omega arith)) (h .0),
+  )
 
   -- so a number of the cube is listed where it is open
   pub open-listed : (c : ℕ) → 1 ≤ c → c ≤ circuitCount (shapeOf v) → any (λ m. eqb m c) (openNumbers v) ≡ isOpenIn v c
@@ -49,9 +50,9 @@ module _ (v : View) where
       go true e = some-any (λ m. eqb m c) (openNumbers v) (open-exactly c .1 (e, low, high)) (eq-eqb c c refl)
       go false e =
           is-false (any (λ m. eqb m c) (openNumbers v)) (λ a.
-            let s = any-some (λ m. eqb m c) (openNumbers v) a in
-            let same = eqb-true (s .0) c (s .2) in
-            clash (open-exactly c .0 (rw same at (s .1)) .0) e)
+          let s = any-some (λ m. eqb m c) (openNumbers v) a in
+          let same = eqb-true (s .0) c (s .2) in
+          clash (open-exactly c .0 (rw same at (s .1)) .0) e)
 
   -- an open circuit has a hop
   pub open-hops : (c : ℕ) → isOpenIn v c ≡ true → 1 ≤ length (pathOf v c)
@@ -92,7 +93,7 @@ module _ (v : View) where
       -- and a lookup in it gives 12 for a circuit of the cube that is not open, then 14, and else the circuit's path.
       pub book-lookup : (c : ℕ) → 1 ≤ c → c ≤ circuitCount (shapeOf v) → (buffer : List ℕ)
           → lookedUp (tracedInto (portBytes (bookOf v)) ports) (tracedInto (indexBytes (bookOf v)) index) (length (bookOf v)) (hopCount (bookOf v)) c buffer
-            ≡ portsAnswer (isOpenIn v c) (pathOf v c) buffer
+          ≡ portsAnswer (isOpenIn v c) (pathOf v c) buffer
       unfolding bookOf
       book-lookup c low high buffer =
           lookup-written (pathOf v) (openNumbers v) open-listable ports index p i c buffer ∙ ap (λ (b : Bool). portsAnswer b (pathOf v c) buffer) (open-listed c low high)

@@ -123,13 +123,13 @@ unfolding linesFit
 run-fit x zero above at total r = eq-eqb at total (r .nothing refl)
 run-fit x (suc n) above at total r =
     let f : Fits above at (x 0) =
-        record {
-          rises = r .first (omega arith);
-          most = r .most 0 (omega arith);
-          begins = r .begin (omega arith);
-          some = r .lengths 0 (omega arith) .0;
-          few = r .lengths 0 (omega arith) .1;
-        } in
+    record {
+      rises = r .first (omega arith);
+      most = r .most 0 (omega arith);
+      begins = r .begin (omega arith);
+      some = r .lengths 0 (omega arith) .0;
+      few = r .lengths 0 (omega arith) .1;
+    } in
     and (fits-line above at (x 0) f) (run-fit (λ i. x (suc i)) n (x 0 .number) (at + x 0 .hops) total (run-tail x n above at total r))
 
 -- numbers that rise from 1 on are 1 at least
@@ -161,14 +161,14 @@ well-formed-exactly ports index circuits hops = (to, from)
     from : WellFormed ports index circuits hops → wellFormed ports index circuits hops ≡ true
     from w =
         let r : Run (lineAt index) circuits 0 0 hops =
-            record {
-              first = w .least 0;
-              most = w .most;
-              rise = w .rise;
-              lengths = w .lengths;
-              begin = w .from-zero;
-              no-gap = w .no-gap;
-              to-count = w .to-count;
-              nothing = λ h. sym (w .nothing h);
-            } in
+        record {
+          first = w .least 0;
+          most = w .most;
+          rise = w .rise;
+          lengths = w .lengths;
+          begin = w .from-zero;
+          no-gap = w .no-gap;
+          to-count = w .to-count;
+          nothing = λ h. sym (w .nothing h);
+        } in
         lines-decide ports index circuits hops (w .index-fits) (w .ports-fit) ∙ rw lines-at (run-fit (lineAt index) circuits 0 0 hops r)

@@ -34,7 +34,7 @@ unfolding lines indexFrom wordBytes linesOf
 lines-written at [] rest = refl
 lines-written at (x ∷ xs) rest =
     ap₂ (λ (n : ℕ) (ys : List IndexLine). record { number = n; offset = at % 256 + 256 * (at / 256); hops = length (x .ports) % 256 + 256 * (length (x .ports) / 256) } ∷ ys)
-      (word-back (x .number)) (lines-written (at + length (x .ports)) xs rest)
+    (word-back (x .number)) (lines-written (at + length (x .ports)) xs rest)
     ∙ ap₂ (λ (n k : ℕ). record { number = x .number; offset = n; hops = k } ∷ linesOf (at + length (x .ports)) xs) (word-back at) (word-back (length (x .ports)))
 
 -- the index has six bytes a circuit
@@ -75,15 +75,15 @@ module _ (f : ℕ → List ℕ) where
   written-fits above at total (n ∷ ns) l h e =
       let here = List·Memᴰ·head refl in
       let later : Listable ns =
-          record {
-            rises = l .rises .1;
-            least = λ m i. l .least m (List·Memᴰ·tail i);
-            most = λ m i. l .most m (List·Memᴰ·tail i);
-            some = λ m i. l .some m (List·Memᴰ·tail i);
-            few = λ m i. l .few m (List·Memᴰ·tail i);
-          } in
+      record {
+        rises = l .rises .1;
+        least = λ m i. l .least m (List·Memᴰ·tail i);
+        most = λ m i. l .most m (List·Memᴰ·tail i);
+        some = λ m i. l .some m (List·Memᴰ·tail i);
+        few = λ m i. l .few m (List·Memᴰ·tail i);
+      } in
       and (fits-line above at _ (record { rises = h n here; most = l .most n here; begins = refl; some = l .some n here; few = l .few n here }))
-        (written-fits n (at + length (f n)) total ns later (l .rises .0) (omega (arith, e, length-append (f n) (portBytes (circuitsOf ns)))))
+      (written-fits n (at + length (f n)) total ns later (l .rises .0) (omega (arith, e, length-append (f n) (portBytes (circuitsOf ns)))))
 
   -- a circuit is listed where its number is among them,
   pub written-listed : (c at : ℕ) (ns : List ℕ) → isListed c (linesOf at (circuitsOf ns)) ≡ any (λ m. eqb m c) ns
@@ -94,26 +94,27 @@ module _ (f : ℕ → List ℕ) where
   -- and its line gives its ports, whatever stands before and behind the ports of all.
   pub written-line : (c : ℕ) (before rest : List ℕ) (ns : List ℕ) → any (λ m. eqb m c) ns ≡ true
       → (lineOf c (linesOf (length before) (circuitsOf ns)) .hops ≡ length (f c))
-        × (portsOfLine (before ++ (portBytes (circuitsOf ns) ++ rest)) (lineOf c (linesOf (length before) (circuitsOf ns))) ≡ f c)
+      × (portsOfLine (before ++ (portBytes (circuitsOf ns) ++ rest)) (lineOf c (linesOf (length before) (circuitsOf ns))) ≡ f c)
   unfolding any linesOf lineOf portBytes
   written-line c before rest [] e = absurd (clash e refl)
   written-line c before rest (n ∷ ns) e = go (eqb n c) refl (written-line c (before ++ f n) rest ns)
     where
       go : (b : Bool) → eqb n c ≡ b
           → (any (λ m. eqb m c) ns ≡ true
-            → (lineOf c (linesOf (length (before ++ f n)) (circuitsOf ns)) .hops ≡ length (f c))
-              × (portsOfLine ((before ++ f n) ++ (portBytes (circuitsOf ns) ++ rest)) (lineOf c (linesOf (length (before ++ f n)) (circuitsOf ns))) ≡ f c))
+          → (lineOf c (linesOf (length (before ++ f n)) (circuitsOf ns)) .hops ≡ length (f c))
+          × (portsOfLine ((before ++ f n) ++ (portBytes (circuitsOf ns) ++ rest)) (lineOf c (linesOf (length (before ++ f n)) (circuitsOf ns))) ≡ f c))
           → (lineOf c (linesOf (length before) (circuitsOf (n ∷ ns))) .hops ≡ length (f c))
-            × (portsOfLine (before ++ (portBytes (circuitsOf (n ∷ ns)) ++ rest)) (lineOf c (linesOf (length before) (circuitsOf (n ∷ ns)))) ≡ f c)
+          × (portsOfLine (before ++ (portBytes (circuitsOf (n ∷ ns)) ++ rest)) (lineOf c (linesOf (length before) (circuitsOf (n ∷ ns)))) ≡ f c)
       go true q ih =
           let same : n ≡ c = eqb-true n c q in
-          rw q
-            (ap (λ (m : ℕ). length (f m)) same,
-              ap (take (length (f n))) (drop-at before _ (length before) refl ∙ append-assoc (f n) (portBytes (circuitsOf ns)) rest) ∙ take-append-seam (f n) _ ∙ ap f same)
+          rw q (
+            ap (λ (m : ℕ). length (f m)) same,
+            ap (take (length (f n))) (drop-at before _ (length before) refl ∙ append-assoc (f n) (portBytes (circuitsOf ns)) rest) ∙ take-append-seam (f n) _ ∙ ap f same,
+          )
       go false q ih =
           let r = ih (rw q at e) in
           let bytes : (before ++ f n) ++ (portBytes (circuitsOf ns) ++ rest) ≡ before ++ ((f n ++ portBytes (circuitsOf ns)) ++ rest) =
-              append-assoc before (f n) _ ∙ ap (before ++_) (sym (append-assoc (f n) (portBytes (circuitsOf ns)) rest)) in
+          append-assoc before (f n) _ ∙ ap (before ++_) (sym (append-assoc (f n) (portBytes (circuitsOf ns)) rest)) in
           rw (q, ← length-append before (f n), ← bytes) r
 
   -- The book of such circuits written into two buffers that hold it.
@@ -129,7 +130,7 @@ module _ (f : ℕ → List ℕ) where
     pub written-well : wellFormed (tracedInto (portBytes es) ports) (tracedInto (indexBytes es) index) (length es) (hopCount es) ≡ true
     written-well =
         lines-decide (tracedInto (portBytes es) ports) (tracedInto (indexBytes es) index) (length es) (hopCount es)
-          (omega (arith, i, traced-length (indexBytes es) index (omega (arith, i, index-length 0 es)))) (omega (arith, p, traced-length (portBytes es) ports p))
+        (omega (arith, i, traced-length (indexBytes es) index (omega (arith, i, index-length 0 es)))) (omega (arith, p, traced-length (portBytes es) ports p))
         ∙ rw its-lines (written-fits 0 0 (hopCount es) ns l (l .least) (zero-add (hopCount es)))
 
     -- the line of a circuit that is among them gives its ports,

@@ -38,7 +38,11 @@ fn line(index: &[u8], i: u16) -> BookLine
     let number = layout::word(index, at);
     let offset = layout::word(index, at + 2);
     let hops = layout::word(index, at + 4);
-    BookLine { number, offset, hops }
+    BookLine {
+        number,
+        offset,
+        hops,
+    }
 }
 
 // Whether a line may follow one with the number `above`, where its ports should begin at `at`.
@@ -105,26 +109,49 @@ fn line_of(index: &[u8], circuits: u16, c: Circuit) -> BookLine
         }
         i += 1;
     }
-    BookLine { number: 0, offset: 0, hops: 0 }
+    BookLine {
+        number: 0,
+        offset: 0,
+        hops: 0,
+    }
 }
 
 // Writes the ports of a circuit of a book to the start of a buffer. A refused lookup writes nothing.
-pub fn lookup(ports: &[u8], index: &[u8], circuits: u16, hops: u16, c: Circuit, buffer: &mut [u8]) -> LookedUp
+pub fn lookup(
+    ports: &[u8],
+    index: &[u8],
+    circuits: u16,
+    hops: u16,
+    c: Circuit,
+    buffer: &mut [u8],
+) -> LookedUp
     ensures { λ r. ⌜ (record { number = r .number; hops = r .hops; buffer = now (buffer .exit) } ≡ lookedUp (now (ports .entry)) (now (index .entry)) circuits hops (c .0) (now (buffer .entry)))
         × (now (ports .exit) ≡ now (ports .entry)) × (now (index .exit) ≡ now (index .entry)) ⌝ }
 {
     if !well_formed(ports, index, circuits, hops) {
-        return LookedUp { number: refusal::BOOK, hops: 0 };
+        return LookedUp {
+            number: refusal::BOOK,
+            hops: 0,
+        };
     }
     let x = line_of(index, circuits, c);
     if x.hops == 0 {
-        return LookedUp { number: refusal::NO_CIRCUIT, hops: 0 };
+        return LookedUp {
+            number: refusal::NO_CIRCUIT,
+            hops: 0,
+        };
     }
     if buffer.len() < LONGEST_PATH as usize {
-        return LookedUp { number: refusal::BUFFER_SHORT, hops: 0 };
+        return LookedUp {
+            number: refusal::BUFFER_SHORT,
+            hops: 0,
+        };
     }
     let at = x.offset as usize;
     let end = at + x.hops as usize;
     text::put::text(buffer, 0, &ports[at..end]);
-    LookedUp { number: refusal::ACCEPTED, hops: x.hops }
+    LookedUp {
+        number: refusal::ACCEPTED,
+        hops: x.hops,
+    }
 }

@@ -68,8 +68,8 @@ module _ (b : List ℕ) (s c : ℕ) (node : NodeOf (dimensionAt b) s) (small : c
   -- "for a book just written and a circuit number whose node lies in the cube, what tracing gives"
   pub book-traces : (ports index : List ℕ) → tableStep b (booking ports index) .result .number ≡ 0
       → asTrace (lookedUp (bookPorts (tableStep b (booking ports index) .result)) (bookIndex (tableStep b (booking ports index) .result)) (bookCircuits (tableStep b (booking ports index) .result))
-            (bookHops (tableStep b (booking ports index) .result)) (circuitOf s c) buffer)
-        ≡ tableStep b (tracing s c buffer) .result
+      (bookHops (tableStep b (booking ports index) .result)) (circuitOf s c) buffer)
+      ≡ tableStep b (tracing s c buffer) .result
   unfolding resultOf factsOf Allowed view
   book-traces ports index written =
       let a = booking ports index in

@@ -12,9 +12,9 @@ use Rattle.cube.specs.Cube.{sourceOf, channelOf}
 use Rattle.cube.proofs.Circuits.{circuit-of-parts}
 use Rattle.paths.specs.CubeNetwork.{circuitCount}
 use Rattle.circuit_path.specs.PathOf.{pathOf}
-use Rattle.circuit_path.specs.OpenCircuit.{isOpenIn, openNumbers}
+use Rattle.circuit_path.specs.OpenCircuit.{isOpenIn}
 use Rattle.book.specs.Book.{BookCircuit}
-use Rattle.book.specs.BookOf.{bookOf}
+use Rattle.book.specs.BookOf.{openNumbers, bookOf}
 use Rattle.ownership.specs.TableFacts.{openIn}
 use Rattle.ownership.specs.History.{History, shapeOn, openOn, listed, bookOn}
 use Rattle.ownership.specs.Invariant.{Valid}

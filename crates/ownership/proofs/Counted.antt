@@ -21,18 +21,18 @@ use Rattle.ownership.proofs.Steps.{history-step}
 abbrev pub Single : Call → Type 0
 Single a = (n : ℕ) → countsAs a n ≡ a ∷ []
 
-kinds : (a : Call) → Single a ⊎ ((sends : List ℕ) × (a ≡ opening-all sends))
+single-or-job : (a : Call) → Single a ⊎ ((sends : List ℕ) × (a ≡ opening-all sends))
 unfolding countsAs
-kinds (making D) = inl (λ n. refl)
-kinds (blocking m p) = inl (λ n. refl)
-kinds (unblocking m p) = inl (λ n. refl)
-kinds (opening s c t y v) = inl (λ n. refl)
-kinds (closing s c) = inl (λ n. refl)
-kinds (tracing s c buffer) = inl (λ n. refl)
-kinds (arming m k) = inl (λ n. refl)
-kinds (disarming m k) = inl (λ n. refl)
-kinds (booking ports index) = inl (λ n. refl)
-kinds (opening-all sends) = inr (sends, refl)
+single-or-job (making D) = inl (λ n. refl)
+single-or-job (blocking m p) = inl (λ n. refl)
+single-or-job (unblocking m p) = inl (λ n. refl)
+single-or-job (opening s c t y v) = inl (λ n. refl)
+single-or-job (closing s c) = inl (λ n. refl)
+single-or-job (tracing s c buffer) = inl (λ n. refl)
+single-or-job (arming m k) = inl (λ n. refl)
+single-or-job (disarming m k) = inl (λ n. refl)
+single-or-job (booking ports index) = inl (λ n. refl)
+single-or-job (opening-all sends) = inr (sends, refl)
 
 -- A job in the history is its single calls in turn.
 abbrev pub enters : History → Send → After History
@@ -84,7 +84,7 @@ job-entered h sends e =
 -- what any call counts as
 call-front : (h : History) (a : Call) (calls : List Call)
     → Front h (historyStep h a .state) (historyStep h a .result .number) (countsAs a (historyStep h a .result .number)) calls
-call-front h a calls = ⊎-elim (λ single. rw (single (historyStep h a .result .number)) (one-front h a single calls)) (λ k. rw (k .1) (job (k .0))) (kinds a)
+call-front h a calls = ⊎-elim (λ single. rw (single (historyStep h a .result .number)) (one-front h a single calls)) (λ k. rw (k .1) (job (k .0))) (single-or-job a)
   where
     job : (sends : List ℕ) → Front h (historyStep h (opening-all sends) .state) (historyStep h (opening-all sends) .result .number) (countsAs (opening-all sends) (historyStep h (opening-all sends) .result .number)) calls
     job sends =
@@ -111,7 +111,7 @@ each-append no-call more = more
 each-append (call-more p rest) more = call-more p (each-append rest more)
 
 counts-single : (a : Call) (n : ℕ) → Each Single (countsAs a n)
-counts-single a n = ⊎-elim (λ single. rw (single n) (call-more single no-call)) (λ k. rw (k .1) (unfold countsAs in go (sendsIn (k .0)) (eqb n 0))) (kinds a)
+counts-single a n = ⊎-elim (λ single. rw (single n) (call-more single no-call)) (λ k. rw (k .1) (unfold countsAs in go (sendsIn (k .0)) (eqb n 0))) (single-or-job a)
   where
     itself : (x : Send) → Single (openingOf x)
     itself x m = unfold countsAs in refl

@@ -1,4 +1,4 @@
--- Sends opened one after another: the first is acknowledged or refused; what each open keeps, all of them keep; and the same opens on two kinds of state.
+-- Sends opened one after another: the first is acknowledged or refused; what each open keeps, all of them keep; and the same opens on two forms of state.
 -- Assumes nothing.
 use mathlib.Core.Path.{_≡_, refl, ap}
 use mathlib.Core.Logic.{⊎-elim, _≢_}
@@ -13,25 +13,25 @@ use Rattle.ownership.specs.Calls.{Call, CallResult, CallFacts, refusedWi
 
 module _ {S : Type 0} (opens : S → Send → After S) where
   -- the number that an open answers
-  abbrev pub numberOf : S → Send → ℕ
-  numberOf s x = opens s x .result .number
+  abbrev pub openNumber : S → Send → ℕ
+  openNumber s x = opens s x .result .number
 
-  pub turn-accepted : (s : S) (x : Send) (more : List Send) → numberOf s x ≡ 0 → inTurn opens s (x ∷ more) ≡ oneMore (inTurn opens (opens s x .state) more)
+  pub turn-accepted : (s : S) (x : Send) (more : List Send) → openNumber s x ≡ 0 → inTurn opens s (x ∷ more) ≡ oneMore (inTurn opens (opens s x .state) more)
   unfolding inTurn
   turn-accepted s x more e = rw (eq-eqb _ 0 e)
 
-  pub turn-refused : (s : S) (x : Send) (more : List Send) → numberOf s x ≢ 0 → inTurn opens s (x ∷ more) ≡ endsWith s (numberOf s x)
+  pub turn-refused : (s : S) (x : Send) (more : List Send) → openNumber s x ≢ 0 → inTurn opens s (x ∷ more) ≡ endsWith s (openNumber s x)
   unfolding inTurn
   turn-refused s x more f = rw (ne-eqb _ 0 f)
 
   -- what each acknowledged open keeps
-  module _ (I : S → Type 0) (kept : (s : S) (x : Send) → I s → numberOf s x ≡ 0 → I (opens s x .state)) where
+  module _ (I : S → Type 0) (kept : (s : S) (x : Send) → I s → openNumber s x ≡ 0 → I (opens s x .state)) where
     pub turn-keeps : (xs : List Send) (s : S) → I s → I (inTurn opens s xs .state)
     unfolding inTurn
     turn-keeps [] s i = i
     turn-keeps (x ∷ more) s i =
         ⊎-elim (λ e. rw (turn-accepted s x more e) (turn-keeps more (opens s x .state) (kept s x i e))) (λ f. rw (turn-refused s x more f) i)
-        (same? (numberOf s x) 0)
+        (same? (openNumber s x) 0)
 
     pub after-keeps : (xs : List Send) (s : S) → I s → I (afterJob s (inTurn opens s xs))
     unfolding afterJob
@@ -42,14 +42,14 @@ module _ {S : Type 0} (opens : S → Send → After S) where
         go false = i
 
     -- what holds of 0 and of the number of each open there holds of the job's
-    pub turn-number : (P : ℕ → Type 0) → P 0 → ((s : S) (x : Send) → I s → P (numberOf s x)) → (xs : List Send) (s : S) → I s → P (inTurn opens s xs .result .number)
+    pub turn-number : (P : ℕ → Type 0) → P 0 → ((s : S) (x : Send) → I s → P (openNumber s x)) → (xs : List Send) (s : S) → I s → P (inTurn opens s xs .result .number)
     unfolding inTurn
     turn-number P none each [] s i = none
     turn-number P none each (x ∷ more) s i =
         ⊎-elim (λ e. rw (turn-accepted s x more e) (turn-number P none each more (opens s x .state) (kept s x i e)))
-        (λ f. rw (turn-refused s x more f) (each s x i)) (same? (numberOf s x) 0)
+        (λ f. rw (turn-refused s x more f) (each s x i)) (same? (openNumber s x) 0)
 
--- The same opens on another kind of state, which f reads off the first.
+-- The same opens on another form of state, which f reads off the first.
 module _ {S T : Type 0} (f : S → T) where
   abbrev pub sameCall : After S → After T
   sameCall y = record { state = f (y .state); result = y .result }

@@ -24,7 +24,8 @@ use Rattle.table.specs.Encode.{AllBytes}
 use Rattle.soundness.specs.TableTests.{tableTests}
 use Rattle.answers.specs.SendOnTable.{stateIn, freeIn, holdLinks, viewAfterSend, sendIn}
 use Rattle.answers.specs.SendSays.{SomeRoute, CouldRoute, BlockedRoutes, Available}
-use Rattle.circuit_path.specs.OpenCircuit.{isOpenIn, openNumbers}
+use Rattle.circuit_path.specs.OpenCircuit.{isOpenIn}
+use Rattle.book.specs.BookOf.{openNumbers}
 use Rattle.ownership.specs.Calls.{Call, opening, openingOf, callTests, noJob, singleOpen, afterJob}
 use Rattle.ownership.specs.Sends.{Send, sendsIn}
 use Rattle.ownership.specs.Update.{updated}

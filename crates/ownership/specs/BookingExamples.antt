@@ -33,10 +33,10 @@ books =
 -- circuit 1 over port 0, then circuit 2 over ports 1 and 0; what lies behind keeps its content. A buffer that is one byte short, of either, is 23, and both stay.
 two-circuits : books
     ≡ record {
-        number = 0;
-        values = 2 ∷ 3 ∷ [];
-        buffers = (0 ∷ 1 ∷ 0 ∷ 9 ∷ []) ∷ (1 ∷ 0 ∷ 0 ∷ 0 ∷ 1 ∷ 0 ∷ 2 ∷ 0 ∷ 1 ∷ 0 ∷ 2 ∷ 0 ∷ 9 ∷ 9 ∷ []) ∷ [];
-      }
+      number = 0;
+      values = 2 ∷ 3 ∷ [];
+      buffers = (0 ∷ 1 ∷ 0 ∷ 9 ∷ []) ∷ (1 ∷ 0 ∷ 0 ∷ 0 ∷ 1 ∷ 0 ∷ 2 ∷ 0 ∷ 1 ∷ 0 ∷ 2 ∷ 0 ∷ 9 ∷ 9 ∷ []) ∷ [];
+    }
     ∷ record { number = 23; values = 0 ∷ 0 ∷ []; buffers = replicate 3 9 ∷ replicate 11 9 ∷ [] }
     ∷ record { number = 23; values = 0 ∷ 0 ∷ []; buffers = replicate 2 9 ∷ replicate 12 9 ∷ [] }
     ∷ []

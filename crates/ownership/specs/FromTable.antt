@@ -10,7 +10,7 @@ use Rattle.paths.specs.Network.{Link}
 use Rattle.table.specs.View.{View}
 use Rattle.circuit_path.specs.CircuitSound.{endFor}
 use Rattle.circuit_path.specs.PathOf.{pathOf}
-use Rattle.circuit_path.specs.OpenCircuit.{openNumbers}
+use Rattle.book.specs.BookOf.{openNumbers}
 use Rattle.ownership.specs.History.{Circuit, History}
 
 -- the links out of some ports of some nodes, or as many of their receive channels

@@ -16,11 +16,11 @@ use Rattle.cube.specs.Cube.{largestDimension, sourceOf, channels, cubeNodes}
 use Rattle.layout.specs.Layout.{dimensionAt}
 use Rattle.table.specs.View.{View, view, shapeOf}
 use Rattle.circuit_path.specs.PathOf.{pathOf}
-use Rattle.circuit_path.specs.OpenCircuit.{isOpenIn, openNumbers}
+use Rattle.circuit_path.specs.OpenCircuit.{isOpenIn}
 use Rattle.circuit_path.specs.Traced.{tracedInto}
 use Rattle.circuit_path.specs.Follow.{HasSource}
 use Rattle.book.specs.Book.{BookCircuit, portBytes, wordBytes, indexFrom, hopCount}
-use Rattle.book.specs.BookOf.{bookOf}
+use Rattle.book.specs.BookOf.{openNumbers, bookOf}
 use Rattle.book.proofs.BookOfSound.{open-hops}
 use Rattle.table_book.specs.Writing.{bookFrom, circuitIf, BookPre}
 

@@ -80,7 +80,14 @@ fn put_line(index: &mut [u8], at: usize, number: u16, offset: u16, hops: u16)
 }
 
 // Adds the circuit of a number, where it is open, to a book that has so many circuits and hops. Answers its hops.
-fn put_circuit(t: &[u8], c: Circuit, ports: &mut [u8], hops: u16, index: &mut [u8], circuits: u16) -> u16
+fn put_circuit(
+    t: &[u8],
+    c: Circuit,
+    ports: &mut [u8],
+    hops: u16,
+    index: &mut [u8],
+    circuits: u16,
+) -> u16
     requires { ⌜ HasSource (now t) (c .0) ⌝ }
     requires { ⌜ (hops + hopCount (circuitIf (view (now t)) (c .0)) ≤ length (now ports)) × (6 * circuits + 6 * length (circuitIf (view (now t)) (c .0)) ≤ length (now index)) ⌝ }
     ensures { λ r. ⌜ (r ≡ hopCount (circuitIf (view (now (t .entry))) (c .0))) × (r ≤ 9) ⌝ }
