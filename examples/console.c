@@ -94,7 +94,9 @@ static void say_found(uint16_t circuit) {
     uint8_t ports[MAZE_TRACE_BYTES];
     maze_traced found = maze_book_lookup(book_ports, sizeof book_ports, book_index, sizeof book_index, book.circuits, book.hops, circuit, ports, sizeof ports);
     if (found.number != MAZE_ACCEPTED) {
-        say(found.number, "");
+        /* the channel may have a circuit by now: it is the book that has none */
+        if (found.number == MAZE_NO_CIRCUIT) printf("refused as %u, the book has no circuit of this number\n", (unsigned)found.number);
+        else say(found.number, "");
         return;
     }
     printf("%u.%u ports", maze_circuit_node(circuit), maze_circuit_channel(circuit));

@@ -1315,7 +1315,7 @@ static void expect_book(const char *what, size_t ports_length, size_t index_leng
 /* Every length of both buffers around the least that does: a buffer that is one byte short is refused, and the other one is not written either. */
 static void book_lengths(const char *what, unsigned circuits, const uint8_t *index, unsigned hops, const uint8_t *ports) {
     for (size_t ports_length = hops < 3 ? 0 : hops - 3; ports_length <= hops + 3; ports_length++)
-        for (size_t index_length = circuits == 0 ? 0 : 6 * circuits - 7; index_length <= 6 * circuits + 7; index_length++)
+        for (size_t index_length = circuits < 2 ? 0 : 6 * circuits - 7; index_length <= 6 * circuits + 7; index_length++)
             if (ports_length < hops || index_length < 6 * circuits) refused_book(23, BYTES, ports_length, index_length);
             else expect_book(what, ports_length, index_length, circuits, index, hops, ports);
 }
