@@ -473,6 +473,74 @@ maze_traced base_trace(const uint8_t *table, size_t table_len, uint16_t node, ui
     return answer;
 }
 
+/* In a sound table each held link is a hop of a circuit, and each held receive channel a circuit: that gives the counts. The circuits of a source are those of its own
+ * numbers that hold one of its links. */
+maze_booked base_book(const uint8_t *table, size_t table_len, uint8_t *ports, size_t ports_len, uint8_t *index, size_t index_len) {
+    enum { GROUP = 4 }; /* rows looked at together */
+    maze_booked answer = {0, 0, 0};
+    unsigned nodes, hops = 0, circuits = 0;
+    answer.number = refuse_table(table, table_len);
+    if (answer.number) return answer;
+    nodes = 1u << table[0];
+    for (unsigned group = 0; group < nodes; group += GROUP) {
+        if (!zero_group(links(table, group)))
+            for (unsigned node = group; node < group + GROUP; node++) hops += (unsigned)__builtin_popcount(held(links(table, node)));
+        if (!zero_group(receives(table, group)))
+            for (unsigned node = group; node < group + GROUP; node++) circuits += (unsigned)__builtin_popcount(held(receives(table, node)));
+    }
+    if (hops > ports_len || MAZE_BOOK_LINE_BYTES * circuits > index_len) {
+        answer.number = MAZE_BOOK_SHORT;
+        return answer;
+    }
+    answer.circuits = (uint16_t)circuits;
+    answer.hops = (uint16_t)hops;
+    hops = 0;
+    for (unsigned group = 0; group < nodes; group += GROUP) {
+        if (zero_group(links(table, group))) continue;
+        for (unsigned node = group; node < group + GROUP; node++) {
+            const uint8_t *row = links(table, node);
+            unsigned channels = 0;
+            for (unsigned mask = held(row); mask; mask &= mask - 1) {
+                unsigned circuit = entry(row, lowest(mask)) - 1;
+                if (circuit / MAZE_CHANNELS == node) channels |= 1u << circuit % MAZE_CHANNELS;
+            }
+            for (; channels; channels &= channels - 1) {
+                unsigned circuit = MAZE_CIRCUIT(node, lowest(channels));
+                struct path path;
+                unsigned length = follow(table, node, circuit, &path);
+                for (unsigned i = 0; i < length; i++) ports[hops + i] = path.port[i];
+                set_entry(index, 0, circuit);
+                set_entry(index, 1, hops);
+                set_entry(index, 2, length);
+                index += MAZE_BOOK_LINE_BYTES;
+                hops += length;
+            }
+        }
+    }
+    return answer;
+}
+
+/* One pass over the index, without an early exit: numbers that rise from 1 on are in range if the last is. */
+maze_traced base_book_lookup(const uint8_t *ports, size_t ports_len, const uint8_t *index, size_t index_len, uint16_t circuits, uint16_t hops, uint16_t circuit,
+                             uint8_t *buffer, size_t buffer_len) {
+    maze_traced answer = {MAZE_BAD_BOOK, 0};
+    unsigned above = 0, at = 0, bad = 0, offset = 0, length = 0;
+    if (circuits > MAZE_CIRCUITS_LARGEST || MAZE_BOOK_LINE_BYTES * (size_t)circuits > index_len || hops > ports_len) return answer;
+    for (unsigned i = 0; i < circuits; i++, index += MAZE_BOOK_LINE_BYTES) {
+        unsigned number = entry(index, 0), hops_here = entry(index, 2);
+        bad |= (number <= above) | (entry(index, 1) != at) | (hops_here - 1 >= MAZE_HOPS_LARGEST);
+        if (number == circuit) offset = at, length = hops_here;
+        above = number;
+        at += hops_here;
+    }
+    if (bad || above > MAZE_CIRCUITS_LARGEST || at != hops) return answer;
+    answer.number = !length ? MAZE_NO_CIRCUIT : buffer_len < MAZE_TRACE_BYTES ? MAZE_BUFFER_SHORT : MAZE_ACCEPTED;
+    if (answer.number) return answer;
+    memcpy(buffer, ports + offset, length);
+    answer.hops = (uint16_t)length;
+    return answer;
+}
+
 /* How many numbers each command can carry; 0 where it is reserved. */
 static const uint8_t carries[16] = {1, 1, 1, 0, 2, 1, 64, 64, 1, 2, 0, 0, 1, 1, 2, 0};
 

@@ -9,6 +9,8 @@
  *     C node channel                       close a circuit
  *     T node channel                       trace a circuit
  *     L                                    list the open circuits
+ *     K                                    write the book of the open circuits
+ *     G circuit                            look a circuit number up in the book as it was last written
  *     M                                    draw the map of links
  *     U                                    draw it without the nodes where nothing is held, blocked or armed
  *
@@ -27,6 +29,10 @@ enum { LINE_BYTES = 80, MOST_NUMBERS = 5 };
 
 static uint8_t table[MAZE_TABLE_BYTES];
 
+/* The book as it was last written, which later calls on the table do not change; at first it has no circuit. */
+static uint8_t book_ports[MAZE_CIRCUITS_LARGEST], book_index[MAZE_BOOK_LINE_BYTES * MAZE_CIRCUITS_LARGEST];
+static maze_booked book;
+
 static const struct form {
     char letter;
     int numbers;
@@ -35,7 +41,8 @@ static const struct form {
     {'F', 1, "dimension"},    {'B', 2, "node port"},    {'E', 2, "node port"},
     {'R', 2, "node channel"}, {'D', 2, "node channel"}, {'S', 5, "node channel target type vector"},
     {'C', 2, "node channel"}, {'T', 2, "node channel"}, {'L', 0, "nothing"},
-    {'M', 0, "nothing"},      {'U', 0, "nothing"},
+    {'K', 0, "nothing"},      {'G', 1, "circuit"},      {'M', 0, "nothing"},
+    {'U', 0, "nothing"},
 };
 
 /* What a call answered that gives its number alone. */
@@ -71,6 +78,30 @@ static void say_opened(maze_opened opened, uint16_t node, uint16_t channel) {
     } else {
         say(opened.number, "");
     }
+}
+
+static void say_booked(void) {
+    maze_booked booked = maze_book(table, sizeof table, book_ports, sizeof book_ports, book_index, sizeof book_index);
+    if (booked.number != MAZE_ACCEPTED) {
+        say(booked.number, "");
+        return;
+    }
+    book = booked;
+    printf("book: circuits %u, hops %u\n", (unsigned)book.circuits, (unsigned)book.hops);
+}
+
+static void say_found(uint16_t circuit) {
+    uint8_t ports[MAZE_TRACE_BYTES];
+    maze_traced found = maze_book_lookup(book_ports, sizeof book_ports, book_index, sizeof book_index, book.circuits, book.hops, circuit, ports, sizeof ports);
+    if (found.number != MAZE_ACCEPTED) {
+        /* the channel may have a circuit by now: it is the book that has none */
+        if (found.number == MAZE_NO_CIRCUIT) printf("refused as %u, the book has no circuit of this number\n", (unsigned)found.number);
+        else say(found.number, "");
+        return;
+    }
+    printf("%u.%u ports", maze_circuit_node(circuit), maze_circuit_channel(circuit));
+    for (unsigned hop = 0; hop < found.hops; hop++) printf(" %u", (unsigned)ports[hop]);
+    printf("\n");
 }
 
 /* The open circuits by source and send channel; a walk over the receive channels meets each of them once. */
@@ -161,7 +192,7 @@ static const struct form *read_call(char *line, long length, unsigned long line_
     for (size_t i = 0; i < sizeof forms / sizeof *forms; i++)
         if (word[0] == forms[i].letter && word[1] == '\0') form = &forms[i];
     if (!form) {
-        printf("line %lu: '%s' is no call; calls are F, B, E, R, D, S, C, T, L, M and U\n", line_number, word);
+        printf("line %lu: '%s' is no call; calls are F, B, E, R, D, S, C, T, L, K, G, M and U\n", line_number, word);
         return NULL;
     }
     while ((word = strtok(NULL, " \t\r")) != NULL) {
@@ -194,6 +225,8 @@ static void make_call(char letter, const uint16_t *n) {
     case 'C': say(maze_close(table, sizeof table, n[0], n[1]), "closed"); break;
     case 'T': say_traced(n[0], n[1]); break;
     case 'L': list_circuits(); break;
+    case 'K': say_booked(); break;
+    case 'G': say_found(n[0]); break;
     default: draw_map(letter == 'M'); break;
     }
 }

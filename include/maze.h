@@ -4,8 +4,9 @@
  * Every call finishes, takes any numbers, and answers MAZE_ACCEPTED or a refusal number;
  * maze_receive_start and maze_receive_overshoot, which refuse nothing, answer a channel and a
  * count. The tests of a call run in rising order of number, and the first that applies is the
- * answer; a job (maze_open_all) tests its list before its sends. A refused call alters no byte lent
- * to it and answers zero beside its number; only MAZE_ROUTE_REJECTED, MAZE_RECEIVE_REJECTED and
+ * answer; but a job (maze_open_all) tests its list, 28, before its sends, and a lookup
+ * (maze_book_lookup) tests its book, 25, before 12 and 14. A refused call alters no byte lent to it
+ * and answers zero beside its number; only MAZE_ROUTE_REJECTED, MAZE_RECEIVE_REJECTED and
  * MAZE_NO_ROUTE carry their scouts, a job tells which of its sends was refused, and a receive
  * channel comes back as it was. Numbers are tested at their whole width and never cut: node 256 is
  * not node 0. But C itself cuts a number that is wider than the parameter before the call is made,
@@ -15,17 +16,21 @@
  * - A pointer to bytes comes with a length, and points to at least that many bytes that stay valid
  *   during the call. With length 0 the pointer may be anything, also null. No alignment is asked
  *   for.
- * - The memory of a table is writable, for every call but maze_trace: an open writes to the table
- *   while it searches, also where it is rejected in the end. maze_trace and the reading functions
- *   only read it. The memory of a buffer is writable.
- * - The buffer of maze_trace does not overlap the table, nor does the list of maze_open_all.
+ * - The memory of a table is writable, for every call but maze_trace and maze_book: an open writes
+ *   to the table while it searches, also where it is rejected in the end. maze_trace, maze_book and
+ *   the reading functions only read it, and maze_book_lookup only reads its book. The memory of a
+ *   buffer that a call may write is writable.
+ * - The buffer of maze_trace does not overlap the table, nor does the list of maze_open_all. The
+ *   two buffers of maze_book overlap neither the table nor each other, and the buffer of
+ *   maze_book_lookup does not overlap the book.
  * - The arbiter lent to maze_arbitrate is a maze_arbiter of the caller's, aligned as C aligns one
  *   and never null, that nobody else reads or writes during the call.
  * - While a call that may write a table runs, nobody else reads or writes that table: a search
  *   marks the links of its path as it goes and frees each of them again where it goes back, so a
- *   table looked at meanwhile may show circuits that are never opened. Nobody else uses the buffer.
- *   Several threads may read or trace one table at the same time if nobody changes it. Calls on
- *   different tables may run at the same time: the library keeps nothing of its own between calls.
+ *   table looked at meanwhile may show circuits that are never opened. Nobody else uses a buffer
+ *   that is written. Several threads may read, trace or book one table, or look up in one book, at
+ *   the same time if nobody changes it. Calls on different tables may run at the same time: the
+ *   library keeps nothing of its own between calls.
  * The padding of an answer struct has no meaning.
  *
  * Linking: the library is for x86-64 with SSE2, by the System V rules for calls, so the stack is
@@ -40,7 +45,7 @@
 #include <stddef.h>
 #include <stdint.h>
 
-#define MAZE_VERSION "0.10.0" /* CHANGELOG.md says what each version changes for a caller */
+#define MAZE_VERSION "0.11.0" /* CHANGELOG.md says what each version changes for a caller */
 
 /* The functions of this header are inline and static, so that they ask nothing of the library. */
 #if defined __cplusplus || (defined __STDC_VERSION__ && __STDC_VERSION__ >= 199901L)
@@ -68,7 +73,7 @@ extern "C" {
 #define MAZE_CHANNEL_IN_USE 9     /* the send channel has an open circuit */
 #define MAZE_ROUTE_REJECTED 10    /* no path that the type may try is free; closing may help */
 #define MAZE_RECEIVE_REJECTED 11  /* no receive channel of the target is armed and not held */
-#define MAZE_NO_CIRCUIT 12        /* the send channel has no open circuit */
+#define MAZE_NO_CIRCUIT 12        /* the send channel has no open circuit; or none in a book */
 #define MAZE_LINK_HELD 13         /* a circuit holds the link */
 #define MAZE_BUFFER_SHORT 14      /* the buffer is shorter than 9 bytes; whatever the path */
 #define MAZE_WORD_TOO_LARGE 15    /* the word is above 4,095 */
@@ -79,6 +84,8 @@ extern "C" {
 #define MAZE_UNREADABLE_LINE 20   /* the line cannot be read; the printed list alone gives it */
 #define MAZE_CHANNEL_HELD 21      /* a circuit holds the receive channel */
 #define MAZE_NO_ROUTE 22          /* every path that the type may try crosses a blocked link */
+#define MAZE_BOOK_SHORT 23        /* a buffer cannot hold its part of the book */
+#define MAZE_BAD_BOOK 25          /* the book is not well formed */
 #define MAZE_BAD_SEND_LIST 28     /* the list of sends is no multiple of ten bytes or above 640 */
 #define MAZE_CHANNEL_STOPPED 30   /* the receive channel is stopped */
 #define MAZE_BAD_REQUESTER 31     /* a request bit is at 26 or above, or the record is above 25 */
@@ -131,9 +138,11 @@ extern "C" {
 
 #define MAZE_HOPS_LARGEST 9        /* a permitted path has 1 to dimension + 1 hops */
 #define MAZE_SCOUTS_LARGEST 123300 /* no send sends more; of type 3 at most 9, of type 1 72 */
-#define MAZE_TRACE_BYTES 9         /* what maze_trace asks of its buffer */
+#define MAZE_TRACE_BYTES 9         /* what maze_trace and maze_book_lookup ask of their buffer */
 #define MAZE_SEND_BYTES 10         /* of a send in a list of maze_open_all */
 #define MAZE_SENDS_LARGEST 64      /* sends in such a list */
+#define MAZE_BOOK_LINE_BYTES 6     /* of a circuit in the index of a book */
+#define MAZE_CIRCUITS_LARGEST 2048 /* no circuit number is larger, and no book has more circuits */
 
 typedef struct {
     uint16_t number;
@@ -144,13 +153,20 @@ typedef struct {
 
 typedef struct {
     uint16_t number;
-    uint16_t sends; /* accepted: how many sends; else the place, from 0, of the one refused */
+    uint16_t sends; /* accepted: how many sends; else the place, from 0, of the one refused, or 0
+                     * with 1, 2, 3 and 28, where no send was looked at */
 } maze_opened_all;
 
 typedef struct {
     uint16_t number;
     uint16_t hops; /* bytes written to the buffer */
 } maze_traced;
+
+typedef struct {
+    uint16_t number;
+    uint16_t circuits; /* in the book: MAZE_BOOK_LINE_BYTES bytes of the index each */
+    uint16_t hops;     /* of all of them together: one byte of the ports each */
+} maze_booked;
 
 /* Writes all 8,705 bytes: the dimension, all links of the cube enabled, nothing held, no receive
  * channel armed. What they were before does not matter.
@@ -252,6 +268,37 @@ uint16_t maze_close(uint8_t *table, size_t table_len, uint16_t node, uint16_t ch
  * Answers 0 with the number of hops, or the first of 1, 2, 3, 4, 5, 12 and 14 that applies. */
 maze_traced maze_trace(const uint8_t *table, size_t table_len, uint16_t node, uint16_t channel,
                        uint8_t *buffer, size_t buffer_len);
+
+/* ---- A book of all circuits ----
+ *
+ * A book is two buffers and two counts. The ports buffer has one byte for each hop: the ports of
+ * all circuits end to end, in order of circuit number, each circuit's as maze_trace gives them. The
+ * index has, in that order, MAZE_BOOK_LINE_BYTES bytes for each circuit: its number, where its
+ * ports begin in the other buffer, and how many they are, two bytes each, low byte first. The
+ * counts are how many circuits the book has, and how many hops in all. A sound table has at most
+ * MAZE_CIRCUITS_LARGEST (2,048) of either, so that 2,048 bytes for the ports and 12,288 for the
+ * index hold the book of any.
+ *
+ * A book is well formed if both counts fit their buffers, the circuit numbers rise within 1 to
+ * 2,048, each length is 1 to 9, and the pairs of offset and length run from 0 to the count of hops
+ * without gap or overlap; with no circuit there is no hop. Ports may be any bytes. */
+
+/* Writes the book of a table, which has all its open circuits: ports and index, each to the start
+ * of its buffer. Later bytes of both buffers keep their content, and so does the table.
+ * Answers 0 with both counts, or the first of 1, 2, 3 and 23 that applies: 23 where the ports
+ * buffer has fewer bytes than there are hops or the index fewer than 6 for each circuit. */
+maze_booked maze_book(const uint8_t *table, size_t table_len, uint8_t *ports, size_t ports_len,
+                      uint8_t *index, size_t index_len);
+
+/* Writes the ports that a book has for a circuit number to the start of the buffer, one byte for
+ * each hop. Later bytes of the buffer keep their content, and so does the book, which may come from
+ * anywhere. Of a book just written the answer and the bytes are those of maze_trace for the
+ * circuit's node and channel, where the node is in the cube. Any other circuit number, as 0, gives
+ * 12.
+ * Answers 0 with the number of hops, or the first of 25, 12 and 14 that applies, in this order. */
+maze_traced maze_book_lookup(const uint8_t *ports, size_t ports_len, const uint8_t *index,
+                             size_t index_len, uint16_t circuits, uint16_t hops,
+                             uint16_t circuit, uint8_t *buffer, size_t buffer_len);
 
 /* ---- Reading a table between calls ----
  *
@@ -486,6 +533,8 @@ MAZE_INLINE const char *maze_refusal_text(unsigned number) {
     case MAZE_UNREADABLE_LINE: return "the line cannot be read";
     case MAZE_CHANNEL_HELD: return "a circuit holds the receive channel";
     case MAZE_NO_ROUTE: return "every path that the type may try crosses a blocked link";
+    case MAZE_BOOK_SHORT: return "a buffer cannot hold its part of the book";
+    case MAZE_BAD_BOOK: return "the book is not well formed";
     case MAZE_BAD_SEND_LIST: return "the list of sends is no multiple of ten bytes or above 640";
     case MAZE_CHANNEL_STOPPED: return "the receive channel is stopped";
     case MAZE_BAD_REQUESTER: return "a request bit is at 26 or above, or the record is above 25";

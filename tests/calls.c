@@ -1,4 +1,4 @@
-/* The calls on a table from C, beside vectors worked by hand from document 01 and requests (a), (b), (c), (f) and (j) of document 02: the examples with the
+/* The calls on a table from C, beside vectors worked by hand from document 01 and requests (a), (b), (c), (e), (f) and (j) of document 02: the examples with the
  * bytes of their tables, each refusal at its edge, and that a refused call alters nothing.
  *
  * A byte of a table is given by its place: the link out of port p of node n is held at 257 + 16 n + 2 p, receive channel c of node n at
@@ -873,6 +873,35 @@ static void refused_job(unsigned number, unsigned place, size_t length, size_t l
     expect(unaltered() && memcmp(kept_list, list, sizeof list) == 0, "altered by a job refused as", number, list_length);
 }
 
+/* The buffers lent for a book, which go on behind what is lent, and what they were before. */
+enum { PORTS = 2048 * 9, INDEX = 2049 * 6 };
+
+static uint8_t book_ports[PORTS + SPARE], book_index[INDEX + SPARE], kept_ports[PORTS + SPARE], kept_index[INDEX + SPARE];
+
+static void keep_book(void) {
+    memcpy(kept_ports, book_ports, sizeof book_ports);
+    memcpy(kept_index, book_index, sizeof book_index);
+}
+
+static void fresh_book(void) {
+    for (size_t i = 0; i < sizeof book_ports; i++) book_ports[i] = (uint8_t)(i % 241 + 9);
+    for (size_t i = 0; i < sizeof book_index; i++) book_index[i] = (uint8_t)(i % 239 + 5);
+    keep_book();
+}
+
+static int unaltered_book(void) {
+    return memcmp(kept_ports, book_ports, sizeof book_ports) == 0 && memcmp(kept_index, book_index, sizeof book_index) == 0;
+}
+
+static void refused_book(unsigned number, size_t length, size_t ports_length, size_t index_length) {
+    maze_booked got;
+    keep();
+    fresh_book();
+    got = maze_book(table, length, book_ports, ports_length, book_index, index_length);
+    expect(got.number == number && got.circuits == 0 && got.hops == 0, "refused book", number, got.number);
+    expect(unaltered() && unaltered_book(), "altered by a book refused as", number, ports_length);
+}
+
 /* Every call but making is refused with this number, also where later tests apply. */
 static void all_refused(unsigned number, size_t length) {
     refused_block(number, length, 0, 0);
@@ -889,6 +918,8 @@ static void all_refused(unsigned number, size_t length) {
     refused_job(number, 0, length, 10);
     refused_job(number, 0, length, 9);
     refused_job(number, 0, length, 650);
+    refused_book(number, length, 2048, 12288);
+    refused_book(number, length, 0, 0);
 }
 
 static void lengths(void) {
@@ -915,6 +946,7 @@ static void lengths(void) {
         expect(maze_close(none, 0, 0, 0) == 1, "no table, close", i, 0);
         expect(traced.number == 1 && traced.hops == 0, "no table, trace", i, 0);
         expect(maze_open_all(none, 0, none, 0).number == 1, "no table, job", i, 0);
+        expect(maze_book(none, 0, none, 0, none, 0).number == 1, "no table, book", i, 0);
     }
 }
 
@@ -1264,6 +1296,308 @@ static void long_jobs(void) {
     refused_job(1, 0, BYTES - 1, 9);
 }
 
+/* ---- books ---- */
+
+/* The book of the table as it stands, in buffers of these lengths: its counts, and its bytes, behind which nothing is altered. */
+static void expect_book(const char *what, size_t ports_length, size_t index_length, unsigned circuits, const uint8_t *index, unsigned hops, const uint8_t *ports) {
+    maze_booked got;
+    keep();
+    fresh_book();
+    got = maze_book(table, BYTES, book_ports, ports_length, book_index, index_length);
+    expect(got.number == 0 && got.circuits == circuits && got.hops == hops, what, got.number, got.hops);
+    for (unsigned i = 0; i < hops; i++) kept_ports[i] = ports[i];
+    for (unsigned i = 0; i < 6 * circuits; i++) kept_index[i] = index[i];
+    expect(unaltered(), what, ports_length, 1);
+    expect(memcmp(book_ports, kept_ports, sizeof book_ports) == 0, what, ports_length, 2);
+    expect(memcmp(book_index, kept_index, sizeof book_index) == 0, what, index_length, 3);
+}
+
+/* Every length of both buffers around the least that does: a buffer that is one byte short is refused, and the other one is not written either. */
+static void book_lengths(const char *what, unsigned circuits, const uint8_t *index, unsigned hops, const uint8_t *ports) {
+    for (size_t ports_length = hops < 3 ? 0 : hops - 3; ports_length <= hops + 3; ports_length++)
+        for (size_t index_length = circuits < 2 ? 0 : 6 * circuits - 7; index_length <= 6 * circuits + 7; index_length++)
+            if (ports_length < hops || index_length < 6 * circuits) refused_book(23, BYTES, ports_length, index_length);
+            else expect_book(what, ports_length, index_length, circuits, index, hops, ports);
+}
+
+/* Of the book of the table as it stands, a lookup gives for each circuit number of the cube what a trace gives, and 12 for every other. */
+static void lookups_trace(const char *what) {
+    const unsigned nodes = 1u << table[0];
+    unsigned good = 0;
+    maze_booked booked;
+    fresh_book();
+    booked = maze_book(table, BYTES, book_ports, 2048, book_index, 12288);
+    keep_book();
+    for (unsigned circuit = 0; circuit < 65536; circuit += circuit < 2100 ? 1 : 1009) {
+        const int there = circuit > 0 && circuit <= 8 * nodes;
+        uint8_t traced_ports[BUFFER];
+        maze_traced traced = {12, 0}, found;
+        fresh_buffer();
+        memcpy(traced_ports, buffer, BUFFER);
+        if (there) traced = maze_trace(table, BYTES, (uint16_t)((circuit - 1) / 8), (uint16_t)((circuit - 1) % 8), traced_ports, BUFFER);
+        found = maze_book_lookup(book_ports, booked.hops, book_index, 6u * booked.circuits, booked.circuits, booked.hops, (uint16_t)circuit, buffer, BUFFER);
+        good += found.number == traced.number && found.hops == traced.hops && memcmp(buffer, traced_ports, BUFFER) == 0;
+    }
+    expect(booked.number == 0 && good == 2100 + (65536 - 2100 + 1008) / 1009 && unaltered_book(), what, booked.circuits, good);
+}
+
+/* A circuit over one link, written to the table by its bytes. */
+static void lay(unsigned node, unsigned port) {
+    const unsigned circuit = 8 * node + port + 1, link = 257 + 16 * node + 2 * port, receive = 4353 + 16 * (node ^ 1u << port) + 2 * port;
+    table[link] = table[receive] = (uint8_t)(circuit % 256);
+    table[link + 1] = table[receive + 1] = (uint8_t)(circuit / 256);
+}
+
+static void books(void) {
+    static const uint8_t three_ports[] = {0, 1, 2, 1, 2, 0, 2, 0, 1};
+    static const uint8_t three_index[] = {1, 0, 0, 0, 3, 0, 2, 0, 3, 0, 3, 0, 3, 0, 6, 0, 3, 0};
+    static const uint8_t without_ports[] = {0, 1, 2, 2, 0, 1};
+    static const uint8_t without_index[] = {1, 0, 0, 0, 3, 0, 3, 0, 3, 0, 3, 0};
+    /* circuits 256 and 257: one link from 31 to 30, and from 32 over 33 to 35 */
+    static const uint8_t two_ports[] = {0, 0, 1};
+    static const uint8_t two_index[] = {0, 1, 0, 0, 1, 0, 1, 1, 1, 0, 2, 0};
+    /* circuit 1 by nine hops, 1604 = 6 * 256 + 68 by port 0, 2048 = 8 * 256 by port 7 */
+    static const uint8_t wide_ports[] = {0, 1, 2, 3, 4, 5, 6, 7, 0, 0, 7};
+    static const uint8_t wide_index[] = {1, 0, 0, 0, 9, 0, 68, 6, 9, 0, 1, 0, 0, 8, 10, 0, 1, 0};
+    static const uint8_t back_ports[] = {1, 1, 0}, back_index[] = {1, 0, 0, 0, 3, 0};
+    static const uint8_t itself_ports[] = {0, 0}, itself_index[] = {1, 0, 0, 0, 2, 0};
+    static uint8_t full_ports[2048], full_index[12288];
+
+    for (unsigned dimension = 1; dimension <= 8; dimension++) {
+        maze_booked got;
+        fresh_armed(dimension);
+        book_lengths("a book of no circuit", 0, NULL, 0, NULL);
+        got = maze_book(table, BYTES, NULL, 0, NULL, 0);
+        expect(got.number == 0 && got.circuits == 0 && got.hops == 0, "a book of no circuit, and no buffers", dimension, got.number);
+        lookups_trace("lookups in a book of no circuit");
+    }
+
+    /* by number, whichever was opened first */
+    fresh_armed(3);
+    three_to_seven();
+    accepted_job("three sends", 3);
+    book_lengths("a book of three circuits", 3, three_index, 9, three_ports);
+    expect_book("in large buffers", 2048, 12288, 3, three_index, 9, three_ports);
+    lookups_trace("lookups of three circuits");
+    expect(maze_close(table, BYTES, 0, 1) == 0, "close the second", 0, 1);
+    book_lengths("a book without the second", 2, without_index, 6, without_ports);
+    lookups_trace("lookups without the second");
+
+    fresh_armed(8);
+    expect(maze_open(table, BYTES, 32, 0, 35, 3, 1).number == 0 && maze_open(table, BYTES, 31, 7, 30, 0, 1).number == 0, "open 257 and 256", 0, 0);
+    book_lengths("a book of circuits 256 and 257", 2, two_index, 3, two_ports);
+    lookups_trace("lookups of circuits 256 and 257");
+
+    fresh_armed(8);
+    expect(maze_open(table, BYTES, 255, 7, 127, 0, 128).number == 0 && maze_open(table, BYTES, 200, 3, 201, 0, 1).number == 0, "open 2048 and 1604", 0, 0);
+    expect(maze_open(table, BYTES, 0, 0, 254, 0, 1).number == 0, "open nine hops", 0, 0);
+    book_lengths("a book of circuits 1, 1604 and 2048", 3, wide_index, 11, wide_ports);
+    lookups_trace("lookups of circuits 1, 1604 and 2048");
+
+    /* through the source again, and back to it */
+    fresh_armed(2);
+    expect(maze_block(table, BYTES, 2, 0) == 0 && maze_open(table, BYTES, 0, 0, 1, 0, 2).number == 0, "open by 1, 1, 0", 0, 0);
+    book_lengths("a book of a circuit through its source", 1, back_index, 3, back_ports);
+    lookups_trace("lookups of a circuit through its source");
+    fresh_armed(1);
+    expect(maze_open(table, BYTES, 0, 0, 0, 0, 1).number == 0, "open to itself", 0, 0);
+    book_lengths("a book of a circuit to itself", 1, itself_index, 2, itself_ports);
+    lookups_trace("lookups of a circuit to itself");
+
+    /* every link of a cube of dimension 8 with a circuit of its own: circuit k over port (k - 1) % 8, at offset k - 1 */
+    fresh_armed(8);
+    for (unsigned k = 0; k < 2048; k++) {
+        lay(k / 8, k % 8);
+        full_ports[k] = (uint8_t)(k % 8);
+        full_index[6 * k] = (uint8_t)((k + 1) % 256), full_index[6 * k + 1] = (uint8_t)((k + 1) / 256);
+        full_index[6 * k + 2] = (uint8_t)(k % 256), full_index[6 * k + 3] = (uint8_t)(k / 256), full_index[6 * k + 4] = 1;
+    }
+    expect_book("a book of 2,048 circuits", 2048, 12288, 2048, full_index, 2048, full_ports);
+    expect_book("and in larger buffers", PORTS, INDEX, 2048, full_index, 2048, full_ports);
+    refused_book(23, BYTES, 2047, 12288);
+    refused_book(23, BYTES, 2048, 12287);
+    refused_book(23, BYTES, 0, 12288);
+    refused_book(23, BYTES, 2048, 0);
+    refused_book(23, BYTES, 0, 0);
+    lookups_trace("lookups of 2,048 circuits");
+    /* a table that is not sound, of a wrong dimension or length: 3, 2 and 1 come before 23 */
+    table[4353] ^= 1;
+    refused_book(3, BYTES, 2047, 12287);
+    refused_book(3, BYTES, 2048, 12288);
+    table[0] = 9;
+    refused_book(2, BYTES, 0, 0);
+    refused_book(1, BYTES - 1, 0, 0);
+    refused_book(1, BYTES + 1, 2048, 12288);
+}
+
+/* A line of the index lent: number, offset and length, two bytes each, low byte first. */
+struct line {
+    unsigned number, offset, length;
+};
+
+static void put_line(unsigned place, struct line line) {
+    const unsigned numbers[] = {line.number, line.offset, line.length};
+    for (unsigned i = 0; i < 3; i++) book_index[6 * place + 2 * i] = (uint8_t)(numbers[i] % 256), book_index[6 * place + 2 * i + 1] = (uint8_t)(numbers[i] / 256);
+}
+
+static void refused_lookup(const char *what, unsigned number, size_t ports_length, size_t index_length, unsigned circuits, unsigned hops, unsigned circuit, size_t length) {
+    maze_traced got;
+    fresh_buffer();
+    keep();
+    keep_book();
+    got = maze_book_lookup(book_ports, ports_length, book_index, index_length, (uint16_t)circuits, (uint16_t)hops, (uint16_t)circuit, buffer, length);
+    expect(got.number == number && got.hops == 0 && unaltered() && unaltered_book(), what, number, got.number);
+}
+
+/* The ports that a lookup gives are those from an offset on, whatever bytes they are. */
+static void expect_lookup(const char *what, size_t ports_length, size_t index_length, unsigned circuits, unsigned hops, unsigned circuit, size_t length, unsigned offset, unsigned found) {
+    maze_traced got;
+    fresh_buffer();
+    keep();
+    keep_book();
+    got = maze_book_lookup(book_ports, ports_length, book_index, index_length, (uint16_t)circuits, (uint16_t)hops, (uint16_t)circuit, buffer, length);
+    expect(got.number == 0 && got.hops == found && memcmp(buffer, book_ports + offset, found) == 0 && fresh_from(found) && unaltered_book(), what, circuit, got.number);
+}
+
+/* A book of circuits 5, 300 and 2048, of 2, 9 and 1 hops, 12 in all. */
+static const struct line good_lines[] = {{5, 0, 2}, {300, 2, 9}, {2048, 11, 1}};
+
+static void good_book(void) {
+    fresh_book();
+    for (unsigned i = 0; i < 3; i++) put_line(i, good_lines[i]);
+}
+
+static void lookups(void) {
+    static const struct {
+        const char *what;
+        size_t ports_length, index_length;
+        unsigned circuits, hops;
+        struct line lines[3];
+    } bad[] = {
+        {"an index one byte short", 12, 17, 3, 12, {{5, 0, 2}, {300, 2, 9}, {2048, 11, 1}}},
+        {"no index", 12, 0, 3, 12, {{5, 0, 2}, {300, 2, 9}, {2048, 11, 1}}},
+        {"ports one byte short", 11, 18, 3, 12, {{5, 0, 2}, {300, 2, 9}, {2048, 11, 1}}},
+        {"no ports", 0, 18, 3, 12, {{5, 0, 2}, {300, 2, 9}, {2048, 11, 1}}},
+        {"one circuit too many for the index", 12, 23, 4, 12, {{5, 0, 2}, {300, 2, 9}, {2048, 11, 1}}},
+        {"one circuit too many", 12, INDEX, 4, 12, {{5, 0, 2}, {300, 2, 9}, {2048, 11, 1}}},
+        {"one circuit too few", 12, 18, 2, 12, {{5, 0, 2}, {300, 2, 9}, {2048, 11, 1}}},
+        /* six times 10,923 is 65,538, and six times 10,925 is 65,550: their low 16 bits are 2 and 14 */
+        {"10,923 circuits", 12, 18, 10923, 12, {{5, 0, 2}, {300, 2, 9}, {2048, 11, 1}}},
+        {"10,925 circuits", 12, 18, 10925, 12, {{5, 0, 2}, {300, 2, 9}, {2048, 11, 1}}},
+        {"65,535 circuits", 12, 18, 65535, 12, {{5, 0, 2}, {300, 2, 9}, {2048, 11, 1}}},
+        {"259 circuits", 12, INDEX, 259, 12, {{5, 0, 2}, {300, 2, 9}, {2048, 11, 1}}},
+        {"one hop too many for the ports", 12, 18, 3, 13, {{5, 0, 2}, {300, 2, 9}, {2048, 11, 1}}},
+        {"the last pair ends before the hops", PORTS, 18, 3, 13, {{5, 0, 2}, {300, 2, 9}, {2048, 11, 1}}},
+        {"the last pair ends behind the hops", 12, 18, 3, 11, {{5, 0, 2}, {300, 2, 9}, {2048, 11, 1}}},
+        {"268 hops", PORTS, 18, 3, 268, {{5, 0, 2}, {300, 2, 9}, {2048, 11, 1}}},
+        {"65,535 hops", PORTS, 18, 3, 65535, {{5, 0, 2}, {300, 2, 9}, {2048, 11, 1}}},
+        {"no hop", 12, 18, 3, 0, {{5, 0, 2}, {300, 2, 9}, {2048, 11, 1}}},
+        {"no circuit and one hop", 12, 18, 0, 1, {{5, 0, 2}, {300, 2, 9}, {2048, 11, 1}}},
+        {"no circuit and twelve hops", 12, 18, 0, 12, {{5, 0, 2}, {300, 2, 9}, {2048, 11, 1}}},
+        {"number 0", 12, 18, 3, 12, {{0, 0, 2}, {300, 2, 9}, {2048, 11, 1}}},
+        {"number 2,049", 12, 18, 3, 12, {{5, 0, 2}, {300, 2, 9}, {2049, 11, 1}}},
+        {"number 65,535", 12, 18, 3, 12, {{5, 0, 2}, {300, 2, 9}, {65535, 11, 1}}},
+        {"number 2,049 first", 2, 6, 1, 2, {{2049, 0, 2}, {0, 0, 0}, {0, 0, 0}}},
+        {"equal numbers at first", 12, 18, 3, 12, {{300, 0, 2}, {300, 2, 9}, {2048, 11, 1}}},
+        {"equal numbers at last", 12, 18, 3, 12, {{5, 0, 2}, {300, 2, 9}, {300, 11, 1}}},
+        {"falling numbers at first", 12, 18, 3, 12, {{301, 0, 2}, {300, 2, 9}, {2048, 11, 1}}},
+        {"falling numbers at last", 12, 18, 3, 12, {{5, 0, 2}, {300, 2, 9}, {299, 11, 1}}},
+        {"rising low bytes", 12, 18, 3, 12, {{256, 0, 2}, {5, 2, 9}, {2048, 11, 1}}},
+        {"length 0 at first", 12, 18, 3, 10, {{5, 0, 0}, {300, 0, 9}, {2048, 9, 1}}},
+        {"length 0 between", 12, 18, 3, 3, {{5, 0, 2}, {300, 2, 0}, {2048, 2, 1}}},
+        {"length 0 at last", 12, 18, 3, 11, {{5, 0, 2}, {300, 2, 9}, {2048, 11, 0}}},
+        {"length 0 alone", 12, 18, 1, 0, {{5, 0, 0}, {300, 0, 9}, {2048, 9, 1}}},
+        {"length 10 at first", PORTS, 18, 3, 20, {{5, 0, 10}, {300, 10, 9}, {2048, 19, 1}}},
+        {"length 10 between", PORTS, 18, 3, 13, {{5, 0, 2}, {300, 2, 10}, {2048, 12, 1}}},
+        {"length 10 at last", PORTS, 18, 3, 21, {{5, 0, 2}, {300, 2, 9}, {2048, 11, 10}}},
+        {"length 257", PORTS, 18, 3, 268, {{5, 0, 2}, {300, 2, 9}, {2048, 11, 257}}},
+        {"length 65,535", PORTS, 18, 3, 10, {{5, 0, 2}, {300, 2, 9}, {2048, 11, 65535}}},
+        {"a gap of one byte", PORTS, 18, 3, 13, {{5, 0, 2}, {300, 3, 9}, {2048, 12, 1}}},
+        {"a gap before the last", PORTS, 18, 3, 13, {{5, 0, 2}, {300, 2, 9}, {2048, 12, 1}}},
+        {"an overlap of one byte", PORTS, 18, 3, 11, {{5, 0, 2}, {300, 1, 9}, {2048, 10, 1}}},
+        {"an overlap at the last", PORTS, 18, 3, 11, {{5, 0, 2}, {300, 2, 9}, {2048, 10, 1}}},
+        {"the first offset 1", PORTS, 18, 3, 13, {{5, 1, 2}, {300, 3, 9}, {2048, 12, 1}}},
+        {"the first offset 256", PORTS, 18, 3, 12, {{5, 256, 2}, {300, 2, 9}, {2048, 11, 1}}},
+        {"the first offset 65,535", PORTS, 18, 3, 11, {{5, 65535, 2}, {300, 1, 9}, {2048, 10, 1}}},
+        {"offsets that are not in order", 12, 18, 3, 12, {{5, 10, 2}, {300, 1, 9}, {2048, 0, 1}}},
+        {"one pair twice", 12, 18, 3, 12, {{5, 0, 2}, {300, 2, 9}, {2048, 2, 1}}},
+    };
+    static const unsigned circuits[] = {0, 1, 5, 6, 77, 300, 2048, 2049, 65535};
+    static const size_t lengths[] = {0, 8, 9, BUFFER};
+
+    for (size_t i = 0; i < sizeof bad / sizeof *bad; i++) {
+        fresh_book();
+        for (unsigned line = 0; line < 3; line++) put_line(line, bad[i].lines[line]);
+        /* 25 before 12 and 14 */
+        for (size_t c = 0; c < sizeof circuits / sizeof *circuits; c++)
+            for (size_t k = 0; k < sizeof lengths / sizeof *lengths; k++)
+                refused_lookup(bad[i].what, 25, bad[i].ports_length, bad[i].index_length, bad[i].circuits, bad[i].hops, circuits[c], lengths[k]);
+    }
+
+    /* the good book, in buffers that just hold it and in larger ones */
+    for (unsigned larger = 0; larger < 2; larger++) {
+        const size_t ports_length = larger ? PORTS : 12, index_length = larger ? INDEX : 18;
+        good_book();
+        for (size_t length = 0; length <= BUFFER; length++)
+            for (unsigned line = 0; line < 3; line++) {
+                const struct line x = good_lines[line];
+                if (length < 9) refused_lookup("a short buffer", 14, ports_length, index_length, 3, 12, x.number, length);
+                else expect_lookup("a line of a good book", ports_length, index_length, 3, 12, x.number, length, x.offset, x.length);
+            }
+        /* numbers that it does not have: 12, before 14; 261 is 5 + 256, 2,348 is 300 + 2,048, 32,768 + 5 has the low bits of 5 */
+        static const unsigned absent[] = {0, 1, 4, 6, 44, 261, 299, 301, 1024, 2047, 2049, 2053, 2348, 32773, 65535};
+        for (size_t i = 0; i < sizeof absent / sizeof *absent; i++)
+            for (size_t k = 0; k < sizeof lengths / sizeof *lengths; k++)
+                refused_lookup("no such circuit in the book", 12, ports_length, index_length, 3, 12, absent[i], lengths[k]);
+        /* its first two lines alone, its first alone, and none of it */
+        expect_lookup("of two circuits", ports_length, index_length, 2, 11, 300, 9, 2, 9);
+        refused_lookup("of two circuits, the third", 12, ports_length, index_length, 2, 11, 2048, 9);
+        expect_lookup("of one circuit", ports_length, index_length, 1, 2, 5, 9, 0, 2);
+        refused_lookup("of one circuit, the second", 12, ports_length, index_length, 1, 2, 300, 9);
+        refused_lookup("of no circuit", 12, ports_length, index_length, 0, 0, 5, 9);
+        refused_lookup("of no circuit, 0", 12, ports_length, index_length, 0, 0, 0, 0);
+    }
+    refused_lookup("no circuit and no bytes", 12, 0, 0, 0, 0, 5, 9);
+    expect(maze_book_lookup(NULL, 0, NULL, 0, 0, 0, 1, NULL, 0).number == 12, "a book of nothing", 0, 0);
+    expect(maze_book_lookup(NULL, 0, NULL, 0, 1, 0, 1, NULL, 0).number == 25, "a circuit and no index", 0, 0);
+    expect(maze_book_lookup(NULL, 0, NULL, 0, 0, 1, 1, NULL, 0).number == 25, "a hop and no ports", 0, 0);
+
+    /* the longest book: circuits 1 to 2048 of nine hops each, 18,432 in all, more than a table has */
+    fresh_book();
+    for (unsigned i = 0; i < 2048; i++) put_line(i, (struct line){i + 1, 9 * i, 9});
+    for (unsigned circuit = 1; circuit <= 2048; circuit += 89) expect_lookup("of the longest book", PORTS, 12288, 2048, 18432, circuit, 9, 9 * (circuit - 1), 9);
+    expect_lookup("the last of the longest book", PORTS, 12288, 2048, 18432, 2048, 9, 18423, 9);
+    refused_lookup("behind the longest book", 12, PORTS, 12288, 2048, 18432, 2049, 9);
+    refused_lookup("the longest book, a port short", 25, PORTS - 1, 12288, 2048, 18432, 1, 9);
+    put_line(2048, (struct line){2049, 18432, 1});
+    refused_lookup("2,049 circuits", 25, PORTS + 1, INDEX, 2049, 18433, 1, 9);
+    put_line(2048, (struct line){2048, 18432, 1});
+    refused_lookup("2,049 circuits, the last two alike", 25, PORTS + 1, INDEX, 2049, 18433, 1, 9);
+}
+
+/* Table, book and buffer may lie anywhere. */
+static void book_alignments(void) {
+    static const uint8_t want_index[] = {1, 0, 0, 0, 3, 0, 2, 0, 3, 0, 3, 0, 3, 0, 6, 0, 3, 0}, want_ports[] = {0, 1, 2, 1, 2, 0, 2, 0, 1};
+    static uint8_t room[BYTES + 16];
+    fresh_armed(3);
+    three_to_seven();
+    accepted_job("three sends", 3);
+    for (size_t shift = 0; shift < 16; shift++) {
+        maze_booked booked;
+        maze_traced found;
+        memcpy(room + shift, table, BYTES);
+        fresh_book();
+        fresh_buffer();
+        booked = maze_book(room + shift, BYTES, book_ports + 15 - shift, 9, book_index + 3 * shift, 18);
+        expect(booked.number == 0 && memcmp(book_ports + 15 - shift, want_ports, 9) == 0 && memcmp(book_index + 3 * shift, want_index, 18) == 0, "booked at", shift, booked.number);
+        memcpy(kept_ports + 15 - shift, want_ports, 9);
+        memcpy(kept_index + 3 * shift, want_index, 18);
+        expect(unaltered_book(), "beside a book at", shift, 0);
+        found = maze_book_lookup(book_ports + 15 - shift, 9, book_index + 3 * shift, 18, 3, 9, 2, buffer + shift % 8, 16 - shift % 8 > 9 ? 9 : 16 - shift % 8);
+        expect(found.number == 0 && found.hops == 3 && memcmp(buffer + shift % 8, want_ports + 3, 3) == 0, "looked up at", shift, found.number);
+    }
+}
+
 /* ---- sound tables and others, each circuit 1 of dimension 3 on ports 0, 1, 2, with every channel armed, but for the places given ---- */
 
 static const struct {
@@ -1398,6 +1732,9 @@ int main(void) {
     jobs();
     refused_sends();
     long_jobs();
+    books();
+    lookups();
+    book_alignments();
     soundness();
     absent_nodes_armed();
     return verdict();

@@ -12,6 +12,7 @@ _Static_assert(sizeof(maze_receive_channel) == 12 && offsetof(maze_receive_chann
 _Static_assert(sizeof(maze_received) == 16 && offsetof(maze_received, number) == 12, "a packet's answer is a channel and a 16-bit number");
 _Static_assert(sizeof(maze_opened_all) == 4 && offsetof(maze_opened_all, sends) == 2, "a job is two 16-bit numbers");
 _Static_assert(sizeof(maze_traced) == 4 && offsetof(maze_traced, hops) == 2, "a trace is two 16-bit numbers");
+_Static_assert(sizeof(maze_booked) == 6 && offsetof(maze_booked, circuits) == 2 && offsetof(maze_booked, hops) == 4, "a book's answer is three 16-bit numbers");
 
 _Static_assert(sizeof(maze_arbiter) == 2 && _Alignof(maze_arbiter) == _Alignof(uint16_t), "a record is one 16-bit number");
 _Static_assert(sizeof(maze_served) == 4 && offsetof(maze_served, requester) == 2, "what is served is two 16-bit numbers");
@@ -26,6 +27,8 @@ HAS_TYPE(maze_open, maze_opened, uint8_t *, size_t, uint16_t, uint16_t, uint16_t
 HAS_TYPE(maze_open_all, maze_opened_all, uint8_t *, size_t, const uint8_t *, size_t);
 HAS_TYPE(maze_close, uint16_t, uint8_t *, size_t, uint16_t, uint16_t);
 HAS_TYPE(maze_trace, maze_traced, const uint8_t *, size_t, uint16_t, uint16_t, uint8_t *, size_t);
+HAS_TYPE(maze_book, maze_booked, const uint8_t *, size_t, uint8_t *, size_t, uint8_t *, size_t);
+HAS_TYPE(maze_book_lookup, maze_traced, const uint8_t *, size_t, const uint8_t *, size_t, uint16_t, uint16_t, uint16_t, uint8_t *, size_t);
 HAS_TYPE(maze_arbitrate, maze_served, maze_arbiter *, uint32_t);
 HAS_TYPE(maze_receive_start, maze_receive_channel, uint32_t, uint32_t, uint16_t);
 HAS_TYPE(maze_receive_data, maze_received, maze_receive_channel);
@@ -60,6 +63,8 @@ static const struct {
     NAME(MAZE_UNREADABLE_LINE, 20),
     NAME(MAZE_CHANNEL_HELD, 21),
     NAME(MAZE_NO_ROUTE, 22),
+    NAME(MAZE_BOOK_SHORT, 23),
+    NAME(MAZE_BAD_BOOK, 25),
     NAME(MAZE_BAD_SEND_LIST, 28),
     NAME(MAZE_CHANNEL_STOPPED, 30),
     NAME(MAZE_BAD_REQUESTER, 31),
@@ -82,6 +87,8 @@ static const struct {
     NAME(MAZE_TRACE_BYTES, 9),
     NAME(MAZE_SEND_BYTES, 10),
     NAME(MAZE_SENDS_LARGEST, 64),
+    NAME(MAZE_BOOK_LINE_BYTES, 6),
+    NAME(MAZE_CIRCUITS_LARGEST, 2048),
     NAME(MAZE_WORD_TYPE_PLACE, 1024),
     NAME(MAZE_WORD_COMMAND_PLACE, 64),
     NAME(MAZE_WORD_LARGEST, 4095),

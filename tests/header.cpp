@@ -25,6 +25,13 @@ int main() {
     check(opened.number == MAZE_ACCEPTED && opened.hops == 3 && opened.receive == 0 && opened.scouts == 5, "open");
     const maze_traced traced = maze_trace(table.data(), table.size(), 0, 0, ports, sizeof ports);
     check(traced.number == MAZE_ACCEPTED && traced.hops == 3 && ports[0] == 1 && ports[1] == 2 && ports[2] == 0, "trace");
+    std::vector<uint8_t> book_ports(3), index(MAZE_BOOK_LINE_BYTES);
+    const maze_booked booked = maze_book(table.data(), table.size(), book_ports.data(), book_ports.size(), index.data(), index.size());
+    check(booked.number == MAZE_ACCEPTED && booked.circuits == 1 && booked.hops == 3 && index[0] == 1 && index[4] == 3, "book");
+    check(maze_book(table.data(), table.size(), book_ports.data(), 2, index.data(), index.size()).number == MAZE_BOOK_SHORT, "a short book");
+    const maze_traced found = maze_book_lookup(book_ports.data(), book_ports.size(), index.data(), index.size(), booked.circuits, booked.hops, 1, ports, sizeof ports);
+    check(found.number == MAZE_ACCEPTED && found.hops == 3 && ports[0] == 1 && ports[1] == 2 && ports[2] == 0, "look up");
+    check(maze_book_lookup(book_ports.data(), 2, index.data(), index.size(), 1, 3, 1, ports, sizeof ports).number == MAZE_BAD_BOOK, "a book not well formed");
     check(maze_disarm(table.data(), table.size(), 7, 0) == MAZE_CHANNEL_HELD, "disarm a held channel");
     check(maze_close(table.data(), table.size(), 0, 0) == MAZE_ACCEPTED && !MAZE_RECEIVE_ARMED(table.data(), 7, 0), "close");
     check(maze_close(table.data(), table.size(), 0, 0) == MAZE_NO_CIRCUIT, "close again");

@@ -4,8 +4,9 @@
  *
  * runs that many streams of calls of each kind and dimension (20 without an argument), each from a seed of its own. At the first difference it
  * shortens the list of calls as long as they still differ, prints it and stops. Otherwise it prints how often each case has occurred. Calls are
- * written as in the printed list, and beside them `T node channel` traces, `J` opens the sends that follow it together, each as behind S,
- * `P place value` writes one byte of the table, and `/ table of N`, `/ buffer of N` or `/ list of N` behind a call says that it was lent N bytes. */
+ * written as in the printed list, and beside them `T node channel` traces, `J` opens the sends that follow it together, each as behind S, `K` writes the book of the table,
+ * `L circuit circuits hops` looks a circuit up in the book that stands there, `P place value` writes one byte of the table and `W place value` one of the book's index,
+ * and `/ table of N`, `/ buffer of N`, `/ list of N`, `/ ports of N` or `/ index of N` behind a call says that it was lent N bytes. */
 #include "draw.h"
 #include "reference.h"
 #include "subject.h"
@@ -14,7 +15,8 @@
 #include <stdlib.h>
 #include <string.h>
 
-enum { SPARE = 32, BUFFER = 24, MOST_CALLS = 60000, LETTERS = 10, NUMBERS = MAZE_BAD_SEND_LIST + 1, MOST_JOBS = 4000, LIST = 660 };
+enum { SPARE = 32, BUFFER = 24, MOST_CALLS = 60000, LETTERS = 13, NUMBERS = MAZE_BAD_SEND_LIST + 1, MOST_JOBS = 4000, LIST = 660 };
+enum { PORTS = MAZE_CIRCUITS_LARGEST + SPARE, INDEX = MAZE_BOOK_LINE_BYTES * MAZE_CIRCUITS_LARGEST + SPARE };
 
 static int one_in(unsigned count) {
     return below(count) == 0;
@@ -22,7 +24,7 @@ static int one_in(unsigned count) {
 
 /* ---- calls, and both tables ---- */
 
-static const char letters[] = "FBESCRDTJP";
+static const char letters[] = "FBESCRDTJKLWP";
 
 static size_t letter_place(char letter) {
     return (size_t)(strchr(letters, letter) - letters);
@@ -33,6 +35,7 @@ struct call {
     uint16_t argument[5];
     uint16_t table_len, buffer_len; /* buffer_len: of a trace's buffer or of a job's list */
     uint16_t job;                   /* which list of sends */
+    uint16_t ports_len, index_len;  /* of a book's two buffers */
 };
 
 /* The lists of sends of a stream. They go on behind what is lent. */
@@ -42,11 +45,12 @@ static unsigned jobs;
 struct pair {
     uint8_t table[2][MAZE_TABLE_BYTES + SPARE]; /* the library's and the reference's; more bytes than are lent */
     uint8_t buffer[2][BUFFER];
+    uint8_t ports[2][PORTS], index[2][INDEX]; /* the book that was written last, or what W made of it */
 };
 
 /* The answers of one call, of both sides. */
 struct answers {
-    unsigned long value[2][4]; /* number, hops or sends, receive channel, scouts */
+    unsigned long value[2][5]; /* number, hops or sends, receive channel, scouts, circuits of a book */
 };
 
 static struct pair now;
@@ -59,6 +63,7 @@ static struct answers run(const struct call *call, struct pair *on) {
     maze_opened opened[2] = {{0, 0, 0, 0}, {0, 0, 0, 0}};
     maze_traced traced[2] = {{0, 0}, {0, 0}};
     maze_opened_all opened_all[2] = {{0, 0}, {0, 0}};
+    maze_booked booked[2] = {{0, 0, 0}, {0, 0, 0}};
     uint16_t number[2] = {0, 0};
 
     switch (call->letter) {
@@ -80,26 +85,39 @@ static struct answers run(const struct call *call, struct pair *on) {
         opened_all[0] = maze_open_all(lib, length, lists[call->job], call->buffer_len);
         opened_all[1] = ref_open_all(ref, length, lists[call->job], call->buffer_len);
         break;
+    case 'K':
+        booked[0] = maze_book(lib, length, on->ports[0], call->ports_len, on->index[0], call->index_len);
+        booked[1] = ref_book(ref, length, on->ports[1], call->ports_len, on->index[1], call->index_len);
+        break;
+    case 'L':
+        traced[0] = maze_book_lookup(on->ports[0], call->ports_len, on->index[0], call->index_len, a[1], a[2], a[0], on->buffer[0], call->buffer_len);
+        traced[1] = ref_book_lookup(on->ports[1], call->ports_len, on->index[1], call->index_len, a[1], a[2], a[0], on->buffer[1], call->buffer_len);
+        break;
+    case 'W': on->index[0][a[0]] = on->index[1][a[0]] = (uint8_t)a[1]; break;
     default: lib[a[0]] = ref[a[0]] = (uint8_t)a[1]; break; /* P */
     }
     for (int i = 0; i < 2; i++) {
-        answers.value[i][0] = (unsigned long)number[i] + opened[i].number + traced[i].number + opened_all[i].number; /* three of the four are 0 */
-        answers.value[i][1] = (unsigned long)opened[i].hops + traced[i].hops + opened_all[i].sends;
+        answers.value[i][0] = (unsigned long)number[i] + opened[i].number + traced[i].number + opened_all[i].number + booked[i].number; /* all but one are 0 */
+        answers.value[i][1] = (unsigned long)opened[i].hops + traced[i].hops + opened_all[i].sends + booked[i].hops;
         answers.value[i][2] = opened[i].receive;
         answers.value[i][3] = opened[i].scouts;
+        answers.value[i][4] = booked[i].circuits;
     }
     return answers;
 }
 
 static int same(const struct answers *answers, const struct pair *on) {
     return memcmp(answers->value[0], answers->value[1], sizeof answers->value[0]) == 0 &&
-           memcmp(on->table[0], on->table[1], sizeof on->table[0]) == 0 && memcmp(on->buffer[0], on->buffer[1], sizeof on->buffer[0]) == 0;
+           memcmp(on->table[0], on->table[1], sizeof on->table[0]) == 0 && memcmp(on->buffer[0], on->buffer[1], sizeof on->buffer[0]) == 0 &&
+           memcmp(on->ports[0], on->ports[1], sizeof on->ports[0]) == 0 && memcmp(on->index[0], on->index[1], sizeof on->index[0]) == 0;
 }
 
 /* Before the first call the bytes lent mean nothing. */
 static void start(struct pair *on) {
     for (size_t i = 0; i < sizeof on->table[0]; i++) on->table[0][i] = on->table[1][i] = (uint8_t)(7 * i + 3);
     for (size_t i = 0; i < sizeof on->buffer[0]; i++) on->buffer[0][i] = on->buffer[1][i] = (uint8_t)(0xe0 + i % 16);
+    for (size_t i = 0; i < sizeof on->ports[0]; i++) on->ports[0][i] = on->ports[1][i] = (uint8_t)(5 * i + 11);
+    for (size_t i = 0; i < sizeof on->index[0]; i++) on->index[0][i] = on->index[1][i] = (uint8_t)(3 * i + 13);
 }
 
 /* ---- the list of a stream, and what is said of a difference ---- */
@@ -108,7 +126,7 @@ static struct call list[MOST_CALLS];
 static size_t calls;
 
 static void print_call(const struct call *call) {
-    static const int arguments[LETTERS] = {1, 2, 2, 5, 2, 2, 2, 2, 0, 2};
+    static const int arguments[LETTERS] = {1, 2, 2, 5, 2, 2, 2, 2, 0, 0, 3, 2, 2};
     int count = arguments[letter_place(call->letter)];
     printf("%c", call->letter);
     for (int i = 0; i < count; i++) printf(" %u", (unsigned)call->argument[i]);
@@ -116,7 +134,8 @@ static void print_call(const struct call *call) {
         printf("%s%u", i % 5 == 0 && i > 0 ? ", " : " ", lists[call->job][2 * i] + 256u * lists[call->job][2 * i + 1]);
     if (call->letter == 'J') printf(" / list of %u", (unsigned)call->buffer_len);
     if (call->table_len != MAZE_TABLE_BYTES) printf(" / table of %u", (unsigned)call->table_len);
-    if (call->letter == 'T' && call->buffer_len != BUFFER) printf(" / buffer of %u", (unsigned)call->buffer_len);
+    if (call->letter == 'K' || call->letter == 'L') printf(" / ports of %u / index of %u", (unsigned)call->ports_len, (unsigned)call->index_len);
+    if ((call->letter == 'T' || call->letter == 'L') && call->buffer_len != BUFFER) printf(" / buffer of %u", (unsigned)call->buffer_len);
     printf("\n");
 }
 
@@ -158,17 +177,27 @@ static void report(unsigned dimension, const char *kind, uint64_t seed) {
         answers = run(&list[i], &pair);
     }
     for (int i = 0; i < 2; i++)
-        printf("%s answers %lu, hops or sends %lu, receive channel %lu, scouts %lu\n", i == 0 ? "library" : "reference", answers.value[i][0],
-               answers.value[i][1], answers.value[i][2], answers.value[i][3]);
+        printf("%s answers %lu, hops or sends %lu, receive channel %lu, scouts %lu, circuits %lu\n", i == 0 ? "library" : "reference", answers.value[i][0],
+               answers.value[i][1], answers.value[i][2], answers.value[i][3], answers.value[i][4]);
     for (size_t i = 0, shown = 0; i < sizeof pair.table[0] && shown < 10; i++)
         if (pair.table[0][i] != pair.table[1][i])
             printf("byte %zu of the table: library %u, reference %u\n", i, pair.table[0][i], pair.table[1][i]), shown++;
     for (size_t i = 0; i < sizeof pair.buffer[0]; i++)
         if (pair.buffer[0][i] != pair.buffer[1][i])
             printf("byte %zu of the buffer: library %u, reference %u\n", i, pair.buffer[0][i], pair.buffer[1][i]);
+    for (size_t i = 0, shown = 0; i < sizeof pair.ports[0] && shown < 10; i++)
+        if (pair.ports[0][i] != pair.ports[1][i]) printf("byte %zu of the ports: library %u, reference %u\n", i, pair.ports[0][i], pair.ports[1][i]), shown++;
+    for (size_t i = 0, shown = 0; i < sizeof pair.index[0] && shown < 10; i++)
+        if (pair.index[0][i] != pair.index[1][i]) printf("byte %zu of the index: library %u, reference %u\n", i, pair.index[0][i], pair.index[1][i]), shown++;
 }
 
 /* ---- what has occurred ---- */
+
+/* The ways in which a book that is written line by line is made not well formed; the first is none. */
+enum { NO_FAULT, NUMBER_ZERO, NUMBER_LARGE, NUMBERS_EQUAL, NUMBERS_FALL, LENGTH_ZERO, LENGTH_TEN, GAP, OVERLAP, HOPS_SHORT, HOPS_PAST, PORTS_SHORT, INDEX_SHORT, FAULTS };
+
+static const char *const fault_names[FAULTS] = {"none", "a number of 0", "a number above 2,048", "equal numbers", "numbers that fall", "a length of 0", "a length of 10", "a gap",
+                                                "an overlap", "fewer hops than the pairs have", "more hops than the pairs have", "more hops than port bytes", "more circuits than lines"};
 
 static struct {
     unsigned long calls, answers[LETTERS][NUMBERS], hops[10], rejected_1000, rejected_10000, most_scouts, second_accepted, second_rejected,
@@ -176,6 +205,8 @@ static struct {
         several_changed, several_changed_sound, mask_changed, mask_changed_sound, moved, laid, laid_sound, wrong_length, short_buffer;
     unsigned long receive_ended, receive_ended_no_port, route_then_receive, passed_over, armed_again, armed_held, disarmed_again;
     unsigned long rejected[2][MAZE_TYPE_ALTERNATE_MAZE + 1], no_route_idle, no_route_unscouted, helped_past_blocked; /* 10 and then 22, by type */
+    unsigned long book_empty, book_several, book_long, book_whole, book_exact, ports_short, index_short, number_wide, offset_wide;
+    unsigned long looked_first, looked_last, looked_absent_short, damaged_books, damaged_formed, fault[FAULTS], laid_books, traced_alike;
     unsigned long job_several, job_long, job_empty, job_first, job_middle, job_last;
     unsigned long helix_first, helix_later, helix_none, helix_received, helix_received_later, fixed_taken, fixed_rejected, fixed_received, partly_free;
 } seen;
@@ -192,6 +223,21 @@ static void count_held(unsigned long *held, unsigned long *links, unsigned long 
         }
 }
 
+/* How many circuits and hops the book of the table has, if it is sound: its held receive channels and links. */
+static unsigned booked_circuits(void) {
+    unsigned count = 0;
+    for (unsigned node = 0; node < MAZE_NODES; node++)
+        for (unsigned channel = 0; channel < MAZE_CHANNELS; channel++) count += MAZE_RECEIVE_CIRCUIT(now.table[1], node, channel) != 0;
+    return count;
+}
+
+static unsigned booked_hops(void) {
+    unsigned count = 0;
+    for (unsigned node = 0; node < MAZE_NODES; node++)
+        for (unsigned port = 0; port < MAZE_PORTS; port++) count += MAZE_LINK_CIRCUIT(now.table[1], node, port) != 0;
+    return count;
+}
+
 static void tally(const struct call *call, const struct answers *answers, unsigned long held, unsigned long links, unsigned long blocked) {
     unsigned long number = answers->value[1][0], scouts = answers->value[1][3];
     const uint16_t *a = call->argument;
@@ -204,6 +250,26 @@ static void tally(const struct call *call, const struct answers *answers, unsign
         if (number == MAZE_ACCEPTED) seen.job_empty += sends == 0, seen.job_several += sends > 1, seen.job_long += sends == MAZE_SENDS_LARGEST;
         else if (number >= MAZE_BAD_NODE && number != MAZE_BAD_SEND_LIST && sends > 1)
             *(place == 0 ? &seen.job_first : place + 1 == sends ? &seen.job_last : &seen.job_middle) += 1;
+    }
+    if (call->letter == 'K') {
+        unsigned long circuits = answers->value[1][4], hops = answers->value[1][1];
+        if (number == MAZE_ACCEPTED) {
+            seen.book_empty += circuits == 0, seen.book_several += circuits > 1, seen.book_long += circuits > 256, seen.book_whole += hops == MAZE_CIRCUITS_LARGEST;
+            seen.book_exact += hops > 0 && call->ports_len == hops && call->index_len == MAZE_BOOK_LINE_BYTES * circuits;
+            for (unsigned long i = 0; i < circuits; i++) {
+                const uint8_t *line = now.index[1] + MAZE_BOOK_LINE_BYTES * i;
+                seen.number_wide += line[1] != 0, seen.offset_wide += line[3] != 0;
+            }
+        }
+        if (number == MAZE_BOOK_SHORT) seen.ports_short += call->ports_len < links && call->index_len >= MAZE_BOOK_LINE_BYTES * held, seen.index_short += call->ports_len >= links;
+    }
+    if (call->letter == 'L') {
+        if (number == MAZE_ACCEPTED && a[1] > 1) {
+            const uint8_t *last = now.index[1] + MAZE_BOOK_LINE_BYTES * (a[1] - 1u);
+            seen.looked_first += a[0] == now.index[1][0] + 256u * now.index[1][1];
+            seen.looked_last += a[0] == last[0] + 256u * last[1];
+        }
+        seen.looked_absent_short += number == MAZE_NO_CIRCUIT && call->buffer_len < MAZE_TRACE_BYTES;
     }
     if (call->letter != 'S') return;
     if (!(number == MAZE_ACCEPTED || number == MAZE_ROUTE_REJECTED || number == MAZE_RECEIVE_REJECTED || number == MAZE_NO_ROUTE)) return;
@@ -255,7 +321,7 @@ static void tally(const struct call *call, const struct answers *answers, unsign
 
 /* Makes a call on both sides and keeps it in the list. */
 static int differs;
-static unsigned long last_number;
+static unsigned long last_number, last_circuits, last_hops; /* the last two of the book that was written last */
 
 static void make_call(struct call call) {
     struct answers answers;
@@ -263,6 +329,7 @@ static void make_call(struct call call) {
     int armed = 0;
     if (differs || calls == MOST_CALLS) return;
     if (call.letter == 'S') count_held(&held, &links, &blocked);
+    if (call.letter == 'K') held = booked_circuits(), links = booked_hops();
     if ((call.letter == 'R' || call.letter == 'D') && call.argument[0] < MAZE_NODES && call.argument[1] < MAZE_CHANNELS)
         armed = MAZE_RECEIVE_ARMED(now.table[1], call.argument[0], call.argument[1]);
     list[calls++] = call;
@@ -272,18 +339,19 @@ static void make_call(struct call call) {
         return;
     }
     last_number = answers.value[1][0];
+    if (call.letter == 'K' && last_number == MAZE_ACCEPTED) last_circuits = answers.value[1][4], last_hops = answers.value[1][1];
     if (call.letter == 'R' && last_number == MAZE_ACCEPTED && armed) {
         seen.armed_again++;
         seen.armed_held += MAZE_RECEIVE_CIRCUIT(now.table[1], call.argument[0], call.argument[1]) != 0;
     }
     seen.disarmed_again += call.letter == 'D' && last_number == MAZE_ACCEPTED && !armed;
-    if (call.letter != 'P') tally(&call, &answers, held, links, blocked);
+    if (call.letter != 'P' && call.letter != 'W') tally(&call, &answers, held, links, blocked);
 }
 
 /* ---- choosing calls ---- */
 
 static struct call plain(char letter, unsigned a, unsigned b) {
-    struct call call = {letter, {(uint16_t)a, (uint16_t)b, 0, 0, 0}, MAZE_TABLE_BYTES, BUFFER, 0};
+    struct call call = {letter, {(uint16_t)a, (uint16_t)b, 0, 0, 0}, MAZE_TABLE_BYTES, BUFFER, 0, PORTS, INDEX};
     return call;
 }
 
@@ -372,6 +440,35 @@ static struct call any_job(unsigned dimension) {
     return call;
 }
 
+/* A length near the least that does, up to a limit, or the limit. */
+static uint16_t near_length(unsigned least, unsigned limit) {
+    unsigned length = one_in(2) ? least : one_in(3) ? limit : one_in(2) ? below(least + 1) : least + 2 - below(4);
+    return (uint16_t)(length > limit ? least : length);
+}
+
+/* A book of the table. */
+static struct call any_book(void) {
+    struct call call = plain('K', 0, 0);
+    call.ports_len = near_length(booked_hops(), PORTS);
+    call.index_len = near_length(MAZE_BOOK_LINE_BYTES * booked_circuits(), INDEX);
+    return call;
+}
+
+/* A lookup in the book that stands there: of one of its circuits or of any number, in most cases with its own counts and buffers that hold it. */
+static struct call any_lookup(void) {
+    struct call call = plain('L', below(MAZE_CIRCUITS_LARGEST + 2), (unsigned)last_circuits);
+    unsigned line = last_circuits == 0 ? 0 : one_in(4) ? 0 : one_in(4) ? (unsigned)last_circuits - 1 : below((unsigned)last_circuits);
+    if (!one_in(4)) call.argument[0] = (uint16_t)(now.index[1][MAZE_BOOK_LINE_BYTES * line] + 256u * now.index[1][MAZE_BOOK_LINE_BYTES * line + 1]);
+    if (one_in(16)) call.argument[0] = (uint16_t)(call.argument[0] + 256 * (1 + below(255)));
+    call.argument[2] = (uint16_t)last_hops;
+    if (one_in(16)) call.argument[1] = (uint16_t)(one_in(4) ? odd_number(MAZE_CIRCUITS_LARGEST) : last_circuits + 2 - below(4));
+    if (one_in(16)) call.argument[2] = (uint16_t)(one_in(4) ? odd_number(MAZE_CIRCUITS_LARGEST) : last_hops + 2 - below(4));
+    call.ports_len = (uint16_t)(one_in(12) ? near_length((unsigned)last_hops, PORTS) : one_in(2) ? last_hops : PORTS);
+    call.index_len = (uint16_t)(one_in(12) ? near_length(MAZE_BOOK_LINE_BYTES * (unsigned)last_circuits, INDEX) : one_in(2) ? MAZE_BOOK_LINE_BYTES * last_circuits : INDEX);
+    if (one_in(6)) call.buffer_len = (uint16_t)(one_in(3) ? MAZE_TRACE_BYTES : below(MAZE_TRACE_BYTES));
+    return call;
+}
+
 /* A circuit that is open, by chance; or any node and channel. */
 static void any_circuit(unsigned dimension, unsigned *node, unsigned *channel) {
     for (int tries = 0; tries < 20; tries++) {
@@ -406,11 +503,13 @@ static struct call odd_call(unsigned dimension) {
     static const uint16_t lengths[] = {0, 1, 256, MAZE_ARMED_AT, MAZE_TABLE_BYTES - 1, MAZE_TABLE_BYTES + 1, MAZE_TABLE_BYTES + SPARE};
     static const unsigned types[] = {0, 4, 1, 2, 3, 5, 6, 7, 8, 256, 257, 259, 260, 65535};
     struct call call = any_send(dimension);
-    call.letter = "FBESSSCTRDJ"[below(11)];
+    call.letter = "FBESSSCTRDJK"[below(12)];
     if (call.letter == 'F') {
         call.argument[0] = (uint16_t)(one_in(4) ? 256 + dimension : one_in(2) ? 0 : 9 + below(60000));
     } else if (call.letter == 'J') {
         call = any_job(dimension);
+    } else if (call.letter == 'K') {
+        call = any_book();
     } else if (call.letter == 'S') {
         if (one_in(3)) call.argument[0] = (uint16_t)odd_number(1u << dimension);
         if (one_in(3)) call.argument[1] = (uint16_t)odd_number(8);
@@ -432,7 +531,8 @@ static struct call any_call(unsigned dimension) {
     unsigned choice = below(100);
     struct call call;
     if (choice < 40) return any_send(dimension);
-    if (choice < 44) return any_job(dimension);
+    if (choice < 43) return any_job(dimension);
+    if (choice < 44) return one_in(2) ? any_book() : any_lookup();
     if (choice < 57) return on_circuit('C', dimension);
     if (choice < 69) {
         call = on_circuit('T', dimension);
@@ -723,18 +823,121 @@ static void together(unsigned dimension) {
     }
 }
 
+/* A book just written: each circuit number of the cube is looked up and traced by the library, and gives the same. It is said here, as the calls of a stream do not
+ * show it. */
+static void traced_alike(unsigned dimension) {
+    for (unsigned circuit = 1; circuit <= 8u << dimension && !differs; circuit++) {
+        uint8_t found_ports[BUFFER] = {0}, traced_ports[BUFFER] = {0};
+        maze_traced found = maze_book_lookup(now.ports[0], PORTS, now.index[0], INDEX, (uint16_t)last_circuits, (uint16_t)last_hops, (uint16_t)circuit, found_ports, BUFFER);
+        maze_traced traced =
+            maze_trace(now.table[0], MAZE_TABLE_BYTES, (uint16_t)MAZE_CIRCUIT_NODE(circuit), (uint16_t)MAZE_CIRCUIT_CHANNEL(circuit), traced_ports, BUFFER);
+        if (found.number != traced.number || found.hops != traced.hops || memcmp(found_ports, traced_ports, BUFFER) != 0) {
+            printf("random: a lookup and a trace of circuit %u differ, dimension %u: %u and %u\n0 passed, 1 failed\n", circuit, dimension, (unsigned)found.number, (unsigned)traced.number);
+            exit(1);
+        }
+        seen.traced_alike += found.number == MAZE_ACCEPTED;
+    }
+}
+
+static void write_line(unsigned line, unsigned number, unsigned offset, unsigned length) {
+    const unsigned numbers[] = {number, offset, length};
+    for (unsigned i = 0; i < 3; i++) {
+        make_call(plain('W', MAZE_BOOK_LINE_BYTES * line + 2 * i, numbers[i] % 256));
+        make_call(plain('W', MAZE_BOOK_LINE_BYTES * line + 2 * i + 1, numbers[i] / 256 % 256));
+    }
+}
+
+/* Writes a book line by line, well formed or with one fault, and looks circuits up in it. */
+static void lay_book(unsigned fault) {
+    unsigned circuits = 1 + below(12), number = 0, offset = 0, at = fault == NUMBERS_EQUAL || fault == NUMBERS_FALL ? 1 + below(circuits) : below(circuits);
+    circuits += at == circuits;
+    for (unsigned line = 0; line < circuits; line++) {
+        unsigned length = 1 + below(MAZE_HOPS_LARGEST), last = number, written = offset;
+        number += 1 + (one_in(2) ? 0 : below((MAZE_CIRCUITS_LARGEST - number) / (circuits - line) - 1));
+        if (line + 1 == circuits && (fault == NUMBER_LARGE || one_in(5))) number = MAZE_CIRCUITS_LARGEST;
+        if (line == at) {
+            if (fault == LENGTH_ZERO) length = 0;
+            if (fault == LENGTH_TEN) length = 10;
+            if (fault == GAP) written = ++offset;
+            if (fault == OVERLAP && line > 0) written = --offset;
+            if (fault == OVERLAP && line == 0) written = 65535, offset = 65535;
+            if (fault == NUMBERS_EQUAL) number = last;
+            if (fault == NUMBERS_FALL) number = last - 1;
+            if (fault == NUMBER_ZERO) number = 0;
+        }
+        if (fault == NUMBER_LARGE && line + 1 == circuits) number += 1 + (one_in(2) ? 0 : below(60000));
+        write_line(line, number, written, length);
+        offset = (offset + length) % 65536;
+    }
+    last_circuits = circuits;
+    last_hops = offset - (fault == HOPS_SHORT) + (fault == HOPS_PAST);
+    for (unsigned i = 0; i < 4; i++) {
+        struct call call = plain('L', 0, circuits);
+        const uint8_t *line = now.index[1] + MAZE_BOOK_LINE_BYTES * below(circuits);
+        call.argument[0] = (uint16_t)(line[0] + 256u * line[1]);
+        call.argument[2] = (uint16_t)last_hops;
+        if (one_in(2) || fault == PORTS_SHORT) call.ports_len = (uint16_t)(last_hops - (fault == PORTS_SHORT));
+        if (one_in(2) || fault == INDEX_SHORT) call.index_len = (uint16_t)(MAZE_BOOK_LINE_BYTES * circuits - (fault == INDEX_SHORT));
+        if (call.ports_len > PORTS) call.ports_len = PORTS;
+        make_call(call);
+        if (fault == NO_FAULT) seen.laid_books += last_number == MAZE_ACCEPTED;
+        else seen.fault[fault] += last_number == MAZE_BAD_BOOK;
+        make_call(any_lookup());
+    }
+}
+
+/* Books of tables with few circuits, many and all that there are; lookups in them, as written and after a byte of the index was changed; and books that no table gave. */
+static void booked(unsigned dimension) {
+    unsigned nodes = 1u << dimension, rounds = 3 + below(3);
+    arm_nodes(dimension, 1);
+    for (unsigned round = 0; round < rounds; round++) {
+        unsigned sends = below(8 << round);
+        if (round + 1 == rounds && one_in(3)) { /* each free link a circuit of its own */
+            anew(dimension);
+            for (unsigned node = 0; node < nodes; node++) make_call(plain('P', MAZE_ARMED_AT + node, 255));
+            for (unsigned node = 0; node < nodes; node++)
+                for (unsigned port = 0; port < dimension; port++) {
+                    write_entry(MAZE_LINKS_AT, node, port, MAZE_CIRCUIT(node, port));
+                    write_entry(MAZE_RECEIVES_AT, node ^ 1u << port, port, MAZE_CIRCUIT(node, port));
+                }
+        } else {
+            for (unsigned i = 0; i < sends; i++) make_call(any_send(dimension));
+            if (one_in(2)) make_call(on_circuit('C', dimension));
+        }
+        for (unsigned i = 0; i < 3; i++) make_call(any_book());
+        make_call(plain('K', 0, 0));
+        if (last_number != MAZE_ACCEPTED) return;
+        traced_alike(dimension);
+        for (unsigned i = 0; i < 12; i++) make_call(any_lookup());
+        for (unsigned i = 0; i < 6 && last_circuits > 0; i++) {
+            unsigned place = below(MAZE_BOOK_LINE_BYTES * (unsigned)last_circuits), old = now.index[1][place];
+            make_call(plain('W', place, one_in(2) ? old + 1 : one_in(2) ? old - 1 : below(256)));
+            if (now.index[1][place] == old) continue;
+            seen.damaged_books++;
+            for (unsigned k = 0; k < 2; k++) {
+                struct call call = any_lookup();
+                call.argument[1] = (uint16_t)last_circuits, call.argument[2] = (uint16_t)last_hops, call.ports_len = PORTS, call.index_len = INDEX;
+                make_call(call);
+                if (k == 1) seen.damaged_formed += last_number != MAZE_BAD_BOOK;
+            }
+            if (one_in(3)) make_call(plain('W', place, old));
+        }
+        for (unsigned i = 0; i < 6; i++) lay_book(one_in(3) ? NO_FAULT : 1 + below(FAULTS - 1));
+    }
+}
+
 static const struct {
     const char *name;
     void (*run)(unsigned);
 } kinds[] = {
     {"mixed", mixed},     {"refusals", refusals},   {"filled", filled}, {"thinned", thinned},     {"walled", walled},
     {"damaged", damaged}, {"rewritten", rewritten}, {"laid", laid},     {"contended", contended}, {"stopped", stopped},
-    {"together", together},
+    {"together", together}, {"booked", booked},
 };
 
 static void print_seen(void) {
     printf("calls compared: %lu; the numbers that each answered, and how often:\n", seen.calls);
-    for (int i = 0; letters[i] != 'P'; i++) {
+    for (int i = 0; letters[i] != 'W'; i++) {
         printf("%c:", letters[i]);
         for (int number = 0; number < NUMBERS; number++)
             if (seen.answers[i][number]) printf("  %d: %lu", number, seen.answers[i][number]);
@@ -762,7 +965,14 @@ static void print_seen(void) {
            seen.passed_over, seen.armed_again, seen.armed_held, seen.disarmed_again);
     printf("jobs of several sends accepted: %lu, of 64: %lu, of none: %lu; of several refused at the first: %lu, at the last: %lu, between: %lu\n",
            seen.job_several, seen.job_long, seen.job_empty, seen.job_first, seen.job_last, seen.job_middle);
-    printf("rejected after 1,000 scouts or more: %lu; after 10,000 or more: %lu; most scouts of a send: %lu\n", seen.rejected_1000,
+    printf("books of no circuit: %lu; of several: %lu; of more than 256: %lu; of 2,048 hops: %lu; in buffers that just hold them: %lu; ports short: %lu; index short: %lu\n",
+           seen.book_empty, seen.book_several, seen.book_long, seen.book_whole, seen.book_exact, seen.ports_short, seen.index_short);
+    printf("circuit numbers above 255 in them: %lu; offsets: %lu; lookups of the first of several: %lu; of the last: %lu; that gave a trace's ports: %lu\n", seen.number_wide,
+           seen.offset_wide, seen.looked_first, seen.looked_last, seen.traced_alike);
+    printf("books with a byte of the index changed: %lu, still well formed: %lu; lookups in books written line by line: %lu\n25 of those with", seen.damaged_books,
+           seen.damaged_formed, seen.laid_books);
+    for (int fault = 1; fault < FAULTS; fault++) printf("%s %s: %lu", fault > 1 ? ";" : "", fault_names[fault], seen.fault[fault]);
+    printf("\nrejected after 1,000 scouts or more: %lu; after 10,000 or more: %lu; most scouts of a send: %lu\n", seen.rejected_1000,
            seen.rejected_10000, seen.most_scouts);
     printf("opens with nine tenths of the links held: %lu, accepted: %lu; with all held: %lu; with all receive channels held: %lu\n",
            seen.nearly_full, seen.nearly_full_accepted, seen.full, seen.all_received);
@@ -783,6 +993,7 @@ int main(int count, char **arguments) {
                 uint64_t own = seed * 1000000007u + stream * 1009 + kind * 16 + dimension;
                 random_state = own;
                 calls = jobs = 0;
+                last_circuits = last_hops = 0;
                 start(&now);
                 make_call(plain('F', dimension, 0));
                 kinds[kind].run(dimension);
@@ -863,6 +1074,39 @@ int main(int count, char **arguments) {
             {"a job that is route rejected", seen.answers[letter_place('J')][MAZE_ROUTE_REJECTED]},
             {"a job that is receive rejected", seen.answers[letter_place('J')][MAZE_RECEIVE_REJECTED]},
             {"a job with a send that no closing helps", seen.answers[letter_place('J')][MAZE_NO_ROUTE]},
+            {"a book of no circuit", seen.book_empty},
+            {"a book of several circuits", seen.book_several},
+            {"a book of more than 256 circuits", seen.book_long},
+            {"a book of 2,048 hops", seen.book_whole},
+            {"a book in buffers that just hold it", seen.book_exact},
+            {"a book with short ports alone", seen.ports_short},
+            {"a book with a short index alone", seen.index_short},
+            {"a circuit number above 255 in a book", seen.number_wide},
+            {"an offset above 255 in a book", seen.offset_wide},
+            {"a book of a table that is not sound", seen.answers[letter_place('K')][MAZE_NOT_SOUND]},
+            {"a book of a table of a wrong length", seen.answers[letter_place('K')][MAZE_BAD_LENGTH]},
+            {"a lookup of the first circuit", seen.looked_first},
+            {"a lookup of the last circuit", seen.looked_last},
+            {"a lookup that gave a trace's ports", seen.traced_alike},
+            {"a lookup of a circuit that is not there", seen.answers[letter_place('L')][MAZE_NO_CIRCUIT]},
+            {"a lookup of one that is not there, in a short buffer", seen.looked_absent_short},
+            {"a lookup in a short buffer", seen.answers[letter_place('L')][MAZE_BUFFER_SHORT]},
+            {"a lookup in a book that is not well formed", seen.answers[letter_place('L')][MAZE_BAD_BOOK]},
+            {"a book with a byte changed, still well formed", seen.damaged_formed},
+            {"a book with a byte changed, not well formed", seen.damaged_books - seen.damaged_formed},
+            {"a book written line by line, well formed", seen.laid_books},
+            {fault_names[NUMBER_ZERO], seen.fault[NUMBER_ZERO]},
+            {fault_names[NUMBER_LARGE], seen.fault[NUMBER_LARGE]},
+            {fault_names[NUMBERS_EQUAL], seen.fault[NUMBERS_EQUAL]},
+            {fault_names[NUMBERS_FALL], seen.fault[NUMBERS_FALL]},
+            {fault_names[LENGTH_ZERO], seen.fault[LENGTH_ZERO]},
+            {fault_names[LENGTH_TEN], seen.fault[LENGTH_TEN]},
+            {fault_names[GAP], seen.fault[GAP]},
+            {fault_names[OVERLAP], seen.fault[OVERLAP]},
+            {fault_names[HOPS_SHORT], seen.fault[HOPS_SHORT]},
+            {fault_names[HOPS_PAST], seen.fault[HOPS_PAST]},
+            {fault_names[PORTS_SHORT], seen.fault[PORTS_SHORT]},
+            {fault_names[INDEX_SHORT], seen.fault[INDEX_SHORT]},
             {"a wrong length", seen.wrong_length},
             {"a short buffer", seen.short_buffer},
         };

@@ -5,7 +5,8 @@
  *   them are free, takes the first of the free paths by comparing paths as document 01 words it, and counts.
  * - A helix path is looked for in such a list, as the one path each of whose later hops is by the first uphill port: no uphill port is tried before it.
  * - Whether waiting helps is looked up in such lists once more, with every circuit taken out of the record.
- * - Soundness searches all the permitted paths that the links of a circuit allow, for one that uses them all. */
+ * - Soundness searches all the permitted paths that the links of a circuit allow, for one that uses them all.
+ * - A book is gathered apart, from the path of each open circuit, and copied at the end. A lookup writes down to which circuit each place of the ports belongs. */
 #include "reference.h"
 
 #include <stdlib.h>
@@ -531,5 +532,75 @@ maze_traced ref_trace(const uint8_t *table, size_t table_len, uint16_t node, uin
         answer.hops = path.hops;
     }
     answer.number = (uint16_t)call.number;
+    return answer;
+}
+
+/* Request (e). Every circuit number that the cube has is asked for; what its path is, a trace says. */
+maze_booked ref_book(const uint8_t *table, size_t table_len, uint8_t *ports, size_t ports_len, uint8_t *index, size_t index_len) {
+    static uint8_t all_ports[NODES * SLOTS], lines[6 * NODES * SLOTS]; /* no more links, and no more circuits */
+    maze_booked answer = {0, 0, 0};
+    struct call call;
+    unsigned circuits = 0, hops = 0;
+    uint8_t *line = lines;
+    begin(&call, table, table_len);
+    for (unsigned node = 0; call.number == MAZE_ACCEPTED && node < power(call.cube.dimension); node++)
+        for (unsigned channel = 0; channel < SLOTS; channel++) {
+            unsigned circuit = 8 * node + channel + 1;
+            struct path path;
+            if (!is_open(&call.cube, circuit)) continue;
+            path = path_of(&call.cube, node, circuit);
+            line = put(put(put(line, circuit, 2), hops, 2), path.hops, 2);
+            for (unsigned hop = 0; hop < path.hops; hop++) all_ports[hops++] = path.port[hop];
+            circuits++;
+        }
+    test(&call, hops > ports_len || 6 * circuits > index_len, MAZE_BOOK_SHORT);
+    if (call.number == MAZE_ACCEPTED) {
+        for (unsigned i = 0; i < hops; i++) ports[i] = all_ports[i];
+        for (unsigned i = 0; i < 6 * circuits; i++) index[i] = lines[i];
+        answer.circuits = (uint16_t)circuits;
+        answer.hops = (uint16_t)hops;
+    }
+    answer.number = (uint16_t)call.number;
+    return answer;
+}
+
+/* To which circuit each place of the ports of a book belongs. Answers whether the book is well formed: the numbers rise within 1 to 2,048, so do the offsets, each
+ * length is 1 to 9, each pair ends within the hops, and each place below the count of hops belongs to one circuit exactly. */
+static int read_book(unsigned *owner, size_t ports_len, const uint8_t *index, size_t index_len, unsigned circuits, unsigned hops) {
+    unsigned last_number = 0, last_offset = 0;
+    if (hops > ports_len || 6ul * circuits > index_len) return 0;
+    for (unsigned place = 0; place < hops; place++) owner[place] = 0;
+    for (unsigned line = 0; line < circuits; line++) {
+        unsigned number, offset, length;
+        index = take(take(take(index, &number, 2), &offset, 2), &length, 2);
+        if (number <= last_number || number > 2048 || length == 0 || length > 9) return 0;
+        if ((line > 0 && offset <= last_offset) || offset + length > hops) return 0;
+        for (unsigned place = offset; place < offset + length; place++) {
+            if (owner[place] != 0) return 0;
+            owner[place] = number;
+        }
+        last_number = number;
+        last_offset = offset;
+    }
+    for (unsigned place = 0; place < hops; place++)
+        if (owner[place] == 0) return 0;
+    return 1;
+}
+
+maze_traced ref_book_lookup(const uint8_t *ports, size_t ports_len, const uint8_t *index, size_t index_len, uint16_t circuits, uint16_t hops, uint16_t circuit,
+                            uint8_t *buffer, size_t buffer_len) {
+    static unsigned owner[65536];
+    maze_traced answer = {0, 0};
+    unsigned found = 0;
+    if (!read_book(owner, ports_len, index, index_len, circuits, hops)) {
+        answer.number = MAZE_BAD_BOOK;
+        return answer;
+    }
+    for (unsigned place = 0; place < hops; place++) found += owner[place] == circuit;
+    if (found == 0) answer.number = MAZE_NO_CIRCUIT;
+    else if (buffer_len < 9) answer.number = MAZE_BUFFER_SHORT;
+    else
+        for (unsigned place = 0; place < hops; place++)
+            if (owner[place] == circuit) buffer[answer.hops++] = ports[place];
     return answer;
 }

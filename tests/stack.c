@@ -30,6 +30,15 @@ static void open_all(void) {
 }
 static void close_one(void) { answer = maze_close(table, sizeof table, 0, 0); }
 static void trace(void) { answer = maze_trace(table, sizeof table, 0, 0, ports, sizeof ports).number; }
+static uint8_t book_ports[MAZE_CIRCUITS_LARGEST], book_index[MAZE_BOOK_LINE_BYTES * MAZE_CIRCUITS_LARGEST];
+static maze_booked booked;
+static void book(void) {
+    booked = maze_book(table, sizeof table, book_ports, sizeof book_ports, book_index, sizeof book_index);
+    answer = booked.number;
+}
+static void lookup(void) {
+    answer = maze_book_lookup(book_ports, sizeof book_ports, book_index, sizeof book_index, booked.circuits, booked.hops, 1, ports, sizeof ports).number;
+}
 static void word_read(void) { answer = maze_word_read(2437).number; }
 static void word_write(void) { answer = maze_word_write(6, 5).number; }
 static void arbitrate(void) { answer = maze_arbitrate(&arbiter, 0x3ffffffu).number; }
@@ -108,6 +117,9 @@ int main(void) {
     make();
     maze_arm(table, sizeof table, 254, 0);
     maze_open(table, sizeof table, 0, 0, 254, MAZE_TYPE_MAZE, 1);
+    holds("maze_book", taken_by(book, MAZE_ACCEPTED, "maze_book"), OTHER_BYTES);
+    expect(booked.circuits == 1 && booked.hops == 9, "a book of nine hops", booked.circuits, booked.hops);
+    holds("maze_book_lookup", taken_by(lookup, MAZE_ACCEPTED, "maze_book_lookup"), OTHER_BYTES);
     holds("maze_trace", taken_by(trace, MAZE_ACCEPTED, "maze_trace"), OTHER_BYTES);
     expect(bytes_of(close_one) - bytes_of(nothing) < OTHER_BYTES && answer == MAZE_ACCEPTED, "maze_close", answer, 0);
     return verdict();

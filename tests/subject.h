@@ -25,6 +25,8 @@
 #define maze_open_all base_open_all
 #define maze_close base_close
 #define maze_trace base_trace
+#define maze_book base_book
+#define maze_book_lookup base_book_lookup
 #endif
 
 #ifdef SUBJECT_REFERENCE
@@ -38,6 +40,8 @@
 #define maze_open_all ref_open_all
 #define maze_close ref_close
 #define maze_trace ref_trace
+#define maze_book ref_book
+#define maze_book_lookup ref_book_lookup
 #endif
 
 #endif

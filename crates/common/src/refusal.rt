@@ -54,6 +54,11 @@ pub const CHANNEL_HELD: u16 = 21;
 // Open, after the search: beside a route rejection, where waiting does not help.
 pub const NO_ROUTE: u16 = 22;
 
+// A book of circuits (document 02): a buffer cannot hold its part; a book that is read is not well formed.
+pub const BOOK_SHORT: u16 = 23;
+
+pub const BOOK: u16 = 25;
+
 // A job (document 02): a length that no list of sends has.
 pub const SEND_LIST: u16 = 28;
 

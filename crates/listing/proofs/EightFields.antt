@@ -11,7 +11,7 @@ use lib.ListN.{length, length-map}
 use borrow.Author.Needs.{needs}
 use borrow.Author.Tests.{le-ltb}
 use Rattle.common.specs.Lists.{from}
-use Rattle.ownership.specs.Calls.{Call, making, blocking, unblocking, opening, closing, tracing, arming, disarming, opening-all, CallResult, After}
+use Rattle.ownership.specs.Calls.{Call, making, blocking, unblocking, opening, closing, tracing, arming, disarming, opening-all, booking, CallResult, After}
 use Rattle.text.specs.Text.{newline, space}
 use Rattle.text.specs.Lines.{lines, cut, fields}
 use Rattle.text.specs.Row.{Field, nothing, shows, letter, path, fieldBytes, Row, inOrder, spaced, ended, rowText, rowsText}
@@ -59,6 +59,7 @@ above-eight n (tracing s c buffer) x way = (a-number _, (a-dash, (a-number _, (a
 above-eight n (arming m k) x way = (a-number _, (a-letter _ (lit< tt), (a-number _, (a-number _, (a-number _, (a-dash, (a-dash, (a-dash, tt))))))))
 above-eight n (disarming m k) x way = (a-number _, (a-letter _ (lit< tt), (a-number _, (a-number _, (a-number _, (a-dash, (a-dash, (a-dash, tt))))))))
 above-eight n (opening-all sends) x way = (a-number _, (a-dash, (a-number _, (a-dash, (a-dash, (a-dash, (a-dash, (a-dash, tt))))))))
+above-eight n (booking ports index) x way = (a-number _, (a-dash, (a-number _, (a-dash, (a-dash, (a-dash, (a-dash, (a-dash, tt))))))))
 
 above-unreadable : (n : ℕ) → AllAbove space (eight (unreadable n))
 unfolding AllAbove inOrder unreadable
@@ -97,6 +98,7 @@ line-shown n (tracing s c buffer) x way = (refl, refl)
 line-shown n (arming m k) x way = (refl, refl)
 line-shown n (disarming m k) x way = (refl, refl)
 line-shown n (opening-all sends) x way = (refl, refl)
+line-shown n (booking ports index) x way = (refl, refl)
 
 module _ {S : Type 0} (makes : S → Call → After S) where
   above-row : (s : S) (n : ℕ) (a : Option Call) → AllAbove space (eight (rowFor makes s n a))

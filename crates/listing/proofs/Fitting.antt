@@ -21,7 +21,7 @@ use Rattle.table.specs.View.{view, shapeOf, fresh}
 use Rattle.circuit_path.specs.PathOf.{pathOf}
 use Rattle.circuit_path.specs.Traced.{tracedInto}
 use Rattle.circuit_path.proofs.CircuitSound.{path-is}
-use Rattle.ownership.specs.Calls.{Call, making, blocking, unblocking, opening, closing, tracing, arming, disarming, opening-all, CallResult, hopsOf, receiveOf, scoutsOf, bufferOf, carriesScouts, resultOf, After}
+use Rattle.ownership.specs.Calls.{Call, making, blocking, unblocking, opening, closing, tracing, arming, disarming, opening-all, booking, CallResult, hopsOf, receiveOf, scoutsOf, bufferOf, carriesScouts, resultOf, After}
 use Rattle.ownership.specs.OnTable.{factsOf, stoppedAt, tableStep}
 use Rattle.ownership.specs.Allowed.{Allowed}
 use Rattle.ownership.proofs.Allowed.{allowed}
@@ -77,6 +77,7 @@ ArgumentsFit (tracing s c buffer) = Unit
 ArgumentsFit (arming n k) = (n < 65536) × (k < 65536)
 ArgumentsFit (disarming n k) = (n < 65536) × (k < 65536)
 ArgumentsFit (opening-all sends) = Unit
+ArgumentsFit (booking ports index) = Unit
 
 given-letter : (x : ℕ) (ns : List ℕ) → Small ns → IfRead ArgumentsFit (byLetter x ns)
 unfolding byLetter
@@ -188,6 +189,7 @@ module _ (b : List ℕ) (n : ℕ) (small : n < 65536) where
   call-length (disarming m k) g =
       rw row-length (omega (arith, five-digits n small, answer-digits (disarming m k), five-digits m (g .0), five-digits k (g .1)))
   call-length (opening-all sends) g = rw row-length (omega (arith, five-digits n small, answer-digits (opening-all sends)))
+  call-length (booking ports index) g = rw row-length (omega (arith, five-digits n small, answer-digits (booking ports index)))
 
   unreadable-length : length (rowText (unreadable n)) ≤ 24
   unfolding unreadable fieldBytes

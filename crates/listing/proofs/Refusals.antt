@@ -15,7 +15,7 @@ use Rattle.paths.specs.Send.{Outcome, acknowledged, route-rejected, receive-rej
 use Rattle.table.specs.View.{View}
 use Rattle.answers.specs.SendOnTable.{sendIn}
 use Rattle.soundness.specs.TableTests.{tableTests}
-use Rattle.ownership.specs.Calls.{Call, making, blocking, unblocking, opening, closing, tracing, arming, disarming, opening-all, openingOf, answered, carriesScouts, callTests, resultOf, noJob, singleOpen, After}
+use Rattle.ownership.specs.Calls.{Call, making, blocking, unblocking, opening, closing, tracing, arming, disarming, opening-all, booking, openingOf, answered, carriesScouts, callTests, resultOf, noJob, singleOpen, After}
 use Rattle.ownership.specs.Sends.{Send, sendsIn}
 use Rattle.ownership.specs.TableFacts.{factsWith, opened, jobIn}
 use Rattle.ownership.proofs.InTurn.{turn-number}
@@ -76,6 +76,7 @@ scouts-row makes state line (tracing s c buffer) = ((λ p. absurd p), (λ p. p .
 scouts-row makes state line (arming n k) = ((λ p. absurd p), (λ p. p .0))
 scouts-row makes state line (disarming n k) = ((λ p. absurd p), (λ p. p .0))
 scouts-row makes state line (opening-all sends) = ((λ p. absurd p), (λ p. p .0))
+scouts-row makes state line (booking ports index) = ((λ p. absurd p), (λ p. p .0))
 
 -- No call answers 20: only a line that cannot be read does. And every answer of a call has at most two digits. Both are one test of a number,
 abbrev isAnswer : ℕ → Bool
@@ -103,6 +104,7 @@ stopped-by b (tracing s c buffer) = search (other, nil, needs) depth 12
 stopped-by b (arming n k) = search (other, nil, needs) depth 12
 stopped-by b (disarming n k) = search (other, nil, needs) depth 12
 stopped-by b (opening-all sends) = search (other, nil, needs) depth 12
+stopped-by b (booking ports index) = search (other, nil, needs) depth 12
 
 -- and what a call answers that none of them stops
 sent-answer : (helps : Bool) (o : Outcome) (n : ℕ) → isAnswer (answered helps o n .number) ≡ true
@@ -136,6 +138,7 @@ result-answer v (tracing s c buffer) = refl
 result-answer v (arming n k) = refl
 result-answer v (disarming n k) = refl
 result-answer v (opening-all sends) = job-answer v (sendsIn sends)
+result-answer v (booking ports index) = refl
 
 call-answer : (b : List ℕ) (a : Call) → isAnswer (tableStep b a .result .number) ≡ true
 call-answer b a =

@@ -2,7 +2,7 @@
 -- Assumes nothing.
 use mathlib.Core.Path.{_≡_}
 use mathlib.Core.Logic.{_⊎_}
-use Rattle.ownership.specs.Calls.{Call, making, blocking, unblocking, opening, closing, tracing, arming, disarming, opening-all, CallResult}
+use Rattle.ownership.specs.Calls.{Call, making, blocking, unblocking, opening, closing, tracing, arming, disarming, opening-all, booking, CallResult}
 use Rattle.text.specs.Row.{Field, nothing, shows, letter, path}
 
 -- a field that shows a number
@@ -23,6 +23,7 @@ IsOpen (tracing s c buffer) = ⊥
 IsOpen (arming n k) = ⊥
 IsOpen (disarming n k) = ⊥
 IsOpen (opening-all sends) = ⊥
+IsOpen (booking ports index) = ⊥
 
 -- "S answered 0, 10 or 11", and 22 of document 02, (c), "carrying and printing the same scouts"
 abbrev pub WasSent : Call → CallResult → Type 0

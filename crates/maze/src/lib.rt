@@ -3,14 +3,17 @@ ghost use mathlib.Core.Path.{_≡_};
 ghost use mathlib.Core.List.{[], _∷_};
 ghost use Rattle.arbiter.specs.Arbiter.{arbitrated, choice};
 ghost use Rattle.command_word.specs.Word.{readWord, writeWord};
-ghost use Rattle.ownership.specs.Calls.{making, blocking, unblocking, opening, closing, tracing, arming, disarming, opening-all};
+ghost use Rattle.ownership.specs.Calls.{making, blocking, unblocking, opening, closing, tracing, arming, disarming, opening-all, booking};
+ghost use Rattle.book.specs.Lookup.{lookedUp};
 ghost use Rattle.ownership.specs.OnTable.{tableStep, done};
 ghost use Rattle.receiver.specs.Receive.{dataPacket, commandWord, started, received, overshoot};
 use arbiter::Arbiter;
 use arbiter::Served;
+use booking::Booked;
 use command_word::CommandWord;
 use command_word::WordRead;
 use command_word::WordWritten;
+use cube::Circuit;
 use cube::Node;
 use cube::Port;
 use job::OpenedAll;
@@ -87,6 +90,32 @@ pub extern "C" fn maze_trace(table: &[u8], node: u16, channel: u16, buffer: &mut
     ensures { λ r. ⌜ done (now (table .exit)) (r .number) (r .hops ∷ []) (now (buffer .exit) ∷ []) ≡ tableStep (now (table .entry)) (tracing node channel (now (buffer .entry))) ⌝ }
 {
     router::trace(table, Node(node), channel, buffer)
+}
+
+#[no_mangle]
+pub extern "C" fn maze_book(table: &[u8], ports: &mut [u8], index: &mut [u8]) -> Booked
+    ensures { λ r. ⌜ done (now (table .exit)) (r .number) (r .circuits ∷ r .hops ∷ []) (now (ports .exit) ∷ now (index .exit) ∷ []) ≡ tableStep (now (table .entry)) (booking (now (ports .entry)) (now (index .entry))) ⌝ }
+{
+    booking::book(table, ports, index)
+}
+
+#[no_mangle]
+pub extern "C" fn maze_book_lookup(
+    ports: &[u8],
+    index: &[u8],
+    circuits: u16,
+    hops: u16,
+    circuit: u16,
+    buffer: &mut [u8],
+) -> Traced
+    ensures { λ r. ⌜ (record { number = r .number; hops = r .hops; buffer = now (buffer .exit) } ≡ lookedUp (now (ports .entry)) (now (index .entry)) circuits hops circuit (now (buffer .entry)))
+        × (now (ports .exit) ≡ now (ports .entry)) × (now (index .exit) ≡ now (index .entry)) ⌝ }
+{
+    let found = book::lookup(ports, index, circuits, hops, Circuit(circuit), buffer);
+    Traced {
+        number: found.number,
+        hops: found.hops,
+    }
 }
 
 #[no_mangle]

@@ -26,6 +26,8 @@ pub fn names() {
     print::named(b"refusal: unreadable line", refusal::UNREADABLE_LINE);
     print::named(b"refusal: channel held", refusal::CHANNEL_HELD);
     print::named(b"refusal: no route", refusal::NO_ROUTE);
+    print::named(b"refusal: book short", refusal::BOOK_SHORT);
+    print::named(b"refusal: book", refusal::BOOK);
     print::named(b"refusal: send list", refusal::SEND_LIST);
     print::named(b"refusal: channel stopped", refusal::CHANNEL_STOPPED);
     print::named(b"refusal: requester", refusal::REQUESTER);

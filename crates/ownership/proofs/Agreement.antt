@@ -22,7 +22,9 @@ use Rattle.soundness.specs.TableTests.{tableTests}
 use Rattle.table.specs.Encode.{encode}
 use Rattle.table.proofs.Encode.{encode-view}
 use Rattle.table.proofs.Encoded.{encode-bytes, view-encode}
-use Rattle.ownership.specs.Calls.{Call, making, blocking, unblocking, opening, closing, tracing, arming, disarming, opening-all, CallResult, refusedWith, answered, callTests, resultOf, Job}
+use Rattle.book.specs.Book.{BookCircuit, portBytes, indexBytes, hopCount}
+use Rattle.book.specs.BookOf.{bookOf}
+use Rattle.ownership.specs.Calls.{Call, making, blocking, unblocking, opening, closing, tracing, arming, disarming, opening-all, booking, CallResult, refusedWith, answered, callTests, resultOf, Job}
 use Rattle.ownership.specs.Sends.{sendsIn, JobResult}
 use Rattle.ownership.specs.TableFacts.{jobIn}
 use Rattle.ownership.specs.Update.{updated}
@@ -39,7 +41,9 @@ use Rattle.ownership.proofs.Range.{sound-fits}
 use Rattle.ownership.proofs.Refused.{refused-within}
 use Rattle.ownership.proofs.Sameness.{send-same, waiting-same}
 use Rattle.ownership.proofs.CircuitValid.{armed-inside, valid-sound}
-use Rattle.ownership.proofs.Stopped.{path-listed, stopped-same}
+use Rattle.ownership.proofs.BookSame.{book-same}
+use Rattle.ownership.proofs.Stopped.{stopped-same}
+use Rattle.ownership.proofs.OpenSame.{path-listed}
 use Rattle.ownership.proofs.ValidAfter.{made-valid, applied-valid}
 use Rattle.ownership.proofs.Applied.{made-view, job-same, applied-view}
 use Rattle.ownership.proofs.Steps.{table-step, history-step}
@@ -90,6 +94,9 @@ module _ (b : List ℕ) (h : History) (k : Represents b h) where
   results-alike (opening-all sends) e =
       ap (λ (j : JobResult). record { number = j .number; values = j .sends ∷ []; buffers = sends ∷ [] })
       (ap (λ u. jobIn u (sendsIn sends) .result) (k .shows) ∙ ap (λ (j : Job View). j .result) (job-same h (k .valid) (sendsIn sends)))
+  results-alike (booking ports index) e =
+      ap (λ (xs : List BookCircuit). record { number = 0; values = length xs ∷ hopCount xs ∷ []; buffers = tracedInto (portBytes xs) ports ∷ tracedInto (indexBytes xs) index ∷ [] })
+      (ap bookOf (k .shows) ∙ book-same h (k .valid))
   results-alike (tracing s c buffer) e = ap (λ (w : Path). record { number = 0; values = length w ∷ []; buffers = tracedInto w buffer ∷ [] }) path-alike
     where
       path-alike : pathOf (view b) (circuitOf s c) ≡ listed (h .circuits) s c

@@ -4,7 +4,7 @@ use mathlib.Core.Path.{_≡_, ap, ap₂, _∙_}
 use mathlib.Core.Logic.{_⊎_, ⊎-elim, ⊎-map, _↔_}
 use mathlib.Core.Bool.{Bool, true, false, not, _&&_, _||_}
 use mathlib.Core.List.{[]}
-use Prim.Native.Nat.{ℕ, _^_, _%_, _≤_, _<_}
+use Prim.Native.Nat.{ℕ, _*_, _^_, _%_, _≤_, _<_}
 use native.Mathlib.Omega.{arith}
 use lib.Dec.{eqb, ltb, leb}
 use lib.ListN.{length}
@@ -13,7 +13,8 @@ use Rattle.cube.specs.Cube.{largestDimension, channels, NodeOf}
 use Rattle.common.specs.Tests.{refusal}
 use Rattle.common.proofs.Tests.{neither, either, or-left, or-right, passed, accepted, first-passed, both}
 use Rattle.cube.proofs.Bits.{high-has, no-bit-above}
-use Rattle.ownership.specs.Calls.{Call, making, blocking, unblocking, opening, closing, tracing, arming, disarming, opening-all, CallFacts, callTests}
+use Rattle.book.specs.Book.{hopCount}
+use Rattle.ownership.specs.Calls.{Call, making, blocking, unblocking, opening, closing, tracing, arming, disarming, opening-all, booking, CallFacts, callTests}
 use Rattle.ownership.specs.Allowed.{Allowed}
 use Rattle.ownership.specs.History.{History, heldOn, takenOn, factsOn, stoppedOn}
 
@@ -35,7 +36,7 @@ a-type y = one-of _ _ (equals y 0) (one-of _ _ (equals y 1) (one-of _ _ (equals 
 pub is-below : (n m : ℕ) → n < m → not (ltb n m) ≡ false
 is-below n m h = ap not (lt-ltb n m h)
 
-channel-is : (c : ℕ) → c < channels → ltb 7 c ≡ false
+pub channel-is : (c : ℕ) → c < channels → ltb 7 c ≡ false
 channel-is c h = le-ltb 7 c (omega (arith, h))
 
 pub channel-small : (c : ℕ) → ltb 7 c ≡ false → c < channels
@@ -87,6 +88,9 @@ allowed a (disarming n k) e =
 allowed a (opening-all sends) e =
     let x = neither (not (eqb (length sends % 10) 0)) _ (first-passed _ 28 _ (λ z. omega arith) e .0) in
     (eqb-true (length sends % 10) 0 (not-false _ (x .0)), ltb-false 640 (length sends) (x .1))
+allowed a (booking ports index) e =
+    let x = neither (ltb (length ports) (hopCount (a .book))) _ (first-passed _ 23 _ (λ z. omega arith) e .0) in
+    (ltb-false (length ports) (hopCount (a .book)) (x .0), ltb-false (length index) (6 * length (a .book)) (x .1))
 
 -- and where they are allowed, no test of the call stops it
 pub allowed-passes : (a : CallFacts) (x : Call) → Allowed a x → refusal (callTests a x) ≡ 0
@@ -103,6 +107,8 @@ allowed-passes a (tracing s c buffer) h =
 allowed-passes a (arming n k) h = passed 4 _ (is-below n _ (h .0)) ∙ passed 5 _ (channel-is k (h .1)) ∙ accepted
 allowed-passes a (disarming n k) h = passed 4 _ (is-below n _ (h .0)) ∙ passed 5 _ (channel-is k (h .1)) ∙ passed 21 _ (h .2) ∙ accepted
 allowed-passes a (opening-all sends) h = passed 28 _ (ap₂ _||_ (ap not (eq-eqb (length sends % 10) 0 (h .0))) (le-ltb 640 (length sends) (h .1))) ∙ accepted
+allowed-passes a (booking ports index) h =
+    passed 23 _ (ap₂ _||_ (le-ltb (length ports) (hopCount (a .book)) (h .0)) (le-ltb (length index) (6 * length (a .book)) (h .1))) ∙ accepted
 
 -- the same of a call that no test stops in the history
 pub allowed-on : (h : History) (x : Call) → stoppedOn h x ≡ 0 → Allowed (factsOn h) x

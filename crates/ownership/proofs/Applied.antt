@@ -12,7 +12,7 @@ use Rattle.paths.specs.Send.{Outcome, acknowledged, route-rejected, receive-rej
 use Rattle.paths.specs.CubeNetwork.{Shape, network}
 use Rattle.table.specs.View.{View, setAt, setOwner, setReceiver, setEnabled, setArmed, withoutCircuit, fresh}
 use Rattle.ownership.specs.Sends.{Send, sendsIn}
-use Rattle.ownership.specs.Calls.{Call, making, blocking, unblocking, opening, closing, tracing, arming, disarming, opening-all, openingOf, answered, callTests, resultOf, noJob, singleOpen, afterJob}
+use Rattle.ownership.specs.Calls.{Call, making, blocking, unblocking, opening, closing, tracing, arming, disarming, opening-all, booking, openingOf, answered, callTests, resultOf, noJob, singleOpen, afterJob}
 use Rattle.ownership.specs.TableFacts.{factsWith, opened, jobIn}
 use Rattle.ownership.specs.OnTable.{factsOf}
 use Rattle.ownership.specs.History.{Circuit, History, shapeOn, netOn, holdsLink, holdsReceive, belongs, enabledOn, armedOn, stoppedOn, sendOn, factsOn, factsOnWith, withOpened, openedOn, jobOn, applied, newHistory}
@@ -145,3 +145,4 @@ module _ (h : History) (valid : Valid h) where
         armed = λ m q. disarm-armed h n k m q i;
       }
   applied-view (opening-all sends) e = job-view h valid (sendsIn sends)
+  applied-view (booking ports index) e = refl

@@ -17,7 +17,7 @@ use Rattle.table.proofs.Encode.{encode-view}
 use Rattle.table.proofs.Encoded.{encode-shown}
 use Rattle.table.proofs.Views.{view-put-enabled, view-put-armed}
 use Rattle.answers.specs.SendAnswer.{bytesAfterSend}
-use Rattle.ownership.specs.Calls.{Call, making, blocking, unblocking, opening, closing, tracing, arming, disarming, opening-all, form, afterJob}
+use Rattle.ownership.specs.Calls.{Call, making, blocking, unblocking, opening, closing, tracing, arming, disarming, opening-all, booking, form, afterJob}
 use Rattle.ownership.specs.TableFacts.{jobIn}
 use Rattle.ownership.specs.Sends.{sendsIn}
 use Rattle.ownership.specs.Allowed.{Allowed}
@@ -54,6 +54,7 @@ writtenBy b (tracing s c buffer) = b
 writtenBy b (arming n k) = putArmed b n k true
 writtenBy b (disarming n k) = putArmed b n k false
 writtenBy b (opening-all sends) = encode (afterJob (view b) (jobIn (view b) (sendsIn sends)))
+writtenBy b (booking ports index) = b
 
 module _ (b : List ℕ) (small : AllBytes b) (a : Call) (e : stoppedAt b a ≡ 0) where
   bytes : Bytes b
@@ -80,6 +81,7 @@ module _ (b : List ℕ) (small : AllBytes b) (a : Call) (e : stoppedAt b a ≡ 0
       let m = most refl in
       armed-encoded b bytes n k false record { bytes = bytes .long; node = below-256 m (r .0); port = r .1 }
   encoded (opening-all sends) most r = refl
+  encoded (booking ports index) most r = sym (encode-view b (bytes .long) (bytes .small))
 
   -- A call that no test stops leaves what they write.
   pub written-bytes : tableStep b a .state ≡ writtenBy b a

@@ -9,7 +9,7 @@ use lib.Dec.{eqb}
 use borrow.Author.Tests.{eq-eqb, ne-eqb}
 use Rattle.common.proofs.Tests.{same?}
 use Rattle.ownership.specs.Sends.{Send, sendsIn}
-use Rattle.ownership.specs.Calls.{Call, making, blocking, unblocking, opening, closing, tracing, arming, disarming, opening-all, openingOf, callTests, resultOf, After, callOn, Job, inTurn, afterJob}
+use Rattle.ownership.specs.Calls.{Call, making, blocking, unblocking, opening, closing, tracing, arming, disarming, opening-all, booking, openingOf, callTests, resultOf, After, callOn, Job, inTurn, afterJob}
 use Rattle.ownership.specs.History.{History, factsOn, stoppedOn, jobOn, applied, historyStep}
 use Rattle.ownership.specs.Agrees.{historyAfter, historyResults, leaves, answers}
 use Rattle.ownership.specs.Closing.{Each, no-call, call-more}
@@ -31,6 +31,7 @@ single-or-job (closing s c) = inl (λ n. refl)
 single-or-job (tracing s c buffer) = inl (λ n. refl)
 single-or-job (arming m k) = inl (λ n. refl)
 single-or-job (disarming m k) = inl (λ n. refl)
+single-or-job (booking ports index) = inl (λ n. refl)
 single-or-job (opening-all sends) = inr (sends, refl)
 
 -- A job in the history is its single calls in turn.

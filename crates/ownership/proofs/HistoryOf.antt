@@ -26,10 +26,11 @@ use Rattle.circuit_path.proofs.CircuitSound.{path-is, sound-open}
 use Rattle.soundness.proofs.Soundness.{link-stands, receive-stands}
 use Rattle.paths.specs.CubeNetwork.{ports}
 use Rattle.circuit_path.specs.OpenCircuit.{isOpenIn}
+use Rattle.book.specs.BookOf.{openNumbers}
 use Rattle.ownership.specs.History.{Circuit, History, shapeOn, netOn, linksOf, holdsLink, holdsReceive, enabledOn, armedOn}
 use Rattle.ownership.specs.Invariant.{CircuitValid, Disjoint, Valid}
 use Rattle.ownership.specs.HistoryView.{numberOf, viewOf}
-use Rattle.ownership.specs.FromTable.{linksOut, circuitAt, openNumbers, historyOf}
+use Rattle.ownership.specs.FromTable.{linksOut, circuitAt, historyOf}
 use Rattle.ownership.proofs.Circuits.{numberFor, number-none, Once, number-at}
 use Rattle.ownership.proofs.CircuitValid.{holds-link, link-holds, holds-receive, receive-holds, links-once, receives-once}
 use Rattle.ownership.proofs.Enabled.{kept-link}

@@ -18,7 +18,7 @@ use Rattle.table.specs.Encode.{AllBytes}
 use Rattle.table.proofs.Encode.{encode-view}
 use Rattle.soundness.specs.TableTests.{tableTests}
 use Rattle.ownership.specs.Sends.{Send, sendAt, sendsIn, JobResult}
-use Rattle.ownership.specs.Calls.{Call, opening-all, openingOf, CallResult, refusedWith, callTests, resultOf, noJob, After, callOn, Job, oneMore, inTurn, singleOpen, afterJob}
+use Rattle.ownership.specs.Calls.{Call, opening-all, booking, openingOf, CallResult, refusedWith, callTests, resultOf, noJob, After, callOn, Job, oneMore, inTurn, singleOpen, afterJob}
 use Rattle.ownership.specs.TableFacts.{factsWith, opened, jobIn}
 use Rattle.ownership.specs.Update.{updated}
 use Rattle.ownership.specs.OnTable.{factsOf, stoppedAt, tableStep, opensOn, done}

@@ -4,6 +4,8 @@ pub mod Sameness
 pub mod InTurn
 pub mod Steps
 pub mod CircuitValid
+pub mod OpenSame
+pub mod BookSame
 pub mod Stopped
 pub mod Acknowledged
 pub mod Allowed
@@ -22,6 +24,7 @@ pub mod BytesAfter
 pub mod Refused
 pub mod Agreement
 pub mod OnSound
+pub mod BookLookup
 pub mod TypesOnTable
 pub mod HistoryOf
 pub mod FromTable

@@ -27,7 +27,7 @@ use Rattle.answers.specs.SendOnTable.{pass-answer, answerOfOutcome}
 use Rattle.answers.specs.SendAnswer.{sendAnswer, sentOnBytes, MaySend}
 use Rattle.answers.specs.SendSays.{SendSays}
 use Rattle.answers.proofs.SendSays.{demand-2}
-use Rattle.ownership.specs.Calls.{Call, making, blocking, unblocking, opening, closing, tracing, arming, disarming, opening-all, callTests, CallResult, hopsOf, receiveOf, scoutsOf, only, answered, resultOf}
+use Rattle.ownership.specs.Calls.{Call, making, blocking, unblocking, opening, closing, tracing, arming, disarming, opening-all, booking, callTests, CallResult, hopsOf, receiveOf, scoutsOf, only, answered, resultOf}
 use Rattle.ownership.specs.TableFacts.{openIn, takenIn}
 use Rattle.ownership.specs.OnTable.{factsOf, lentTests, stoppedAt, tableStep, done}
 use Rattle.ownership.specs.Allowed.{Allowed}
@@ -105,6 +105,7 @@ no-three b a = never-answered 3 (callTests (factsOf (view b)) a) (others a) (λ 
     others (arming n k) = avoiding 3 _ refl
     others (disarming n k) = avoiding 3 _ refl
     others (opening-all sends) = avoiding 3 _ refl
+    others (booking ports index) = avoiding 3 _ refl
 
 pub stopped-three : (b : List ℕ) (a : Call) → stoppedAt b a ≡ 3 → Sound (view b) → ⊥
 unfolding stoppedAt avoids

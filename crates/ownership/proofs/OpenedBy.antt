@@ -11,7 +11,7 @@ use borrow.Author.Tests.{not-true}
 use Rattle.common.proofs.Tests.{same?, clash}
 use Rattle.common.proofs.Lists.{keep-mem}
 use Rattle.paths.specs.Send.{Outcome, acknowledged, route-rejected, receive-rejected}
-use Rattle.ownership.specs.Calls.{Call, making, blocking, unblocking, opening, closing, tracing, arming, disarming, opening-all}
+use Rattle.ownership.specs.Calls.{Call, making, blocking, unblocking, opening, closing, tracing, arming, disarming, opening-all, booking}
 use Rattle.ownership.specs.History.{Circuit, History, belongs, stoppedOn, sendOn, withOpened, applied, historyStep}
 use Rattle.ownership.specs.Agrees.{historyAfter, historyResults, leaves, answers}
 use Rattle.ownership.specs.StillOpen.{countsAs, numbered, counted, Ends, Lasts, OpenedBy}
@@ -44,6 +44,7 @@ listed-or-new h (closing s c) single x m = inl (keep-mem _ (h .circuits) m .0)
 listed-or-new h (tracing s c buffer) single x m = inl m
 listed-or-new h (arming n k) single x m = inl m
 listed-or-new h (disarming n k) single x m = inl m
+listed-or-new h (booking ports index) single x m = inl m
 listed-or-new h (opening-all sends) single x m = let u : _≡_ {A = ℕ} 0 1 = cc (single 1) in absurd (omega arith)
 
 step : (h : History) (a : Call) → Single a → (x : Circuit) → x ∈ historyStep h a .state .circuits → (x ∈ h .circuits) ⊎ ((stoppedOn h a ≡ 0) × New h a x)
@@ -63,6 +64,7 @@ ended h (tracing s c buffer) x m z = z
 ended h (arming n k) x m z = z
 ended h (disarming n k) x m z = z
 ended h (opening-all sends) x m z = z
+ended h (booking ports index) x m z = z
 
 lasted : (h : History) (a : Call) (x : Circuit) → x ∈ historyStep h a .state .circuits → historyStep h a .result .number ≡ 0 → Ends (x .source) (x .channel) a → ⊥
 lasted h a x m e z = ended h a x (rw (history-step h a .accepted e) at m) z

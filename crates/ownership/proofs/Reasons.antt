@@ -4,7 +4,7 @@ use mathlib.Core.Path.{_≡_, refl, ap, sym}
 use mathlib.Core.Logic.{_⊎_, inl, inr, ⊎-elim, _≢_, _↔_}
 use mathlib.Core.Bool.{Bool, true, false, cond, not, _&&_, _||_, true≢false}
 use mathlib.Core.List.{List, [], _∷_}
-use Prim.Native.Nat.{ℕ, _^_, _%_, _≤_, _<_}
+use Prim.Native.Nat.{ℕ, _*_, _^_, _%_, _≤_, _<_}
 use native.Mathlib.Omega.{arith}
 use lib.Dec.{eqb, ltb, leb}
 use lib.ListN.{length}
@@ -15,11 +15,12 @@ use Rattle.common.proofs.Tests.{both, and, same?}
 use Rattle.cube.specs.Bits.{has}
 use Rattle.cube.proofs.Bits.{has-room, has-bit-above}
 use Rattle.ownership.proofs.Allowed.{one-of, equals}
-use Rattle.ownership.specs.Calls.{Call, making, blocking, unblocking, opening, closing, tracing, arming, disarming, opening-all, CallFacts, callTests}
+use Rattle.book.specs.Book.{BookCircuit, hopCount, lineLength}
+use Rattle.ownership.specs.Calls.{Call, making, blocking, unblocking, opening, closing, tracing, arming, disarming, opening-all, booking, CallFacts, callTests}
 use Rattle.ownership.specs.Reasons.{Reason, making-dimension, blocking-node, blocking-port, blocking-held, unblocking-node, unblocking-port}
 use Rattle.ownership.specs.Reasons.{opening-node, opening-channel, opening-type, opening-vector, opening-in-use}
 use Rattle.ownership.specs.Reasons.{closing-node, closing-channel, closing-none, tracing-node, tracing-channel, tracing-none, tracing-short}
-use Rattle.ownership.specs.Reasons.{arming-node, arming-channel, disarming-node, disarming-channel, disarming-held, job-length}
+use Rattle.ownership.specs.Reasons.{arming-node, arming-channel, disarming-node, disarming-channel, disarming-held, job-length, booking-short}
 
 -- Of any list of tests: where each test that applies has a reason, the number answered has one.
 data Explained (R : ℕ → Type 0) : List Test → Type 0 where
@@ -119,6 +120,10 @@ no-vector D v = one-of _ _ (equals v 0) (bit-above D v)
 no-list : (sends : List ℕ) → (not (eqb (length sends % 10) 0) || ltb 640 (length sends) ≡ true) ↔ ((length sends % 10 ≢ 0) ⊎ (640 < length sends))
 no-list sends = one-of _ _ (differs (length sends % 10) 0) (below 640 (length sends))
 
+-- a buffer that cannot hold its part of a book
+no-room : (xs : List BookCircuit) (ports index : List ℕ) → (ltb (length ports) (hopCount xs) || ltb (length index) (lineLength * length xs) ≡ true) ↔ ((length ports < hopCount xs) ⊎ (length index < 6 * length xs))
+no-room xs ports index = one-of _ _ (below (length ports) (hopCount xs)) (below (length index) (6 * length xs))
+
 module _ (a : CallFacts) where
   absent : (s t : ℕ) → (not (ltb s (2 ^ a .dimension)) || not (ltb t (2 ^ a .dimension)) ≡ true) ↔ ((2 ^ a .dimension ≤ s) ⊎ (2 ^ a .dimension ≤ t))
   absent s t = one-of _ _ (not-below s _) (not-below t _)
@@ -139,6 +144,7 @@ module _ (a : CallFacts) where
   explained (arming n k) = row (not-below n _) arming-node (row (below 7 k) arming-channel no-more)
   explained (disarming n k) = row (not-below n _) disarming-node (row (below 7 k) disarming-channel (row itself disarming-held no-more))
   explained (opening-all sends) = row (no-list sends) job-length no-more
+  explained (booking ports index) = row (no-room (a .book) ports index) booking-short no-more
 
   -- and where a reason holds its test applies
   reason-applies : (x : Call) {n : ℕ} → Reason a x n → applies n (callTests a x) ≡ true
@@ -167,6 +173,7 @@ module _ (a : CallFacts) where
   reason-applies (disarming n k) (disarming-channel h) = below 7 k .1 h
   reason-applies (disarming n k) (disarming-held h) = h
   reason-applies (opening-all sends) (job-length h) = no-list sends .1 h
+  reason-applies (booking ports index) (booking-short h) = no-room (a .book) ports index .1 h
 
   -- "Within one call the tests run in rising order of number."
   rising : (x : Call) → rise 0 (callTests a x) ≡ true
@@ -180,6 +187,7 @@ module _ (a : CallFacts) where
   rising (arming n k) = refl
   rising (disarming n k) = refl
   rising (opening-all sends) = refl
+  rising (booking ports index) = refl
 
   -- "A test that does not apply never refuses": the number answered has its reason.
   pub refused-for : (x : Call) → refusal (callTests a x) ≢ 0 → Reason a x (refusal (callTests a x))

@@ -15,7 +15,7 @@ use Rattle.table.specs.View.{View, view, receive, shapeOf}
 use Rattle.soundness.specs.Sound.{Sound}
 use Rattle.soundness.specs.TableTests.{tableTests}
 use Rattle.answers.specs.SendOnTable.{freeIn}
-use Rattle.ownership.specs.Calls.{Call, making, blocking, unblocking, opening, closing, tracing, arming, disarming, opening-all, openingOf, answered, callTests, resultOf, noJob, After, Job, singleOpen}
+use Rattle.ownership.specs.Calls.{Call, making, blocking, unblocking, opening, closing, tracing, arming, disarming, opening-all, booking, openingOf, answered, callTests, resultOf, noJob, After, Job, singleOpen}
 use Rattle.ownership.specs.Sends.{Send, sendsIn}
 use Rattle.ownership.specs.TableFacts.{factsWith, opened, jobIn}
 use Rattle.ownership.specs.History.{History, armedOn, factsOnWith, withOpened, openedOn, jobOn}
@@ -48,6 +48,7 @@ stopped-otherwise b (tracing s c buffer) = never-answered 11 _ (avoiding 11 _ re
 stopped-otherwise b (arming n k) = never-answered 11 _ (avoiding 11 _ refl) (λ z. omega arith)
 stopped-otherwise b (disarming n k) = never-answered 11 _ (avoiding 11 _ refl) (λ z. omega arith)
 stopped-otherwise b (opening-all sends) = never-answered 11 _ (avoiding 11 _ refl) (λ z. omega arith)
+stopped-otherwise b (booking ports index) = never-answered 11 _ (avoiding 11 _ refl) (λ z. omega arith)
 
 -- the outcome of which an open answers 11
 rejected : (helps : Bool) (o : Outcome) (n : ℕ) → answered helps o n .number ≡ 11 → o ≡ receive-rejected
@@ -131,6 +132,7 @@ passed-otherwise b armed (closing s c) z e = omega (arith, rw (table-step b (clo
 passed-otherwise b armed (tracing s c buffer) z e = omega (arith, rw (table-step b (tracing s c buffer) .result z) at e)
 passed-otherwise b armed (arming n k) z e = omega (arith, rw (table-step b (arming n k) .result z) at e)
 passed-otherwise b armed (disarming n k) z e = omega (arith, rw (table-step b (disarming n k) .result z) at e)
+passed-otherwise b armed (booking ports index) z e = omega (arith, rw (table-step b (booking ports index) .result z) at e)
 passed-otherwise b armed (opening-all sends) z e =
     let p = pass-tests b (none-stops-lent b (opening-all sends) refl z) in
     let h = historyOf (view b) in

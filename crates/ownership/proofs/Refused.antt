@@ -8,7 +8,7 @@ use lib.ListN.{replicate}
 use Rattle.common.proofs.Tests.{same?}
 use Rattle.paths.specs.Send.{Outcome, acknowledged, route-rejected, receive-rejected}
 use Rattle.table.specs.View.{view}
-use Rattle.ownership.specs.Calls.{Call, making, blocking, unblocking, opening, closing, tracing, arming, disarming, opening-all, form, lent}
+use Rattle.ownership.specs.Calls.{Call, making, blocking, unblocking, opening, closing, tracing, arming, disarming, opening-all, booking, form, lent}
 use Rattle.ownership.specs.Sends.{sendsIn}
 use Rattle.ownership.specs.Calls.{CallResult, scoutsOf, answered, CallFacts, resultOf}
 use Rattle.ownership.specs.OnTable.{factsOf, stoppedAt, tableStep}
@@ -40,6 +40,7 @@ result-refused f (closing s c) h = absurd (h refl)
 result-refused f (tracing s c buffer) h = absurd (h refl)
 result-refused f (arming n k) h = absurd (h refl)
 result-refused f (disarming n k) h = absurd (h refl)
+result-refused f (booking ports index) h = absurd (h refl)
 result-refused f (opening-all sends) h = (refl, inr (inr (sends, f .job (sendsIn sends) .sends, refl, refl)))
 
 module _ (b : List ℕ) (a : Call) (f : tableStep b a .result .number ≢ 0) where

@@ -6,7 +6,7 @@ use Prim.Native.Nat.{ℕ}
 use Rattle.common.specs.Tests.{Test}
 use Rattle.soundness.specs.TableTests.{tableTests}
 use Rattle.table.specs.View.{view}
-use Rattle.ownership.specs.Calls.{Call, making, blocking, unblocking, opening, closing, tracing, arming, disarming, opening-all, callTests}
+use Rattle.ownership.specs.Calls.{Call, making, blocking, unblocking, opening, closing, tracing, arming, disarming, opening-all, booking, callTests}
 use Rattle.ownership.specs.OnTable.{factsOf, lentTests}
 
 abbrev numbers : List ℕ → Call → List ℕ
@@ -49,3 +49,8 @@ module _ (b : List ℕ) where
   job-numbers : (sends : List ℕ) → numbers b (opening-all sends) ≡ 1 ∷ 2 ∷ 3 ∷ 28 ∷ []
   unfolding lentTests tableTests callTests
   job-numbers sends = refl
+
+  -- document 02, (e): 23, "after 3"
+  booking-numbers : (ports index : List ℕ) → numbers b (booking ports index) ≡ 1 ∷ 2 ∷ 3 ∷ 23 ∷ []
+  unfolding lentTests tableTests callTests
+  booking-numbers ports index = refl

@@ -16,7 +16,7 @@ use Rattle.table.specs.Encode.{encode, Bytes}
 use Rattle.table.proofs.Encode.{encode-view}
 use Rattle.table.proofs.Encoded.{encode-bytes, view-encode}
 use Rattle.soundness.proofs.Soundness.{fresh-sound}
-use Rattle.ownership.specs.Calls.{Call, making, blocking, unblocking, opening, closing, tracing, arming, disarming, opening-all, CallResult, answered, resultOf, afterJob}
+use Rattle.ownership.specs.Calls.{Call, making, blocking, unblocking, opening, closing, tracing, arming, disarming, opening-all, booking, CallResult, answered, resultOf, afterJob}
 use Rattle.ownership.specs.Allowed.{Allowed}
 use Rattle.ownership.specs.Update.{updated}
 use Rattle.answers.specs.SendOnTable.{viewAfterSend, waitingHelps, sendIn}
@@ -43,6 +43,7 @@ rejected-same v (tracing s c buffer) f = absurd (f refl)
 rejected-same v (arming n k) f = absurd (f refl)
 rejected-same v (disarming n k) f = absurd (f refl)
 rejected-same v (opening-all sends) f = unfold afterJob in rw (ne-eqb _ 0 f)
+rejected-same v (booking ports index) f = refl
 
 module _ (b : List ℕ) (bytes : Bytes b) (a : Call) where
   -- so a call that no test stops leaves the bytes that show the update, also where its search is rejected

@@ -13,7 +13,7 @@ use Rattle.common.specs.Lists.{any, keep}
 use Rattle.common.proofs.Tests.{same?, clash, is-false, both, and, either, or-left, or-right}
 use Rattle.common.proofs.Lists.{keep-mem, mem-keep, any-some, some-any}
 use Rattle.paths.specs.Send.{Outcome, acknowledged, route-rejected, receive-rejected}
-use Rattle.ownership.specs.Calls.{Call, making, blocking, unblocking, opening, closing, tracing, arming, disarming, opening-all, CallResult, answered, resultOf}
+use Rattle.ownership.specs.Calls.{Call, making, blocking, unblocking, opening, closing, tracing, arming, disarming, opening-all, booking, CallResult, answered, resultOf}
 use Rattle.ownership.specs.History.{Circuit, History, belongs, openOn, factsOn, stoppedOn, sendOn, withOpened, applied, historyStep, waitingOn, newHistory}
 use Rattle.ownership.specs.Agrees.{historyAfter, historyResults, leaves, answers}
 use Rattle.ownership.specs.StillOpen.{countsAs, numbered, Ends, Lasts, StillOpen}
@@ -110,6 +110,8 @@ module _ (s c : ℕ) where
       step-same h _ (arming m k) 0 refl (λ o. let u : _≡_ {A = ℕ} 0 1 = cc (o .3) in absurd (omega arith)) (λ z ends. absurd ends)
   step-accepted h (disarming m k) single e =
       step-same h _ (disarming m k) 0 refl (λ o. let u : _≡_ {A = ℕ} 0 1 = cc (o .3) in absurd (omega arith)) (λ z ends. absurd ends)
+  step-accepted h (booking ports index) single e =
+      step-same h h (booking ports index) 0 refl (λ o. let u : _≡_ {A = ℕ} 0 1 = cc (o .3) in absurd (omega arith)) (λ z ends. absurd ends)
   step-accepted h (opening-all sends) single e = let u : _≡_ {A = ℕ} 0 1 = cc (single 1) in absurd (omega arith)
 
   step-told : (h : History) (a : Call) → Single a → Step h (historyStep h a .state) a (historyStep h a .result .number)

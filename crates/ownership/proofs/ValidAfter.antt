@@ -18,7 +18,7 @@ use Rattle.paths.specs.CubeNetwork.{send}
 use Rattle.paths.proofs.Words.{free-link}
 use Rattle.table.specs.View.{setAt}
 use Rattle.ownership.specs.Sends.{Send, sendsIn}
-use Rattle.ownership.specs.Calls.{Call, making, blocking, unblocking, opening, closing, tracing, arming, disarming, opening-all, openingOf, callTests, noJob, singleOpen, afterJob}
+use Rattle.ownership.specs.Calls.{Call, making, blocking, unblocking, opening, closing, tracing, arming, disarming, opening-all, booking, openingOf, callTests, noJob, singleOpen, afterJob}
 use Rattle.ownership.specs.History.{Circuit, History, shapeOn, netOn, linksOf, holdsLink, holdsReceive, belongs, enabledOn, heldOn, freeOn, takenOn, openOn, armedOn, receiveOn, factsOn, factsOnWith, stoppedOn, sendOn, withBlocked, withCircuits, withArmed, withoutEntry, withOpened, openedOn, jobOn, applied, newHistory}
 use Rattle.ownership.specs.Invariant.{CircuitValid, Disjoint, Valid}
 use Rattle.ownership.proofs.Circuits.{parts-belong, belongs-number}
@@ -210,3 +210,4 @@ module _ (h : History) (valid : Valid h) where
       let other : x .target ≡ n → x .receive ≡ k → ⊥ = λ i j. clash (taken-receive h x m n k (sym i) (sym j)) (disarm-facts h n k e) in
       (s, disarm-armed h n k _ _ ∙ other-cleared (armedOn h) n k _ _ (s .armed) other)) (valid .apart)
   applied-valid (opening-all sends) e = job-valid h valid (sendsIn sends)
+  applied-valid (booking ports index) e = valid

@@ -25,13 +25,14 @@ use Rattle.soundness.specs.TableTests.{tableTests}
 use Rattle.answers.specs.SendOnTable.{stateIn, freeIn, holdLinks, viewAfterSend, sendIn}
 use Rattle.answers.specs.SendSays.{SomeRoute, CouldRoute, BlockedRoutes, Available}
 use Rattle.circuit_path.specs.OpenCircuit.{isOpenIn}
+use Rattle.book.specs.BookOf.{openNumbers}
 use Rattle.ownership.specs.Calls.{Call, opening, openingOf, callTests, noJob, singleOpen, afterJob}
 use Rattle.ownership.specs.Sends.{Send, sendsIn}
 use Rattle.ownership.specs.Update.{updated}
 use Rattle.ownership.specs.TableFacts.{openIn, takenIn, factsWith, opened, jobIn}
 use Rattle.ownership.specs.OnTable.{factsOf, lentTests, stoppedAt, tableStep}
 use Rattle.ownership.specs.Agrees.{tableAfter, leaves}
-use Rattle.ownership.specs.Closing.{Each, no-call, call-more, ClosesOrArms, closes, arms, RepairsNothing, a-block, an-open, a-close, a-trace, an-arming, a-disarming, a-job, NoLinkHeld}
+use Rattle.ownership.specs.Closing.{Each, no-call, call-more, ClosesOrArms, closes, arms, RepairsNothing, a-block, an-open, a-close, a-trace, an-arming, a-disarming, a-job, a-book, NoLinkHeld}
 use Rattle.ownership.specs.Allowed.{Allowed}
 use Rattle.ownership.proofs.Allowed.{allowed, allowed-passes}
 use Rattle.ownership.proofs.Stops.{none-stops, none-stops-lent, pass-tests, stopped-is}
@@ -41,7 +42,7 @@ use Rattle.ownership.proofs.OnSound.{open-answers}
 use Rattle.ownership.proofs.Agreement.{represents-step}
 use Rattle.ownership.proofs.FromTable.{sound-represents, keeps-sound, shows-update}
 use Rattle.ownership.proofs.Sameness.{held-same, taken-same}
-use Rattle.ownership.specs.FromTable.{openNumbers, circuitAt, historyOf}
+use Rattle.ownership.specs.FromTable.{circuitAt, historyOf}
 use Rattle.ownership.specs.History.{netOn, holdsLink, holdsReceive, heldOn, takenOn}
 
 -- two tables of one dimension with the same links enabled
@@ -193,11 +194,11 @@ not-off : (c x : Bool) → cond c false x ≡ true → x ≡ true
 not-off true x e = absurd (clash e refl)
 not-off false x e = e
 
-fewer-self : (v : View) → Fewer v v
-fewer-self v = record { dimension = refl; fewer = λ n p e. e }
-
 fewer-chain : (u v w : View) → Fewer u v → Fewer v w → Fewer u w
 fewer-chain u v w x y = record { dimension = x .dimension ∙ y .dimension; fewer = λ n p e. y .fewer n p (x .fewer n p e) }
+
+fewer-self : (v : View) → Fewer v v
+fewer-self v = record { dimension = refl; fewer = λ n p e. e }
 
 -- each send of a job holds links and enables none
 job-fewer : (v : View) (xs : List Send) → Fewer (afterJob v (jobIn v xs)) v
@@ -216,6 +217,7 @@ updated-fewer v _ a-close = record { dimension = refl; fewer = λ m q e. e }
 updated-fewer v _ a-trace = record { dimension = refl; fewer = λ m q e. e }
 updated-fewer v _ an-arming = record { dimension = refl; fewer = λ m q e. e }
 updated-fewer v _ a-disarming = record { dimension = refl; fewer = λ m q e. e }
+updated-fewer v _ a-book = fewer-self v
 updated-fewer v _ (a-job {sends}) = job-fewer v (sendsIn sends)
 
 -- "The shift retries sends that can't succeed until a link is repaired": answered 22, a send stays so, or is stopped by an earlier test, after any list of calls

@@ -4,10 +4,11 @@
 use mathlib.Core.Path.{_≡_}
 use mathlib.Core.Logic.{_⊎_, _≢_}
 use mathlib.Core.Bool.{true, false}
-use Prim.Native.Nat.{ℕ, _^_, _%_, _≤_, _<_}
+use Prim.Native.Nat.{ℕ, _*_, _^_, _%_, _≤_, _<_}
 use lib.ListN.{length}
 use Rattle.cube.specs.Bits.{has}
-use Rattle.ownership.specs.Calls.{Call, making, blocking, unblocking, opening, closing, tracing, arming, disarming, opening-all, CallFacts}
+use Rattle.book.specs.Book.{hopCount}
+use Rattle.ownership.specs.Calls.{Call, making, blocking, unblocking, opening, closing, tracing, arming, disarming, opening-all, booking, CallFacts}
 
 unfoldable pub Allowed : CallFacts → Call → Type 0
 Allowed a (making D) = (1 ≤ D) × (D ≤ 8)
@@ -21,3 +22,4 @@ Allowed a (tracing s c buffer) = (s < 2 ^ a .dimension) × (c < 8) × (a .isOpen
 Allowed a (arming n k) = (n < 2 ^ a .dimension) × (k < 8)
 Allowed a (disarming n k) = (n < 2 ^ a .dimension) × (k < 8) × (a .isTaken n k ≡ false)
 Allowed a (opening-all sends) = (length sends % 10 ≡ 0) × (length sends ≤ 640)
+Allowed a (booking ports index) = (hopCount (a .book) ≤ length ports) × (6 * length (a .book) ≤ length index)

@@ -2,7 +2,7 @@
 -- Assumes nothing.
 use mathlib.Core.Bool.{Bool, true, false, cond, not, _||_}
 use mathlib.Core.List.{List, [], _∷_}
-use Prim.Native.Nat.{ℕ, suc, _^_, _%_}
+use Prim.Native.Nat.{ℕ, suc, _*_, _^_, _%_}
 use lib.Dec.{eqb, ltb}
 use lib.ListN.{length, getD, replicate}
 use Rattle.common.specs.Tests.{Test, test, refusal}
@@ -11,9 +11,10 @@ use Rattle.paths.specs.Send.{Outcome, acknowledged, route-rejected, receive-rej
 use Rattle.circuit_path.specs.Traced.{tracedInto}
 use Rattle.cube.specs.Cube.{cubeNodes}
 use Rattle.soundness.specs.TableTests.{dimensionTest}
+use Rattle.book.specs.Book.{BookCircuit, portBytes, indexBytes, hopCount, lineLength}
 use Rattle.ownership.specs.Sends.{Send, sendBytes, sendsIn, JobResult}
 
--- A call with its arguments. A trace is lent a buffer, which comes with its bytes, and a job its list of sends; the table is not an argument.
+-- A call with its arguments. A trace is lent a buffer, which comes with its bytes, a book two of them, and a job its list of sends; the table is not an argument.
 pub data Call : Type 0 where
   making : (dimension : ℕ) → Call
   blocking : (node port : ℕ) → Call
@@ -24,6 +25,7 @@ pub data Call : Type 0 where
   arming : (node channel : ℕ) → Call
   disarming : (node channel : ℕ) → Call
   opening-all : (sends : List ℕ) → Call
+  booking : (ports index : List ℕ) → Call
 
 -- a send of a job as the single open that it asks for
 abbrev pub openingOf : Send → Call
@@ -54,6 +56,8 @@ form (arming n k) = plain
 form (disarming n k) = plain
 -- document 02, (j): "the answer gives that refusal's number and the send's place from 0, no scouts"; the list is lent
 form (opening-all sends) = record { isMaking = false; valueCount = 1; buffers = sends ∷ [] }
+-- document 02, (e): "Both counts, circuits and hops, are answered"; both buffers are lent
+form (booking ports index) = record { isMaking = false; valueCount = 2; buffers = ports ∷ index ∷ [] }
 
 abbrev pub lent : Call → List (List ℕ)
 lent a = form a .buffers
@@ -112,6 +116,8 @@ pub record CallFacts : Type 0 where
   pub waiting : ℕ → ℕ → ℕ → ℕ → Bool
   -- the ports of the circuit of a send channel, by source and channel
   pub path : ℕ → ℕ → Path
+  -- document 02, (e): "all open circuits .. in order of circuit number", each with the ports of its path
+  pub book : List BookCircuit
   -- document 02, (j): what sends opened one after another come to
   pub job : List Send → JobResult
 
@@ -163,6 +169,10 @@ channelHeld a n k = test (a .isTaken n k) 21
 abbrev pub listLength : List ℕ → Test
 listLength sends = test (not (eqb (length sends % sendBytes) 0) || ltb 640 (length sends)) 28
 
+-- document 02, (e): "A buffer that cannot hold its part is refused as 23"
+abbrev pub bookShort : CallFacts → List ℕ → List ℕ → Test
+bookShort a ports index = test (ltb (length ports) (hopCount (a .book)) || ltb (length index) (lineLength * length (a .book))) 23
+
 -- "Within one call the tests run in rising order of number." Those of each call behind the tests of the lent table:
 unfoldable pub callTests : CallFacts → Call → List Test
 callTests a (making D) = dimensionTest D ∷ []
@@ -176,6 +186,8 @@ callTests a (arming n k) = node a n ∷ channelNumber k ∷ []
 callTests a (disarming n k) = node a n ∷ channelNumber k ∷ channelHeld a n k ∷ []
 -- "tested after 3"
 callTests a (opening-all sends) = listLength sends ∷ []
+-- "after 3"
+callTests a (booking ports index) = bookShort a ports index ∷ []
 
 -- what a call gives where no test applies
 unfoldable pub resultOf : CallFacts → Call → CallResult
@@ -189,6 +201,14 @@ resultOf a (arming n k) = only 0
 resultOf a (disarming n k) = only 0
 -- "Success answers 0 and the number of sends"; else the first refusal's number and its place
 resultOf a (opening-all sends) = let j = a .job (sendsIn sends) in record { number = j .number; values = j .sends ∷ []; buffers = sends ∷ [] }
+-- "one holds the ports of all open circuits ..; the other, in that order, each circuit's number, then the pair of offset and length"; "bytes behind the used part keep
+-- their content"
+resultOf a (booking ports index) =
+    record {
+      number = 0;
+      values = length (a .book) ∷ hopCount (a .book) ∷ [];
+      buffers = tracedInto (portBytes (a .book)) ports ∷ tracedInto (indexBytes (a .book)) index ∷ [];
+    }
 
 -- what a call leaves of what it is made on, the bytes of a table or the history, and what it gives
 pub record After (S : Type 0) : Type 0 where

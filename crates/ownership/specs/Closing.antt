@@ -6,7 +6,7 @@ use mathlib.Core.Bool.{false}
 use mathlib.Core.List.{List, [], _∷_}
 use Prim.Native.Nat.{ℕ}
 use Rattle.table.specs.View.{View, heldIn}
-use Rattle.ownership.specs.Calls.{Call, blocking, unblocking, opening, closing, tracing, arming, disarming, opening-all}
+use Rattle.ownership.specs.Calls.{Call, blocking, unblocking, opening, closing, tracing, arming, disarming, opening-all, booking}
 
 -- each call of a list is such a call
 pub data Each (P : Call → Type 0) : List Call → Type 0 where
@@ -26,6 +26,7 @@ pub data RepairsNothing : Call → Type 0 where
   an-arming : {n k : ℕ} → RepairsNothing (arming n k)
   a-disarming : {n k : ℕ} → RepairsNothing (disarming n k)
   a-job : {sends : List ℕ} → RepairsNothing (opening-all sends)
+  a-book : {ports index : List ℕ} → RepairsNothing (booking ports index)
 
 -- Calls that give more freedom and take none: document 02, (n), names closing; repairing a link and arming a channel are such calls too.
 pub data GivesFreedom : Call → Type 0 where

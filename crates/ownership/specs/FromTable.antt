@@ -7,12 +7,11 @@ use lib.Dec.{eqb}
 use Rattle.common.specs.Lists.{keep, from, lowest}
 use Rattle.cube.specs.Cube.{cubeNodes, sourceOf, channelOf, channels}
 use Rattle.paths.specs.Network.{Link}
-use Rattle.table.specs.View.{View, shapeOf}
+use Rattle.table.specs.View.{View}
 use Rattle.circuit_path.specs.CircuitSound.{endFor}
 use Rattle.circuit_path.specs.PathOf.{pathOf}
-use Rattle.circuit_path.specs.OpenCircuit.{isOpenIn}
+use Rattle.book.specs.BookOf.{openNumbers}
 use Rattle.ownership.specs.History.{Circuit, History}
-use Rattle.paths.specs.CubeNetwork.{circuitCount}
 
 -- the links out of some ports of some nodes, or as many of their receive channels
 unfoldable pub linksOut : List ℕ → List ℕ → List Link
@@ -29,10 +28,6 @@ circuitAt v c =
       target = endFor v c (pathOf v c);
       receive = lowest (λ k. eqb (v .receiver (endFor v c (pathOf v c)) k) c) channels 0;
     }
-
--- the numbers of the open circuits, rising
-unfoldable pub openNumbers : View → List ℕ
-openNumbers v = keep (isOpenIn v) (from 1 (circuitCount (shapeOf v)))
 
 unfoldable pub historyOf : View → History
 historyOf v =

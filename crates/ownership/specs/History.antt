@@ -1,17 +1,19 @@
 -- The ownership history of document 01. It is fed the calls and their arguments, never the bytes of a table: each test and each answer is read off this record.
 -- Assumes nothing.
 use mathlib.Core.Bool.{Bool, cond, _&&_, not}
-use mathlib.Core.List.{List, [], _∷_}
+use mathlib.Core.List.{List, [], _∷_, map}
 use Prim.Native.Nat.{ℕ}
 use lib.Dec.{eqb}
-use Rattle.common.specs.Lists.{keep, any}
+use Rattle.common.specs.Lists.{keep, from, any}
 use Rattle.common.specs.Tests.{refusal}
 use Rattle.paths.specs.Network.{Network, Path, Link, links, hasLink, linkState, isFree}
 use Rattle.paths.specs.Send.{Receive, channel, Outcome, acknowledged, route-rejected, receive-rejected, SendResult, lowestOf}
 use Rattle.paths.specs.Waiting.{someAttempt}
-use Rattle.paths.specs.CubeNetwork.{Shape, network, attempts, send, unfolded, isLinkOf}
+use Rattle.paths.specs.CubeNetwork.{Shape, network, attempts, send, unfolded, isLinkOf, circuitCount}
+use Rattle.cube.specs.Cube.{sourceOf, channelOf}
+use Rattle.book.specs.Book.{BookCircuit}
 use Rattle.ownership.specs.Sends.{Send, sendsIn, JobResult}
-use Rattle.ownership.specs.Calls.{Call, making, blocking, unblocking, opening, closing, tracing, arming, disarming, opening-all, CallFacts, noJob, callTests, After, callOn, Job, inTurn, singleOpen, afterJob}
+use Rattle.ownership.specs.Calls.{Call, making, blocking, unblocking, opening, closing, tracing, arming, disarming, opening-all, booking, CallFacts, noJob, callTests, After, callOn, Job, inTurn, singleOpen, afterJob}
 
 -- "each open circuit with the links and receive channel it holds": its source and send channel, its path, and the receive channel at the path's end
 pub record Circuit : Type 0 where
@@ -116,6 +118,12 @@ withOpened h s c t (acknowledged w k) = withCircuits h (record { source = s; cha
 withOpened h s c t route-rejected = h
 withOpened h s c t receive-rejected = h
 
+-- Document 02, (e): the listed circuits in order of their numbers, each with its ports
+unfoldable pub bookOn : History → List BookCircuit
+bookOn h =
+    map (λ (c : ℕ). record { number = c; ports = listed (h .circuits) (sourceOf c) (channelOf c) })
+    (keep (λ c. openOn h (sourceOf c) (channelOf c)) (from 1 (circuitCount (shapeOn h))))
+
 -- what a call asks of the history, with what a job comes to
 abbrev pub factsOnWith : (List Send → JobResult) → History → CallFacts
 factsOnWith job h =
@@ -127,6 +135,7 @@ factsOnWith job h =
       sends = sendOn h;
       waiting = waitingOn h;
       path = listed (h .circuits);
+      book = bookOn h;
       job = job;
     }
 
@@ -160,6 +169,8 @@ applied h (arming n k) = withArmed h ((n, k) ∷ h .armed)
 applied h (disarming n k) = withArmed h (withoutEntry n k (h .armed))
 -- document 02, (j): "The ownership history counts such a call as its single opens, or as nothing."
 applied h (opening-all sends) = afterJob h (jobOn h (sendsIn sends))
+-- document 02, (e): a book changes nothing
+applied h (booking ports index) = h
 
 -- a call entered in the history; "A refused call and a trace change nothing."
 unfoldable pub historyStep : History → Call → After History

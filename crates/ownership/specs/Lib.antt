@@ -18,3 +18,4 @@ pub mod AllArmed
 pub mod Closing
 pub mod SameOpen
 pub mod FreedomExamples
+pub mod BookingExamples

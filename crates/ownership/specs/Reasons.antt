@@ -1,4 +1,4 @@
--- Why a call is stopped: each number of document 01's table of refusals, and 21 and 28 of document 02, that a call can answer for its arguments, with the reason in the
+-- Why a call is stopped: each number of document 01's table of refusals, and 21, 23 and 28 of document 02, that a call can answer for its arguments, with the reason in the
 -- words of the papers.
 -- What these tests answer is the lowest number whose reason holds (proved: Reasons), and 0 where none does. The lent table's numbers, 1 to 3, come before them
 -- (OnTable); 10, 11 and 22 are the search's.
@@ -7,10 +7,11 @@ use mathlib.Core.Path.{_≡_}
 use mathlib.Core.Logic.{_⊎_, _≢_}
 use mathlib.Core.Bool.{true, false}
 use mathlib.Core.List.{List}
-use Prim.Native.Nat.{ℕ, _^_, _%_, _≤_, _<_}
+use Prim.Native.Nat.{ℕ, _*_, _^_, _%_, _≤_, _<_}
 use lib.ListN.{length}
 use Rattle.cube.specs.Bits.{has}
-use Rattle.ownership.specs.Calls.{Call, making, blocking, unblocking, opening, closing, tracing, arming, disarming, opening-all, CallFacts}
+use Rattle.book.specs.Book.{hopCount}
+use Rattle.ownership.specs.Calls.{Call, making, blocking, unblocking, opening, closing, tracing, arming, disarming, opening-all, booking, CallFacts}
 
 pub data Reason (a : CallFacts) : Call → ℕ → Type 0 where
   -- make, 2: "D outside 1 to 8: the one given when making"
@@ -58,3 +59,5 @@ pub data Reason (a : CallFacts) : Call → ℕ → Type 0 where
   disarming-held : {n k : ℕ} → a .isTaken n k ≡ true → Reason a (disarming n k) 21
   -- a job, 28: "A list length not a multiple of ten, or above 640, is 28"
   job-length : {sends : List ℕ} → (length sends % 10 ≢ 0) ⊎ (640 < length sends) → Reason a (opening-all sends) 28
+  -- a book, 23: "A buffer that cannot hold its part is refused as 23"
+  booking-short : {ports index : List ℕ} → (length ports < hopCount (a .book)) ⊎ (length index < 6 * length (a .book)) → Reason a (booking ports index) 23

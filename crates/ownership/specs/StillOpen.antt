@@ -8,7 +8,7 @@ use lib.Dec.{eqb}
 use Rattle.common.specs.Lists.{_∈_}
 use Rattle.paths.specs.Send.{acknowledged}
 use Rattle.ownership.specs.Sends.{sendsIn}
-use Rattle.ownership.specs.Calls.{Call, making, blocking, unblocking, opening, closing, tracing, arming, disarming, opening-all, openingOf, CallResult}
+use Rattle.ownership.specs.Calls.{Call, making, blocking, unblocking, opening, closing, tracing, arming, disarming, opening-all, booking, openingOf, CallResult}
 use Rattle.ownership.specs.History.{Circuit, History, stoppedOn, sendOn, historyStep}
 use Rattle.ownership.specs.Agrees.{historyAfter, historyResults}
 
@@ -23,6 +23,7 @@ countsAs (closing s c) n = closing s c ∷ []
 countsAs (tracing s c buffer) n = tracing s c buffer ∷ []
 countsAs (arming m k) n = arming m k ∷ []
 countsAs (disarming m k) n = disarming m k ∷ []
+countsAs (booking ports index) n = booking ports index ∷ []
 countsAs (opening-all sends) n = cond (eqb n 0) (map openingOf (sendsIn sends)) []
 
 -- the calls of a list so counted, each with the number that it answered; "Success is 0", and an accepted open is an acknowledged one
@@ -47,6 +48,7 @@ Ends s c (tracing m d buffer) = ⊥
 Ends s c (arming n k) = ⊥
 Ends s c (disarming n k) = ⊥
 Ends s c (opening-all sends) = ⊥
+Ends s c (booking ports index) = ⊥
 
 -- no accepted call of a list ends it
 unfoldable pub Lasts : ℕ → ℕ → List (Call × ℕ) → Type 0

@@ -8,6 +8,7 @@ use Rattle.cube.specs.Cube.{circuitOf}
 use Rattle.table.specs.View.{View, heldIn}
 use Rattle.circuit_path.specs.OpenCircuit.{isOpenIn}
 use Rattle.circuit_path.specs.PathOf.{pathOf}
+use Rattle.book.specs.BookOf.{bookOf}
 use Rattle.answers.specs.SendOnTable.{waitingHelps, sendIn, viewAfterSend}
 use Rattle.ownership.specs.Sends.{Send, JobResult}
 use Rattle.ownership.specs.Calls.{CallFacts, noJob, Job, inTurn, singleOpen}
@@ -31,6 +32,7 @@ factsWith job v =
       sends = sendIn v;
       waiting = waitingHelps v;
       path = λ s c. pathOf v (circuitOf s c);
+      book = bookOf v;
       job = job;
     }
 

@@ -4,7 +4,7 @@ use mathlib.Core.Bool.{true, false}
 use Rattle.cube.specs.Cube.{circuitOf}
 use Rattle.table.specs.View.{View, setEnabled, setArmed, withoutCircuit, fresh}
 use Rattle.ownership.specs.Sends.{sendsIn}
-use Rattle.ownership.specs.Calls.{Call, making, blocking, unblocking, opening, closing, tracing, arming, disarming, opening-all, afterJob}
+use Rattle.ownership.specs.Calls.{Call, making, blocking, unblocking, opening, closing, tracing, arming, disarming, opening-all, booking, afterJob}
 use Rattle.ownership.specs.TableFacts.{opened, jobIn}
 
 unfoldable pub updated : View → Call → View
@@ -24,3 +24,5 @@ updated v (arming n k) = setArmed v n k true
 updated v (disarming n k) = setArmed v n k false
 -- document 02, (j): "opening them one after another if all are acknowledged; at the first refusal the table is as before"
 updated v (opening-all sends) = afterJob v (jobIn v (sendsIn sends))
+-- document 02, (e): a book only reads
+updated v (booking ports index) = v

@@ -7,7 +7,7 @@ use lib.Dec.{lit≤}
 use lib.ListN.{length}
 use Rattle.cube.specs.Cube.{largestDimension}
 use Rattle.layout.specs.Layout.{tableLength}
-use Rattle.ownership.specs.Calls.{making, blocking, unblocking, opening, closing, tracing, arming, disarming, opening-all}
+use Rattle.ownership.specs.Calls.{making, blocking, unblocking, opening, closing, tracing, arming, disarming, opening-all, booking}
 use Rattle.ownership.specs.Agrees.{tableResults}
 use Rattle.ownership.proofs.Agreement.{making-accepted, demand-3}
 use Rattle.paper_examples.specs.Examples.{Input, calls, read, write, before, shown, result, inputs, results, examples}
@@ -30,6 +30,7 @@ Begins (calls (tracing s c buffer ∷ cs)) = ⊥
 Begins (calls (arming n k ∷ cs)) = ⊥
 Begins (calls (disarming n k ∷ cs)) = ⊥
 Begins (calls (opening-all sends ∷ cs)) = ⊥
+Begins (calls (booking ports index ∷ cs)) = ⊥
 Begins (read w) = Unit
 Begins (write c k) = Unit
 

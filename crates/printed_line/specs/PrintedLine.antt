@@ -7,7 +7,7 @@ use mathlib.Core.Option.{Option, none, some}
 use Prim.Native.Nat.{ℕ}
 use lib.Dec.{eqb}
 use lib.ListN.{take, replicate}
-use Rattle.ownership.specs.Calls.{Call, making, blocking, unblocking, opening, closing, tracing, arming, disarming, opening-all, CallResult, hopsOf, receiveOf, scoutsOf, bufferOf, carriesScouts, After}
+use Rattle.ownership.specs.Calls.{Call, making, blocking, unblocking, opening, closing, tracing, arming, disarming, opening-all, booking, CallResult, hopsOf, receiveOf, scoutsOf, bufferOf, carriesScouts, After}
 use Rattle.text.specs.Row.{Field, nothing, shows, path, Row, row, answerAlone}
 use Rattle.input_line.specs.Line.{letterB, letterC, letterD, letterE, letterF, letterR, letterS}
 
@@ -33,9 +33,10 @@ callRow n (closing s c) x way = row n letterC (x .number) (shows s) (shows c) no
 -- document 02, (a): "printing node and channel"
 callRow n (arming m k) x way = row n letterR (x .number) (shows m) (shows k) nothing nothing nothing
 callRow n (disarming m k) x way = row n letterD (x .number) (shows m) (shows k) nothing nothing nothing
--- no line asks for a trace or a job
+-- no line asks for a trace, a job or a book
 callRow n (tracing s c buffer) x way = answerAlone n (x .number)
 callRow n (opening-all sends) x way = answerAlone n (x .number)
+callRow n (booking ports index) x way = answerAlone n (x .number)
 
 -- "For number 20 every field but line and answer is `-`."
 unfoldable pub unreadable : ℕ → Row

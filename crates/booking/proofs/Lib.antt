@@ -1,0 +1,2 @@
+-- What writing a book comes to.
+pub mod BookStep

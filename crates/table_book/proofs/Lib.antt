@@ -1,0 +1,3 @@
+-- The laws of writing a table's book.
+pub mod BookFrom
+pub mod Filling
