@@ -32,12 +32,12 @@ use Rattle.circuit_hops.proofs.OneBit.{sole-bit, some-bit, bit-has, bit
 use Rattle.circuit_hops.proofs.Ways.{way-onward, way-owned, way-only, onward-way, onward-once, onward-uphill, one-nearer, shown}
 use Rattle.circuit_hops.proofs.Taken.{HopsFollowed}
 
--- a path on which circuit c stands, from its source over port a
-pub record Stands (v : View) (c t a : ℕ) (w : Path) : Type 0 where
+-- a path whose links circuit c holds, and no others, from its source over port a
+pub record HoldsPath (v : View) (c t a : ℕ) (w : Path) : Type 0 where
   pub permitted : Permitted (net v) (sourceOf c) (ports (shapeOf v)) t (a ∷ w)
   pub exactly : Exactly (net v) (sourceOf c) (a ∷ w) (heldBy v c)
 
-module _ {v : View} {c t a : ℕ} {w : Path} (d : v .dimension ≤ largestDimension) (x : Stands v c t a w) where
+module _ {v : View} {c t a : ℕ} {w : Path} (d : v .dimension ≤ largestDimension) (x : HoldsPath v c t a w) where
   pub first-below : a < v .dimension
   unfolding Permitted
   first-below = unfolded-port (shapeOf v) d refl a .0 (x .permitted .0)
@@ -85,11 +85,11 @@ module _ {v : View} {c t a : ℕ} {w : Path} (d : v .dimension ≤ largestDimens
     λ r h k. ⊎-elim (λ z. z .1) (λ i. absurd (clash (onward-uphill v c t d (next (sourceOf c) a) w onward (sourceOf c) r i) k)) (cases (sourceOf c) r h),
   )
 
--- a circuit that stands has such a path
-pub stands : (v : View) (c t : ℕ) (z : CircuitSound v c) → endFor v c (z .path) ≡ t → (a : ℕ) × (w : Path) × (z .path ≡ a ∷ w) × Stands v c t a w
-stands v c t z e = go (z .path) (subst (λ (n : ℕ). Permitted (net v) (sourceOf c) (ports (shapeOf v)) n (z .path)) e (z .permitted)) (z .exactly)
+-- a sound circuit holds such a path
+pub holds-path : (v : View) (c t : ℕ) (z : CircuitSound v c) → endFor v c (z .path) ≡ t → (a : ℕ) × (w : Path) × (z .path ≡ a ∷ w) × HoldsPath v c t a w
+holds-path v c t z e = go (z .path) (subst (λ (n : ℕ). Permitted (net v) (sourceOf c) (ports (shapeOf v)) n (z .path)) e (z .permitted)) (z .exactly)
   where
-    go : (u : Path) → Permitted (net v) (sourceOf c) (ports (shapeOf v)) t u → Exactly (net v) (sourceOf c) u (heldBy v c) → (a : ℕ) × (w : Path) × (u ≡ a ∷ w) × Stands v c t a w
+    go : (u : Path) → Permitted (net v) (sourceOf c) (ports (shapeOf v)) t u → Exactly (net v) (sourceOf c) u (heldBy v c) → (a : ℕ) × (w : Path) × (u ≡ a ∷ w) × HoldsPath v c t a w
     go [] o x = unfold Permitted in absurd o
     go (a ∷ w) o x = (a, w, refl, record { permitted = o; exactly = x })
 
@@ -97,11 +97,11 @@ stands v c t z e = go (z .path) (subst (λ (n : ℕ). Permitted (net v) (sourceO
 pub record Leaving (b : List ℕ) (c t first : ℕ) : Type 0 where
   pub one : first ≢ 0 → OnePort first
   pub held : (p : ℕ) → p < portCount → has first p ≡ true → (heldBy (view b) c (sourceOf c) p ≡ true) × (p < dimensionAt b)
-  pub leaves : (a : ℕ) (w : Path) → Stands (view b) c t a w → has first a ≡ true
+  pub leaves : (a : ℕ) (w : Path) → HoldsPath (view b) c t a w → has first a ≡ true
 
--- where there is none, it stands on no path to t
+-- where there is none, it holds no path to t
 pub leaves-none : {b : List ℕ} {c t first : ℕ} → Leaving b c t first → first ≡ 0 → (z : CircuitSound (view b) c) → endFor (view b) c (z .path) ≡ t → ⊥
-leaves-none {b} {c} {t} l e z q = let r = stands (view b) c t z q in clash (l .leaves (r .0) (r .1) (r .3)) (ap (λ x. has x (r .0)) e ∙ zero-has (r .0))
+leaves-none {b} {c} {t} l e z q = let r = holds-path (view b) c t z q in clash (l .leaves (r .0) (r .1) (r .3)) (ap (λ x. has x (r .0)) e ∙ zero-has (r .0))
 
 -- where there is one, what walking on from there comes to, following the circuit comes to
 module _ {b : List ℕ} {c s t first : ℕ} (d : dimensionAt b ≤ largestDimension) (at : s ≡ sourceOf c) (l : Leaving b c t first) (h : first ≢ 0) where
@@ -121,11 +121,11 @@ module _ {b : List ℕ} {c s t first : ℕ} (d : dimensionAt b ≤ largestDimens
   pub leads-inside : NodeOf (dimensionAt b) (sourceOf c) → NodeOf (dimensionAt b) (bitXor s first)
   leads-inside i = rw to (next-inside (dimensionAt b) (sourceOf c) (port .0) d i (there .1))
 
-  begins : (z : CircuitSound (view b) c) → endFor (view b) c (z .path) ≡ t → (w : Path) × (z .path ≡ port .0 ∷ w) × Stands (view b) c t (port .0) w
+  begins : (z : CircuitSound (view b) c) → endFor (view b) c (z .path) ≡ t → (w : Path) × (z .path ≡ port .0 ∷ w) × HoldsPath (view b) c t (port .0) w
   begins z e =
-      let r = stands (view b) c t z e in
+      let r = holds-path (view b) c t z e in
       let same : r .0 ≡ port .0 = bit-only (port .0) (r .0) (ap (λ x. has x (r .0)) (sym (port .2)) ∙ l .leaves (r .0) (r .1) (r .3)) in
-      (r .1, r .2 ∙ ap (_∷ r .1) same, subst (λ (p : ℕ). Stands (view b) c t p (r .1)) same (r .3))
+      (r .1, r .2 ∙ ap (_∷ r .1) same, subst (λ (p : ℕ). HoldsPath (view b) c t p (r .1)) same (r .3))
 
   pub followed : {hops : ℕ} → Walks (view b) c t (bitXor s first) 1 hops → HopsFollowed (view b) c t hops
   followed {hops} walks =
@@ -160,7 +160,7 @@ module _ {b : List ℕ} {nodes c s held : ℕ} (t : ℕ) (d : dimensionAt b ≤ 
   inside low p l h =
       ⊎-elim (λ y. y) (λ y. absurd (omega (arith, has-room held p (here p l ∙ h), pow-mono {i = dimensionAt b} {j = p} y))) (below-or (dimensionAt b) p)
 
-  below : {a : ℕ} {w : Path} → Stands (view b) c t a w → a < portCount
+  below : {a : ℕ} {w : Path} → HoldsPath (view b) c t a w → a < portCount
   below x = omega (arith, fits, first-below fits x)
 
   -- one link at most
@@ -182,7 +182,7 @@ module _ {b : List ℕ} {nodes c s held : ℕ} (t : ℕ) (d : dimensionAt b ≤ 
     out-bits : (p : ℕ) → p < portCount → has (bitXor held (bitAnd held vector)) p ≡ (heldBy (view b) c (sourceOf c) p && not (uphill t (sourceOf c) p))
     out-bits p l = has-rest held vector p ∙ ap₂ (λ x y. x && not y) (here p l) (u .bits p ∙ ap (λ n. uphill t n p) at)
 
-    alone : {a : ℕ} {w : Path} → Stands (view b) c t a w → (uphill t (sourceOf c) a ≡ false) × ((r : ℕ) → heldBy (view b) c (sourceOf c) r ≡ true → uphill t (sourceOf c) r ≡ false → r ≡ a)
+    alone : {a : ℕ} {w : Path} → HoldsPath (view b) c t a w → (uphill t (sourceOf c) a ≡ false) × ((r : ℕ) → heldBy (view b) c (sourceOf c) r ≡ true → uphill t (sourceOf c) r ≡ false → r ≡ a)
     alone x = first-alone fits x (subst (λ (n : ℕ). 1 < linksHeld (view b) c n) at more)
 
     pub leaving-several : held < nodes → OnePort (bitXor held (bitAnd held vector)) → Leaving b c t (bitXor held (bitAnd held vector))
@@ -193,11 +193,11 @@ module _ {b : List ℕ} {nodes c s held : ℕ} (t : ℕ) (d : dimensionAt b ≤ 
           leaves = λ a w x. out-bits a (below x) ∙ and (first-held fits x) (ap not (alone x .0));
         }
 
-    -- where they are not one, it stands on no path to t
+    -- where they are not one, it holds no path to t
     pub several-none : (OnePort (bitXor held (bitAnd held vector)) → ⊥) → (z : CircuitSound (view b) c) → endFor (view b) c (z .path) ≡ t → ⊥
-    several-none none z e = go (stands (view b) c t z e .3)
+    several-none none z e = go (holds-path (view b) c t z e .3)
       where
-        go : {a : ℕ} {w : Path} → Stands (view b) c t a w → ⊥
+        go : {a : ℕ} {w : Path} → HoldsPath (view b) c t a w → ⊥
         go {a} x =
             unfold OnePort in
             none (a, below x, sole-bit out-small out-bits (below x) (and (first-held fits x) (ap not (alone x .0))) (λ r l k. let h = both _ _ k in alone x .1 r (h .0) (not-true _ (h .1))))

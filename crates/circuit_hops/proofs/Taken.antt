@@ -26,7 +26,7 @@ use Rattle.circuit_hops.specs.CountHops.{FollowedPath, Taken, HopsPre}
 use Rattle.circuit_hops.proofs.Seen.{not-seen, seen-before, marks-after}
 use Rattle.circuit_hops.proofs.Ways.{shown}
 
--- a circuit that stands holds links of its cube alone
+-- a sound circuit holds links of its cube alone
 module _ (b : List ℕ) (c : ℕ) (d : dimensionAt b ≤ largestDimension) (i : sourceOf c < 2 ^ dimensionAt b) (s : CircuitSound (view b) c) where
   small : view b .dimension ≤ largestDimension
   small = omega (arith, shown b)

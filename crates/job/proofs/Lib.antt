@@ -1,2 +1,2 @@
 -- The laws of a job's sends, as the code opens them.
-pub mod Turns
+pub mod SendsInTurn

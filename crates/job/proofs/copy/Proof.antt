@@ -4,7 +4,7 @@ use mathlib.Core.Path.{_≡_, refl, sym, _∙_}
 use Prim.Native.Nat.{_-_, _≤_}
 use native.Mathlib.Omega.{arith}
 use lib.ListN.{length, take, length-set}
-use Rattle.job.proofs.Turns.{copied-more, copied-all}
+use Rattle.job.proofs.SendsInTurn.{copied-more, copied-all}
 use Rattle.job.proofs.copy.Statement.{statement}
 use Rattle.job.proofs.copy.Tie as tie
 

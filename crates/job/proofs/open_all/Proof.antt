@@ -8,7 +8,7 @@ use Rattle.table.specs.Encode.{AllBytes}
 use Rattle.ownership.proofs.Stops.{pass-tests}
 use Rattle.call_tests.proofs.Stopping.{job-passed}
 use Rattle.router.proofs.TableStep.{call-stopped}
-use Rattle.job.proofs.Turns.{none-opened, each-opened}
+use Rattle.job.proofs.SendsInTurn.{none-opened, each-opened}
 use Rattle.job.proofs.open_all.Statement.{statement}
 use Rattle.job.proofs.open_all.Tie as tie
 

@@ -5,7 +5,7 @@ use native.Mathlib.Omega.{arith}
 use borrow.Author.Needs.{needs}
 use Rattle.ownership.specs.Sends.{sendAt}
 use Rattle.call_tests.proofs.Stopping.{open-passed, small-source, may-send}
-use Rattle.job.proofs.Turns.{send-is, stopped, open-sent, open-refused}
+use Rattle.job.proofs.SendsInTurn.{send-is, stopped, open-sent, open-refused}
 use Rattle.job.proofs.open_at.Statement.{statement}
 use Rattle.job.proofs.open_at.Tie as tie
 

@@ -11,7 +11,7 @@ use Rattle.soundness.specs.TableTests.{tableTests}
 use Rattle.ownership.specs.Sends.{sendsIn}
 use Rattle.ownership.specs.Calls.{inTurn}
 use Rattle.ownership.specs.OnTable.{opensOn}
-use Rattle.job.proofs.Turns.{sendsFrom, further, at-first, stopped-at, went-on, ended, still-passes}
+use Rattle.job.proofs.SendsInTurn.{sendsFrom, further, at-first, stopped-at, went-on, ended, still-passes}
 use Rattle.job.proofs.open_in_turn.Statement.{statement}
 use Rattle.job.proofs.open_in_turn.Tie as tie
 
