@@ -1,5 +1,7 @@
 // The routing arbiter of document 02, request (l): a round-robin choice among 26 requesters, 18 input ports and then 8 send channels. Each has one bit of
 // a 32-bit number, from bit 0 on.
+#![tactic(auto)]
+
 ghost use Rattle.std.specs.Prelude.{◌≡◌};
 ghost use Rattle.arbiter.specs.Arbiter.{chosen, arbitrated, choice};
 ghost use Rattle.arbiter.specs.ArbiterContracts.{Requested};

@@ -1,6 +1,8 @@
 // A board with one receive channel, which is armed: a circuit is opened, the channel that the open names takes its packets up to an end of
 // transmission, and the circuit is closed. Each line is a call or a packet with its number and, behind a colon, the channel: address, count, running, overflow mark,
 // whether ends of message are ignored, overshoot.
+#![tactic(auto)]
+
 ghost use Rattle.board.specs.Meets.{Meets};
 ghost use Rattle.ownership.specs.Calls.{opening};
 

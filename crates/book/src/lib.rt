@@ -1,5 +1,7 @@
 // A book of circuits in two buffers: the ports of all circuits end to end, and an index with a line of six bytes for each circuit. What is read of one here may
 // come from anywhere.
+#![tactic(auto)]
+
 ghost use Rattle.std.specs.Prelude.{◌≡◌, ◌+◌, ◌*◌, ◌≤◌, ◌<◌, length, drop};
 ghost use Rattle.book.specs.Lookup.{first_line, lines, line_fits, lines_fit, well_formed, line_of, looked_up};
 ghost use Rattle.book.specs.BookContracts.{line_is};

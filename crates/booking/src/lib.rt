@@ -1,4 +1,6 @@
 // The call that writes the book of a table (document 02, (e)).
+#![tactic(auto)]
+
 ghost use Rattle.std.specs.Prelude.{◌≡◌, [], ◌∷◌};
 ghost use Rattle.ownership.specs.Calls.{booking};
 ghost use Rattle.ownership.specs.OnTable.{table_step, done};

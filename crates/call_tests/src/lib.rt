@@ -1,5 +1,7 @@
 // Which test stops a call: the refusal of the first that applies, 0 where none does. A function for each call has its tests in the order of its list. A test that
 // only one or two of them make, by one comparison, stands there; before them come the others, each a function that says whether it applies.
+#![tactic(auto)]
+
 ghost use Rattle.std.specs.Prelude.{◌≡◌, false, ◌<◌};
 ghost use Rattle.common.specs.Tests.{refusal};
 ghost use Rattle.cube.specs.Cube.{channels};

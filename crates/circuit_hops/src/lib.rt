@@ -1,4 +1,6 @@
 // The hops of one circuit from its source to a node, each circuit counted once.
+#![tactic(auto)]
+
 ghost use Rattle.std.specs.Prelude.{◌≡◌, true, ◌<◌, eqb, length, get_or};
 ghost use Rattle.std.specs.Int.Bits.{bit_and};
 ghost use Rattle.common.specs.Decides.{Decides};

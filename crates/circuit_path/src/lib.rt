@@ -1,4 +1,6 @@
 // The path of a circuit, recovered from the links that it holds.
+#![tactic(auto)]
+
 ghost use Rattle.std.specs.Prelude.{◌≡◌, true, cond, ltb, ◌≤◌, ◌<◌, length};
 ghost use Rattle.entries.specs.EntryContracts.{Within};
 ghost use Rattle.common.specs.Lists.{lowest};

@@ -1,4 +1,6 @@
 // Command words: packet type, command and status of source document 001's command packets, stored in one number.
+#![tactic(auto)]
+
 ghost use Rattle.std.specs.Prelude.{◌≡◌, ◌<◌};
 ghost use Rattle.command_word.specs.CommandContracts.{ValuesTable};
 ghost use Rattle.command_word.specs.Commands.{word_of, type_of, command_of, status_of, type_for, values};

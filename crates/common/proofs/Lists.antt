@@ -50,6 +50,7 @@ module _ {A : Type 0} (f : A → Bool) where
 
   -- what was there and passes is kept
   pub mem_keep : (xs : List A) {y : A} → y ∈ xs → f y ≡ true → y ∈ keep f xs
+  mem_keep [] {y = y} x'' t = elim x'' [ ]
   mem_keep (x ∷ xs) {y} (Memᴰ.head h) t = rw (keep_yes x xs (sym (ap f h) ∙ t)) (Memᴰ.head h)
   mem_keep (x ∷ xs) {y} (Memᴰ.tail m) t = go (f x) refl (mem_keep xs m t)
     where
@@ -164,6 +165,7 @@ module _ {A : Type 0} (f : A → Bool) where
 
   pub some_any : (xs : List A) {x : A} → x ∈ xs → f x ≡ true → any f xs ≡ true
   unfolding any
+  some_any [] {x = x} x4 e = elim x4 [ ]
   some_any (y ∷ xs) {x} (Memᴰ.head h) e = or_left (any f xs) (sym (ap f h) ∙ e)
   some_any (y ∷ xs) {x} (Memᴰ.tail m) e = or_right (f y) (some_any xs m e)
 

@@ -1,3 +1,5 @@
 // What every layer shares: the refusal numbers. The crate's specs/ and proofs/ hold the rule by which a call's tests decide, and
 // the general facts about lists and computed tests that belong to no layer.
+#![tactic(auto)]
+
 pub mod refusal;

@@ -1,4 +1,6 @@
 // The cube: its three kinds of number, the ports that lead towards a target, and the order in which they are tried.
+#![tactic(auto)]
+
 mod first_port_table;
 mod helical;
 mod kinds;

@@ -1,4 +1,6 @@
 // One value of a table at a time, read and written: its dimension, whether a link is enabled or a receive channel armed, and the circuit that holds either.
+#![tactic(auto)]
+
 ghost use Rattle.std.specs.Prelude.{◌≡◌, true, false, ◌<◌, length};
 ghost use Rattle.layout.specs.Layout.{table_length, dimension_at, enabled_at, owner_at, receiver_at, armed_at};
 ghost use Rattle.entries.specs.EntryContracts.{Within, enable_bits, put_enabled, put_owner, put_receiver, put_armed};

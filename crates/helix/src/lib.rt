@@ -1,5 +1,7 @@
 // Routing types 1 and 3: helix paths, tried one after another. A path is looked at first and held when it is known to be free, so that a rejection has
 // nothing to give back.
+#![tactic(auto)]
+
 ghost use Rattle.std.specs.Prelude.{◌≡◌, ◌≢◌};
 ghost use Rattle.table.specs.View.{view, net};
 ghost use Rattle.cube.specs.Helical.{FirstPorts};

@@ -1,4 +1,6 @@
 // Reading a line: the call that it asks for.
+#![tactic(auto)]
+
 ghost use Rattle.std.specs.Prelude.{◌≡◌, cond, ◌≤◌, eqb, length, drop};
 ghost use Rattle.std.proofs.Math.Option.{none};
 ghost use Rattle.text.specs.Lines.{fields};

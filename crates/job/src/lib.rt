@@ -1,4 +1,6 @@
 // A job: sends that are opened together, all of them or none (document 02, (j)). The bytes before it are kept, and copied back at the first refusal.
+#![tactic(auto)]
+
 ghost use Rattle.std.specs.Prelude.{◌≡◌, [], ◌∷◌, ◌≤◌, length};
 ghost use Rattle.common.specs.Tests.{refusal};
 ghost use Rattle.cube.specs.Helical.{FirstPorts};

@@ -1,4 +1,6 @@
 // The bytes of a table: the place of each value, and the single bytes, words, bits and rows that are read and written there.
+#![tactic(auto)]
+
 ghost use Rattle.std.specs.Prelude.{◌≡◌, ◌≢◌, true, ℕ, ◌+◌, ◌*◌, ◌<◌, ◌≤◌, length, get_or, set};
 ghost use Rattle.common.specs.Decides.{Decides};
 ghost use Rattle.cube.specs.Bits.{has, with_bit};

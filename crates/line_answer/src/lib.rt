@@ -1,4 +1,6 @@
 // What an input line asks, carried out on the table, and its printed line.
+#![tactic(auto)]
+
 ghost use Rattle.std.specs.Prelude.{◌≡◌, ◌+◌, ◌≤◌, length};
 ghost use Rattle.ownership.specs.OnTable.{table_step};
 ghost use Rattle.text.specs.Row.{row_text};

@@ -1,4 +1,6 @@
 // The listing program: reads standard input, and writes its printed list to standard output.
+#![tactic(auto)]
+
 ghost use Rattle.std.specs.Prelude.{◌≡◌, ◌+◌, ◌≤◌, length, take};
 ghost use Rattle.listing.specs.Printed.{lists};
 

@@ -1,4 +1,6 @@
 // The printed line of an open.
+#![tactic(auto)]
+
 ghost use Rattle.std.specs.Prelude.{List, ◌≡◌, ℕ};
 ghost use Rattle.std.proofs.Math.Option.{some};
 ghost use Rattle.ownership.specs.Calls.{opening, carries_scouts};

@@ -1,5 +1,7 @@
 // Whether a path that a send may try crosses no blocked link, held ones allowed: what a rejected send asks, to tell whether closing circuits could help.
 // For a pass, which has many paths, one sweep over the cube answers it, from the target outward; helix paths are walked one by one.
+#![tactic(auto)]
+
 ghost use Rattle.std.specs.Prelude.{◌≡◌, ◌<◌, eqb, take};
 ghost use Rattle.common.specs.Lists.{any};
 ghost use Rattle.cube.specs.Cube.{port_count};

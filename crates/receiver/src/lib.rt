@@ -1,4 +1,6 @@
 // One receive channel: it takes the packets of a circuit, data and command words, until an end stops it.
+#![tactic(auto)]
+
 ghost use Rattle.std.specs.Prelude.{◌≡◌};
 ghost use Rattle.receiver.specs.Receive.{data_packet, command_word, started, after_data, after_command, received, overshoot, followed};
 

@@ -1,4 +1,6 @@
 // Freeing a circuit: the links of its path one after another, and then the receive channel at its end, which is disarmed too.
+#![tactic(auto)]
+
 ghost use Rattle.std.specs.Prelude.{◌≡◌, true, take};
 ghost use Rattle.table.specs.View.{view, without_circuit};
 ghost use Rattle.table.specs.Encode.{encode};

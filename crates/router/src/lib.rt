@@ -1,4 +1,6 @@
 // The calls on a lent table.
+#![tactic(auto)]
+
 mod calls;
 
 pub use answers::Opened;

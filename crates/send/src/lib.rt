@@ -1,4 +1,6 @@
 // A send of any routing type on a lent table.
+#![tactic(auto)]
+
 ghost use Rattle.std.specs.Prelude.{◌≡◌, ◌≢◌};
 ghost use Rattle.cube.specs.Helical.{FirstPorts};
 ghost use Rattle.answers.specs.SendOnTable.{pass_answer};

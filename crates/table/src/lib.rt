@@ -1,4 +1,6 @@
 // The table that the caller lends: its values one at a time, from `entries`; what is asked of the rows of its nodes; and making one.
+#![tactic(auto)]
+
 ghost use Rattle.std.specs.Prelude.{◌≡◌, ◌≢◌, true, ℕ, ◌+◌, ◌*◌, ◌<◌, ◌≤◌, eqb, length};
 ghost use Rattle.common.specs.Decides.{Decides};
 ghost use Rattle.common.specs.Lists.{lowest};

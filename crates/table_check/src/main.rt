@@ -1,6 +1,8 @@
 // Checks tables of every dimension that hold circuits: as they are, and with single bytes changed at every offset; tables that are wrong in
 // one way each; and wrong tables that have as many hops as held links. It prints how they were answered; the gate compares that with what a check
 // written apart from this library prints.
+#![tactic(auto)]
+
 mod print;
 mod sweep;
 mod tables;

@@ -1,16 +1,10 @@
 -- `cube::vectors::without` meets its contract: a set bit that is changed is lost.
--- Assumes nothing.
 use Rattle.cube.proofs.Bits.{flip_xor}
 use Rattle.cube.proofs.Ports.{port_bit, without_of}
-use borrow.Author.Rules.{rules}
-use Rattle.cube.proofs.vectors.without.Statement.{statement}
-use Rattle.cube.proofs.vectors.without.Tie as tie
+use Rattle.cube.proofs.vectors.without.Goals as goal
 
-returns : tie.Need-returns
+pub returns : goal.returns
 returns c =
     let v = c.args.vector in
     let p = c.args.port.0 in
     rw (port_bit 16 p c.requires.0, flip_xor v p) (without_of v p c.requires.1)
-
-pub without-spec : {M : Type 1} → statement M
-without-spec = tie.close (tie.spec (search rules) returns)

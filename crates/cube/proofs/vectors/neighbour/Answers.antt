@@ -1,5 +1,4 @@
 -- `cube::vectors::neighbour` meets its contract: `^` with the port's bit changes that bit alone.
--- Assumes nothing.
 use mathlib.Core.Path.{ap, sym, ◌∙◌}
 use native.Mathlib.Omega.{arith}
 use lib.Bits.{bit_xor}
@@ -7,15 +6,10 @@ use Rattle.cube.specs.Bits.{flip}
 use Rattle.cube.proofs.Axes.{axis_low}
 use Rattle.cube.proofs.Bits.{flip_xor}
 use Rattle.cube.proofs.Ports.{port_bit}
-use borrow.Author.Rules.{rules}
-use Rattle.cube.proofs.vectors.neighbour.Statement.{statement}
-use Rattle.cube.proofs.vectors.neighbour.Tie as tie
+use Rattle.cube.proofs.vectors.neighbour.Goals as goal
 
-returns : tie.Need-returns
+pub returns : goal.returns
 returns c =
     let n = c.args.node.0 in
     let p = c.args.port.0 in
     ap (bit_xor n) (port_bit 16 p (omega arith)) ∙ flip_xor n p ∙ ap (flip n) (sym (axis_low p c.requires))
-
-pub neighbour-spec : {M : Type 1} → statement M
-neighbour-spec = tie.close (tie.spec (search rules) returns)
