@@ -25,6 +25,7 @@ Opens on ps (p ∷ v) = (p ∈ ps) × ((v ≡ []) ⊎ (v ∈ on p))
 
 opens_more : (on : ℕ → List Path) (q : ℕ) (ps : List ℕ) (w : Path) → Opens on ps w → Opens on (q ∷ ps) w
 unfolding Opens
+opens_more on q ps [] o = elim o [ ]
 opens_more on q ps (p ∷ v) o = (Memᴰ.tail o.0, o.1)
 
 pub over_mem : (on : ℕ → List Path) (ps : List ℕ) {w : Path} → w ∈ over on ps → Opens on ps w
@@ -37,6 +38,7 @@ over_mem on (p ∷ ps) {w} m =
     (λ v k. opens_more on p ps v (over_mem on ps k)) w (rw over_cons at m)
 
 pub mem_over : (on : ℕ → List Path) (ps : List ℕ) {p : ℕ} {v : Path} → p ∈ ps → (v ≡ []) ⊎ (v ∈ on p) → (p ∷ v) ∈ over on ps
+mem_over on [] {p = p} {v = v} x'' o = elim x'' [ ]
 mem_over on (q ∷ ps) (Memᴰ.tail m) o = rw over_cons (Memᴰ.append_right ((q ∷ []) ∷ map (λ (v : Path). q ∷ v) (on q)) (mem_over on ps m o))
 mem_over on (q ∷ ps) (Memᴰ.head e) o =
     rw (e, over_cons) (Memᴰ.append_left (over on ps) (⊎_elim (λ z. Memᴰ.head (ap (q ∷◌) z)) (λ k. Memᴰ.tail (Memᴰ.map (λ (v : Path). q ∷ v) k)) (rw e at o)))

@@ -165,6 +165,7 @@ module _ (S : Shape) where
   -- "So it has 1 to D + 1 hops, 9 at most."
   pub path_hops : (s : ℕ) (vector : List ℕ) (t : ℕ) (w : Path) → Permitted (network S) s vector t w → (1 ≤ length w) × (length w ≤ suc S.dimension)
   unfolding Permitted
+  path_hops s vector t [] o = elim o [ ]
   path_hops s vector t (p ∷ w) o = (omega arith, omega (arith, permitted_length (cube_nearing t) s vector p w o, distance_within t ((network S).next s p)))
 
   -- a send's ports are those whose axis its vector has, the other ports those whose axis it has not

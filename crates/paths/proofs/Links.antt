@@ -38,6 +38,7 @@ on_none N n m q o = Memᴰ.not-nil o
 -- the test of a list's links says what is in it
 pub link_true : (ls : List Link) (m q : ℕ) → (m, q) ∈ ls → has_link ls m q ≡ true
 unfolding has_link
+link_true [] m q x' = elim x' [ ]
 link_true (l ∷ ls) m q (Memᴰ.head e) =
     let x : m ≡ l.0 = ap (λ (x : Link). x.0) e in
     let y : q ≡ l.1 = ap (λ (x : Link). x.1) e in
@@ -86,6 +87,7 @@ module _ {N : Network} {t : ℕ} (near : Nearing N t) where
   -- A permitted path uses no link twice.
   pub permitted_distinct : (s : ℕ) (vector : List ℕ) (w : Path) → Permitted N s vector t w → Pairwise ◌≢◌ (links N s w)
   unfolding Permitted links Pairwise On
+  permitted_distinct s vector [] o = elim o [ ]
   permitted_distinct s vector (p ∷ w) o =
       ((λ l m e. hop_fresh s p w o.1 (subst (λ (k : Link). k ∈ links N (N.next s p) w) (sym e) m)), onward_distinct (N.next s p) w o.1)
 

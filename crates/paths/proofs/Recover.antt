@@ -181,6 +181,7 @@ module _ (S : Shape) (own : ℕ → ℕ → Bool) (s a : ℕ) (w : Path) (apart 
 -- The walk gives back the permitted path whose links are exactly those owned.
 pub path_found : (S : Shape) (own : ℕ → ℕ → Bool) (s t : ℕ) (w : Path) → Permitted (network S) s (ports S) t w → Exactly (network S) s w own → path_of_links S own s ≡ w
 unfolding Permitted
+path_found S own s t [] o x = elim o [ ]
 path_found S own s t (a ∷ w) o x = path_is S own s a w (onward_apart S t ((network S).next s a) w o.1) x o.0
 
 -- So a permitted path of the cube is determined by its source and its links, whatever its target and whatever its send vector.

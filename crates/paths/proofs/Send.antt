@@ -43,6 +43,7 @@ runs_most r (x ∷ y ∷ ys) = go (send_goes_on (outcome r x)) refl (runs_most r
 -- more ports for the first hop, more permitted paths
 wider : (N : Network) (s : ℕ) (ps qs : List ℕ) (t : ℕ) (w : Path) → ((p : ℕ) → p ∈ ps → p ∈ qs) → Permitted N s ps t w → Permitted N s qs t w
 unfolding Permitted
+wider N s ps qs t [] h o = elim o [ ]
 wider N s ps qs t (p ∷ w) h o = (h p o.0, o.1)
 
 -- What holds of the attempts of each routing type holds of those of any.

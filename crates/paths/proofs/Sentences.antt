@@ -34,6 +34,7 @@ onward_end N t n w o = ((onward_is N t n w).0 o).1
 
 pub permitted_end : (N : Network) (s : ℕ) (vector : List ℕ) (t : ℕ) (w : Path) → Permitted N s vector t w → end N s w ≡ t
 unfolding Permitted end
+permitted_end N s vector t [] o = elim o [ ]
 permitted_end N s vector t (p ∷ w) o = onward_end N t (N.next s p) w o.1
 
 permitted_whole : (N : Network) (s : ℕ) (vector : List ℕ) (t : ℕ) (w : Path) → Permitted N s vector t w → whole N t s w ≡ true
@@ -50,6 +51,7 @@ whole_permitted N s vector t (p ∷ w) m e =
 
 permitted_hops : (N : Network) (s : ℕ) (vector : List ℕ) (t : ℕ) (v : Path) → Permitted N s vector t v → v ≢ []
 unfolding Permitted
+permitted_hops N s vector t [] o = elim o [ ]
 permitted_hops N s vector t (p ∷ v) o = cons≢nil
 
 -- "a beginning of a path comes before the path"

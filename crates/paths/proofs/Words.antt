@@ -35,6 +35,7 @@ permitted_in_words N s vector t w = (there w, back)
     later_hop (p ∷ u) q v some o = hop_of N t (N.next s p) u q v o.1
 
     there : (w : Path) → Permitted N s vector t w → InWords N s vector t w
+    there [] o = elim o [ ]
     there (p ∷ w) o =
         record {
           first = (p, (w, refl, o.0));
