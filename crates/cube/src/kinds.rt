@@ -18,14 +18,14 @@ pub const NO_CHANNEL: u16 = CHANNELS;
 // "Sends use arrival port 7": behind it the order begins with port 0.
 pub const SEND_ARRIVAL: u16 = 7;
 
-#[derive(Drop)]
+#[derive(Clone, Copy)]
 pub struct Node(pub u16);
 
-#[derive(Drop)]
+#[derive(Clone, Copy)]
 pub struct Port(pub u16);
 
 // 0 is no circuit.
-#[derive(Drop)]
+#[derive(Clone, Copy)]
 pub struct Circuit(pub u16);
 
 // The circuit of a send channel.
