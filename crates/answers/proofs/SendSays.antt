@@ -44,6 +44,8 @@ module _ (b : List ℕ) (c s t : ℕ) (helps : Bool) where
   acknowledged_number : (o : Outcome) (m x h k n : ℕ) (b' : List ℕ)
       → pass_answer x h k n b' ≡ send_answer helps b c s t (record { outcome = o; scouts = m }) → Acknowledged o → x ≡ 0
   unfolding send_answer bytes_after_send answer_of_outcome Acknowledged
+  acknowledged_number route_rejected_lem m x h k n b' q z = elim z [ ]
+  acknowledged_number receive_rejected_lem m x h k n b' q z = elim z [ ]
   acknowledged_number (acknowledged w j) m x h k n b' q z = cc
 
   number_acknowledged : (o : Outcome) (m x h k n : ℕ) (b' : List ℕ)

@@ -24,6 +24,7 @@ not_empty (p ∷ w) e q = let z : is_empty (p ∷ w) ≡ true = ap is_empty q in
 
 pub some_hop : (N : Network) (s : ℕ) (vector : List ℕ) (t : ℕ) (w : Path) → Permitted N s vector t w → not (is_empty w) ≡ true
 unfolding Permitted is_empty
+some_hop N s vector t [] o = elim o [ ]
 some_hop N s vector t (p ∷ w) o = refl
 
 module _ (v : View) where

@@ -1,0 +1,17 @@
+-- `reach::helix_enabled` meets its contract: what is left of the path is the helix path of port p from the node reached, and the links before it are enabled.
+use mathlib.Core.Path.{◌≡◌, refl, sym, ◌∙◌}
+use Prim.Native.Nat.{◌<◌, ◌^◌}
+use native.Mathlib.Omega.{arith}
+use Rattle.cube.proofs.Ports.{below_256}
+use Rattle.layout.specs.Layout.{dimension_at}
+use Rattle.table.specs.View.{view}
+use Rattle.reach.specs.Marks.{helix_enabled}
+use Rattle.reach.proofs.Walk.{hops_after, a_hop, node_there, walk_blocked, walk_ends, uphill_small, port_there, walk_on, walk_nearer}
+use Rattle.reach.proofs.helix_enabled.Given as goal
+
+abbrev pub invariant-loop-target : goal.invariant-loop-target
+invariant-loop-target l =
+    (l.at.0 < 2 ^ dimension_at l.t) × (l.p.0 < dimension_at l.t) × (helix_enabled l.t l.at.0 l.target.0 l.p.0 ≡ helix_enabled l.t l.initial.at.0 l.target.0 l.initial.p.0)
+
+abbrev pub decreases-loop-target : goal.decreases-loop-target
+decreases-loop-target l = hops_after l.t l.target.0 l.at.0 l.p.0
