@@ -35,8 +35,9 @@ shape_of-buffer-then-p-ge-NO_PORT c =
 
 pub returns-then-p-ge-NO_PORT : goal.returns-then-p-ge-NO_PORT
 returns-then-p-ge-NO_PORT c =
-    end_tracing c.requires.has_source c.dimension.ensures c.node_count-left.ensures c.source_of-source.ensures c.first_hop-first.ensures c.requires.c_value c.neighbour-at.ensures _ c.requires.in_bounds
-    c.loop-c.invariant c.held_port-p.ensures c.if-p-ge-NO_PORT.true
+    let r = end_tracing c.requires.has_source c.dimension.ensures c.node_count-left.ensures c.source_of-source.ensures c.first_hop-first.ensures c.requires.c_value c.neighbour-at.ensures _ c.requires.in_bounds
+    c.loop-c.invariant c.held_port-p.ensures c.if-p-ge-NO_PORT.true in
+    record { hops_value = r.0; end_value = r.1.0; buffer_after = r.1.1 }
 
 pub overflow_cast-buffer-in-loop-c : goal.overflow_cast-buffer-in-loop-c
 overflow_cast-buffer-in-loop-c c = omega (arith, c.if-p-ge-NO_PORT.false)

@@ -1,0 +1,13 @@
+-- `helix::hold_helix` meets its contract: what is still to go gives the bytes of the whole path.
+use mathlib.Core.Path.{◌∙◌}
+use native.Mathlib.Omega.{arith}
+use Rattle.cube.specs.Cube.{next}
+use Rattle.answers.specs.PassOnBytes.{hops_left}
+use Rattle.helix.proofs.Following.{Holding, holding_first, holding_arrived, holding_nearer, holding_more, hop_within, up_small}
+use Rattle.helix.proofs.hold_helix.Given as goal
+
+abbrev pub invariant-loop-node : goal.invariant-loop-node
+invariant-loop-node l = Holding l.initial.t l.initial.node.0 l.target.0 l.initial.p.0 l.c.0 l.t l.node.0 l.p.0
+
+abbrev pub decreases-loop-node : goal.decreases-loop-node
+decreases-loop-node l = hops_left l.initial.t l.target.0 (next l.node.0 l.p.0)
