@@ -5,16 +5,16 @@ use Rattle.search.proofs.alternate_maze.Goals as goal
 
 pub returns-then-got-ne-ROUTE_REJECTED : goal.returns-then-got-ne-ROUTE_REJECTED
 returns-then-got-ne-ROUTE_REJECTED c =
-    alternate_ended c.requires.1 c.maze-got.ensures c.if-got-ne-ROUTE_REJECTED.true
+    alternate_ended c.requires.may_send c.maze-got.ensures c.if-got-ne-ROUTE_REJECTED.true
 
 pub maze-again-requires : goal.maze-again-requires
-maze-again-requires c = record { first_ports = c.requires.0; may_send = may_again c.requires.1 c.maze-got.ensures c.dimension.ensures c.node_count.ensures c.if-got-ne-ROUTE_REJECTED.false }
+maze-again-requires c = record { first_ports = c.requires.first_ports; may_send = may_again c.requires.may_send c.maze-got.ensures c.dimension.ensures c.node_count.ensures c.if-got-ne-ROUTE_REJECTED.false }
 
 pub overflow_add-scouts : goal.overflow_add-scouts
 overflow_add-scouts c =
-    let few = few_scouts c.requires.1 c.maze-got.ensures c.dimension.ensures c.node_count.ensures c.if-got-ne-ROUTE_REJECTED.false c.maze-again.ensures in
+    let few = few_scouts c.requires.may_send c.maze-got.ensures c.dimension.ensures c.node_count.ensures c.if-got-ne-ROUTE_REJECTED.false c.maze-again.ensures in
     record { fits = omega (arith, few) }
 
 pub returns : goal.returns
 returns c =
-    alternate_again c.requires.1 c.maze-got.ensures c.dimension.ensures c.node_count.ensures c.if-got-ne-ROUTE_REJECTED.false c.maze-again.ensures
+    alternate_again c.requires.may_send c.maze-got.ensures c.dimension.ensures c.node_count.ensures c.if-got-ne-ROUTE_REJECTED.false c.maze-again.ensures

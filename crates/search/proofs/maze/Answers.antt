@@ -20,7 +20,7 @@ pub set_receiver-requires : goal.set_receiver-requires
 set_receiver-requires c =
     let may = c.requires.may_send in
     record {
-      bytes = c.try_in_turn-answer.auto.0 ∙ may.bytes;
+      bytes = c.try_in_turn-answer.auto.t ∙ may.bytes;
       node = byte_vector may.fits may.target;
       port = maze_channel may c.enabled_ports-ports.ensures.0 (read_off c.unpacked-got.ensures c.try_in_turn-answer.ensures) c.if-got-eq-ACCEPTED.true;
     }
