@@ -18,7 +18,7 @@ const LARGEST_CIRCUIT: u16 = 2048;
 pub const LINE: usize = 6;
 
 // A circuit's number, where its ports begin in the other buffer, and how many they are.
-#[derive(Drop)]
+#[derive(Clone, Copy)]
 pub struct BookLine {
     pub number: u16,
     pub offset: u16,

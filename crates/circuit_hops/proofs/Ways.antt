@@ -181,11 +181,14 @@ module _ (b : List ℕ) (c n t hops : ℕ) (d : dimension_at b ≤ largest_dimen
   pub walks_on : {to r : ℕ} → n ≢ t → WalkStep b c n t to → Walks (view b) c t to (hops + 1) r → Walks (view b) c t n hops r
   walks_on {to} {r} h x k =
       record {
-        way = λ l. let w = k.way l in (x.port ∷ w.0, unfold SoleWay in (h, x.is_offered, x.sole, subst (λ (y : ℕ). SoleWay (view b) c t y w.0) x.there w.1), omega (arith, w.2));
+        way = λ l. let w = k.way l in (x.port ∷ w.0, on w.0 w.1, omega (arith, w.2));
         forced = go;
         most = k.most;
       }
     where
+      on : (w : Path) → SoleWay (view b) c t to w → SoleWay (view b) c t n (x.port ∷ w)
+      on w s = unfold SoleWay in (h, x.is_offered, x.sole, subst (λ (y : ℕ). SoleWay (view b) c t y w) x.there s)
+
       go : (w : Path) → SoleWay (view b) c t n w → r < 4096
       go [] s = unfold SoleWay in absurd (h s)
       go (q ∷ w) s =

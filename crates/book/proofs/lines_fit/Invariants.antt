@@ -1,0 +1,17 @@
+-- `book::lines_fit` meets its contract: the lines left fit behind those before exactly where all lines fit.
+use mathlib.Core.Path.{◌≡◌, refl, ap, sym, ◌∙◌}
+use mathlib.Core.Bool.{true}
+use mathlib.Core.List.{List}
+use Prim.Native.Nat.{◌+◌, ◌-◌, ◌*◌, ◌≤◌}
+use native.Mathlib.Omega.{arith}
+use borrow.Author.Tests.{not-true, not-false}
+use Rattle.book.specs.Lookup.{IndexLine, lines, lines_fit}
+use Rattle.book.proofs.Lines.{lines_from, lines_all, line_fits_lem, fits_on, fits_not, fits_past}
+use Rattle.book.proofs.lines_fit.Given as goal
+
+abbrev pub invariant-loop-i : goal.invariant-loop-i
+invariant-loop-i l =
+    (l.i ≤ l.circuits) × (l.i ≤ l.above) × (l.above ≤ 2048) × (l.at ≤ 9 * l.i) × (lines_fit l.above l.at (lines_from l.index l.circuits l.i) l.hops ≡ lines_fit 0 0 (lines l.circuits l.index) l.hops)
+
+abbrev pub decreases-loop-i : goal.decreases-loop-i
+decreases-loop-i l = l.circuits - l.i
