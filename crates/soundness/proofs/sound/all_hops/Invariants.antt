@@ -1,0 +1,15 @@
+-- `soundness::sound::all_hops` meets its contract: the groups so far are counted.
+use mathlib.Core.Path.{◌≡◌, refl, sym, ◌∙◌}
+use Prim.Native.Nat.{◌*◌, ◌-◌, ◌≤◌}
+use native.Mathlib.Omega.{arith}
+use lib.ListN.{length}
+use Rattle.table.specs.View.{view}
+use Rattle.soundness.specs.Counting.{Counts}
+use Rattle.soundness.proofs.Counting.{counts_skip, counts_join, counts_as_lem, counts_at}
+use Rattle.soundness.proofs.sound.all_hops.Given as goal
+
+abbrev pub invariant-loop-i : goal.invariant-loop-i
+invariant-loop-i l = (l.i ≤ 16) × (length l.seen ≡ 256) × Counts (view l.t) 0 (128 * l.i) l.initial.seen l.seen l.hops
+
+abbrev pub decreases-loop-i : goal.decreases-loop-i
+decreases-loop-i l = 16 - l.i
