@@ -20,6 +20,7 @@ use Rattle.ownership.specs.HistoryView.{number_of}
 -- two members of which neither stands in the relation to the other are one
 pub pairwise_one : {A : Type 0} (R : A → A → Type 0) (xs : List A) → Pairwise R xs → (x y : A) → x ∈ xs → y ∈ xs → (R x y → ⊥) → (R y x → ⊥) → x ≡ y
 unfolding Pairwise
+pairwise_one {A = A} R [] o x y x7 _ f g = elim x7 [ ]
 pairwise_one R (z ∷ xs) o x y (Memᴰ.head e) (Memᴰ.head d) f g = e ∙ sym d
 pairwise_one R (z ∷ xs) o x y (Memᴰ.head e) (Memᴰ.tail k) f g = absurd (f (rw e (o.0 y k)))
 pairwise_one R (z ∷ xs) o x y (Memᴰ.tail m) (Memᴰ.head d) f g = absurd (g (rw d (o.0 x m)))
@@ -112,6 +113,7 @@ module _ (f : Circuit → Bool) where
   -- then one that passes has it
   pub number_at : (xs : List Circuit) → Once xs → (x : Circuit) → x ∈ xs → f x ≡ true → number_of f xs ≡ number_for x
   unfolding Pairwise
+  number_at [] o x x5 e = elim x5 [ ]
   number_at (y ∷ xs) o x (Memᴰ.head h) e = number_yes y xs (sym (ap f h) ∙ e) ∙ ap number_for (sym h)
   number_at (y ∷ xs) o x (Memᴰ.tail m) e = number_no y xs (is_false (f y) (λ u. o.0 x m u e)) ∙ number_at xs o.1 x m e
 

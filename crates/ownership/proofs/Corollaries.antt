@@ -35,6 +35,7 @@ use Rattle.ownership.proofs.Agreement.{making_passes, made_clears, made_represen
 -- a permitted path has a link out of its source
 first_link : (N : Network) (s : ℕ) (vector : List ℕ) (t : ℕ) (w : Path) → Permitted N s vector t w → (p : ℕ) × ((s, p) ∈ links N s w)
 unfolding Permitted links
+first_link N s vector t mathlib.Core.List.[] o = elim o [ ]
 first_link N s vector t (p ∷ w) o = (p, Memᴰ.head refl)
 
 -- From any bytes, after an accepted making and any list of calls:

@@ -40,6 +40,7 @@ use Rattle.ownership.proofs.OnSound.{open_sound}
 -- the links out of some ports of some nodes
 out_mem : (ns ps : List ℕ) (n p : ℕ) → (n, p) ∈ links_out ns ps → (n ∈ ns) × (p ∈ ps)
 unfolding links_out
+out_mem mathlib.Core.List.[] ps n p i = elim i [ ]
 out_mem (m ∷ ns) ps n p i =
     ⊎_elim here (λ k. let r = out_mem ns ps n p k in (Memᴰ.tail r.0, r.1)) (Memᴰ.append_cases (map (λ (q : ℕ). (m, q)) ps) i)
   where
@@ -50,6 +51,7 @@ out_mem (m ∷ ns) ps n p i =
 
 mem_out : (ns ps : List ℕ) (n p : ℕ) → n ∈ ns → p ∈ ps → (n, p) ∈ links_out ns ps
 unfolding links_out
+mem_out mathlib.Core.List.[] ps n p x'' k = elim x'' [ ]
 mem_out (m ∷ ns) ps n p (Memᴰ.head e) k = rw e (Memᴰ.append_left (links_out ns ps) (Memᴰ.map (λ (q : ℕ). (m, q)) k))
 mem_out (m ∷ ns) ps n p (Memᴰ.tail i) k = Memᴰ.append_right (map (λ (q : ℕ). (m, q)) ps) (mem_out ns ps n p i k)
 
