@@ -1,0 +1,23 @@
+-- `input_line::numbers` meets its contract: the numbers read so far stand in front of those of the fields that are left.
+use mathlib.Core.Path.{◌≡◌, refl, sym, ◌∙◌, ap}
+use mathlib.Core.List.{List}
+use mathlib.Core.Option.{none, some}
+use Prim.Native.Nat.{ℕ, ◌+◌, ◌-◌, ◌≤◌, ◌<◌}
+use native.Mathlib.Omega.{arith}
+use lib.ListN.{length, take, drop, set, length-set}
+use Rattle.text.specs.Text.{number}
+use Rattle.text.specs.Lines.{fields}
+use Rattle.input_line.specs.Line.{numbers, with_numbers}
+use Rattle.input_line.specs.ReadLine.{ReadNumbers}
+use Rattle.input_line.proofs.Asking.{joined, joined_none, numbers_none, numbers_more, numbers_last, unread, many}
+use Rattle.text.proofs.Reading.{read_most, read_not}
+use Rattle.text.proofs.Cuts.{fields_more, fields_end, fields_first, fields_some}
+use Rattle.input_line.proofs.numbers.Given as goal
+
+abbrev pub invariant-loop-count : goal.invariant-loop-count
+invariant-loop-count l =
+    (l.at ≤ length l.line) × (l.count ≤ 5) × (length l.values ≡ 5) × (numbers (fields (drop l.from l.line)) ≡ joined (take l.count l.values) (numbers (fields (drop l.at l.line))))
+    × (length (fields (drop l.from l.line)) ≡ l.count + length (fields (drop l.at l.line)))
+
+abbrev pub decreases-loop-count : goal.decreases-loop-count
+decreases-loop-count l = 5 - l.count
