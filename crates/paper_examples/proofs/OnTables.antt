@@ -40,6 +40,16 @@ All (i ∷ is) = Begins i × All is
 
 same : (b : List ℕ) → length b ≡ table_length → (i : Input) → Begins i → result_on b i ≡ result i
 unfolding Begins
+same b e (calls []) h = elim h [ ]
+same b e (calls (blocking node port ∷ cs)) h = elim h [ ]
+same b e (calls (unblocking node port ∷ cs)) h = elim h [ ]
+same b e (calls (opening source channel target type vector ∷ cs)) h = elim h [ ]
+same b e (calls (closing source channel ∷ cs)) h = elim h [ ]
+same b e (calls (tracing source channel buffer ∷ cs)) h = elim h [ ]
+same b e (calls (arming node channel ∷ cs)) h = elim h [ ]
+same b e (calls (disarming node channel ∷ cs)) h = elim h [ ]
+same b e (calls (opening_all sends ∷ cs)) h = elim h [ ]
+same b e (calls (booking ports index ∷ cs)) h = elim h [ ]
 same b e (calls (making D ∷ cs)) h = ap (map shown) (demand_3 b before D (making_accepted b D e h.0 h.1) cs).results
 same b e (read w) h = refl
 same b e (write c k) h = refl
