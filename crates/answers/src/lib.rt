@@ -9,7 +9,7 @@ ghost use Rattle.answers.specs.SendOnTable.{state_in, state_of};
 use cube::{Node, Port};
 
 // A link: free, held by a circuit, or blocked.
-#[derive(Drop)]
+#[derive(Clone, Copy)]
 pub enum LinkState {
     Free,
     Held,
@@ -35,7 +35,7 @@ pub fn link_state(t: &[u8], n: Node, p: Port, enabled: bool) -> LinkState
 
 // What a pass, a send and an open answer: 0 with the hops of the path and the receive channel taken, or the refusal; and the scouts sent.
 #[repr(C)]
-#[derive(Drop)]
+#[derive(Clone, Copy)]
 pub struct Opened {
     pub number: u16,
     pub hops: u16,

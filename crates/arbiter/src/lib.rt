@@ -19,21 +19,21 @@ pub const REQUESTS_END: u32 = 67108864;
 
 // The record, kept by the caller: the last requester served.
 #[repr(C)]
-#[derive(Drop)]
+#[derive(Clone, Copy)]
 pub struct Arbiter {
     pub last: u16,
 }
 
 // The answer of a call: a refusal has a zero beside its number.
 #[repr(C)]
-#[derive(Drop)]
+#[derive(Clone, Copy)]
 pub struct Served {
     pub number: u16,
     pub requester: u16,
 }
 
 // A call by value: its answer, and the record after it.
-#[derive(Drop)]
+#[derive(Clone, Copy)]
 pub struct Choice {
     pub number: u16,
     pub requester: u16,

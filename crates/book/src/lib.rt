@@ -26,7 +26,7 @@ pub struct BookLine {
 }
 
 // What a lookup answers.
-#[derive(Drop)]
+#[derive(Clone, Copy)]
 pub struct LookedUp {
     pub number: u16,
     pub hops: u16,

@@ -9,7 +9,7 @@ use common::refusal;
 
 // What a book answers: 0 with its circuits and its hops, or the refusal.
 #[repr(C)]
-#[derive(Drop)]
+#[derive(Clone, Copy)]
 pub struct Booked {
     pub number: u16,
     pub circuits: u16,

@@ -15,7 +15,7 @@ ghost use Rattle.circuit_path.specs.Follow.{takes, comes_back, first_hop, HasSou
 use cube::{Circuit, Node, Port};
 
 // How many hops a path has, and the node where it ends.
-#[derive(Drop)]
+#[derive(Clone, Copy)]
 pub struct WrittenPath {
     pub hops: u16,
     pub end: Node,

@@ -9,12 +9,12 @@ ghost use Rattle.command_word.specs.Word.{read_word, write_word, no_reading, no_
 use common::refusal;
 
 // A stored word: its packet type stands above its command, and that above its status.
-#[derive(Drop)]
+#[derive(Clone, Copy)]
 pub struct CommandWord(pub u16);
 
 // The answer of a reading: a refusal has zeros beside its number.
 #[repr(C)]
-#[derive(Drop)]
+#[derive(Clone, Copy)]
 pub struct WordRead {
     pub number: u16,
     pub command: u16,
@@ -23,7 +23,7 @@ pub struct WordRead {
 
 // The answer of a writing: a refusal has a zero beside its number.
 #[repr(C)]
-#[derive(Drop)]
+#[derive(Clone, Copy)]
 pub struct WordWritten {
     pub number: u16,
     pub word: u16,

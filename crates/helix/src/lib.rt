@@ -16,7 +16,7 @@ use common::refusal;
 use cube::{Circuit, Node, Port};
 
 // The free hops at the front of a path, and whether they are the whole of it.
-#[derive(Drop)]
+#[derive(Clone, Copy)]
 struct Front {
     hops: u16,
     whole: bool,
@@ -67,7 +67,7 @@ fn hold_helix(t: &mut [u8], source: Node, target: Node, port: Port, c: Circuit, 
 }
 
 // The first helix path that was found free: its first port, or 8 where none was; its hops; and the scouts sent until then.
-#[derive(Drop)]
+#[derive(Clone, Copy)]
 struct FreePath {
     port: Port,
     hops: u16,

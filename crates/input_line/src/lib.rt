@@ -36,7 +36,7 @@ fn numbers(line: &[u8], from: usize, values: &mut [u16; 5]) -> usize
 }
 
 // What a line asks.
-#[derive(Drop)]
+#[derive(Clone, Copy)]
 pub enum Asked {
     Make(u16),
     Block(Node, Port),

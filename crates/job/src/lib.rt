@@ -16,7 +16,7 @@ use cube::Node;
 
 // What a job answers: 0 with the number of its sends, or the first refusal with the place of its send, from 0.
 #[repr(C)]
-#[derive(Drop)]
+#[derive(Clone, Copy)]
 pub struct OpenedAll {
     pub number: u16,
     pub sends: u16,

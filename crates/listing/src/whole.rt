@@ -33,7 +33,7 @@ fn rows(input: &[u8], t: &mut [u8], out: &mut [u8], at: usize) -> usize
 }
 
 // What the list answers: whether the output is too short, and nothing was written; or how many bytes were.
-#[derive(Drop)]
+#[derive(Clone, Copy)]
 pub struct Listed {
     pub short: bool,
     pub written: usize,

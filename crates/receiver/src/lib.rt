@@ -11,7 +11,7 @@ use router::Opened;
 // The state of a channel. A flag is a number of which 0 alone says no: the channel is stopped, its overflow mark is clear, ends of message
 // are not ignored. A state that is all zero is stopped.
 #[repr(C)]
-#[derive(Drop)]
+#[derive(Clone, Copy)]
 pub struct Channel {
     pub address: u32,
     pub count: u32,
@@ -22,14 +22,14 @@ pub struct Channel {
 
 // The channel after a packet, and the packet's number.
 #[repr(C)]
-#[derive(Drop)]
+#[derive(Clone, Copy)]
 pub struct Received {
     pub channel: Channel,
     pub number: u16,
 }
 
 // The channel of a circuit: the number of the open, which receive channel of the target it is, and its state.
-#[derive(Drop)]
+#[derive(Clone, Copy)]
 pub struct Followed {
     pub number: u16,
     pub receive: u16,

@@ -110,7 +110,7 @@ pub fn disarm(t: &mut [u8], node: Node, channel: u16) -> u16
 
 // What a trace answers: 0 with the hops of the path, or the refusal.
 #[repr(C)]
-#[derive(Drop)]
+#[derive(Clone, Copy)]
 pub struct Traced {
     pub number: u16,
     pub hops: u16,

@@ -15,7 +15,7 @@ ghost use Rattle.table_book.specs.Writing.{circuit_if, BookPre};
 use cube::Circuit;
 
 // How many circuits a book has, and how many hops in all.
-#[derive(Drop)]
+#[derive(Clone, Copy)]
 pub struct BookSize {
     pub circuits: u16,
     pub hops: u16,

@@ -7,7 +7,7 @@ ghost use Rattle.text.specs.Written.{Wrote, field_of, row_of, width, row_width};
 use crate::put;
 
 // What a field shows: nothing, a number, a call letter, or a path: so many ports of the buffer that is lent beside the field.
-#[derive(Drop)]
+#[derive(Clone, Copy)]
 pub enum Field {
     Nothing,
     Number(u32),
@@ -16,7 +16,7 @@ pub enum Field {
 }
 
 // The fields of a printed line, in their order.
-#[derive(Drop)]
+#[derive(Clone, Copy)]
 pub struct Row {
     pub line: u16,
     pub call: Field,

@@ -1,0 +1,13 @@
+-- `job::copy` meets its contract: the bytes before i are copied.
+use mathlib.Core.Path.{◌≡◌, refl, sym, ◌∙◌}
+use Prim.Native.Nat.{◌-◌, ◌≤◌}
+use native.Mathlib.Omega.{arith}
+use lib.ListN.{length, take, length-set}
+use Rattle.job.proofs.SendsInTurn.{copied_more, copied_all}
+use Rattle.job.proofs.copy.Given as goal
+
+abbrev pub invariant-loop-i : goal.invariant-loop-i
+invariant-loop-i l = (l.i ≤ length l.to) × (length l.to ≡ length l.initial.to) × (take l.i l.to ≡ take l.i l.from)
+
+abbrev pub decreases-loop-i : goal.decreases-loop-i
+decreases-loop-i l = length l.initial.to - l.i
