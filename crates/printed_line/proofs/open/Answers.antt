@@ -10,5 +10,5 @@ returns-then-number-ne-ACCEPTED c =
 
 pub returns : goal.returns
 returns c =
-    let w = c.trace.new.buffer.1.1.0 in
+    let w = c.trace.new.buffer in
     answered c.open-got.ensures (c.of_call-2.ensures w ∙ acknowledged_row _ _ _ _ _ _ _ _ (c.scouts_of-scouts.ensures w) c.if-number-ne-ACCEPTED.false (ports_are _ _ c.requires c.trace.ensures))

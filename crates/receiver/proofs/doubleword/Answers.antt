@@ -4,11 +4,11 @@ use Rattle.receiver.proofs.Steps.{one_less_lem, data_marked, data_marks, data_co
 use Rattle.receiver.proofs.doubleword.Goals as goal
 
 pub returns-then-channel-ne0 : goal.returns-then-channel-ne0
-returns-then-channel-ne0 c = data_marked _ _ c.if-channel-ne0.true (one_less_lem _ _ (omega arith) (omega arith) c.wrapping_sub_u32.ensures)
+returns-then-channel-ne0 c = data_marked _ _ c.if-channel-ne0.true (one_less_lem _ _ (omega arith) (omega arith) c.wrapping_sub_u32.ensures.value)
 
 pub returns-then-channel-eq0 : goal.returns-then-channel-eq0
 returns-then-channel-eq0 c =
-    data_marks _ _ c.if-channel-ne0.false c.if-channel-eq0.true (one_less_lem _ _ (omega arith) (omega arith) c.wrapping_sub_u32.ensures)
+    data_marks _ _ c.if-channel-ne0.false c.if-channel-eq0.true (one_less_lem _ _ (omega arith) (omega arith) c.wrapping_sub_u32.ensures.value)
 
 pub returns : goal.returns
 returns c =
@@ -18,5 +18,5 @@ returns c =
     _
     c.if-channel-ne0.false
     c.if-channel-eq0.false
-    (one_less_lem _ _ (omega arith) (omega arith) c.wrapping_sub_u32.ensures)
-    c.wrapping_add_u32.ensures
+    (one_less_lem _ _ (omega arith) (omega arith) c.wrapping_sub_u32.ensures.value)
+    c.wrapping_add_u32.ensures.value

@@ -9,7 +9,7 @@ returns-then-read-ne-ACCEPTED c = word_unread _ _ _ (ap (λ (r : WordRead). r.nu
 
 pub returns-then-running-eq0 : goal.returns-then-running-eq0
 returns-then-running-eq0 c =
-    word_stopped _ _ (sym (ap (λ (r : WordRead). c.number) c.read-read.ensures) ∙ c.if-read-ne-ACCEPTED.false) c.if-running-eq0.true
+    word_stopped _ _ (sym (ap (λ (r : WordRead). r.number) c.read-read.ensures) ∙ c.if-read-ne-ACCEPTED.false) c.if-running-eq0.true
 
 pub returns : goal.returns
 returns c =
@@ -18,7 +18,7 @@ returns c =
     _
     _
     _
-    (sym (ap (λ (r : WordRead). c.number) c.read-read.ensures) ∙ c.if-read-ne-ACCEPTED.false)
-    (ap (λ (r : WordRead). c.command) c.read-read.ensures)
+    (sym (ap (λ (r : WordRead). r.number) c.read-read.ensures) ∙ c.if-read-ne-ACCEPTED.false)
+    (ap (λ (r : WordRead). r.command) c.read-read.ensures)
     c.if-running-eq0.false
     c.obey.ensures
