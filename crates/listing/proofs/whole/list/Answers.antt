@@ -10,9 +10,9 @@ use Rattle.listing.proofs.whole.list.Goals as goal
 pub returns-then-output-lt-OUTPUT_BYTES : goal.returns-then-output-lt-OUTPUT_BYTES
 returns-then-output-lt-OUTPUT_BYTES c = (lists_short c.args.input.now c.args.output.now c.if-output-lt-OUTPUT_BYTES.true, refl)
 
-pub shape_of-output-then-input-gt-INPUT_LIMIT : goal.shape_of-output-then-input-gt-INPUT_LIMIT
+pub returns-then-input-gt-INPUT_LIMIT : goal.returns-then-input-gt-INPUT_LIMIT
 unfolding too_long ended spaced
-shape_of-output-then-input-gt-INPUT_LIMIT c =
+returns-then-input-gt-INPUT_LIMIT c =
     (lists_all c.args.input.now (omega (arith, c.if-output-lt-OUTPUT_BYTES.false)) (printed_long c.args.input.now c.if-input-gt-INPUT_LIMIT.true) c.text-written.ensures, refl)
 
 pub rows-written-requires : goal.rows-written-requires

@@ -31,7 +31,7 @@ loop-from-preserved c =
       omega (arith, ends),
       omega (arith, c.loop-from.invariant.1, found),
       c.answer-place.auto.t ∙ c.loop-from.invariant.2,
-      c.answer-place.auto.out.0 ∙ c.loop-from.invariant.3,
+      c.answer-place.auto.out ∙ c.loop-from.invariant.3,
       left_bytes input i j inside found ends c.answer-place.ensures ∙ c.loop-from.invariant.4,
       left_place input i j inside found ends c.answer-place.ensures ∙ c.loop-from.invariant.5,
     )
