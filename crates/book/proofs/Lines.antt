@@ -1,10 +1,10 @@
 -- The lines of an index, one behind the other; when a line fits, and that the line of a circuit fits where all do.
 -- Assumes nothing.
 use mathlib.Core.Path.{◌≡◌, refl, ap, ap₂, sym, ◌∙◌}
-use mathlib.Core.Logic.{⊎_elim, ◌≢◌}
+use mathlib.Core.Logic.{◌≢◌}
 use mathlib.Core.Bool.{Bool, true, false, cond, ◌&&◌}
 use mathlib.Core.List.{List, [], ◌∷◌}
-use Prim.Native.Nat.{ℕ, zero, suc, ◌+◌, ◌-◌, ◌*◌, ◌≤◌, ◌<◌}
+use Prim.Native.Nat.{ℕ, suc, ◌+◌, ◌-◌, ◌*◌, ◌≤◌, ◌<◌}
 use native.Mathlib.Nat.{sub-zero}
 use native.Mathlib.Omega.{arith}
 use lib.Dec.{eqb, leb, ltb}
@@ -12,7 +12,7 @@ use lib.ListN.{length, drop}
 use lib.Seq.{get_or-drop, drop-drop}
 use borrow.Author.Tests.{eqb-true, eq-eqb, ne_eqb, ltb-true, lt-ltb, le-ltb, leb-true, le-leb, lt-leb}
 use Rattle.common.specs.Lists.{any}
-use Rattle.common.proofs.Tests.{both, and, same?, clash}
+use Rattle.common.proofs.Tests.{both, clash}
 use Rattle.layout.specs.Layout.{word_at}
 use Rattle.book.specs.Lookup.{IndexLine, first_line, lines, line_fits, lines_fit, is_listed, line_of, well_formed}
 

@@ -1,6 +1,6 @@
 -- Document 02, (e): a book of circuits in two buffers.
 -- Assumes nothing.
-use Rattle.std.specs.Prelude.{List, [], ◌∷◌, ◌++◌, ℕ, ◌+◌, ◌*◌, ◌/◌, ◌%◌, length}
+use Rattle.std.specs.Prelude.{List, [], ◌∷◌, ◌++◌, ℕ, ◌+◌, ◌/◌, ◌%◌, length}
 
 -- a circuit of a book: its number, and the ports of its path
 pub record BookCircuit : Type 0 where

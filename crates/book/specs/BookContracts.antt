@@ -1,6 +1,5 @@
 -- What the functions of this crate ask and answer. Nobody has to believe these: the contract of a lookup is over Lookup.
 -- Assumes nothing.
-use Rattle.std.specs.Prelude.{◌≡◌, ℕ}
 use Rattle.book.specs.Lookup.{IndexLine}
 use Rattle.book.specs.declared.BookLine.{BookLine}
 

@@ -1,6 +1,6 @@
 -- Document 02, (e), computed: the bytes of a small book, lookups in it, and books that are not well formed.
 -- Assumes nothing.
-use Rattle.std.specs.Prelude.{◌≡◌, refl, Bool, true, false, List, [], ◌∷◌, map, ℕ, replicate}
+use Rattle.std.specs.Prelude.{◌≡◌, refl, Bool, true, false, List, [], ◌∷◌, ℕ, replicate}
 use Rattle.common.specs.Lists.{any}
 use Rattle.common.specs.Tests.{refusal}
 use Rattle.circuit_path.specs.Traced.{traced_into}

@@ -7,7 +7,6 @@ use mathlib.Core.List.{List, [], ◌∷◌}
 use Prim.Native.Nat.{ℕ, ◌+◌, ◌^◌, ◌≤◌, ◌<◌}
 use native.Mathlib.Omega.{arith}
 use lib.Bits.{bit_xor, bit_and, and_le_l}
-use lib.ListN.{length}
 use lib.Pow.{pow_pos}
 use Rattle.common.specs.Lists.{◌∈◌, from}
 use Rattle.common.proofs.Lists.{length_keep}

@@ -14,7 +14,7 @@ use borrow.Author.Tests.{eq-eqb, ne_eqb}
 use Rattle.common.proofs.Tests.{clash, same?}
 use Rattle.cube.specs.Bits.{has}
 use Rattle.cube.specs.CubeContracts.{Without, FirstTried}
-use Rattle.cube.specs.Cube.{largest_dimension, port_count, channels, VectorOf, next}
+use Rattle.cube.specs.Cube.{largest_dimension, port_count, channels, VectorOf}
 use Rattle.cube.specs.Helical.{helical, ports_of, first_port, no_port}
 use Rattle.cube.proofs.Bits.{bit_power_other}
 use Rattle.cube.proofs.Order.{length_helical, length_ports, helical_zero, port_tried, low_port}

@@ -7,7 +7,7 @@ use Prim.Native.Nat.{ℕ}
 use lib.ListN.{length}
 use Rattle.ownership.specs.Calls.{Call}
 use Rattle.ownership.specs.OnTable.{table_step}
-use Rattle.text.specs.Row.{Row as PrintedRow, row, row_text}
+use Rattle.text.specs.Row.{Row as PrintedRow, row_text}
 use Rattle.text.specs.Written.{Wrote, row_of, row_width}
 use Rattle.text.specs.declared.row.Row.{Row}
 use Rattle.text.proofs.Writing.{retext}

@@ -7,8 +7,7 @@ use Prim.Native.Nat.{ℕ, ◌*◌, ◌^◌, ◌≤◌, ◌<◌}
 use native.Mathlib.Omega.{arith}
 use lib.Dec.{eqb, ltb}
 use lib.ListN.{length, get_or}
-use borrow.Author.Tests.{lt-ltb, le-ltb}
-use Rattle.common.specs.Tests.{Test, test, refusal}
+use Rattle.common.specs.Tests.{test, refusal}
 use Rattle.common.proofs.Tests.{passed}
 use Rattle.cube.specs.Cube.{channels, circuit_of, NodeOf}
 use Rattle.layout.specs.Layout.{dimension_at}
@@ -20,7 +19,7 @@ use Rattle.circuit_path.specs.Traced.{traced_into}
 use Rattle.book.specs.Lookup.{LookupResult, looked_up}
 use Rattle.book.proofs.WrittenBook.{ports_answer}
 use Rattle.book.proofs.BookOfSound.{book_lookup}
-use Rattle.ownership.specs.Calls.{Call, booking, tracing, CallResult, refused_with, call_tests, result_of, call_on}
+use Rattle.ownership.specs.Calls.{booking, tracing, CallResult, refused_with, call_tests, result_of, call_on}
 use Rattle.ownership.specs.Allowed.{Allowed}
 use Rattle.ownership.specs.TableFacts.{open_in}
 use Rattle.ownership.specs.OnTable.{facts_of, stopped_at, table_step}

@@ -14,7 +14,6 @@ use Rattle.cube.proofs.Circuits.{circuit_of_parts}
 use Rattle.paths.specs.CubeNetwork.{circuit_count}
 use Rattle.circuit_path.specs.PathOf.{path_of}
 use Rattle.circuit_path.specs.OpenCircuit.{is_open_in}
-use Rattle.book.specs.Book.{BookCircuit}
 use Rattle.book.specs.BookOf.{open_numbers, book_of}
 use Rattle.ownership.specs.TableFacts.{open_in}
 use Rattle.ownership.specs.History.{History, shape_on, open_on, listed, book_on}

@@ -3,12 +3,11 @@
 use mathlib.Core.Path.{◌≡◌, refl, sym, ◌∙◌}
 use mathlib.Core.Logic.{◌≢◌}
 use mathlib.Core.Bool.{Bool, true, false, cond, ◌&&◌}
-use mathlib.Core.List.{List, [], ◌∷◌}
+use mathlib.Core.List.{List}
 use Prim.Native.Nat.{ℕ}
 use native.Mathlib.Omega.{arith}
 use lib.Dec.{eqb}
 use borrow.Author.Tests.{eqb-true, eq-eqb, ne_eqb, not-false}
-use Rattle.common.specs.Tests.{refusal}
 use Rattle.common.proofs.Tests.{is_false, both, and, clash}
 use Rattle.common.proofs.Lists.{any_some, some_any}
 use Rattle.cube.specs.Cube.{circuit_of, source_of}
@@ -22,7 +21,7 @@ use Rattle.paths.proofs.Waiting.{wider_free}
 use Rattle.table.specs.View.{View, view, net, shape_of, held_in, held_by, set_at, set_enabled, set_armed, without_circuit, available}
 use Rattle.table.specs.Encode.{AllBytes}
 use Rattle.answers.specs.SendOnTable.{state_in, free_in}
-use Rattle.answers.specs.SendSays.{SomeRoute, Available}
+use Rattle.answers.specs.SendSays.{SomeRoute}
 use Rattle.circuit_path.specs.OpenCircuit.{is_open_in}
 use Rattle.ownership.specs.Calls.{Call, opening, closing}
 use Rattle.ownership.specs.Update.{updated}
@@ -35,7 +34,7 @@ use Rattle.ownership.proofs.Allowed.{allowed, allowed_passes}
 use Rattle.ownership.proofs.Stops.{none_stops, none_stops_lent, pass_tests, stopped_is}
 use Rattle.ownership.proofs.Steps.{table_step_lem}
 use Rattle.ownership.proofs.OnSound.{open_answers}
-use Rattle.ownership.proofs.Waiting.{Kept, calls_kept}
+use Rattle.ownership.proofs.Waiting.{calls_kept}
 
 -- a table of the same dimension in which no link that was free, no channel that was available and no send channel that was not open is so no more
 record Freer (w v : View) : Type 0 where

@@ -3,7 +3,7 @@
 use mathlib.Core.Path.{◌≡◌, refl, ap, ap₂, sym, ◌∙◌}
 use mathlib.Core.Logic.{⊎_elim}
 use mathlib.Core.Bool.{Bool, true, false, cond, not, ◌&&◌, not-not}
-use mathlib.Core.List.{List, [], ◌∷◌, map}
+use mathlib.Core.List.{List, map}
 use Prim.Native.Nat.{ℕ, ◌≤◌, ◌<◌}
 use native.Mathlib.Omega.{arith}
 use lib.Dec.{eqb, ltb}
@@ -25,7 +25,7 @@ use Rattle.table.specs.Encode.{AllBytes}
 use Rattle.soundness.specs.TableTests.{table_tests}
 use Rattle.answers.specs.SendOnTable.{state_in, free_in, send_in, waiting_helps}
 use Rattle.ownership.specs.Calls.{Call, opening, tracing, CallResult, refused_with, answered, call_tests, result_of, call_on}
-use Rattle.ownership.specs.TableFacts.{open_in, taken_in}
+use Rattle.ownership.specs.TableFacts.{taken_in}
 use Rattle.ownership.specs.OnTable.{facts_of, stopped_at, table_step}
 use Rattle.ownership.specs.History.{History, belongs, open_on, listed, facts_on, stopped_on, with_opened, applied, history_step, send_on}
 use Rattle.ownership.specs.FromTable.{history_of}

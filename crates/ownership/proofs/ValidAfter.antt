@@ -15,7 +15,6 @@ use Rattle.common.proofs.Tests.{clash, is_false, both}
 use Rattle.common.proofs.Lists.{keep_mem, keep_pairwise, some_any}
 use Rattle.paths.specs.Network.{Path, Link, links}
 use Rattle.paths.specs.Send.{Outcome, acknowledged, route_rejected_lem, receive_rejected_lem}
-use Rattle.paths.specs.CubeNetwork.{send}
 use Rattle.paths.proofs.Words.{free_link}
 use Rattle.table.specs.View.{set_at}
 use Rattle.ownership.specs.Sends.{Send, sends_in}

@@ -1,6 +1,6 @@
 -- Books of a small history, computed: in order of circuit number whatever was opened first, with room to spare, with too little, and of no circuit.
 -- Assumes nothing.
-use Rattle.std.specs.Prelude.{◌≡◌, refl, List, [], ◌∷◌, ℕ, replicate}
+use Rattle.std.specs.Prelude.{◌≡◌, refl, List, [], ◌∷◌, replicate}
 use Rattle.common.specs.Lists.{keep, from, any, lowest}
 use Rattle.common.specs.Tests.{refusal}
 use Rattle.cube.specs.Bits.{has, flip}

@@ -1,12 +1,12 @@
 -- Document 02, (n), at its edges, computed: what each of its conditions is there for, and what closing a circuit does not promise. Tables are given by what they show.
 -- Assumes nothing.
-use Rattle.std.specs.Prelude.{◌≡◌, refl, Bool, true, false, List, [], ◌∷◌, ℕ}
+use Rattle.std.specs.Prelude.{◌≡◌, refl, Bool, true, false, List, [], ◌∷◌}
 use Rattle.common.specs.Lists.{keep, from, any, lowest}
 use Rattle.cube.specs.Bits.{has, flip}
 use Rattle.cube.specs.Axes.{axis, present}
 use Rattle.cube.specs.Cube.{uphill}
 use Rattle.cube.specs.Helical.{helical}
-use Rattle.paths.specs.Network.{Path, offered, end, link_state, is_free, free_path}
+use Rattle.paths.specs.Network.{offered, end, link_state, is_free, free_path}
 use Rattle.paths.specs.Pass.{over, ways, beginnings, scan, whole, pass, scouts}
 use Rattle.paths.specs.Send.{acknowledged, route_rejected_lem, lowest_of, received, outcome, attempted, SendResult, send_goes_on, runs}
 use Rattle.paths.specs.Waiting.{finds_path, some_attempt}

@@ -4,7 +4,7 @@ use Rattle.std.specs.Prelude.{Bool, cond, ◌&&◌, not, List, [], ◌∷◌, ma
 use Rattle.common.specs.Lists.{keep, from, any}
 use Rattle.common.specs.Tests.{refusal}
 use Rattle.paths.specs.Network.{Network, Path, Link, links, has_link, link_state, is_free}
-use Rattle.paths.specs.Send.{Receive, channel, Outcome, acknowledged, route_rejected_lem, receive_rejected_lem, SendResult, lowest_of}
+use Rattle.paths.specs.Send.{Receive, Outcome, acknowledged, route_rejected_lem, receive_rejected_lem, SendResult, lowest_of}
 use Rattle.paths.specs.Waiting.{some_attempt}
 use Rattle.paths.specs.CubeNetwork.{Shape, network, attempts, send, unfolded, is_link_of, circuit_count}
 use Rattle.cube.specs.Cube.{source_of, channel_of}

@@ -5,7 +5,7 @@ use Rattle.cube.specs.Cube.{channels, next}
 use Rattle.paths.specs.Between.{Between}
 use Rattle.table.specs.View.{View, view}
 use Rattle.answers.specs.SendOnTable.{state_in, send_in}
-use Rattle.ownership.specs.Calls.{opening, tracing, CallResult}
+use Rattle.ownership.specs.Calls.{opening, tracing}
 use Rattle.ownership.specs.TableFacts.{open_in, taken_in}
 use Rattle.ownership.specs.OnTable.{table_step}
 

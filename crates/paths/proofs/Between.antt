@@ -2,8 +2,8 @@
 -- Assumes nothing.
 use mathlib.Core.Path.{◌≡◌, refl, ap, sym, ◌∙◌}
 use mathlib.Core.Logic.{◌⊎◌, inl, inr, ⊎_elim, ◌↔◌}
-use mathlib.Core.Bool.{Bool, true, false}
-use mathlib.Core.List.{List, [], ◌∷◌, map}
+use mathlib.Core.Bool.{Bool, true}
+use mathlib.Core.List.{[], ◌∷◌, map}
 use Prim.Native.Nat.{ℕ, ◌<◌}
 use native.Mathlib.Omega.{arith}
 use borrow.Author.Tests.{eq-eqb}
@@ -15,7 +15,7 @@ use Rattle.cube.specs.Axes.{axis}
 use Rattle.cube.proofs.Bits.{bit_lt, bit_kept}
 use Rattle.paths.specs.Network.{offered}
 use Rattle.paths.specs.Pass.{PassResult, pass}
-use Rattle.paths.specs.Send.{Attempt, pass_over, attempted}
+use Rattle.paths.specs.Send.{attempted}
 use Rattle.paths.specs.CubeNetwork.{Shape, ports, network, send_ports, attempts}
 use Rattle.paths.specs.Between.{Between, EitherBit, VectorUphill}
 use Rattle.paths.proofs.CubeNetwork.{offered_port, port_offered, send_port}

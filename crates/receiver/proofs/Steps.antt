@@ -1,6 +1,6 @@
 -- One packet: its number and the channel after it, by what the code's branches have decided.
 -- Assumes nothing.
-use Rattle.std.proofs.Common.{◌≡◌, ℕ, ◌+◌, ◌-◌, ◌%◌, ◌^◌, ◌<◌, true, false, not, ◌≢◌, refl, ap, ◌∙◌, arith, eq-eqb, ne_eqb}
+use Rattle.std.proofs.Common.{◌≡◌, ℕ, ◌+◌, ◌%◌, ◌^◌, ◌<◌, true, false, not, ◌≢◌, refl, ap, ◌∙◌, arith, eq-eqb, ne_eqb}
 use Rattle.common.proofs.Tests.{refused, passed, accepted}
 use Rattle.command_word.specs.Commands.{end_of_message, end_of_transmission}
 use Rattle.command_word.specs.Word.{read_word}

@@ -10,7 +10,7 @@ use lib.ListN.{length}
 use lib.Bits.{xor_lt}
 use Rattle.common.specs.Lists.{◌∈◌}
 use Rattle.cube.specs.CubeContracts.{UphillVector}
-use Rattle.cube.specs.Cube.{port_count, NodeOf, next}
+use Rattle.cube.specs.Cube.{port_count, NodeOf}
 use Rattle.cube.specs.Helical.{helical, ports_of}
 use Rattle.paths.specs.Network.{offered}
 use Rattle.paths.specs.CubeNetwork.{network}

@@ -29,7 +29,7 @@ use native.Mathlib.Omega.{arith}
 use native.Mathlib.Nat.{le_trans, le_refl, mul-le-mul}
 use lib.Dec.{leb}
 use borrow.Author.Tests.{leb-true, leb-false}
-use Rattle.cube.specs.Cube.{port_count, next}
+use Rattle.cube.specs.Cube.{port_count}
 use Rattle.paths.specs.Network.{Network}
 use Rattle.paths.specs.Bound.{ways_from}
 use Rattle.paths.proofs.Bound.{ways_more}

@@ -15,7 +15,6 @@ use Rattle.cube.specs.Cube.{port_count, VectorOf, next}
 use Rattle.cube.specs.Helical.{helical, ports_of, first_port}
 use Rattle.cube.proofs.Order.{byte_vector, port_tried, low_port, mem_ports, ports_mem, length_helical, helical_mem, mem_helical, helical_zero}
 use Rattle.cube.proofs.Axes.{next_inside}
-use Rattle.paths.specs.Network.{offered}
 use Rattle.paths.specs.CubeNetwork.{network}
 use Rattle.paths.specs.Search.{trying, arriving}
 use Rattle.paths.specs.Pass.{PassResult, scouts}

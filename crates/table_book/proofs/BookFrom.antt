@@ -2,27 +2,26 @@
 -- Assumes nothing.
 use mathlib.Core.Path.{◌≡◌, refl, ap, ap₂, sym, ◌∙◌}
 use mathlib.Core.Bool.{Bool, true, false, cond}
-use mathlib.Core.List.{List, [], ◌∷◌, ◌++◌, map, append_assoc, append-nil}
-use Prim.Native.Nat.{ℕ, zero, suc, ◌+◌, ◌-◌, ◌*◌, ◌^◌, ◌≤◌, ◌<◌}
+use mathlib.Core.List.{List, [], ◌∷◌, ◌++◌, append_assoc, append-nil}
+use Prim.Native.Nat.{ℕ, suc, ◌+◌, ◌-◌, ◌*◌, ◌≤◌, ◌<◌}
 use native.Mathlib.Nat.{add-zero}
 use native.Mathlib.Numerals.{add-one}
 use native.Mathlib.Omega.{arith}
 use lib.Dec.{ltb}
 use borrow.Author.Tests.{lt-ltb, ltb-false}
-use lib.ListN.{length, take, drop, length-append, length-drop}
+use lib.ListN.{length, take, drop, length-append}
 use lib.Seq.{take-append_seam}
 use Rattle.common.specs.Lists.{keep, from}
-use Rattle.cube.specs.Cube.{largest_dimension, source_of, channels, cube_nodes}
+use Rattle.cube.specs.Cube.{channels, cube_nodes}
 use Rattle.layout.specs.Layout.{dimension_at}
-use Rattle.table.specs.View.{View, view, shape_of}
+use Rattle.table.specs.View.{View, view}
 use Rattle.circuit_path.specs.PathOf.{path_of}
 use Rattle.circuit_path.specs.OpenCircuit.{is_open_in}
 use Rattle.circuit_path.specs.Traced.{traced_into}
-use Rattle.circuit_path.specs.Follow.{HasSource}
 use Rattle.book.specs.Book.{BookCircuit, port_bytes, word_bytes, index_from, hop_count}
 use Rattle.book.specs.BookOf.{open_numbers, book_of}
 use Rattle.book.proofs.BookOfSound.{open_hops}
-use Rattle.table_book.specs.Writing.{book_from, circuit_if, BookPre}
+use Rattle.table_book.specs.Writing.{book_from, circuit_if}
 
 -- parts of a book one behind the other
 pub ports_append : (xs ys : List BookCircuit) → port_bytes (xs ++ ys) ≡ port_bytes xs ++ port_bytes ys

@@ -2,7 +2,6 @@
 use mathlib.Core.Path.{◌≡◌, sym, ap, ◌∙◌}
 use mathlib.Core.Logic.{⊎_elim}
 use native.Mathlib.Omega.{arith}
-use borrow.Author.Tests.{leb-true, leb-false}
 use Rattle.arbiter.specs.Arbiter.{arbitrated}
 use Rattle.arbiter.proofs.Answers.{refused_requests, refused_record, nobody, answered}
 use Rattle.arbiter.proofs.choose.Goals as goal

@@ -1,9 +1,8 @@
 -- `book::line_of` meets its contract: the line of the circuit among those left is that among all.
-use mathlib.Core.Path.{◌≡◌, ap, sym, ◌∙◌}
-use Prim.Native.Nat.{◌+◌, ◌-◌, ◌≤◌}
+use mathlib.Core.Path.{ap, sym, ◌∙◌}
 use native.Mathlib.Omega.{arith}
-use Rattle.book.specs.Lookup.{lines, line_of}
-use Rattle.book.proofs.Lines.{lines_from, lines_all, line_here, line_on, line_past}
+use Rattle.book.specs.Lookup.{line_of}
+use Rattle.book.proofs.Lines.{lines_all, line_here, line_on, line_past}
 use Rattle.book.proofs.line_of.Goals as goal
 
 pub loop-i-init : goal.loop-i-init

@@ -1,9 +1,8 @@
 -- `book::line_of` meets its contract: the line of the circuit among those left is that among all.
-use mathlib.Core.Path.{◌≡◌, ap, sym, ◌∙◌}
-use Prim.Native.Nat.{◌+◌, ◌-◌, ◌≤◌}
-use native.Mathlib.Omega.{arith}
+use mathlib.Core.Path.{◌≡◌}
+use Prim.Native.Nat.{◌-◌, ◌≤◌}
 use Rattle.book.specs.Lookup.{lines, line_of}
-use Rattle.book.proofs.Lines.{lines_from, lines_all, line_here, line_on, line_past}
+use Rattle.book.proofs.Lines.{lines_from}
 use Rattle.book.proofs.line_of.Given as goal
 
 abbrev pub invariant-loop-i : goal.invariant-loop-i

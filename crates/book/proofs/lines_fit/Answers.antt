@@ -1,12 +1,9 @@
 -- `book::lines_fit` meets its contract: the lines left fit behind those before exactly where all lines fit.
-use mathlib.Core.Path.{◌≡◌, refl, ap, sym, ◌∙◌}
-use mathlib.Core.Bool.{true}
+use mathlib.Core.Path.{ap, sym, ◌∙◌}
 use mathlib.Core.List.{List}
-use Prim.Native.Nat.{◌+◌, ◌-◌, ◌*◌, ◌≤◌}
 use native.Mathlib.Omega.{arith}
-use borrow.Author.Tests.{not-true, not-false}
-use Rattle.book.specs.Lookup.{IndexLine, lines, lines_fit}
-use Rattle.book.proofs.Lines.{lines_from, lines_all, line_fits_lem, fits_on, fits_not, fits_past}
+use Rattle.book.specs.Lookup.{IndexLine, lines_fit}
+use Rattle.book.proofs.Lines.{lines_all, line_fits_lem, fits_on, fits_not, fits_past}
 use Rattle.book.proofs.lines_fit.Goals as goal
 
 pub loop-i-init : goal.loop-i-init

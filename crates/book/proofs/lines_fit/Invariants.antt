@@ -1,12 +1,8 @@
 -- `book::lines_fit` meets its contract: the lines left fit behind those before exactly where all lines fit.
-use mathlib.Core.Path.{◌≡◌, refl, ap, sym, ◌∙◌}
-use mathlib.Core.Bool.{true}
-use mathlib.Core.List.{List}
-use Prim.Native.Nat.{◌+◌, ◌-◌, ◌*◌, ◌≤◌}
-use native.Mathlib.Omega.{arith}
-use borrow.Author.Tests.{not-true, not-false}
-use Rattle.book.specs.Lookup.{IndexLine, lines, lines_fit}
-use Rattle.book.proofs.Lines.{lines_from, lines_all, line_fits_lem, fits_on, fits_not, fits_past}
+use mathlib.Core.Path.{◌≡◌}
+use Prim.Native.Nat.{◌-◌, ◌*◌, ◌≤◌}
+use Rattle.book.specs.Lookup.{lines, lines_fit}
+use Rattle.book.proofs.Lines.{lines_from}
 use Rattle.book.proofs.lines_fit.Given as goal
 
 abbrev pub invariant-loop-i : goal.invariant-loop-i

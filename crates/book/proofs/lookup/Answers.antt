@@ -1,10 +1,9 @@
 -- `book::lookup` meets its contract: its tests in their order, and then the ports of the circuit's line.
-use mathlib.Core.Path.{◌≡◌, refl, ap, sym, ◌∙◌}
+use mathlib.Core.Path.{refl, ap, sym, ◌∙◌}
 use mathlib.Core.List.{[]}
 use Prim.Native.Nat.{◌+◌, ◌-◌}
 use native.Mathlib.Omega.{arith}
 use lib.ListN.{drop, length-take}
-use borrow.Author.Tests.{not-true, not-false}
 use Rattle.book.specs.Lookup.{IndexLine}
 use Rattle.book.proofs.Lines.{formed}
 use Rattle.book.proofs.LookupAnswers.{looked_ill, looked_none, its_line, looked_short, looked_found}

@@ -1,10 +1,8 @@
 -- `circuit_hops::hops_to` meets its contract: a number in range whose links at its source are the cube's is followed from there, by the one that its path can begin with.
 use mathlib.Core.Path.{subst, ap, sym, ◌∙◌}
-use mathlib.Core.Logic.{⊎_elim}
 use Prim.Native.Nat.{◌^◌}
 use native.Mathlib.Omega.{arith}
 use lib.Dec.{lit<}
-use borrow.Author.Tests.{not-true, not-false}
 use Rattle.cube.proofs.Ports.{below_256}
 use Rattle.circuit_hops.proofs.Ways.{shown}
 use Rattle.circuit_hops.proofs.Taken.{nodes_most, source_inside, taken_none, taken_new, taken_seen, taken_absent}

@@ -1,14 +1,10 @@
 -- `circuit_hops::walk` meets its contract: what the rest of the way comes to, the whole way comes to.
-use mathlib.Core.Logic.{⊎_elim}
-use Prim.Native.Nat.{ℕ, ◌+◌, ◌^◌, ◌≤◌, ◌<◌}
 use native.Mathlib.Omega.{arith}
 use lib.Dec.{lit<}
-use borrow.Author.Tests.{not-true, not-false}
 use Rattle.cube.proofs.Ports.{below_256}
-use Rattle.layout.specs.Layout.{dimension_at}
-use Rattle.table.specs.View.{view, net}
+use Rattle.table.specs.View.{view}
 use Rattle.std.specs.Int.Bits.{bit_and}
-use Rattle.circuit_hops.specs.CountHops.{OnePort, Walks}
+use Rattle.circuit_hops.specs.CountHops.{OnePort}
 use Rattle.circuit_hops.proofs.Ways.{uphill_small, few_one, not_none, walks_here, walks_none, walks_on, turn, distance_most, shown}
 use Rattle.circuit_hops.proofs.walk.Goals as goal
 use Rattle.circuit_hops.proofs.walk.Goals.{else-links_held-gt1, then-links_held-gt1+else-not-one_port}

@@ -1,8 +1,6 @@
 -- `circuit_path::first_hop` meets its contract: a port whose way back is held too, or else the lowest that was found.
 use mathlib.Core.Path.{◌≡◌, refl, ◌∙◌, sym, ap}
-use mathlib.Core.Logic.{⊎_elim}
 use mathlib.Core.Bool.{Bool, false, cond}
-use Prim.Native.Nat.{◌-◌, ◌≤◌}
 use native.Mathlib.Omega.{arith}
 use lib.Dec.{ltb}
 use Rattle.common.specs.Lists.{lowest}

@@ -1,15 +1,11 @@
 -- `circuit_path::first_hop` meets its contract: a port whose way back is held too, or else the lowest that was found.
-use mathlib.Core.Path.{◌≡◌, refl, ◌∙◌, sym, ap}
-use mathlib.Core.Logic.{⊎_elim}
-use mathlib.Core.Bool.{Bool, false, cond}
+use mathlib.Core.Path.{◌≡◌}
+use mathlib.Core.Bool.{cond}
 use Prim.Native.Nat.{◌-◌, ◌≤◌}
-use native.Mathlib.Omega.{arith}
 use lib.Dec.{ltb}
 use Rattle.common.specs.Lists.{lowest}
 use Rattle.table.specs.View.{view}
 use Rattle.circuit_path.specs.Follow.{takes, comes_back}
-use Rattle.common.proofs.Lowest.{lowest_here, lowest_on, lowest_end, found_same, found_on, found_end, found_most}
-use Rattle.circuit_path.proofs.Hops.{first_back, first_taken, back_off}
 use Rattle.circuit_path.proofs.first_hop.Given as goal
 
 abbrev pub invariant-loop-p : goal.invariant-loop-p

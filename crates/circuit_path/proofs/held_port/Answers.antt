@@ -1,7 +1,7 @@
 -- `circuit_path::held_port` meets its contract: the lowest from p on is the lowest of all.
 use mathlib.Core.Path.{◌≡◌, ◌∙◌, sym}
 use mathlib.Core.Bool.{false}
-use Prim.Native.Nat.{ℕ, ◌-◌, ◌≤◌, ◌<◌}
+use Prim.Native.Nat.{ℕ, ◌≤◌, ◌<◌}
 use native.Mathlib.Omega.{arith}
 use Rattle.common.specs.Lists.{lowest}
 use Rattle.cube.specs.Bits.{has}

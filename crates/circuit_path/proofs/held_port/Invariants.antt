@@ -1,13 +1,9 @@
 -- `circuit_path::held_port` meets its contract: the lowest from p on is the lowest of all.
-use mathlib.Core.Path.{◌≡◌, ◌∙◌, sym}
-use mathlib.Core.Bool.{false}
-use Prim.Native.Nat.{ℕ, ◌-◌, ◌≤◌, ◌<◌}
-use native.Mathlib.Omega.{arith}
+use mathlib.Core.Path.{◌≡◌}
+use Prim.Native.Nat.{◌-◌, ◌≤◌}
 use Rattle.common.specs.Lists.{lowest}
-use Rattle.cube.specs.Bits.{has}
-use Rattle.table.specs.View.{View, view}
+use Rattle.table.specs.View.{view}
 use Rattle.circuit_path.specs.Follow.{takes}
-use Rattle.common.proofs.Lowest.{lowest_here, lowest_on, lowest_end, lowest_skip, lowest_most, lowest_before}
 use Rattle.circuit_path.proofs.held_port.Given as goal
 
 abbrev pub invariant-loop-p : goal.invariant-loop-p

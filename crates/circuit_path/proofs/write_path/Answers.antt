@@ -4,9 +4,8 @@ use native.Mathlib.Omega.{arith}
 use lib.Dec.{lit<}
 use lib.ListN.{length-set}
 use lib.Pow.{pow_pos}
-use Rattle.table.specs.View.{view}
 use Rattle.circuit_path.proofs.Examine.{source_within}
-use Rattle.circuit_path.proofs.Tracing.{Tracing, first_below, start_tracing, port_left, on_place, on_tracing, end_tracing}
+use Rattle.circuit_path.proofs.Tracing.{first_below, start_tracing, port_left, on_place, on_tracing, end_tracing}
 use Rattle.circuit_path.proofs.write_path.Goals as goal
 
 pub first_hop-first-requires : goal.first_hop-first-requires

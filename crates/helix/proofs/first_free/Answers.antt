@@ -3,7 +3,7 @@ use native.Mathlib.Omega.{arith}
 use lib.Dec.{lit<}
 use lib.Pow.{pow_pos}
 use Rattle.cube.proofs.Order.{byte_vector}
-use Rattle.helix.proofs.HelixSends.{PathTurn, first_path_turn, path_turns_over, turn_port, turn_follows, turn_room, turn_found, turn_more}
+use Rattle.helix.proofs.HelixSends.{first_path_turn, path_turns_over, turn_port, turn_follows, turn_room, turn_found, turn_more}
 use Rattle.helix.proofs.first_free.Goals as goal
 
 pub loop-left-init : goal.loop-left-init

@@ -1,9 +1,5 @@
 -- `helix::first_free` meets its contract: what is left to try gives the whole.
-use native.Mathlib.Omega.{arith}
-use lib.Dec.{lit<}
-use lib.Pow.{pow_pos}
-use Rattle.cube.proofs.Order.{byte_vector}
-use Rattle.helix.proofs.HelixSends.{PathTurn, first_path_turn, path_turns_over, turn_port, turn_follows, turn_room, turn_found, turn_more}
+use Rattle.helix.proofs.HelixSends.{PathTurn}
 use Rattle.helix.proofs.first_free.Given as goal
 
 abbrev pub invariant-loop-left : goal.invariant-loop-left

@@ -1,11 +1,9 @@
 -- `helix::free_front` meets its contract: what is still to go gives the whole path.
 use mathlib.Core.Path.{refl}
 use native.Mathlib.Omega.{arith}
-use Rattle.cube.specs.Cube.{next}
-use Rattle.answers.specs.PassOnBytes.{hops_left}
 use Rattle.table.specs.View.{view}
 use Rattle.answers.proofs.PassOnBytes.{told_free, told_held, told_blocked}
-use Rattle.helix.proofs.Following.{Looking, looking_first, looking_stopped, looking_arrived, looking_nearer, looking_more, hop_within, up_small}
+use Rattle.helix.proofs.Following.{looking_first, looking_stopped, looking_arrived, looking_nearer, looking_more, hop_within, up_small}
 use Rattle.helix.proofs.free_front.Goals as goal
 
 pub loop-at-init : goal.loop-at-init

@@ -1,9 +1,7 @@
 -- `helix::hold_helix` meets its contract: what is still to go gives the bytes of the whole path.
-use mathlib.Core.Path.{◌∙◌}
-use native.Mathlib.Omega.{arith}
 use Rattle.cube.specs.Cube.{next}
 use Rattle.answers.specs.PassOnBytes.{hops_left}
-use Rattle.helix.proofs.Following.{Holding, holding_first, holding_arrived, holding_nearer, holding_more, hop_within, up_small}
+use Rattle.helix.proofs.Following.{Holding}
 use Rattle.helix.proofs.hold_helix.Given as goal
 
 abbrev pub invariant-loop-node : goal.invariant-loop-node

@@ -2,14 +2,14 @@
 use mathlib.Core.Path.{◌≡◌, refl, sym, ◌∙◌, ap}
 use mathlib.Core.List.{List}
 use mathlib.Core.Option.{none, some}
-use Prim.Native.Nat.{ℕ, ◌+◌, ◌-◌, ◌≤◌, ◌<◌}
+use Prim.Native.Nat.{ℕ, ◌+◌, ◌-◌, ◌<◌}
 use native.Mathlib.Omega.{arith}
 use lib.ListN.{length, take, drop, set, length-set}
 use Rattle.text.specs.Text.{number}
 use Rattle.text.specs.Lines.{fields}
 use Rattle.input_line.specs.Line.{numbers, with_numbers}
 use Rattle.input_line.specs.ReadLine.{ReadNumbers}
-use Rattle.input_line.proofs.Asking.{joined, joined_none, numbers_none, numbers_more, numbers_last, unread, many}
+use Rattle.input_line.proofs.Asking.{joined_none, numbers_none, numbers_more, numbers_last, unread, many}
 use Rattle.text.proofs.Reading.{read_most, read_not}
 use Rattle.text.proofs.Cuts.{fields_more, fields_end, fields_first, fields_some}
 use Rattle.input_line.proofs.numbers.Goals as goal

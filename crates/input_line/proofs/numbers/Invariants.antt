@@ -1,17 +1,10 @@
 -- `input_line::numbers` meets its contract: the numbers read so far stand in front of those of the fields that are left.
-use mathlib.Core.Path.{◌≡◌, refl, sym, ◌∙◌, ap}
-use mathlib.Core.List.{List}
-use mathlib.Core.Option.{none, some}
-use Prim.Native.Nat.{ℕ, ◌+◌, ◌-◌, ◌≤◌, ◌<◌}
-use native.Mathlib.Omega.{arith}
-use lib.ListN.{length, take, drop, set, length-set}
-use Rattle.text.specs.Text.{number}
+use mathlib.Core.Path.{◌≡◌}
+use Prim.Native.Nat.{◌+◌, ◌-◌, ◌≤◌}
+use lib.ListN.{length, take, drop}
 use Rattle.text.specs.Lines.{fields}
-use Rattle.input_line.specs.Line.{numbers, with_numbers}
-use Rattle.input_line.specs.ReadLine.{ReadNumbers}
-use Rattle.input_line.proofs.Asking.{joined, joined_none, numbers_none, numbers_more, numbers_last, unread, many}
-use Rattle.text.proofs.Reading.{read_most, read_not}
-use Rattle.text.proofs.Cuts.{fields_more, fields_end, fields_first, fields_some}
+use Rattle.input_line.specs.Line.{numbers}
+use Rattle.input_line.proofs.Asking.{joined}
 use Rattle.input_line.proofs.numbers.Given as goal
 
 abbrev pub invariant-loop-count : goal.invariant-loop-count

@@ -1,8 +1,7 @@
 -- `job::copy` meets its contract: the bytes before i are copied.
-use mathlib.Core.Path.{◌≡◌, refl, sym, ◌∙◌}
-use Prim.Native.Nat.{◌-◌, ◌≤◌}
+use mathlib.Core.Path.{refl, sym, ◌∙◌}
 use native.Mathlib.Omega.{arith}
-use lib.ListN.{length, take, length-set}
+use lib.ListN.{length-set}
 use Rattle.job.proofs.SendsInTurn.{copied_more, copied_all}
 use Rattle.job.proofs.copy.Goals as goal
 

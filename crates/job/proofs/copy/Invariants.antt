@@ -1,9 +1,7 @@
 -- `job::copy` meets its contract: the bytes before i are copied.
-use mathlib.Core.Path.{◌≡◌, refl, sym, ◌∙◌}
+use mathlib.Core.Path.{◌≡◌}
 use Prim.Native.Nat.{◌-◌, ◌≤◌}
-use native.Mathlib.Omega.{arith}
-use lib.ListN.{length, take, length-set}
-use Rattle.job.proofs.SendsInTurn.{copied_more, copied_all}
+use lib.ListN.{length, take}
 use Rattle.job.proofs.copy.Given as goal
 
 abbrev pub invariant-loop-i : goal.invariant-loop-i

@@ -2,7 +2,6 @@
 use mathlib.Core.Path.{ap, sym, ◌∙◌}
 use native.Mathlib.Omega.{arith}
 use lib.ListN.{length}
-use Rattle.table.specs.Encode.{AllBytes}
 use Rattle.ownership.proofs.Stops.{pass_tests}
 use Rattle.call_tests.proofs.Stopping.{job_passed}
 use Rattle.router.proofs.TableStep.{call_stopped}

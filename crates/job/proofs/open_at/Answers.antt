@@ -1,7 +1,5 @@
 -- `job::open_at` meets its contract: five numbers read, the tests of an open, and then the open.
-use mathlib.Core.Path.{◌≡◌}
 use native.Mathlib.Omega.{arith}
-use Rattle.ownership.specs.Sends.{send_at}
 use Rattle.call_tests.proofs.Stopping.{open_passed, small_source, may_send}
 use Rattle.job.proofs.SendsInTurn.{send_is, stopped, open_sent, open_refused}
 use Rattle.job.proofs.open_at.Goals as goal

@@ -1,15 +1,7 @@
 -- `job::open_in_turn` meets its contract: what the list comes to is what the sends from i on come to, behind i that were acknowledged.
-use mathlib.Core.Path.{◌≡◌, refl, ◌∙◌}
-use Prim.Native.Nat.{◌-◌, ◌/◌, ◌≤◌}
+use mathlib.Core.Path.{refl, ◌∙◌}
 use native.Mathlib.Omega.{arith}
-use lib.ListN.{length}
-use Rattle.common.specs.Tests.{refusal}
-use Rattle.table.specs.Encode.{AllBytes}
-use Rattle.soundness.specs.TableTests.{table_tests}
-use Rattle.ownership.specs.Sends.{sends_in}
-use Rattle.ownership.specs.Calls.{in_turn}
-use Rattle.ownership.specs.OnTable.{opens_on}
-use Rattle.job.proofs.SendsInTurn.{sends_from, further, at_first, stopped_at_lem, went_on, ended, still_passes}
+use Rattle.job.proofs.SendsInTurn.{at_first, stopped_at_lem, went_on, ended, still_passes}
 use Rattle.job.proofs.open_in_turn.Goals as goal
 
 pub loop-i-init : goal.loop-i-init

@@ -1,7 +1,6 @@
 -- `job::open_in_turn` meets its contract: what the list comes to is what the sends from i on come to, behind i that were acknowledged.
-use mathlib.Core.Path.{◌≡◌, refl, ◌∙◌}
+use mathlib.Core.Path.{◌≡◌}
 use Prim.Native.Nat.{◌-◌, ◌/◌, ◌≤◌}
-use native.Mathlib.Omega.{arith}
 use lib.ListN.{length}
 use Rattle.common.specs.Tests.{refusal}
 use Rattle.table.specs.Encode.{AllBytes}
@@ -9,7 +8,7 @@ use Rattle.soundness.specs.TableTests.{table_tests}
 use Rattle.ownership.specs.Sends.{sends_in}
 use Rattle.ownership.specs.Calls.{in_turn}
 use Rattle.ownership.specs.OnTable.{opens_on}
-use Rattle.job.proofs.SendsInTurn.{sends_from, further, at_first, stopped_at_lem, went_on, ended, still_passes}
+use Rattle.job.proofs.SendsInTurn.{sends_from, further}
 use Rattle.job.proofs.open_in_turn.Given as goal
 
 abbrev pub invariant-loop-i : goal.invariant-loop-i

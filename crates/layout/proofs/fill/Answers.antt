@@ -1,8 +1,7 @@
 -- `layout::fill` meets its contract: the places before i are filled, and the rest is as it was.
 use mathlib.Core.Path.{◌≡◌, refl, ◌∙◌, ap}
-use Prim.Native.Nat.{◌-◌, ◌≤◌}
 use native.Mathlib.Omega.{arith}
-use lib.ListN.{length, set, length-set}
+use lib.ListN.{set, length-set}
 use Rattle.layout.specs.LayoutContracts.{filled}
 use Rattle.layout.proofs.Fills.{filled_none, filled_more}
 use Rattle.layout.proofs.fill.Goals as goal

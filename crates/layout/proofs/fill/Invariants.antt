@@ -1,10 +1,8 @@
 -- `layout::fill` meets its contract: the places before i are filled, and the rest is as it was.
-use mathlib.Core.Path.{◌≡◌, refl, ◌∙◌, ap}
+use mathlib.Core.Path.{◌≡◌}
 use Prim.Native.Nat.{◌-◌, ◌≤◌}
-use native.Mathlib.Omega.{arith}
-use lib.ListN.{length, set, length-set}
+use lib.ListN.{length}
 use Rattle.layout.specs.LayoutContracts.{filled}
-use Rattle.layout.proofs.Fills.{filled_none, filled_more}
 use Rattle.layout.proofs.fill.Given as goal
 
 abbrev pub invariant-loop-i : goal.invariant-loop-i

@@ -1,6 +1,6 @@
 -- `layout::or_bytes` meets its contract: none of the bytes before i is above their union.
 use mathlib.Core.Path.{◌≡◌, subst}
-use Prim.Native.Nat.{ℕ, ◌-◌, ◌≤◌}
+use Prim.Native.Nat.{ℕ}
 use native.Mathlib.Omega.{arith}
 use Rattle.layout.specs.LayoutContracts.{RunOr}
 use Rattle.layout.proofs.Runs.{or_bytes_none, or_bytes_more}

@@ -1,16 +1,10 @@
 -- `layout::row_count` meets its contract: the entries before k are counted.
-use mathlib.Core.Path.{◌≡◌, ◌∙◌, sym, ap}
-use mathlib.Core.Logic.{⊎_elim}
-use mathlib.Core.Bool.{Bool}
-use Prim.Native.Nat.{ℕ, ◌+◌, ◌-◌, ◌*◌, ◌≤◌}
-use native.Mathlib.Omega.{arith}
+use mathlib.Core.Path.{◌≡◌}
+use Prim.Native.Nat.{◌+◌, ◌-◌, ◌*◌, ◌≤◌}
 use lib.Dec.{eqb}
 use lib.ListN.{length}
-use borrow.Author.Tests.{eq-eqb, ne_eqb}
 use Rattle.common.specs.Lists.{keep, from}
-use Rattle.common.proofs.From.{count_none, count_yes, count_no}
 use Rattle.layout.specs.Layout.{word_at}
-use Rattle.layout.specs.LayoutContracts.{row_count}
 use Rattle.layout.proofs.row_count.Given as goal
 
 abbrev pub invariant-loop-k : goal.invariant-loop-k

@@ -1,6 +1,6 @@
 -- `layout::row_vector` meets its contract: the entries before k are found.
 use mathlib.Core.Path.{sym, subst}
-use Prim.Native.Nat.{◌+◌, ◌-◌, ◌≤◌}
+use Prim.Native.Nat.{◌+◌}
 use native.Mathlib.Omega.{arith}
 use Rattle.layout.proofs.Rows.{Found, found_none, found_yes, found_no, found_all}
 use Rattle.layout.proofs.row_vector.Goals as goal

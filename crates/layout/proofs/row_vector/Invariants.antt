@@ -1,9 +1,6 @@
 -- `layout::row_vector` meets its contract: the entries before k are found.
-use mathlib.Core.Path.{sym, subst}
-use mathlib.Core.Logic.{⊎_elim}
-use Prim.Native.Nat.{◌+◌, ◌-◌, ◌≤◌}
-use native.Mathlib.Omega.{arith}
-use Rattle.layout.proofs.Rows.{Found, found_none, found_yes, found_no, found_all}
+use Prim.Native.Nat.{◌-◌, ◌≤◌}
+use Rattle.layout.proofs.Rows.{Found}
 use Rattle.layout.proofs.row_vector.Given as goal
 
 abbrev pub invariant-loop-k : goal.invariant-loop-k

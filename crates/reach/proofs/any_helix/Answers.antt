@@ -1,13 +1,11 @@
 -- `reach::any_helix` meets its contract: no port looked at has a helix path over enabled links alone.
-use mathlib.Core.Path.{◌≡◌, refl, sym, ap, ◌∙◌}
-use Prim.Native.Nat.{◌<◌, ◌^◌}
+use mathlib.Core.Path.{refl, sym, ap, ◌∙◌}
 use native.Mathlib.Omega.{arith}
 use lib.Pow.{pow_pos}
 use Rattle.cube.specs.Cube.{port_count}
 use Rattle.common.specs.Lists.{any}
 use Rattle.cube.specs.Helical.{ports_of}
 use Rattle.cube.proofs.Ports.{below_256}
-use Rattle.layout.specs.Layout.{dimension_at}
 use Rattle.reach.specs.Marks.{helix_enabled}
 use Rattle.reach.proofs.Marks.{lowest_of_lem, bit_below, none_passes, one_passes, rest_passes}
 use Rattle.reach.proofs.any_helix.Goals as goal

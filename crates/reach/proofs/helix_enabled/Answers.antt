@@ -1,12 +1,9 @@
 -- `reach::helix_enabled` meets its contract: what is left of the path is the helix path of port p from the node reached, and the links before it are enabled.
-use mathlib.Core.Path.{◌≡◌, refl, sym, ◌∙◌}
-use Prim.Native.Nat.{◌<◌, ◌^◌}
+use mathlib.Core.Path.{refl, sym, ◌∙◌}
 use native.Mathlib.Omega.{arith}
 use Rattle.cube.proofs.Ports.{below_256}
-use Rattle.layout.specs.Layout.{dimension_at}
 use Rattle.table.specs.View.{view}
-use Rattle.reach.specs.Marks.{helix_enabled}
-use Rattle.reach.proofs.Walk.{hops_after, a_hop, node_there, walk_blocked, walk_ends, uphill_small, port_there, walk_on, walk_nearer}
+use Rattle.reach.proofs.Walk.{a_hop, node_there, walk_blocked, walk_ends, uphill_small, port_there, walk_on, walk_nearer}
 use Rattle.reach.proofs.helix_enabled.Goals as goal
 
 pub loop-target-init : goal.loop-target-init

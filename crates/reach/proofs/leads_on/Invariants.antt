@@ -1,12 +1,7 @@
 -- `reach::leads_on` meets its contract: no port looked at leads to a marked node.
-use mathlib.Core.Path.{◌≡◌, refl, sym, ap, ◌∙◌}
+use mathlib.Core.Path.{◌≡◌}
 use Prim.Native.Nat.{◌<◌}
-use native.Mathlib.Omega.{arith}
-use borrow.Author.Tests.{eq-eqb, ne_eqb}
-use lib.Pow.{pow_pos}
-use Rattle.cube.specs.Cube.{next}
-use Rattle.reach.specs.Marks.{leads, marked}
-use Rattle.reach.proofs.Marks.{lowest_of_lem, port_below, none_passes, one_passes, rest_passes}
+use Rattle.reach.specs.Marks.{leads}
 use Rattle.reach.proofs.leads_on.Given as goal
 
 abbrev pub invariant-loop-left : goal.invariant-loop-left

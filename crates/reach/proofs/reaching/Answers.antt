@@ -1,6 +1,6 @@
 -- `reach::reaching` meets its contract: the nodes that differ from the target in a vector below x are swept.
 use mathlib.Core.Path.{refl, ◌∙◌}
-use Prim.Native.Nat.{◌<◌, ◌≤◌, ◌-◌, ◌^◌}
+use Prim.Native.Nat.{◌<◌, ◌^◌}
 use native.Mathlib.Omega.{arith}
 use Rattle.layout.specs.Layout.{dimension_at}
 use lib.Dec.{lit<}
@@ -8,7 +8,7 @@ use lib.ListN.{replicate}
 use lib.Bits.{and_le_l}
 use native.Mathlib.Nat.{lt_of_le_of_lt}
 use Rattle.cube.proofs.Ports.{below_256, count_of}
-use Rattle.reach.proofs.Sweep.{Swept, inside, swept_target, swept_leads, swept_more, swept_all}
+use Rattle.reach.proofs.Sweep.{inside, swept_target, swept_leads, swept_more, swept_all}
 use Rattle.reach.proofs.reaching.Goals as goal
 
 pub dimension-requires : goal.dimension-requires

@@ -1,5 +1,5 @@
 -- `receiver::doubleword` meets its contract: the mark, then the count, decide whether the address moves.
-use Rattle.std.proofs.Common.{arith, rules}
+use Rattle.std.proofs.Common.{arith}
 use Rattle.receiver.proofs.Steps.{one_less_lem, data_marked, data_marks, data_counted}
 use Rattle.receiver.proofs.doubleword.Goals as goal
 

@@ -1,5 +1,5 @@
 -- `receiver::follow` meets its contract: an open that was accepted, or refused.
-use Rattle.std.proofs.Common.{rules, ne_eqb}
+use Rattle.std.proofs.Common.{ne_eqb}
 use Rattle.receiver.specs.Receive.{followed}
 use Rattle.receiver.proofs.follow.Goals as goal
 

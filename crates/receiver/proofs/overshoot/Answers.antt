@@ -1,5 +1,5 @@
 -- `receiver::overshoot` meets its contract: none while the mark is clear, and else the counter's distance below zero.
-use Rattle.std.proofs.Common.{arith, rules, ne_eqb}
+use Rattle.std.proofs.Common.{arith, ne_eqb}
 use Rattle.receiver.specs.Receive.{overshoot}
 use Rattle.receiver.proofs.overshoot.Goals as goal
 

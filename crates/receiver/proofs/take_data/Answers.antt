@@ -1,5 +1,4 @@
 -- `receiver::take_data` meets its contract: 30, or what a data packet does.
-use Rattle.std.proofs.Common.{rules}
 use Rattle.receiver.proofs.Steps.{data_stopped, data_taken}
 use Rattle.receiver.proofs.take_data.Goals as goal
 

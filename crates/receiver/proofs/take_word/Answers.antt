@@ -1,5 +1,5 @@
 -- `receiver::take_word` meets its contract: what reading answers, then 30, then what the command does.
-use Rattle.std.proofs.Common.{sym, ap, ◌∙◌, rules}
+use Rattle.std.proofs.Common.{sym, ap, ◌∙◌}
 use Rattle.command_word.specs.declared.WordRead.{WordRead}
 use Rattle.receiver.proofs.Steps.{word_unread, word_stopped, word_taken}
 use Rattle.receiver.proofs.take_word.Goals as goal

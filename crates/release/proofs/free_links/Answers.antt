@@ -1,8 +1,7 @@
 -- `release::free_links` meets its contract: what is left to free, from where the loop stands, leaves what all of it leaves.
 use mathlib.Core.Path.{refl, ◌∙◌}
-use Prim.Native.Nat.{◌-◌}
 use native.Mathlib.Omega.{arith}
-use Rattle.release.proofs.Releasing.{Freeing, without_on, freed_bytes_are}
+use Rattle.release.proofs.Releasing.{without_on, freed_bytes_are}
 use Rattle.release.proofs.free_links.Goals as goal
 
 pub loop-i-init : goal.loop-i-init

@@ -1,8 +1,6 @@
 -- `release::free_links` meets its contract: what is left to free, from where the loop stands, leaves what all of it leaves.
-use mathlib.Core.Path.{refl, ◌∙◌}
 use Prim.Native.Nat.{◌-◌}
-use native.Mathlib.Omega.{arith}
-use Rattle.release.proofs.Releasing.{Freeing, without_on, freed_bytes_are}
+use Rattle.release.proofs.Releasing.{Freeing}
 use Rattle.release.proofs.free_links.Given as goal
 
 abbrev pub invariant-loop-i : goal.invariant-loop-i

@@ -1,7 +1,4 @@
 -- The search meets its contracts: each hop is held, handed on, and given back where it is rejected.
-use Prim.Native.Nat.{ℕ, ◌+◌}
-use Prim.Native.Nat.{ℕ, ◌<◌}
-use Prim.Native.Nat.{ℕ}
 use Rattle.answers.proofs.PassOnBytes.{told_free, told_held, told_blocked}
 use Rattle.cube.proofs.Order.{byte_vector}
 use Rattle.search.proofs.Arrivals.{arrive_receives, arrive_full, arrive_tries, arrive_may, arrive_falls}

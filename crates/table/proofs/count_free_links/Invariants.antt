@@ -1,12 +1,8 @@
 -- `table::count_free_links` meets its contract: those before place i are counted.
-use mathlib.Core.Path.{◌≡◌, ◌∙◌, ap}
-use mathlib.Core.Logic.{⊎_elim}
+use mathlib.Core.Path.{◌≡◌}
 use Prim.Native.Nat.{ℕ, ◌+◌, ◌-◌, ◌*◌, ◌≤◌}
-use native.Mathlib.Omega.{arith}
-use native.Mathlib.Nat.{add-zero}
 use Rattle.layout.specs.Layout.{entry_place, link_part}
 use Rattle.table.specs.TableContracts.{free_count}
-use Rattle.table.proofs.Rows.{free_yes, free_no}
 use Rattle.table.proofs.count_free_links.Given as goal
 
 abbrev pub invariant-loop-i : goal.invariant-loop-i

@@ -1,15 +1,14 @@
 -- `table_book::book_size` meets its contract: what was counted and what is left to count is the book of the table.
-use mathlib.Core.Path.{◌≡◌, refl, ap, sym, ◌∙◌}
+use mathlib.Core.Path.{◌≡◌, ap, ◌∙◌}
 use mathlib.Core.Bool.{cond}
-use Prim.Native.Nat.{ℕ, ◌+◌, ◌-◌, ◌*◌, ◌^◌, ◌≤◌, ◌<◌}
+use Prim.Native.Nat.{ℕ, ◌*◌, ◌^◌}
 use native.Mathlib.Nat.{zero-add}
 use native.Mathlib.Omega.{arith}
 use lib.Dec.{ltb}
 use lib.ListN.{length}
 use Rattle.table.specs.View.{view}
 use Rattle.book.specs.Book.{hop_count, port_bytes}
-use Rattle.book.specs.BookOf.{book_of}
-use Rattle.table_book.specs.Writing.{book_from, circuit_if}
+use Rattle.table_book.specs.Writing.{circuit_if}
 use Rattle.table_book.proofs.BookFrom.{length_next, hops_next, book_whole, book_end, one_if, one_most}
 use Rattle.table_book.proofs.book_size.Goals as goal
 

@@ -8,7 +8,6 @@ use lib.Seq.{sets}
 use mathlib.Core.List.{◌++◌}
 use Rattle.table.specs.View.{view}
 use Rattle.book.specs.Book.{word_bytes}
-use borrow.Author.Tests.{not-true, not-false}
 use Rattle.table_book.proofs.BookFrom.{one_open, hops_open, hops_closed, ports_open, ports_closed, line_open, line_closed, path_part, traced_short}
 use Rattle.table_book.proofs.put_circuit.Goals as goal
 

@@ -1,5 +1,5 @@
 -- `table_book::put_line` meets its contract: three words, each behind the one before.
-use mathlib.Core.Path.{◌≡◌, ap, ◌∙◌}
+use mathlib.Core.Path.{ap}
 use native.Mathlib.Omega.{arith}
 use lib.ListN.{length}
 use lib.Seq.{length-sets}

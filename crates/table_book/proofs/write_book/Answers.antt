@@ -1,10 +1,9 @@
 -- `table_book::write_book` meets its contract: what is left to write behind what was written is the book of the table.
-use mathlib.Core.Path.{◌≡◌, ap, ◌∙◌}
-use Prim.Native.Nat.{◌+◌, ◌-◌, ◌*◌, ◌^◌}
+use mathlib.Core.Path.{ap, ◌∙◌}
+use Prim.Native.Nat.{◌*◌, ◌^◌}
 use native.Mathlib.Omega.{arith}
-use Rattle.table.specs.View.{view}
 use Rattle.table_book.proofs.BookFrom.{one_most}
-use Rattle.table_book.proofs.Filling.{Filling, nothing_filled, room, fill_one, ports_filled, index_filled}
+use Rattle.table_book.proofs.Filling.{nothing_filled, room, fill_one, ports_filled, index_filled}
 use Rattle.table_book.proofs.write_book.Goals as goal
 
 pub dimension-requires : goal.dimension-requires

@@ -1,14 +1,11 @@
 -- `listing::whole::rows` meets its contract: what is left to write behind what was written are the lines of the input.
-use mathlib.Core.Path.{◌≡◌, refl, sym, ◌∙◌, ap}
-use mathlib.Core.List.{List}
-use Prim.Native.Nat.{ℕ, ◌+◌, ◌-◌, ◌≤◌}
-use native.Mathlib.Omega.{arith}
+use mathlib.Core.Path.{◌≡◌}
+use Prim.Native.Nat.{◌+◌, ◌-◌, ◌≤◌}
 use lib.ListN.{length, drop}
 use lib.Seq.{sets}
 use Rattle.text.specs.Lines.{lines}
 use Rattle.text.specs.Row.{rows_text}
 use Rattle.listing.specs.Listing.{rows}
-use Rattle.listing.proofs.Remaining.{line_fits_lem, left_bytes, left_place, left_none}
 use Rattle.ownership.specs.OnTable.{table_step}
 use Rattle.listing.proofs.whole.rows.Given as goal
 

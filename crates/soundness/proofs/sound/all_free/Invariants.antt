@@ -1,10 +1,7 @@
 -- `soundness::sound::all_free` meets its contract: the groups so far are counted.
-use mathlib.Core.Path.{◌≡◌, subst}
-use Prim.Native.Nat.{ℕ, ◌+◌, ◌*◌, ◌-◌, ◌≤◌}
-use native.Mathlib.Omega.{arith}
+use Prim.Native.Nat.{◌*◌, ◌-◌, ◌≤◌}
 use Rattle.table.specs.View.{view}
 use Rattle.soundness.specs.Counting.{Frees}
-use Rattle.soundness.proofs.Free.{frees_start, frees_more}
 use Rattle.soundness.proofs.sound.all_free.Given as goal
 
 abbrev pub invariant-loop-i : goal.invariant-loop-i

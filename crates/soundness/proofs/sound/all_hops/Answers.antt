@@ -1,10 +1,6 @@
 -- `soundness::sound::all_hops` meets its contract: the groups so far are counted.
-use mathlib.Core.Path.{◌≡◌, refl, sym, ◌∙◌}
-use Prim.Native.Nat.{◌*◌, ◌-◌, ◌≤◌}
+use mathlib.Core.Path.{refl, sym, ◌∙◌}
 use native.Mathlib.Omega.{arith}
-use lib.ListN.{length}
-use Rattle.table.specs.View.{view}
-use Rattle.soundness.specs.Counting.{Counts}
 use Rattle.soundness.proofs.Counting.{counts_skip, counts_join, counts_as_lem, counts_at}
 use Rattle.soundness.proofs.sound.all_hops.Goals as goal
 

@@ -1,11 +1,9 @@
 -- `soundness::sound::all_hops` meets its contract: the groups so far are counted.
-use mathlib.Core.Path.{◌≡◌, refl, sym, ◌∙◌}
+use mathlib.Core.Path.{◌≡◌}
 use Prim.Native.Nat.{◌*◌, ◌-◌, ◌≤◌}
-use native.Mathlib.Omega.{arith}
 use lib.ListN.{length}
 use Rattle.table.specs.View.{view}
 use Rattle.soundness.specs.Counting.{Counts}
-use Rattle.soundness.proofs.Counting.{counts_skip, counts_join, counts_as_lem, counts_at}
 use Rattle.soundness.proofs.sound.all_hops.Given as goal
 
 abbrev pub invariant-loop-i : goal.invariant-loop-i

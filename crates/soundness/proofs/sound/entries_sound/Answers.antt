@@ -2,7 +2,6 @@
 use borrow.Author.Rules.{rules}
 use mathlib.Core.Path.{sym, subst}
 use native.Mathlib.Omega.{arith}
-use borrow.Author.Tests.{not-true, not-false}
 use Rattle.cube.proofs.Ports.{count_of}
 use Rattle.table.specs.TableContracts.{ArmsFit, EnablesFit}
 use Rattle.soundness.proofs.Deciding.{sound_arms, sound_enables, refuse, sum_answers}

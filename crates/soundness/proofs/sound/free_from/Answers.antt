@@ -2,11 +2,9 @@
 use mathlib.Core.Path.{◌≡◌, subst}
 use mathlib.Core.Logic.{⊎_elim, ◌≢◌}
 use mathlib.Core.Bool.{true}
-use Prim.Native.Nat.{ℕ, ◌+◌, ◌-◌, ◌≤◌, ◌<◌}
+use Prim.Native.Nat.{ℕ, ◌+◌}
 use native.Mathlib.Omega.{arith}
 use lib.Dec.{lit<}
-use borrow.Author.Tests.{not-true, not-false}
-use Rattle.cube.specs.Cube.{port_count}
 use Rattle.common.proofs.Tests.{below_or}
 use Rattle.table.specs.View.{view}
 use Rattle.soundness.proofs.Free.{frees_none, frees_all}

@@ -1,15 +1,10 @@
 -- `soundness::sound::free_from` meets its contract: the held links of the nodes so far are enabled.
-use mathlib.Core.Path.{◌≡◌, subst}
-use mathlib.Core.Logic.{⊎_elim, ◌≢◌}
+use mathlib.Core.Path.{◌≡◌}
+use mathlib.Core.Logic.{◌≢◌}
 use mathlib.Core.Bool.{true}
 use Prim.Native.Nat.{ℕ, ◌+◌, ◌-◌, ◌≤◌, ◌<◌}
-use native.Mathlib.Omega.{arith}
-use lib.Dec.{lit<}
-use borrow.Author.Tests.{not-true, not-false}
 use Rattle.cube.specs.Cube.{port_count}
-use Rattle.common.proofs.Tests.{below_or}
 use Rattle.table.specs.View.{view}
-use Rattle.soundness.proofs.Free.{frees_none, frees_all}
 use Rattle.soundness.proofs.sound.free_from.Given as goal
 
 abbrev pub invariant-loop-i : goal.invariant-loop-i

@@ -1,7 +1,6 @@
 -- `soundness::sound::hops_of` meets its contract: nothing is held there, or what is held must be armed, and is looked at.
 use mathlib.Core.Path.{◌≡◌, sym, ap, ◌∙◌}
 use native.Mathlib.Omega.{arith}
-use borrow.Author.Tests.{not-true, not-false}
 use Rattle.table.specs.View.{view}
 use Rattle.soundness.proofs.Counting.{counts_skip, counts_none}
 use Rattle.soundness.proofs.Deciding.{unarmed_fails, armed_held, absent_free}

@@ -1,9 +1,8 @@
 -- `text::number::digits` meets its contract: what was read so far and the digits that are left say what the field says.
-use mathlib.Core.Path.{◌≡◌, refl, sym, ◌∙◌}
+use mathlib.Core.Path.{refl, sym, ◌∙◌}
 use Prim.Native.Nat.{◌+◌, ◌-◌, ◌*◌, ◌≤◌, ◌<◌}
 use native.Mathlib.Omega.{arith}
 use lib.ListN.{length, get_or, drop}
-use Rattle.text.specs.Written.{said}
 use Rattle.text.proofs.Reading.{field_end, field_digit, field_low, field_high, said_over}
 use Rattle.text.proofs.number.digits.Goals as goal
 

@@ -1,9 +1,6 @@
 -- `text::place::find` meets its contract: the byte does not stand at a place that was passed.
-use mathlib.Core.Path.{◌≡◌, refl}
-use Prim.Native.Nat.{◌+◌, ◌-◌, ◌≤◌}
+use mathlib.Core.Path.{refl}
 use native.Mathlib.Omega.{arith}
-use lib.ListN.{length, drop}
-use Rattle.text.specs.Written.{before}
 use Rattle.text.proofs.Cuts.{before_here, before_on, before_end}
 use Rattle.text.proofs.place.find.Goals as goal
 

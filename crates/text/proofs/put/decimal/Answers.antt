@@ -4,7 +4,7 @@ use Prim.Native.Nat.{◌/◌}
 use native.Mathlib.Omega.{arith}
 use lib.ListN.{length-set}
 use Rattle.text.proofs.Digits.{decimal_some, long_length}
-use Rattle.text.proofs.Fields.{Writes, last_digit, first_digit}
+use Rattle.text.proofs.Fields.{last_digit, first_digit}
 use Rattle.text.proofs.put.decimal.Goals as goal
 
 pub overflow_sub-i : goal.overflow_sub-i

@@ -1,14 +1,9 @@
 -- `text::put::ports` meets its contract: what is left to write behind what was written are the ports.
-use mathlib.Core.Path.{◌≡◌, refl, sym, ◌∙◌, ap}
-use Prim.Native.Nat.{ℕ, ◌+◌, ◌-◌, ◌≤◌}
-use native.Mathlib.Omega.{arith}
-use mathlib.Core.List.{List}
-use lib.ListN.{length, get_or, drop, length-append}
+use mathlib.Core.Path.{◌≡◌}
+use Prim.Native.Nat.{◌+◌, ◌-◌, ◌≤◌}
+use lib.ListN.{length, drop}
 use lib.Seq.{sets}
-use Rattle.text.specs.Text.{decimal}
 use Rattle.text.specs.Row.{in_turn}
-use Rattle.text.proofs.Writing.{carries, carries_place}
-use Rattle.text.proofs.Fields.{turn_step, turn_end}
 use Rattle.text.proofs.put.ports.Given as goal
 
 abbrev pub invariant-loop-i : goal.invariant-loop-i

@@ -1,11 +1,8 @@
 -- `text::put::text` meets its contract: what is left to write behind what was written is the text.
-use mathlib.Core.Path.{◌≡◌, refl, sym, ◌∙◌, ap}
+use mathlib.Core.Path.{◌≡◌}
 use Prim.Native.Nat.{◌+◌, ◌-◌, ◌≤◌}
-use native.Mathlib.Nat.{add-zero}
-use native.Mathlib.Omega.{arith}
-use lib.ListN.{length, drop, length-set}
+use lib.ListN.{length, drop}
 use lib.Seq.{sets}
-use Rattle.text.proofs.Writing.{text_step, text_end}
 use Rattle.text.proofs.put.text.Given as goal
 
 abbrev pub invariant-loop-i : goal.invariant-loop-i
