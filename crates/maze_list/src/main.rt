@@ -1,9 +1,11 @@
 // The listing program: reads standard input, and writes its printed list to standard output.
 #![tactic(auto)]
 
-ghost use Rattle.std.specs.Prelude.{◌≡◌, ◌+◌, ◌<◌, ◌≤◌, length, take, drop, IfOk, OnOk};
+ghost use Rattle.std.specs.Prelude.{◌≡◌, ◌+◌, ◌<◌, ◌≤◌, length, take, drop, IfOk, IfErr, IfSome, OnOk};
 ghost use Rattle.std.specs.Io.KnownBytes.{Appends, Consumes, IsAtEnd, ReadConsumes};
+ghost use Rattle.listing.specs.Listing.{printed};
 ghost use Rattle.listing.specs.Printed.{lists};
+ghost use Rattle.maze_list.specs.Failures.{IfReading};
 
 use std::io;
 use std::io::{Read, Write};
@@ -55,6 +57,32 @@ fn print<W: Write>(to: &mut W, input: &[u8], bytes: usize, output: &mut [u8]) ->
     to.write_all(&output[0..written])
 }
 
+// Which part failed.
+#[derive(Drop)]
+enum Failed {
+    Reading(io::Error),
+    Writing(io::Error),
+}
+
+// Lists a whole input. The buffer holds one byte more than an input that is listed, so that a longer one is known for too long. Where the input
+// cannot be read, nothing is listed.
+fn list_all<R: Read, W: Write>(from: &mut R, to: &mut W) -> Result<(), Failed>
+    ensures listed { OnOk result (IfSome (R.remaining from.old)
+        (λ xs. Appends (W.contents to.old) (W.contents to.new) (printed xs))) }
+    ensures unread { IfErr result (λ e. IfReading e (to.new ≡ to.old)) }
+{
+    let mut input = [0u8; 60001];
+    let mut output = room();
+    let bytes = match read_all(from, &mut input) {
+        Ok(bytes) => bytes,
+        Err(error) => return Err(Failed::Reading(error)),
+    };
+    match print(to, &input, bytes, &mut output) {
+        Ok(()) => Ok(()),
+        Err(error) => Err(Failed::Writing(error)),
+    }
+}
+
 // The system's words for an error: std shows the error's number behind them.
 fn words(text: &str) -> &str {
     match text.split_once(" (os error ") {
@@ -75,19 +103,10 @@ fn fail(rt: &(impl Eprint + Alloc), what: &str, error: io::Error) {
     };
 }
 
-// The buffer holds one byte more than an input that is listed, so that a longer one is known for too long. Where the input cannot be read, nothing
-// is listed.
 fn main(rt: HostRuntime) {
-    let mut input = [0u8; 60001];
-    let mut output = room();
-    let bytes = match read_all(&mut rt.stdin(), &mut input) {
-        Ok(bytes) => bytes,
-        Err(error) => {
-            fail(&rt, "standard input", error);
-            return;
-        }
-    };
-    if let Err(error) = print(&mut rt.stdout(), &input, bytes, &mut output) {
-        fail(&rt, "standard output", error);
+    match list_all(&mut rt.stdin(), &mut rt.stdout()) {
+        Ok(()) => {}
+        Err(Failed::Reading(error)) => fail(&rt, "standard input", error),
+        Err(Failed::Writing(error)) => fail(&rt, "standard output", error),
     }
 }
