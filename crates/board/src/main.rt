@@ -9,6 +9,7 @@ ghost use Rattle.ownership.specs.Calls.{opening};
 use command_word::CommandWord;
 use cube::Node;
 use receiver::{Channel, Followed};
+use std::io;
 
 mod print;
 
@@ -21,73 +22,74 @@ fn open(t: &mut [u8], channel: u16) -> Followed
     receiver::follow(opened, 4294967280, 2, 1)
 }
 
-fn show_open(followed: Followed) {
-    print::text(b"open");
-    print::number(followed.number);
-    print::number(followed.receive);
+fn show_open(rt: &impl Print, followed: Followed) -> io::Result<()> {
+    print::text(rt, "open")?;
+    print::number(rt, followed.number)?;
+    print::number(rt, followed.receive)?;
     let channel = followed.channel;
-    print::state(channel);
+    print::state(rt, channel)
 }
 
-fn data(channel: Channel) -> Channel {
-    print::text(b"data");
+fn data(rt: &impl Print, channel: Channel) -> io::Result<Channel> {
+    print::text(rt, "data")?;
     let r = receiver::take_data(channel);
-    print::received(r);
-    r.channel
+    print::received(rt, r)?;
+    Ok(r.channel)
 }
 
-fn word(channel: Channel, word: u16) -> Channel {
-    print::text(b"word");
-    print::number(word);
+fn word(rt: &impl Print, channel: Channel, word: u16) -> io::Result<Channel> {
+    print::text(rt, "word")?;
+    print::number(rt, word)?;
     let r = receiver::take_word(channel, word);
-    print::received(r);
-    r.channel
+    print::received(rt, r)?;
+    Ok(r.channel)
 }
 
 // The word of a command that carries 0.
-fn command(channel: Channel, command: u16) -> Channel {
-    word(channel, CommandWord::write(command, 0).word)
+fn command(rt: &impl Print, channel: Channel, command: u16) -> io::Result<Channel> {
+    word(rt, channel, CommandWord::write(command, 0).word)
 }
 
 // Two doublewords that were counted for and two that were not; words that change nothing, one that is not read, and an end of message, which
 // is ignored; then the end of transmission, and packets that come too late.
-fn run(start: Channel) {
+fn run(rt: &impl Print, start: Channel) -> io::Result<()> {
     let mut channel = start;
-    channel = data(channel);
-    channel = command(channel, CommandWord::ROUTE_ACKNOWLEDGE);
-    channel = data(channel);
-    channel = data(channel);
-    channel = word(channel, 3136);
-    channel = command(channel, CommandWord::END_OF_MESSAGE);
-    channel = data(channel);
-    channel = command(channel, CommandWord::END_OF_TRANSMISSION);
-    channel = data(channel);
-    channel = command(channel, CommandWord::END_OF_MESSAGE);
-    word(channel, 4096);
+    channel = data(rt, channel)?;
+    channel = command(rt, channel, CommandWord::ROUTE_ACKNOWLEDGE)?;
+    channel = data(rt, channel)?;
+    channel = data(rt, channel)?;
+    channel = word(rt, channel, 3136)?;
+    channel = command(rt, channel, CommandWord::END_OF_MESSAGE)?;
+    channel = data(rt, channel)?;
+    channel = command(rt, channel, CommandWord::END_OF_TRANSMISSION)?;
+    channel = data(rt, channel)?;
+    channel = command(rt, channel, CommandWord::END_OF_MESSAGE)?;
+    word(rt, channel, 4096)?;
+    Ok(())
 }
 
-fn close(t: &mut [u8]) {
-    print::text(b"close");
-    print::number(router::close(t, Node(0), 0));
-    print::end();
+fn close(rt: &impl Print, t: &mut [u8]) -> io::Result<()> {
+    print::text(rt, "close")?;
+    print::number(rt, router::close(t, Node(0), 0))?;
+    print::end(rt)
 }
 
-fn main() {
+fn main(rt: HostRuntime) -> io::Result<()> {
     let mut t = [0u8; table::BYTES];
-    print::text(b"make");
-    print::number(router::make(&mut t, 3));
-    print::end();
-    print::text(b"arm");
-    print::number(router::arm(&mut t, Node(7), 0));
-    print::end();
+    print::text(&rt, "make")?;
+    print::number(&rt, router::make(&mut t, 3))?;
+    print::end(&rt)?;
+    print::text(&rt, "arm")?;
+    print::number(&rt, router::arm(&mut t, Node(7), 0))?;
+    print::end(&rt)?;
     let followed = open(&mut t, 0);
-    show_open(followed);
+    show_open(&rt, followed)?;
     // The send channel has its circuit: a second open is refused, and the channel beside its number takes nothing.
     let refused = open(&mut t, 0);
-    show_open(refused);
+    show_open(&rt, refused)?;
     let none = refused.channel;
-    data(none);
+    data(&rt, none)?;
     let channel = followed.channel;
-    run(channel);
-    close(&mut t);
+    run(&rt, channel)?;
+    close(&rt, &mut t)
 }

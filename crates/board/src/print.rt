@@ -1,44 +1,43 @@
 // Lines of words and numbers on standard output.
-use libc::STDOUT_FILENO;
 use receiver::{Channel, Received};
+use std::io;
 
-pub fn text(bytes: &[u8]) {
-    io::write_all(STDOUT_FILENO, bytes);
+pub fn text(rt: &impl Print, words: &str) -> io::Result<()> {
+    print!(rt; "{words}")
 }
 
 // A number after a space.
-fn large(n: u32) {
-    io::write_all(STDOUT_FILENO, b" ");
-    io::print_decimal(STDOUT_FILENO, n as u64);
+fn large(rt: &impl Print, n: u32) -> io::Result<()> {
+    print!(rt; " {n}")
 }
 
-pub fn number(n: u16) {
-    large(n as u32);
+pub fn number(rt: &impl Print, n: u16) -> io::Result<()> {
+    large(rt, n as u32)
 }
 
-fn flag(n: u8) {
-    large(n as u32);
+fn flag(rt: &impl Print, n: u8) -> io::Result<()> {
+    large(rt, n as u32)
 }
 
-pub fn end() {
-    io::write_all(STDOUT_FILENO, b"\n");
+pub fn end(rt: &impl Print) -> io::Result<()> {
+    println!(rt; "")
 }
 
 // A channel: address, count, running, overflow mark, whether ends of message are ignored, overshoot.
-pub fn state(channel: Channel) {
-    text(b":");
-    large(channel.address);
-    large(channel.count);
-    flag(channel.running);
-    flag(channel.overflow);
-    flag(channel.ignores);
-    large(receiver::overshoot(channel));
-    end();
+pub fn state(rt: &impl Print, channel: Channel) -> io::Result<()> {
+    text(rt, ":")?;
+    large(rt, channel.address)?;
+    large(rt, channel.count)?;
+    flag(rt, channel.running)?;
+    flag(rt, channel.overflow)?;
+    flag(rt, channel.ignores)?;
+    large(rt, receiver::overshoot(channel))?;
+    end(rt)
 }
 
 // A packet's number, and the channel after it.
-pub fn received(r: Received) {
-    number(r.number);
+pub fn received(rt: &impl Print, r: Received) -> io::Result<()> {
+    number(rt, r.number)?;
     let channel = r.channel;
-    state(channel);
+    state(rt, channel)
 }

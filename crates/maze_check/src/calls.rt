@@ -3,40 +3,41 @@
 use crate::print;
 use common::refusal;
 use cube::{Node, Port};
+use std::io;
 
-fn make(t: &mut [u8], dimension: u16) {
-    print::text(b"make");
-    print::number(dimension);
-    print::text(b":");
-    print::number(router::make(t, dimension));
-    print::end();
+fn make(rt: &impl Print, t: &mut [u8], dimension: u16) -> io::Result<()> {
+    print::text(rt, "make")?;
+    print::number(rt, dimension)?;
+    print::text(rt, ":")?;
+    print::number(rt, router::make(t, dimension))?;
+    print::end(rt)
 }
 
-fn block(t: &mut [u8], node: Node, port: Port) {
-    print::text(b"block");
-    print::number(node.0);
-    print::number(port.0);
-    print::text(b":");
-    print::number(router::block(t, node, port));
-    print::end();
+fn block(rt: &impl Print, t: &mut [u8], node: Node, port: Port) -> io::Result<()> {
+    print::text(rt, "block")?;
+    print::number(rt, node.0)?;
+    print::number(rt, port.0)?;
+    print::text(rt, ":")?;
+    print::number(rt, router::block(t, node, port))?;
+    print::end(rt)
 }
 
-fn arm(t: &mut [u8], node: Node, channel: u16) {
-    print::text(b"arm");
-    print::number(node.0);
-    print::number(channel);
-    print::text(b":");
-    print::number(router::arm(t, node, channel));
-    print::end();
+fn arm(rt: &impl Print, t: &mut [u8], node: Node, channel: u16) -> io::Result<()> {
+    print::text(rt, "arm")?;
+    print::number(rt, node.0)?;
+    print::number(rt, channel)?;
+    print::text(rt, ":")?;
+    print::number(rt, router::arm(t, node, channel))?;
+    print::end(rt)
 }
 
-fn disarm(t: &mut [u8], node: Node, channel: u16) {
-    print::text(b"disarm");
-    print::number(node.0);
-    print::number(channel);
-    print::text(b":");
-    print::number(router::disarm(t, node, channel));
-    print::end();
+fn disarm(rt: &impl Print, t: &mut [u8], node: Node, channel: u16) -> io::Result<()> {
+    print::text(rt, "disarm")?;
+    print::number(rt, node.0)?;
+    print::number(rt, channel)?;
+    print::text(rt, ":")?;
+    print::number(rt, router::disarm(t, node, channel))?;
+    print::end(rt)
 }
 
 // Arms the eight receive channels of each of so many nodes. Answers the last refusal, 0 where each arming was accepted.
@@ -54,157 +55,164 @@ fn arm_all(t: &mut [u8], nodes: u8) -> u16 {
     answer
 }
 
-fn make_armed(t: &mut [u8], dimension: u16, nodes: u8) {
-    make(t, dimension);
-    print::text(b"arm all of");
-    print::number(table::wide(nodes));
-    print::text(b":");
-    print::number(arm_all(t, nodes));
-    print::end();
+fn make_armed(rt: &impl Print, t: &mut [u8], dimension: u16, nodes: u8) -> io::Result<()> {
+    make(rt, t, dimension)?;
+    print::text(rt, "arm all of")?;
+    print::number(rt, table::wide(nodes))?;
+    print::text(rt, ":")?;
+    print::number(rt, arm_all(t, nodes))?;
+    print::end(rt)
 }
 
-fn open(t: &mut [u8], channel: u16, target: Node, routing: u16, vector: u16) {
-    print::text(b"open 0");
-    print::number(channel);
-    print::number(target.0);
-    print::number(routing);
-    print::number(vector);
-    print::text(b":");
+fn open(
+    rt: &impl Print,
+    t: &mut [u8],
+    channel: u16,
+    target: Node,
+    routing: u16,
+    vector: u16,
+) -> io::Result<()> {
+    print::text(rt, "open 0")?;
+    print::number(rt, channel)?;
+    print::number(rt, target.0)?;
+    print::number(rt, routing)?;
+    print::number(rt, vector)?;
+    print::text(rt, ":")?;
     let r = router::open(t, Node(0), channel, target, routing, vector);
-    print::number(r.number);
-    print::number(r.hops);
-    print::number(r.receive);
-    print::large(r.scouts);
-    print::end();
+    print::number(rt, r.number)?;
+    print::number(rt, r.hops)?;
+    print::number(rt, r.receive)?;
+    print::large(rt, r.scouts)?;
+    print::end(rt)
 }
 
-fn close(t: &mut [u8], channel: u16) {
-    print::text(b"close 0");
-    print::number(channel);
-    print::text(b":");
-    print::number(router::close(t, Node(0), channel));
-    print::end();
+fn close(rt: &impl Print, t: &mut [u8], channel: u16) -> io::Result<()> {
+    print::text(rt, "close 0")?;
+    print::number(rt, channel)?;
+    print::text(rt, ":")?;
+    print::number(rt, router::close(t, Node(0), channel))?;
+    print::end(rt)
 }
 
 // The nine bytes of the buffer follow the hops; those behind the path stay 9.
-fn trace(t: &[u8], channel: u16) {
-    print::text(b"trace 0");
-    print::number(channel);
-    print::text(b":");
+fn trace(rt: &impl Print, t: &[u8], channel: u16) -> io::Result<()> {
+    print::text(rt, "trace 0")?;
+    print::number(rt, channel)?;
+    print::text(rt, ":")?;
     let mut buffer = [9u8; 9];
     let r = router::trace(t, Node(0), channel, &mut buffer);
-    print::number(r.number);
-    print::number(r.hops);
-    print::bytes(&buffer);
-    print::end();
+    print::number(rt, r.number)?;
+    print::number(rt, r.hops)?;
+    print::bytes(rt, &buffer)?;
+    print::end(rt)
 }
 
 // 1: nothing blocked.
-fn nothing_blocked(t: &mut [u8]) {
-    make_armed(t, 3, 8);
-    open(t, 0, Node(7), 0, 7);
-    trace(t, 0);
+fn nothing_blocked(rt: &impl Print, t: &mut [u8]) -> io::Result<()> {
+    make_armed(rt, t, 3, 8)?;
+    open(rt, t, 0, Node(7), 0, 7)?;
+    trace(rt, t, 0)
 }
 
 // 2: figure 7, with two links blocked.
-fn figure_7(t: &mut [u8]) {
-    make_armed(t, 3, 8);
-    block(t, Node(1), Port(2));
-    block(t, Node(3), Port(2));
-    open(t, 0, Node(7), 0, 7);
-    trace(t, 0);
+fn figure_7(rt: &impl Print, t: &mut [u8]) -> io::Result<()> {
+    make_armed(rt, t, 3, 8)?;
+    block(rt, t, Node(1), Port(2))?;
+    block(rt, t, Node(3), Port(2))?;
+    open(rt, t, 0, Node(7), 0, 7)?;
+    trace(rt, t, 0)
 }
 
 // 3 and 4: back to the source, and away from the target first.
-fn detours(t: &mut [u8]) {
-    make_armed(t, 1, 2);
-    open(t, 0, Node(0), 0, 1);
-    trace(t, 0);
-    make_armed(t, 2, 4);
-    open(t, 0, Node(1), 0, 2);
-    trace(t, 0);
+fn detours(rt: &impl Print, t: &mut [u8]) -> io::Result<()> {
+    make_armed(rt, t, 1, 2)?;
+    open(rt, t, 0, Node(0), 0, 1)?;
+    trace(rt, t, 0)?;
+    make_armed(rt, t, 2, 4)?;
+    open(rt, t, 0, Node(1), 0, 2)?;
+    trace(rt, t, 0)
 }
 
 // 5: through the source.
-fn through_the_source(t: &mut [u8]) {
-    make_armed(t, 2, 4);
-    block(t, Node(2), Port(0));
-    open(t, 0, Node(1), 0, 2);
-    trace(t, 0);
+fn through_the_source(rt: &impl Print, t: &mut [u8]) -> io::Result<()> {
+    make_armed(rt, t, 2, 4)?;
+    block(rt, t, Node(2), Port(0))?;
+    open(rt, t, 0, Node(1), 0, 2)?;
+    trace(rt, t, 0)
 }
 
 // 6: the second pass.
-fn second_pass(t: &mut [u8]) {
-    make_armed(t, 2, 4);
-    block(t, Node(0), Port(0));
-    open(t, 0, Node(1), 0, 1);
-    make_armed(t, 2, 4);
-    block(t, Node(0), Port(0));
-    open(t, 0, Node(1), 4, 1);
-    trace(t, 0);
+fn second_pass(rt: &impl Print, t: &mut [u8]) -> io::Result<()> {
+    make_armed(rt, t, 2, 4)?;
+    block(rt, t, Node(0), Port(0))?;
+    open(rt, t, 0, Node(1), 0, 1)?;
+    make_armed(rt, t, 2, 4)?;
+    block(rt, t, Node(0), Port(0))?;
+    open(rt, t, 0, Node(1), 4, 1)?;
+    trace(rt, t, 0)
 }
 
 // 7: a link that is held and freed. The close disarms receive channel 0, and the last open takes channel 1.
-fn link_freed(t: &mut [u8]) {
-    make_armed(t, 1, 2);
-    open(t, 0, Node(1), 0, 1);
-    open(t, 1, Node(1), 0, 1);
-    close(t, 0);
-    open(t, 1, Node(1), 0, 1);
+fn link_freed(rt: &impl Print, t: &mut [u8]) -> io::Result<()> {
+    make_armed(rt, t, 1, 2)?;
+    open(rt, t, 0, Node(1), 0, 1)?;
+    open(rt, t, 1, Node(1), 0, 1)?;
+    close(rt, t, 0)?;
+    open(rt, t, 1, Node(1), 0, 1)
 }
 
 // 9: the edges of dimension, node, vector and length.
-fn edges(t: &mut [u8]) {
-    make(t, 8);
-    make(t, 9);
-    make_armed(t, 3, 8);
-    open(t, 0, Node(7), 0, 7);
-    make_armed(t, 3, 8);
-    open(t, 0, Node(8), 0, 7);
-    open(t, 0, Node(7), 0, 8);
+fn edges(rt: &impl Print, t: &mut [u8]) -> io::Result<()> {
+    make(rt, t, 8)?;
+    make(rt, t, 9)?;
+    make_armed(rt, t, 3, 8)?;
+    open(rt, t, 0, Node(7), 0, 7)?;
+    make_armed(rt, t, 3, 8)?;
+    open(rt, t, 0, Node(8), 0, 7)?;
+    open(rt, t, 0, Node(7), 0, 8)
 }
 
-fn wrong_length(t: &mut [u8]) {
-    make(t, 3);
-    open(t, 0, Node(7), 0, 7);
+fn wrong_length(rt: &impl Print, t: &mut [u8]) -> io::Result<()> {
+    make(rt, t, 3)?;
+    open(rt, t, 0, Node(7), 0, 7)
 }
 
 // Document 02, (a): a receive channel is taken only where it is armed,
-fn arming(t: &mut [u8]) {
-    make(t, 3);
-    open(t, 0, Node(7), 0, 7);
-    arm(t, Node(8), 0);
-    arm(t, Node(7), 8);
-    arm(t, Node(7), 0);
-    open(t, 0, Node(7), 0, 7);
+fn arming(rt: &impl Print, t: &mut [u8]) -> io::Result<()> {
+    make(rt, t, 3)?;
+    open(rt, t, 0, Node(7), 0, 7)?;
+    arm(rt, t, Node(8), 0)?;
+    arm(rt, t, Node(7), 8)?;
+    arm(rt, t, Node(7), 0)?;
+    open(rt, t, 0, Node(7), 0, 7)
 }
 
 // is not disarmed while it is held, and is disarmed by the close.
-fn disarming(t: &mut [u8]) {
-    disarm(t, Node(8), 0);
-    disarm(t, Node(7), 8);
-    disarm(t, Node(7), 0);
-    disarm(t, Node(7), 1);
-    close(t, 0);
-    open(t, 0, Node(7), 0, 7);
+fn disarming(rt: &impl Print, t: &mut [u8]) -> io::Result<()> {
+    disarm(rt, t, Node(8), 0)?;
+    disarm(rt, t, Node(7), 8)?;
+    disarm(rt, t, Node(7), 0)?;
+    disarm(rt, t, Node(7), 1)?;
+    close(rt, t, 0)?;
+    open(rt, t, 0, Node(7), 0, 7)
 }
 
-pub fn examples() {
+pub fn examples(rt: &impl Print) -> io::Result<()> {
     let mut t = [0u8; table::BYTES];
     // a byte too short, a byte too long, and as long as a table was before receive channels were armed
     let mut short = [0u8; table::BYTES - 1];
     let mut long = [0u8; table::BYTES + 1];
     let mut older = [0u8; 8449];
-    nothing_blocked(&mut t);
-    figure_7(&mut t);
-    detours(&mut t);
-    through_the_source(&mut t);
-    second_pass(&mut t);
-    link_freed(&mut t);
-    edges(&mut t);
-    wrong_length(&mut short);
-    wrong_length(&mut long);
-    wrong_length(&mut older);
-    arming(&mut t);
-    disarming(&mut t);
+    nothing_blocked(rt, &mut t)?;
+    figure_7(rt, &mut t)?;
+    detours(rt, &mut t)?;
+    through_the_source(rt, &mut t)?;
+    second_pass(rt, &mut t)?;
+    link_freed(rt, &mut t)?;
+    edges(rt, &mut t)?;
+    wrong_length(rt, &mut short)?;
+    wrong_length(rt, &mut long)?;
+    wrong_length(rt, &mut older)?;
+    arming(rt, &mut t)?;
+    disarming(rt, &mut t)
 }

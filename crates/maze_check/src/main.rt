@@ -1,17 +1,19 @@
 // Runs document 01's examples, and a few calls of the arbiter, through the library and prints what it gets; the gate compares that with the stored answers.
 #![tactic(auto)]
 
+use std::io;
+
 mod calls;
 mod print;
 mod refusals;
 mod served;
 mod words;
 
-fn main() {
-    refusals::names();
-    words::names();
-    words::carried();
-    words::examples();
-    calls::examples();
-    served::run();
+fn main(rt: HostRuntime) -> io::Result<()> {
+    refusals::names(&rt)?;
+    words::names(&rt)?;
+    words::carried(&rt)?;
+    words::examples(&rt)?;
+    calls::examples(&rt)?;
+    served::run(&rt)
 }

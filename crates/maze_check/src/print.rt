@@ -1,42 +1,39 @@
 // Lines of words and numbers on standard output.
-use libc::STDOUT_FILENO;
+use std::io;
 
-pub fn text(bytes: &[u8]) {
-    io::write_all(STDOUT_FILENO, bytes);
+pub fn text(rt: &impl Print, words: &str) -> io::Result<()> {
+    print!(rt; "{words}")
 }
 
 // A number after a space.
-pub fn number(n: u16) {
-    io::write_all(STDOUT_FILENO, b" ");
-    io::print_decimal(STDOUT_FILENO, n as u64);
+pub fn number(rt: &impl Print, n: u16) -> io::Result<()> {
+    print!(rt; " {n}")
 }
 
 // The same of a number of 32 bits.
-pub fn large(n: u32) {
-    io::write_all(STDOUT_FILENO, b" ");
-    io::print_decimal(STDOUT_FILENO, n as u64);
+pub fn large(rt: &impl Print, n: u32) -> io::Result<()> {
+    print!(rt; " {n}")
 }
 
 // Bytes as numbers, each after a space.
-fn byte(x: u8) {
-    number(x as u16);
+fn byte(rt: &impl Print, x: u8) -> io::Result<()> {
+    number(rt, x as u16)
 }
 
-pub fn bytes(list: &[u8]) {
-    let mut i: usize = 0;
-    while i < list.len() {
-        byte(list[i]);
-        i += 1;
+pub fn bytes(rt: &impl Print, list: &[u8]) -> io::Result<()> {
+    for x in list {
+        byte(rt, *x)?;
     }
+    Ok(())
 }
 
-pub fn end() {
-    io::write_all(STDOUT_FILENO, b"\n");
+pub fn end(rt: &impl Print) -> io::Result<()> {
+    println!(rt; "")
 }
 
 // A name and its number.
-pub fn named(name: &[u8], n: u16) {
-    text(name);
-    number(n);
-    end();
+pub fn named(rt: &impl Print, name: &str, n: u16) -> io::Result<()> {
+    text(rt, name)?;
+    number(rt, n)?;
+    end(rt)
 }

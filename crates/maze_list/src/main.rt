@@ -1,56 +1,41 @@
 // The listing program: reads standard input, and writes its printed list to standard output.
 #![tactic(auto)]
 
-ghost use Rattle.std.specs.Prelude.{◌≡◌, ◌+◌, ◌≤◌, length, take};
+ghost use Rattle.std.specs.Prelude.{◌≡◌, ◌+◌, ◌<◌, ◌≤◌, length, take, drop, IfOk, IfErr, IfSome, OnOk};
+ghost use Rattle.std.specs.Io.KnownBytes.{Appends, Consumes, IsAtEnd, ReadConsumes};
+ghost use Rattle.listing.specs.Listing.{printed};
 ghost use Rattle.listing.specs.Printed.{lists};
+ghost use Rattle.maze_list.specs.Failures.{IfReading};
 
-use libc::{STDIN_FILENO, STDOUT_FILENO};
+use std::io;
+use std::io::{Read, Write};
 
-// What a read brought: how many bytes, 0 at the end of the input; or that it failed.
-#[derive(Drop)]
-struct Got {
-    failed: bool,
-    bytes: usize,
-}
-
-// One read to the rest of a buffer: what was read before stays.
-fn read_on(input: &mut [u8], at: usize) -> Got
+// One read to the rest of a buffer: what was read before stays. Answers how many bytes it brought, 0 at the end of the input.
+fn read_on<R: Read>(from: &mut R, input: &mut [u8], at: usize) -> io::Result<usize>
     requires { at ≤ length input.old }
-    ensures { (at + result.bytes ≤ length input.old) × (take at input.new ≡ take at input.old) }
+    ensures within { IfOk result (λ n. at + n ≤ length input.old) }
+    ensures kept { take at input.new ≡ take at input.old }
+    ensures bytes { ReadConsumes (R.remaining from.old) (R.remaining from.new) result (drop at input.new) }
 {
     let rest = &mut input[at..];
-    let got = libc::read(STDIN_FILENO, rest);
-    Got {
-        failed: got < 0,
-        bytes: io::count(got, rest),
-    }
+    from.read(rest)
 }
 
-// Reads until the input ends or the buffer is full.
-fn read_all(input: &mut [u8]) -> Got
-    ensures { result.bytes ≤ length input.old }
+// Reads until the input ends or the buffer is full. Answers how many bytes it read.
+fn read_all<R: Read>(from: &mut R, input: &mut [u8]) -> io::Result<usize>
+    ensures within { IfOk result (λ n. n ≤ length input.old) }
+    ensures bytes { IfOk result (λ n. Consumes (R.remaining from.old) (R.remaining from.new) (take n input.new)) }
+    ensures end { IfOk result (λ n. n < length input.old → IsAtEnd (R.remaining from.new)) }
 {
     let mut at: usize = 0;
     while at < input.len() {
-        let got = read_on(input, at);
-        if got.failed {
-            return Got {
-                failed: true,
-                bytes: 0,
-            };
+        let got = read_on(from, input, at)?;
+        if got == 0 {
+            return Ok(at);
         }
-        if got.bytes == 0 {
-            return Got {
-                failed: false,
-                bytes: at,
-            };
-        }
-        at += got.bytes;
+        at += got;
     }
-    Got {
-        failed: false,
-        bytes: at,
-    }
+    Ok(at)
 }
 
 // Room for the longest list.
@@ -60,27 +45,68 @@ fn room() -> [u8; 1440075]
     [0; 1440075]
 }
 
-// Writes the list of the first bytes of a buffer.
-fn print(input: &[u8], bytes: usize, output: &mut [u8])
+// Writes the list of the first bytes of a buffer. The list is in the output also where writing failed.
+fn print<W: Write>(to: &mut W, input: &[u8], bytes: usize, output: &mut [u8]) -> io::Result<()>
     requires { bytes ≤ length input.now }
-    ensures { output.new ≡ (lists (take bytes input.now) output.old).output }
+    ensures listed { output.new ≡ (lists (take bytes input.now) output.old).output }
+    ensures written { OnOk result (Appends (W.contents to.old) (W.contents to.new)
+        (take (lists (take bytes input.now) output.old).written output.new)) }
 {
     let listed = listing::list(&input[0..bytes], output);
     let written = listed.written;
-    if !io::write_all(STDOUT_FILENO, &output[0..written]) {
-        os::fail(b"standard output");
+    to.write_all(&output[0..written])
+}
+
+// Which part failed.
+#[derive(Drop)]
+enum Failed {
+    Reading(io::Error),
+    Writing(io::Error),
+}
+
+// Lists a whole input. The buffer holds one byte more than an input that is listed, so that a longer one is known for too long. Where the input
+// cannot be read, nothing is listed.
+fn list_all<R: Read, W: Write>(from: &mut R, to: &mut W) -> Result<(), Failed>
+    ensures listed { OnOk result (IfSome (R.remaining from.old)
+        (λ xs. Appends (W.contents to.old) (W.contents to.new) (printed xs))) }
+    ensures unread { IfErr result (λ e. IfReading e (to.new ≡ to.old)) }
+{
+    let mut input = [0u8; 60001];
+    let mut output = room();
+    let bytes = match read_all(from, &mut input) {
+        Ok(bytes) => bytes,
+        Err(error) => return Err(Failed::Reading(error)),
+    };
+    match print(to, &input, bytes, &mut output) {
+        Ok(()) => Ok(()),
+        Err(error) => Err(Failed::Writing(error)),
     }
 }
 
-// The buffer holds one byte more than an input that is listed, so that a longer one is known for too long. Where the input cannot be read, nothing
-// is listed.
-fn main() {
-    let mut input = [0u8; 60001];
-    let mut output = room();
-    let got = read_all(&mut input);
-    if got.failed {
-        os::fail(b"standard input");
-        return;
+// The system's words for an error: std shows the error's number behind them.
+fn words(text: &str) -> &str {
+    match text.split_once(" (os error ") {
+        Some((words, _)) => words,
+        None => text,
     }
-    print(&input, got.bytes, &mut output);
+}
+
+// Tells standard error what failed and why. Where there is no memory for the words alone, the number stays. Nothing is left to be done where this
+// fails too.
+fn fail(rt: &(impl Eprint + Alloc), what: &str, error: io::Error) {
+    let _ = match format!(in rt.alloc(); "{error}") {
+        Ok(text) => {
+            let words = words(text.as_str());
+            eprintln!(rt; "{what}: {words}")
+        }
+        Err(_) => eprintln!(rt; "{what}: {error}"),
+    };
+}
+
+fn main(rt: HostRuntime) {
+    match list_all(&mut rt.stdin(), &mut rt.stdout()) {
+        Ok(()) => {}
+        Err(Failed::Reading(error)) => fail(&rt, "standard input", error),
+        Err(Failed::Writing(error)) => fail(&rt, "standard output", error),
+    }
 }

@@ -3,43 +3,42 @@
 // written apart from this library prints.
 #![tactic(auto)]
 
+use std::io;
+
 mod print;
 mod sweep;
 mod tables;
 
-fn every_dimension(t: &mut [u8]) {
-    let mut dimension: u8 = 1;
-    while dimension < 9 {
+fn every_dimension(rt: &impl Print, t: &mut [u8]) -> io::Result<()> {
+    for dimension in 1u8..9 {
         tables::two_ways(t, dimension);
-        sweep::changes(t, dimension, 1);
+        sweep::changes(rt, t, dimension, 1)?;
         tables::through_the_source(t, dimension);
-        sweep::changes(t, dimension, 2);
-        dimension += 1;
+        sweep::changes(rt, t, dimension, 2)?;
     }
+    Ok(())
 }
 
-fn every_single(t: &mut [u8]) {
-    let mut which: u16 = 0;
-    while which < 11 {
+fn every_single(rt: &impl Print, t: &mut [u8]) -> io::Result<()> {
+    for which in 0u16..11 {
         tables::single(t, which);
-        sweep::answer(t, which);
-        which += 1;
+        sweep::answer(rt, t, which)?;
     }
+    Ok(())
 }
 
-fn every_sum(t: &mut [u8]) {
-    let mut which: u16 = 0;
-    while which < 8 {
+fn every_sum(rt: &impl Print, t: &mut [u8]) -> io::Result<()> {
+    for which in 0u16..8 {
         tables::sums(t, which);
-        sweep::sum_answer(t, which);
-        which += 1;
+        sweep::sum_answer(rt, t, which)?;
     }
+    Ok(())
 }
 
-fn main() {
+fn main(rt: HostRuntime) -> io::Result<()> {
     let mut t = [0u8; table::BYTES];
-    every_dimension(&mut t);
-    every_single(&mut t);
-    every_sum(&mut t);
-    sweep::lengths(&t);
+    every_dimension(&rt, &mut t)?;
+    every_single(&rt, &mut t)?;
+    every_sum(&rt, &mut t)?;
+    sweep::lengths(&rt, &t)
 }

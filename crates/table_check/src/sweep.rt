@@ -1,6 +1,6 @@
 // What a table is answered, as it is and with single bytes changed.
 use crate::print;
-use std::num;
+use std::{io, num};
 
 // A byte with one bit flipped; the ninth change clears it.
 fn changed(old: u8, change: u8) -> u8 {
@@ -43,75 +43,73 @@ fn every_bit(t: &mut [u8], tally: &mut [u64]) {
     }
 }
 
-fn title(dimension: u8, table: u8) {
-    print::text(b"dimension ");
-    print::number(dimension as u64);
-    print::text(b" table ");
-    print::number(table as u64);
+fn title(rt: &impl Print, dimension: u8, table: u8) -> io::Result<()> {
+    print::text(rt, "dimension ")?;
+    print::number(rt, dimension as u64)?;
+    print::text(rt, " table ")?;
+    print::number(rt, table as u64)
 }
 
-fn counts(sound: u64, dimension: u64, unsound: u64) {
-    print::number(sound);
-    print::text(b" sound, ");
-    print::number(dimension);
-    print::text(b" refused by dimension, ");
-    print::number(unsound);
-    print::text(b" not sound\n");
+fn counts(rt: &impl Print, sound: u64, dimension: u64, unsound: u64) -> io::Result<()> {
+    print::number(rt, sound)?;
+    print::text(rt, " sound, ")?;
+    print::number(rt, dimension)?;
+    print::text(rt, " refused by dimension, ")?;
+    print::number(rt, unsound)?;
+    print::text(rt, " not sound\n")
 }
 
-pub fn changes(t: &mut [u8], dimension: u8, table: u8) {
+pub fn changes(rt: &impl Print, t: &mut [u8], dimension: u8, table: u8) -> io::Result<()> {
     let mut flipped = [0u64; 5];
     let mut cleared = [0u64; 5];
-    title(dimension, table);
-    print::text(b": as made ");
-    print::number(soundness::check(t) as u64);
+    title(rt, dimension, table)?;
+    print::text(rt, ": as made ")?;
+    print::number(rt, soundness::check(t) as u64)?;
     every_bit(t, &mut flipped);
-    print::text(b"; of ");
-    print::number(8 * (table::BYTES as u64));
-    print::text(b" changed, ");
-    counts(flipped[0], flipped[2], flipped[3]);
+    print::text(rt, "; of ")?;
+    print::number(rt, 8 * (table::BYTES as u64))?;
+    print::text(rt, " changed, ")?;
+    counts(rt, flipped[0], flipped[2], flipped[3])?;
     every_offset(t, 8, &mut cleared);
-    title(dimension, table);
-    print::text(b": of ");
-    print::number(table::BYTES as u64);
-    print::text(b" cleared, ");
-    counts(cleared[0], cleared[2], cleared[3]);
+    title(rt, dimension, table)?;
+    print::text(rt, ": of ")?;
+    print::number(rt, table::BYTES as u64)?;
+    print::text(rt, " cleared, ")?;
+    counts(rt, cleared[0], cleared[2], cleared[3])
 }
 
-fn which_and_answer(t: &[u8], which: u16) {
-    print::number(which as u64);
-    print::text(b": ");
-    print::number(soundness::check(t) as u64);
-    print::text(b"\n");
+fn which_and_answer(rt: &impl Print, t: &[u8], which: u16) -> io::Result<()> {
+    print::number(rt, which as u64)?;
+    print::text(rt, ": ")?;
+    print::number(rt, soundness::check(t) as u64)?;
+    print::text(rt, "\n")
 }
 
-pub fn answer(t: &[u8], which: u16) {
-    print::text(b"single ");
-    which_and_answer(t, which);
+pub fn answer(rt: &impl Print, t: &[u8], which: u16) -> io::Result<()> {
+    print::text(rt, "single ")?;
+    which_and_answer(rt, t, which)
 }
 
-pub fn sum_answer(t: &[u8], which: u16) {
-    print::text(b"sums ");
-    which_and_answer(t, which);
+pub fn sum_answer(rt: &impl Print, t: &[u8], which: u16) -> io::Result<()> {
+    print::text(rt, "sums ")?;
+    which_and_answer(rt, t, which)
 }
 
-fn by_length(refused: u64) {
-    print::text(b"lengths: ");
-    print::number(refused);
-    print::text(b" of ");
-    print::number(table::BYTES as u64);
-    print::text(b" refused by length\n");
+fn by_length(rt: &impl Print, refused: u64) -> io::Result<()> {
+    print::text(rt, "lengths: ")?;
+    print::number(rt, refused)?;
+    print::text(rt, " of ")?;
+    print::number(rt, table::BYTES as u64)?;
+    print::text(rt, " refused by length\n")
 }
 
 // The first bytes of a table alone.
-pub fn lengths(t: &[u8]) {
+pub fn lengths(rt: &impl Print, t: &[u8]) -> io::Result<()> {
     let mut refused: u64 = 0;
-    let mut n: usize = 0;
-    while n < t.len() {
+    for n in 0..t.len() {
         if soundness::check(&t[0..n]) == 1 {
             refused = num::wrapping_add_u64(refused, 1);
         }
-        n += 1;
     }
-    by_length(refused);
+    by_length(rt, refused)
 }

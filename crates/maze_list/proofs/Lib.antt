@@ -1,0 +1,2 @@
+-- Laws of the program.
+pub mod Whole

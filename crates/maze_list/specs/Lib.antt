@@ -1,0 +1,2 @@
+-- What the program's failures say.
+pub mod Failures
