@@ -2,7 +2,7 @@
 # name as the toolchain resolved it, and the module that each such name comes from. What the author wrote, comments included, plays no part.
 /^use / { module = $2; alias = (NF > 3 && $3 == "as") ? $4 : module; sub(/\.\{.*/, "", alias); sub(/.*\./, "", alias); uses[++count] = $0; name[count] = alias; next }
 /^ *--/ { next }
-/^ *abbrev (pub )?(requires|ensures)-[^ ]*-text : / { on = 1 }
+/^ *abbrev (pub )?(requires|ensures)-[^ ]*-text :/ { on = 1 }
 /^ *$/ { on = 0 }
 on { text = text $0 "\n" }
 /^    requires = / && !asked { asked = 1; asking = 1 }
