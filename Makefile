@@ -47,9 +47,10 @@ help:
 
 # The library and the listing program alone. What was proved and has not changed is not proved again, but for the crate `maze` itself, which takes some
 # seconds. rt builds each in its crate's folder out/, and runs a program that it has built; what is the same as before keeps its time here.
+# The library is for any x86-64: without a word rt compiles for newer processors, and only a program of its own looks whether it is on one.
 library:
 	@echo 'proving and building the library; the first time takes some minutes' >&2
-	@tools/progress target/library.log crates/maze rt lib
+	@tools/progress target/library.log crates/maze rt lib --cpu x86-64
 	@mkdir -p $(dir $(ARCHIVE)) && { cmp -s crates/maze/out/libmaze.a $(ARCHIVE) || cp crates/maze/out/libmaze.a $(ARCHIVE); }
 	@$(MAKE) -s $(SHARED)
 
