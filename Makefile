@@ -21,16 +21,15 @@ PAGES = maze maze_arbitrate maze_receive
 PROGRAMS = maze_list maze_list_checked
 
 .PHONY: all help library program demo test random bench install install-shared uninstall built clean
-# The targets share one folder of what was proved and built.
+# The targets share what was proved and built.
 .NOTPARALLEL:
 # A folder may have any name: the recipes read these from the environment.
 export PREFIX LIBDIR DESTDIR
 
 # Proves every crate, runs the programs, and builds the library that C links.
 all:
-	rt check
-	rt staticlib maze
-	@$(MAKE) -s $(SHARED)
+	rt all test
+	@$(MAKE) -s library program
 
 help:
 	@echo 'make                  prove every crate, run its programs, build the library for C'
@@ -42,20 +41,23 @@ help:
 	@echo 'make uninstall        takes away what both install'
 	@echo 'make bench            the library beside plain C'
 	@echo 'make random           a longer comparison with a second router: STREAMS=400'
-	@echo 'make clean            removes target/'
+	@echo 'make clean            removes target/ and what rt keeps in crates/*/out/'
 	@echo
 	@echo 'PREFIX=$(PREFIX) LIBDIR=$(LIBDIR) CC=$(CC), version $(VERSION). Proving needs rt; what is built is installed without it.'
 
 # The library and the listing program alone. What was proved and has not changed is not proved again, but for the crate `maze` itself, which takes some
-# seconds.
+# seconds. rt builds each in its crate's folder out/, and runs a program that it has built; what is the same as before keeps its time here.
+# The library is for any x86-64: without a word rt compiles for newer processors, and only a program of its own looks whether it is on one.
 library:
 	@echo 'proving and building the library; the first time takes some minutes' >&2
-	@tools/progress target/library.log rt staticlib maze
+	@tools/progress target/library.log crates/maze rt lib --cpu x86-64
+	@mkdir -p $(dir $(ARCHIVE)) && { cmp -s crates/maze/out/libmaze.a $(ARCHIVE) || cp crates/maze/out/libmaze.a $(ARCHIVE); }
 	@$(MAKE) -s $(SHARED)
 
 program:
 	@echo 'proving and building the listing program' >&2
-	@tools/progress target/program.log rt check maze_list
+	@tools/progress target/program.log crates/maze_list rt run < crates/maze_list/stdin
+	@mkdir -p $(dir $(LISTING)) && { cmp -s crates/maze_list/out/maze_list $(LISTING) || cp crates/maze_list/out/maze_list $(LISTING); }
 
 $(SHARED): $(ARCHIVE)
 	@mkdir -p target/lib && $(CC) -shared -Wl,-soname,$(SONAME) -Wl,-z,relro,-z,now -Wl,--whole-archive $(ARCHIVE) -Wl,--no-whole-archive -o $@
@@ -128,4 +130,4 @@ uninstall:
 	    $(foreach page,$(PAGES),$(PAGE_$(page):%=share/man/man3/maze_%.3)); do rm -f "$$DESTDIR$$PREFIX/$$file"; done
 
 clean:
-	rm -rf target
+	rm -rf target crates/*/out

@@ -39,7 +39,7 @@ function ended(    i, name, text, at, signature) {
     name = declared(line[1])
     if (name == "") {
         for (i = 1; i <= lines; i++)
-            if (line[i] ~ /^use /) { if (WHOLE > 1 || (NAMES != "" && line[i] ~ /^use Rattle·[a-z_]+(·proofs)?\.proofs\.|[{ ,][^ ,{]+ as [^ ,}]+[,}]/)) print KEY ": " line[i] }
+            if (line[i] ~ /^use /) { if (WHOLE > 1 || (NAMES != "" && line[i] ~ /^use Rattle\.[a-z_]+\.proofs\.|[{ ,][^ ,{]+ as [^ ,}]+[,}]/)) print KEY ": " line[i] }
             else if (line[i] !~ /^(pub )?(mod|ruleset) / && at <= outer) print "== " KEY ": not understood: " line[i]
         lines = 0
         return
