@@ -3,3 +3,4 @@ pub mod Order
 pub mod Requests
 pub mod Answers
 pub mod Waiting
+pub mod Examples

@@ -3,4 +3,3 @@ pub mod Arbiter
 pub mod Chosen
 pub mod ArbiterContracts
 pub mod Calls
-pub mod Examples

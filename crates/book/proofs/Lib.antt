@@ -4,3 +4,4 @@ pub mod LookupAnswers
 pub mod WellFormedBook
 pub mod WrittenBook
 pub mod BookOfSound
+pub mod BookExamples

@@ -4,4 +4,3 @@ pub mod BookOf
 pub mod Lookup
 pub mod WellFormed
 pub mod BookContracts
-pub mod BookExamples

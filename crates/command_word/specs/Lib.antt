@@ -3,4 +3,3 @@ pub mod Commands
 pub mod CommandContracts
 pub mod Word
 pub mod Reasons
-pub mod Examples

@@ -5,3 +5,4 @@ pub mod Ports
 pub mod Order
 pub mod FirstPort
 pub mod Axes
+pub mod Examples

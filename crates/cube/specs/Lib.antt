@@ -4,4 +4,3 @@ pub mod Axes
 pub mod Cube
 pub mod Helical
 pub mod CubeContracts
-pub mod Examples

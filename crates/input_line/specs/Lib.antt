@@ -2,4 +2,3 @@
 pub mod Line
 pub mod Sentences
 pub mod ReadLine
-pub mod Examples

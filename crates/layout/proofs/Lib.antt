@@ -3,3 +3,4 @@ pub mod Entries
 pub mod Runs
 pub mod Rows
 pub mod Fills
+pub mod Examples

@@ -1,4 +1,3 @@
 -- The bytes of a table: where each value lies in them, and how it is read there.
 pub mod Layout
 pub mod LayoutContracts
-pub mod Examples

@@ -36,3 +36,5 @@ pub mod ReceiveChannels
 pub mod Waiting
 pub mod MoreFreedom
 pub mod SameOpen
+pub mod JobExamples
+pub mod BookingExamples

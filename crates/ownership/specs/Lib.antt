@@ -11,11 +11,9 @@ pub mod HistoryView
 pub mod Invariant
 pub mod Agrees
 pub mod FromTable
-pub mod JobExamples
 pub mod JobSays
 pub mod StillOpen
 pub mod AllArmed
 pub mod Closing
 pub mod SameOpen
 pub mod FreedomExamples
-pub mod BookingExamples

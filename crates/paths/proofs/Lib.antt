@@ -23,3 +23,6 @@ pub mod OldRule
 pub mod Apart
 pub mod Recover
 pub mod Walks
+pub mod Examples
+pub mod FoldExamples
+pub mod TypeExamples

@@ -13,6 +13,3 @@ pub mod Reach
 pub mod Between
 pub mod Bound
 pub mod Recover
-pub mod Examples
-pub mod FoldExamples
-pub mod TypeExamples

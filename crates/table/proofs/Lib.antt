@@ -6,3 +6,4 @@ pub mod Made
 pub mod Encode
 pub mod Encoded
 pub mod Receives
+pub mod Examples

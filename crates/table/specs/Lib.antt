@@ -2,4 +2,3 @@
 pub mod View
 pub mod Encode
 pub mod TableContracts
-pub mod Examples

@@ -12,8 +12,8 @@ use Rattle.paths.specs.Helix.{helix_from, helix_path, free_front, try_paths}
 use Rattle.paths.specs.Send.{channel, none_available, acknowledged, route_rejected_lem, receive_rejected_lem, received, attempted, outcome, SendResult, send_goes_on, runs}
 use Rattle.paths.specs.CubeNetwork.{Shape, unfolded, ports, network, send_ports, other_ports, attempts, send}
 use Rattle.paths.specs.Waiting.{finds_path, some_attempt}
-use Rattle.paths.specs.Examples.{free_but, answer}
-use Rattle.paths.specs.FoldExamples.{folded}
+use Rattle.paths.proofs.Examples.{free_but, answer}
+use Rattle.paths.proofs.FoldExamples.{folded}
 
 -- Document 02, (b): helix paths, of ports that are uphill and of ports that are not.
 abbrev helix_of : Shape → ℕ → ℕ → ℕ → Path

@@ -12,7 +12,7 @@ use Rattle.paths.specs.Send.{channel, acknowledged, route_rejected_lem, received
 use Rattle.paths.specs.CubeNetwork.{Shape, ports, network, send_ports, other_ports, attempts, send}
 use Rattle.paths.specs.Bound.{ways_from, sends_from}
 use Rattle.paths.specs.Recover.{drop_axis, walk_from, way_back, first_hop_choices, path_of_links}
-use Rattle.paths.specs.Examples.{free_but, answer}
+use Rattle.paths.proofs.Examples.{free_but, answer}
 
 abbrev pub folded : ℕ → ℕ → Shape
 folded D mask = record { dimension = D; fold = mask }

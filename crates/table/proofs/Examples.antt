@@ -6,7 +6,7 @@ use Rattle.common.specs.Lists.{from, lowest}
 use Rattle.cube.specs.Bits.{has, flip, with_bit}
 use Rattle.paths.specs.Send.{channel, none_available, lowest_of}
 use Rattle.layout.specs.Layout.{entry_at, owner_at, receiver_at, mask_at, armed_at}
-use Rattle.layout.specs.Examples.{bytes}
+use Rattle.layout.proofs.Examples.{bytes}
 use Rattle.entries.specs.EntryContracts.{put_entry, put_owner, put_receiver, put_mask, put_armed}
 use Rattle.table.specs.TableContracts.{lowest_channel}
 use Rattle.table.specs.View.{View, view, set_at, available, receive, without_circuit}
