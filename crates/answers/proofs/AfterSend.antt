@@ -19,7 +19,7 @@ use Rattle.cube.proofs.Axes.{next_inside}
 use Rattle.cube.proofs.Ports.{below_256}
 use Rattle.paths.specs.Network.{Path, Link, links}
 use Rattle.paths.specs.Permitted.{Permitted}
-use Rattle.paths.specs.Send.{Receive, channel, Outcome, acknowledged, route_rejected_lem, receive_rejected_lem}
+use Rattle.paths.specs.Send.{Receive, channel, Outcome, acknowledged, route_rejected, receive_rejected}
 use Rattle.paths.specs.CubeNetwork.{Shape, Node, ports, network, attempts, send}
 use Rattle.paths.proofs.Apart.{permitted_below}
 use Rattle.paths.proofs.Attempts.{said_by, acknowledged_says}
@@ -64,8 +64,8 @@ PortsBelow D w = (p : ℕ) → p ∈ w → p < D
 -- and so for the path of an outcome, whose receive channel is one of eight
 unfoldable pub Fits : ℕ → Outcome → Type 0
 Fits D (acknowledged w k) = PortsBelow D w × (k < channels)
-Fits D route_rejected_lem = Unit
-Fits D receive_rejected_lem = Unit
+Fits D route_rejected = Unit
+Fits D receive_rejected = Unit
 
 pub hold_length : (b : List ℕ) (c n : ℕ) (w : Path) → length (hold_path b c n w) ≡ length b
 unfolding hold_path
@@ -88,8 +88,8 @@ module _ (c : ℕ) (small : c < 65536) (D : ℕ) (fits : D ≤ largest_dimension
   view_after_send_lem b l s t i j (acknowledged w k) h =
       view_put_receiver (hold_path b c s w) t k c record { bytes = hold_length b c s w ∙ l; node = below_256 fits j; port = h.1 } small
       ∙ ap (λ v. set_receiver v t k c) (view_hold b l s w i h.0)
-  view_after_send_lem b l s t i j route_rejected_lem h = refl
-  view_after_send_lem b l s t i j receive_rejected_lem h = refl
+  view_after_send_lem b l s t i j route_rejected h = refl
+  view_after_send_lem b l s t i j receive_rejected h = refl
 
 -- An acknowledged send's ports are below the dimension, and its receive channel is one of eight.
 pub sent_fits : (v : View) (s t y vector : ℕ) → v.dimension ≤ largest_dimension → NodeOf v.dimension s → NodeOf v.dimension t → Fits v.dimension (send_in v s t y vector).outcome
@@ -99,8 +99,8 @@ sent_fits v s t y vector h i j = go (send_in v s t y vector).outcome refl
     go (acknowledged w k) e =
         let r = send_taken (shape_of v) (free_in v) (receive v t) s t vector h i j w k y e in
         unfold Fits PortsBelow in (permitted_below (shape_of v) h refl s t w r.permitted, receive_small v t k r.receives)
-    go route_rejected_lem e = unfold Fits in tt
-    go receive_rejected_lem e = unfold Fits in tt
+    go route_rejected e = unfold Fits in tt
+    go receive_rejected e = unfold Fits in tt
 
 -- one byte written, an entry, the links of a path, a send's marks: bytes stay bytes
 pub set_bytes : (b : List ℕ) (i x : ℕ) → Bytes b → x < 256 → Bytes (set b i x)
@@ -122,8 +122,8 @@ hold_bytes b c n (p ∷ w) h l = hold_bytes (put_owner b n p c) c (next n p) w (
 pub send_bytes_lem : (b : List ℕ) (c s t : ℕ) (o : Outcome) → Bytes b → c < 65536 → Bytes (bytes_after_send b c s t o)
 unfolding bytes_after_send put_receiver put_entry
 send_bytes_lem b c s t (acknowledged w k) h l = word_bytes (hold_path b c s w) (entry_place receive_part t k) c (hold_bytes b c s w h l) l
-send_bytes_lem b c s t route_rejected_lem h l = h
-send_bytes_lem b c s t receive_rejected_lem h l = h
+send_bytes_lem b c s t route_rejected h l = h
+send_bytes_lem b c s t receive_rejected h l = h
 
 -- so they are what `encode` writes of what they show
 pub send_encoded : (b : List ℕ) → Bytes b → (c s t : ℕ) (o : Outcome) → dimension_at b ≤ largest_dimension → c < 65536 → NodeOf (dimension_at b) s → NodeOf (dimension_at b) t → Fits (dimension_at b) o

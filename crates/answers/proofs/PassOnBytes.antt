@@ -15,7 +15,7 @@ use Rattle.common.specs.Lists.{◌∈◌}
 use Rattle.cube.specs.Cube.{channels, next}
 use Rattle.cube.specs.Helical.{helical}
 use Rattle.cube.proofs.Order.{helical_mem}
-use Rattle.paths.specs.Network.{Network, Path, offered, Nearing, link-free, link_held_lem, link-blocked, is_free, link_state}
+use Rattle.paths.specs.Network.{Network, Path, offered, Nearing, link_free, link_held, link_blocked, is_free, link_state}
 use Rattle.paths.specs.Pass.{PassResult, none, found, scouts}
 use Rattle.paths.specs.Send.{Receive, channel, none_available, lowest_of}
 use Rattle.paths.specs.Search.{hop_or, trying, arriving, holding}
@@ -70,16 +70,16 @@ free_held v n p c h = fun_ext (λ m. fun_ext (λ q. go (eqb m n && eqb q p) (v.e
 
 -- the state of a link by its two tests
 module _ (v : View) (n p : ℕ) where
-  pub state_blocked : v.enabled n p ≡ false → link-blocked ≡ state_in v n p
+  pub state_blocked : v.enabled n p ≡ false → link_blocked ≡ state_in v n p
   unfolding state_in link_state
   state_blocked e = rw e
 
   module _ {o : ℕ} (on : v.enabled n p ≡ true) (read : o ≡ v.owner n p) where
-    pub state_free : o ≡ 0 → link-free ≡ state_in v n p
+    pub state_free : o ≡ 0 → link_free ≡ state_in v n p
     unfolding state_in held_in link_state
     state_free z = rw (on, ← read, eq-eqb o 0 z)
 
-    pub state_held : o ≢ 0 → link_held_lem ≡ state_in v n p
+    pub state_held : o ≢ 0 → link_held ≡ state_in v n p
     unfolding state_in held_in link_state
     state_held f = rw (on, ← read, ne_eqb o 0 f)
 
@@ -221,8 +221,8 @@ module _ (N : Network) (free : ℕ → ℕ → Bool) (t n a s : ℕ) where
 
       go : (k : ℕ) → N.distance t n ≡ k → trying (free n) (arrival_after N free t n) (helical a (offered N t n)) s ≡ arriving k N free t n a s
       go zero e =
-          let none-offered : offered N t n ≡ [] = nothing (offered N t n) (λ p m. omega (arith, near.nearer n p m)) in
-          rw none-offered (unfold arriving trying helical in rw (ne_eqb n t h))
+          let none_offered : offered N t n ≡ [] = nothing (offered N t n) (λ p m. omega (arith, near.nearer n p m)) in
+          rw none_offered (unfold arriving trying helical in rw (ne_eqb n t h))
       go (suc k) e =
           unfold arriving in rw (ne_eqb n t h)
           (trying_same (helical a (offered N t n)) (λ p m. refl)

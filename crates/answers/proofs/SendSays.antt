@@ -9,7 +9,7 @@ use native.Mathlib.Omega.{arith}
 use Rattle.cube.specs.Cube.{largest_dimension, NodeOf}
 use Rattle.common.proofs.Tests.{clash}
 use Rattle.paths.specs.Network.{Path}
-use Rattle.paths.specs.Send.{channel, none_available, Outcome, acknowledged, route_rejected_lem, receive_rejected_lem, Acknowledged, Attempt, SendResult}
+use Rattle.paths.specs.Send.{channel, none_available, Outcome, acknowledged, route_rejected, receive_rejected, Acknowledged, Attempt, SendResult}
 use Rattle.paths.specs.Sentences.{AttemptsSay}
 use Rattle.paths.specs.CubeNetwork.{attempts, send}
 use Rattle.paths.proofs.Attempts.{Route, not_route_rejected, acknowledged_route, route_acknowledged, receive_rejected_route}
@@ -44,16 +44,16 @@ module _ (b : List ℕ) (c s t : ℕ) (helps : Bool) where
   acknowledged_number : (o : Outcome) (m x h k n : ℕ) (b' : List ℕ)
       → pass_answer x h k n b' ≡ send_answer helps b c s t (record { outcome = o; scouts = m }) → Acknowledged o → x ≡ 0
   unfolding send_answer bytes_after_send answer_of_outcome Acknowledged
-  acknowledged_number route_rejected_lem m x h k n b' q z = elim z [ ]
-  acknowledged_number receive_rejected_lem m x h k n b' q z = elim z [ ]
+  acknowledged_number route_rejected m x h k n b' q z = elim z [ ]
+  acknowledged_number receive_rejected m x h k n b' q z = elim z [ ]
   acknowledged_number (acknowledged w j) m x h k n b' q z = cc
 
   number_acknowledged : (o : Outcome) (m x h k n : ℕ) (b' : List ℕ)
       → pass_answer x h k n b' ≡ send_answer helps b c s t (record { outcome = o; scouts = m }) → x ≡ 0 → (w : Path) × (o ≡ acknowledged w k)
   unfolding send_answer bytes_after_send answer_of_outcome
   number_acknowledged (acknowledged w j) m x h k n b' q z = let y : j ≡ k = cc in (w, ap (acknowledged w) y)
-  number_acknowledged route_rejected_lem m x h k n b' q z = let y : x ≡ cond helps 10 22 = cc in absurd (not_zero helps y z)
-  number_acknowledged receive_rejected_lem m x h k n b' q z = let y : x ≡ 11 = cc in absurd (omega arith)
+  number_acknowledged route_rejected m x h k n b' q z = let y : x ≡ cond helps 10 22 = cc in absurd (not_zero helps y z)
+  number_acknowledged receive_rejected m x h k n b' q z = let y : x ≡ 11 = cc in absurd (omega arith)
 
 -- Which rejection it is: 10 where no attempt has a free path and one could have, 22 where none could, 11 where one has a free path and no channel is there
 -- to take.
@@ -79,7 +79,7 @@ module _ (b : List ℕ) (c s t : ℕ) (tried : List Attempt) (helps : Bool) (cou
     ((λ z. absurd (omega (arith, y, z))), (λ f. absurd (no_route f.0))),
   )
 
-  rejections : (o : Outcome) (m x h k n : ℕ) (b' : List ℕ) → (o ≢ route_rejected_lem → helps ≡ true)
+  rejections : (o : Outcome) (m x h k n : ℕ) (b' : List ℕ) → (o ≢ route_rejected → helps ≡ true)
       → pass_answer x h k n b' ≡ send_answer helps b c s t (record { outcome = o; scouts = m }) → Said o m → Rejections x
   unfolding send_answer bytes_after_send answer_of_outcome
   rejections (acknowledged w j) m x h k n b' found q said =
@@ -91,10 +91,10 @@ module _ (b : List ℕ) (c s t : ℕ) (tried : List Attempt) (helps : Bool) (cou
         ((λ z. absurd (omega (arith, y, z))), (λ f. absurd (clash on (blocked.1 f)))),
         ((λ z. absurd (omega (arith, y, z))), (λ f. absurd (f.1 (j, l.small, l.is_available)))),
       )
-  rejections route_rejected_lem m x h k n b' found q said =
+  rejections route_rejected m x h k n b' found q said =
       let y : x ≡ cond helps 10 22 = cc in
-      route_rejections helps refl (λ a. not_route_rejected (net (view b)) s t (free_in (view b)) (receive (view b) t) tried route_rejected_lem m said a refl) y
-  rejections receive_rejected_lem m x h k n b' found q said =
+      route_rejections helps refl (λ a. not_route_rejected (net (view b)) s t (free_in (view b)) (receive (view b) t) tried route_rejected m said a refl) y
+  rejections receive_rejected m x h k n b' found q said =
       let y : x ≡ 11 = cc in
       let a = receive_rejected_route (net (view b)) s t (free_in (view b)) (receive (view b) t) tried m said in
       let on = found (λ e. let z : ◌≡◌ {A = ℕ} 0 1 = cc in omega arith) in (
@@ -118,7 +118,7 @@ module _ (b : List ℕ) (s t type vector : ℕ) (fits : (shape_of (view b)).dime
   unfolding waiting_helps
   routes_blocked = blocked_exactly (shape_of (view b)) fits s t type vector source target (view b).enabled
 
-  found_helps : (send_in (view b) s t type vector).outcome ≢ route_rejected_lem → waiting_helps (view b) s t type vector ≡ true
+  found_helps : (send_in (view b) s t type vector).outcome ≢ route_rejected → waiting_helps (view b) s t type vector ≡ true
   unfolding waiting_helps
   found_helps = found_waits (shape_of (view b)) fits s t type vector source target (free_in (view b)) (view b).enabled (free_enabled (view b)) (receive (view b) t)
 

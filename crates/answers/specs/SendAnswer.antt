@@ -3,7 +3,7 @@
 -- Assumes nothing.
 use Rattle.std.specs.Prelude.{◌≡◌, ◌≢◌, Bool, true, List, ℕ, ◌≤◌, ◌<◌, length}
 use Rattle.cube.specs.Cube.{largest_dimension, NodeOf, VectorOf}
-use Rattle.paths.specs.Send.{Outcome, acknowledged, route_rejected_lem, receive_rejected_lem, SendResult}
+use Rattle.paths.specs.Send.{Outcome, acknowledged, route_rejected, receive_rejected, SendResult}
 use Rattle.layout.specs.Layout.{table_length, dimension_at}
 use Rattle.entries.specs.EntryContracts.{put_receiver}
 use Rattle.table.specs.View.{view}
@@ -13,8 +13,8 @@ use Rattle.answers.specs.PassOnBytes.{hold_path}
 -- the entries of an acknowledged send, written one after another: the circuit is c, its source s, its target t
 unfoldable pub bytes_after_send : List ℕ → ℕ → ℕ → ℕ → Outcome → List ℕ
 bytes_after_send b c s t (acknowledged w k) = put_receiver (hold_path b c s w) t k c
-bytes_after_send b c s t route_rejected_lem = b
-bytes_after_send b c s t receive_rejected_lem = b
+bytes_after_send b c s t route_rejected = b
+bytes_after_send b c s t receive_rejected = b
 
 unfoldable pub send_answer : (helps : Bool) → List ℕ → ℕ → ℕ → ℕ → SendResult → PassAnswer
 send_answer helps b c s t x = answer_of_outcome helps x.outcome x.scouts (bytes_after_send b c s t x.outcome)

@@ -3,10 +3,10 @@
 -- Assumes nothing.
 use Rattle.std.specs.Prelude.{Bool, cond, List, [], ◌∷◌, ℕ, length}
 use Rattle.cube.specs.Cube.{next}
-use Rattle.paths.specs.Network.{Path, LinkState, link-free, link_held_lem, link-blocked, is_free, link_state}
+use Rattle.paths.specs.Network.{Path, LinkState, link_free, link_held, link_blocked, is_free, link_state}
 use Rattle.answers.specs.declared.LinkState as State
 use Rattle.answers.specs.declared.LinkState.TheVariants.{Free, Held, Blocked}
-use Rattle.paths.specs.Send.{Outcome, acknowledged, route_rejected_lem, receive_rejected_lem, SendResult}
+use Rattle.paths.specs.Send.{Outcome, acknowledged, route_rejected, receive_rejected, SendResult}
 use Rattle.paths.specs.Waiting.{some_attempt}
 use Rattle.paths.specs.CubeNetwork.{attempts, send}
 use Rattle.table.specs.View.{View, held_in, set_owner, set_receiver, receive, net, shape_of}
@@ -21,9 +21,9 @@ free_in v n p = is_free (state_in v n p)
 
 -- document 02, (c): "The smallest question, whether one link is free, shall answer one of three: free, held or blocked." Its three answers in the code:
 abbrev pub state_of : State.LinkState → LinkState
-state_of Free = link-free
-state_of Held = link_held_lem
-state_of Blocked = link-blocked
+state_of Free = link_free
+state_of Held = link_held
+state_of Blocked = link_blocked
 
 -- the send of a routing type from s to t over the ports of a vector, read on what a table shows
 abbrev pub send_in : View → ℕ → ℕ → ℕ → ℕ → SendResult
@@ -37,8 +37,8 @@ hold_links v c n (p ∷ w) = hold_links (set_owner v n p c) c (next n p) w
 -- "An acknowledged send holds each link of the path and that receive channel. Nothing else in the table changes." The circuit is c, its source s, its target t.
 unfoldable pub view_after_send : View → ℕ → ℕ → ℕ → Outcome → View
 view_after_send v c s t (acknowledged w k) = set_receiver (hold_links v c s w) t k c
-view_after_send v c s t route_rejected_lem = v
-view_after_send v c s t receive_rejected_lem = v
+view_after_send v c s t route_rejected = v
+view_after_send v c s t receive_rejected = v
 
 -- Document 02, (c): waiting can help a send that finds no free path where some path that its type may try, "were all circuits closed", crosses no blocked
 -- link. (`someAttempt` says it over the attempts of the send, with "enabled" in place of "free".)
@@ -53,5 +53,5 @@ pub data PassAnswer : Type 0 where
 -- the same scouts", where waiting does not help
 unfoldable pub answer_of_outcome : (helps : Bool) → Outcome → ℕ → List ℕ → PassAnswer
 answer_of_outcome helps (acknowledged w k) n b = pass_answer 0 (length w) k n b
-answer_of_outcome helps route_rejected_lem n b = pass_answer (cond helps 10 22) 0 0 n b
-answer_of_outcome helps receive_rejected_lem n b = pass_answer 11 0 0 n b
+answer_of_outcome helps route_rejected n b = pass_answer (cond helps 10 22) 0 0 n b
+answer_of_outcome helps receive_rejected n b = pass_answer 11 0 0 n b

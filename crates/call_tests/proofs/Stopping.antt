@@ -104,7 +104,7 @@ not_found e f = sym e ∙ f
 -- With these `search` proves what each return of a call's tests answers, in whatever order they stand, and what a test asks of those before it.
 pub ruleset stops = (by_table, by_call, here, past, here_not, past_not, above, past_above, nonzero, past_zero, first_here, second_here, past_both, none)
 
-pub ruleset passed-before = (table_passed, not_found)
+pub ruleset passed_before = (table_passed, not_found)
 
 -- What is known of a table and the nodes of a call that no test stops.
 pub record Inside (b : List ℕ) (s t : ℕ) : Type 0 where

@@ -142,7 +142,7 @@ module _ {b : List ℕ} {c s t first : ℕ} (d : dimension_at b ≤ largest_dime
             path = port.0 ∷ w;
             permitted = unfold Permitted network in ((unfolded_port (shape_of (view b)) small refl port.0).1 (omega (arith, shown b, there.1)), way_onward (view b) c t _ w x);
             owned = λ m q i. unfold On network in ⊎_elim (λ (e : (m ≡ source_of c) × (q ≡ port.0)). rw (e.0, e.1) there.0) (way_owned (view b) c t _ w x m q) (on_cases (net (view b)) (source_of c) port.0 w m q i);
-            hop_count_lem = omega arith;
+            hop_count = omega arith;
             whole = λ z e. let r = begins z e in r.1 ∙ ap (port.0 ∷◌) (way_only (view b) c t small _ w r.0 x (onward small r.2) (later_held small r.2));
           }
 

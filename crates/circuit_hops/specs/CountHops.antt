@@ -42,7 +42,7 @@ pub record FollowedPath (v : View) (c t hops : ℕ) : Type 0 where
   pub path : Path
   pub permitted : Permitted (net v) (source_of c) (ports (shape_of v)) t path
   pub owned : (m q : ℕ) → (m, q) ∈ links (net v) (source_of c) path → held_by v c m q ≡ true
-  pub hop_count_lem : hops ≡ length path
+  pub hop_count : hops ≡ length path
   pub whole : (s : CircuitSound v c) → end_for v c s.path ≡ t → s.path ≡ path
 
 -- what following circuit c to node t and marking it comes to: a circuit that is marked already is not followed again

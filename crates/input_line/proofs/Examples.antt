@@ -9,7 +9,7 @@ use Rattle.input_line.specs.Line.{in_front, numbers, numbers_of, asked, by_lette
 
 -- "`F D` make, `B node port` block, `E node port` unblock, `S node channel target type vector` open, `C node channel` close", "`R node channel` arm and
 -- `D node channel` disarm", with a number of its own in each place
-letters-asked :
+letters_asked :
     map asks
     -- F 10
     ((70 ∷ 32 ∷ 49 ∷ 48 ∷ [])
@@ -29,4 +29,4 @@ letters-asked :
     ≡ some (making 10) ∷ some (blocking 11 12) ∷ some (unblocking 13 14) ∷ some (opening 1 2 3 4 5) ∷ some (closing 15 16) ∷ some (arming 17 18)
     ∷ some (disarming 19 20) ∷ []
 unfolding all_digits value leading_zero number on_first cut fields in_front numbers numbers_of asked by_letter with_numbers of_fields asks
-letters-asked = refl
+letters_asked = refl

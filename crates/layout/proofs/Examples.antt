@@ -16,11 +16,11 @@ all_bytes : length bytes ≡ 8705
 all_bytes = refl
 
 -- the entries of these two rows, and the mask of the second node
-read-low-first :
+read_low_first :
     (map (owner_at bytes 200) (from 0 8) ≡ 0 ∷ 0 ∷ 0 ∷ 0 ∷ 0 ∷ 1604 ∷ 0 ∷ 0 ∷ [])
     × (map (receiver_at bytes 232) (from 0 8) ≡ 0 ∷ 0 ∷ 0 ∷ 0 ∷ 0 ∷ 0 ∷ 1604 ∷ 0 ∷ [])
 unfolding from owner_at receiver_at entry_at
-read-low-first = (refl, refl)
+read_low_first = (refl, refl)
 
 read_armed : map (armed_at bytes 232) (from 0 8) ≡ false ∷ false ∷ false ∷ false ∷ false ∷ false ∷ true ∷ true ∷ []
 unfolding from armed_at mask_at has

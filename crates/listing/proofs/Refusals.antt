@@ -10,8 +10,8 @@ use lib.Dec.{eqb, ltb, lit<}
 use borrow.Author.Rules.{rules}
 use borrow.Author.Tests.{ne_eqb, eqb-true, eqb-false, ltb-true, not-true}
 use Rattle.common.specs.Tests.{Test, test, refusal}
-use Rattle.common.proofs.Tests.{same?, both, refused, passed, accepted as tests-accepted}
-use Rattle.paths.specs.Send.{Outcome, acknowledged, route_rejected_lem, receive_rejected_lem}
+use Rattle.common.proofs.Tests.{same?, both, refused, passed, accepted as tests_accepted}
+use Rattle.paths.specs.Send.{Outcome, acknowledged, route_rejected, receive_rejected}
 use Rattle.table.specs.View.{View}
 use Rattle.answers.specs.SendOnTable.{send_in}
 use Rattle.soundness.specs.TableTests.{table_tests}
@@ -91,7 +91,7 @@ other true n ts h k = rw (refused n ts refl) h
 other false n ts h k = rw (passed n ts refl) k
 
 nil : is_answer (refusal []) ≡ true
-nil = rw tests-accepted refl
+nil = rw tests_accepted refl
 
 stopped_by : (b : List ℕ) (a : Call) → is_answer (stopped_at b a) ≡ true
 unfolding stopped_at lent_tests call_tests table_tests
@@ -110,9 +110,9 @@ stopped_by b (booking ports index) = search (other, nil, rules) depth 12
 sent_answer : (helps : Bool) (o : Outcome) (n : ℕ) → is_answer (answered helps o n).number ≡ true
 unfolding answered
 sent_answer helps (acknowledged w k) n = refl
-sent_answer true route_rejected_lem n = refl
-sent_answer false route_rejected_lem n = refl
-sent_answer helps receive_rejected_lem n = refl
+sent_answer true route_rejected n = refl
+sent_answer false route_rejected n = refl
+sent_answer helps receive_rejected n = refl
 
 -- also a job, whose number is that of a single open
 open_answer : (v : View) (x : Send) → is_answer (single_open (facts_with no_job) opened v x).result.number ≡ true

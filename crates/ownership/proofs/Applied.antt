@@ -8,7 +8,7 @@ use lib.Dec.{eqb, ltb}
 use Rattle.common.specs.Lists.{keep}
 use Rattle.cube.specs.Cube.{next, circuit_of}
 use Rattle.paths.specs.Network.{Path, links, has_link}
-use Rattle.paths.specs.Send.{Outcome, acknowledged, route_rejected_lem, receive_rejected_lem, SendResult}
+use Rattle.paths.specs.Send.{Outcome, acknowledged, route_rejected, receive_rejected, SendResult}
 use Rattle.paths.specs.CubeNetwork.{Shape, network}
 use Rattle.table.specs.View.{View, set_at, set_owner, set_receiver, set_enabled, set_armed, without_circuit, fresh}
 use Rattle.ownership.specs.Sends.{Send, sends_in}
@@ -68,8 +68,8 @@ module _ (h : History) where
   added_view : (s c t : ℕ) (o : Outcome) → view_of (with_opened h s c t o) ≡ view_after_send (view_of h) (circuit_of s c) s t o
   unfolding with_opened view_after_send view_of number_of holds_link holds_receive enabled_on armed_on set_receiver set_at
   added_view s c t (acknowledged w k) = sym (ap (λ (v : View). set_receiver v t k (circuit_of s c)) (held_path (view_of h) (shape_on h) (circuit_of s c) s w))
-  added_view s c t route_rejected_lem = refl
-  added_view s c t receive_rejected_lem = refl
+  added_view s c t route_rejected = refl
+  added_view s c t receive_rejected = refl
 
   opened_view : (x : Send) → view_of (opened_on h x) ≡ opened (view_of h) x
   opened_view x =

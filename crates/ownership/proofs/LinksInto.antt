@@ -19,7 +19,7 @@ use Rattle.cube.specs.Axes.{axis}
 use Rattle.cube.proofs.Bits.{flip_back}
 use Rattle.paths.specs.Network.{Path, end, links}
 use Rattle.paths.specs.Permitted.{Permitted}
-use Rattle.paths.specs.Send.{none_available, Outcome, receive_rejected_lem}
+use Rattle.paths.specs.Send.{none_available, Outcome, receive_rejected}
 use Rattle.paths.specs.Sentences.{Free, AttemptsSay}
 use Rattle.paths.specs.CubeNetwork.{Shape, ports, network, attempts}
 use Rattle.paths.proofs.Links.{On, on_first_lem, on_later}
@@ -148,8 +148,8 @@ module _ (v : View) (sound : Sound v) (most : v.dimension ≤ largest_dimension)
 
   -- So no send to it is receive rejected.
   pub send_receives : ((k : ℕ) → k < channels → v.armed t k ≡ true) → (s : ℕ) → NodeOf v.dimension s → (type vector : ℕ) (o : Outcome) (n : ℕ)
-      → AttemptsSay (net v) s t (free_in v) (receive v t) (attempts (shape_of v) type vector) o n → o ≢ receive_rejected_lem
+      → AttemptsSay (net v) s t (free_in v) (receive v t) (attempts (shape_of v) type vector) o n → o ≢ receive_rejected
   send_receives armed s i type vector o n a q =
-      let x = said_by (net v) s t (free_in v) (receive v t) (attempts (shape_of v) type vector) receive_rejected_lem n (rw q at a) in
+      let x = said_by (net v) s t (free_in v) (receive v t) (attempts (shape_of v) type vector) receive_rejected n (rw q at a) in
       let y = receive_rejected_says (net v) s t (free_in v) (receive v t) x.0 x.2.0 x.2.1 in
       receives armed s y.0.0 i (tries_permitted (shape_of v) s t type vector x.0 x.1 y.0.0 y.0.1) y.0.2 y.1

@@ -13,7 +13,7 @@ use Rattle.common.proofs.Lists.{any_some}
 use Rattle.cube.specs.Cube.{channels, NodeOf, source_of, circuit_of}
 use Rattle.cube.proofs.Bits.{no_bit_above}
 use Rattle.paths.specs.CubeNetwork.{ports}
-use Rattle.paths.specs.Send.{Outcome, acknowledged, route_rejected_lem, receive_rejected_lem}
+use Rattle.paths.specs.Send.{Outcome, acknowledged, route_rejected, receive_rejected}
 use Rattle.layout.specs.Layout.{dimension_at, enabled_at, owner_at, receiver_at, armed_at}
 use Rattle.table.specs.View.{View, view, shape_of, held_in, held_by}
 use Rattle.table.specs.Encode.{AllBytes, Bytes}
@@ -60,8 +60,8 @@ answer_same : (helps : Bool) (o : Outcome) (n : ℕ) (b : List ℕ)
     → pass_answer (answered helps o n).number (hops_of (answered helps o n)) (receive_of (answered helps o n)) (scouts_of (answered helps o n)) b ≡ answer_of_outcome helps o n b
 unfolding answered answer_of_outcome
 answer_same helps (acknowledged w k) n b = refl
-answer_same helps route_rejected_lem n b = refl
-answer_same helps receive_rejected_lem n b = refl
+answer_same helps route_rejected n b = refl
+answer_same helps receive_rejected n b = refl
 
 module _ (b : List ℕ) (s c t y v : ℕ) (e : stopped_at b (opening s c t y v) ≡ 0) where
   -- what the open gives

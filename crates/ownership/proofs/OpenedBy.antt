@@ -11,7 +11,7 @@ use Rattle.common.specs.Lists.{◌∈◌}
 use borrow.Author.Tests.{not-true}
 use Rattle.common.proofs.Tests.{same?, clash}
 use Rattle.common.proofs.Lists.{keep_mem}
-use Rattle.paths.specs.Send.{Outcome, acknowledged, route_rejected_lem, receive_rejected_lem}
+use Rattle.paths.specs.Send.{Outcome, acknowledged, route_rejected, receive_rejected}
 use Rattle.ownership.specs.Calls.{Call, making, blocking, unblocking, opening, closing, tracing, arming, disarming, opening_all, booking}
 use Rattle.ownership.specs.History.{Circuit, History, belongs, stopped_on, send_on, with_opened, applied, history_step}
 use Rattle.ownership.specs.Agrees.{history_after, history_results, leaves, answers}
@@ -32,8 +32,8 @@ added : (h : History) (s c t y v : ℕ) (o : Outcome) → (send_on h s t y v).ou
 unfolding with_opened
 added h s c t y v (acknowledged w k) e x m =
     ⊎_elim (λ z. inr (subst (λ (u : Circuit). New h (opening s c t y v) u) (sym z) record { type = y; vector = v; is_open = refl; acknowledges = e })) inl (Memᴰ.cases_cons m)
-added h s c t y v route_rejected_lem e x m = inl m
-added h s c t y v receive_rejected_lem e x m = inl m
+added h s c t y v route_rejected e x m = inl m
+added h s c t y v receive_rejected e x m = inl m
 
 listed_or_new : (h : History) (a : Call) → Single a → (x : Circuit) → x ∈ (applied h a).circuits → (x ∈ h.circuits) ⊎ New h a x
 unfolding applied counts_as

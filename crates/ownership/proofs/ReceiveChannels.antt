@@ -9,7 +9,7 @@ use native.Mathlib.Omega.{arith}
 use Rattle.common.specs.Tests.{refusal}
 use Rattle.common.proofs.Tests.{same?, avoids, avoiding, never_answered}
 use Rattle.cube.specs.Cube.{largest_dimension, channels, NodeOf}
-use Rattle.paths.specs.Send.{Outcome, acknowledged, route_rejected_lem, receive_rejected_lem}
+use Rattle.paths.specs.Send.{Outcome, acknowledged, route_rejected, receive_rejected}
 use Rattle.paths.proofs.Send.{send_says}
 use Rattle.table.specs.View.{View, view, receive, shape_of}
 use Rattle.soundness.specs.Sound.{Sound}
@@ -51,12 +51,12 @@ stopped_otherwise b (opening_all sends) = never_answered 11 _ (avoiding 11 _ ref
 stopped_otherwise b (booking ports index) = never_answered 11 _ (avoiding 11 _ refl) (λ z. omega arith)
 
 -- the outcome of which an open answers 11
-rejected : (helps : Bool) (o : Outcome) (n : ℕ) → (answered helps o n).number ≡ 11 → o ≡ receive_rejected_lem
+rejected : (helps : Bool) (o : Outcome) (n : ℕ) → (answered helps o n).number ≡ 11 → o ≡ receive_rejected
 unfolding answered
 rejected helps (acknowledged w k) n e = absurd (omega (arith, e))
-rejected true route_rejected_lem n e = absurd (omega (arith, e))
-rejected false route_rejected_lem n e = absurd (omega (arith, e))
-rejected helps receive_rejected_lem n e = refl
+rejected true route_rejected n e = absurd (omega (arith, e))
+rejected false route_rejected n e = absurd (omega (arith, e))
+rejected helps receive_rejected n e = refl
 
 -- so an open that no test stops does not answer it where the receive channels of its target are all armed, on a table
 sent_otherwise : (w : View) → Sound w → w.dimension ≤ largest_dimension → (s c t y v : ℕ) → ((k : ℕ) → k < channels → w.armed t k ≡ true) → Allowed (facts_of w) (opening s c t y v)
@@ -80,8 +80,8 @@ record EveryArmed (h : History) : Type 0 where
 added_armed : (h : History) → EveryArmed h → (s c t : ℕ) (o : Outcome) → Valid (with_opened h s c t o) → EveryArmed (with_opened h s c t o)
 unfolding with_opened armed_on
 added_armed h every s c t (acknowledged w k) valid = record { valid = valid; armed = every.armed }
-added_armed h every s c t route_rejected_lem valid = every
-added_armed h every s c t receive_rejected_lem valid = every
+added_armed h every s c t route_rejected valid = every
+added_armed h every s c t receive_rejected valid = every
 
 module _ (h : History) (x : Send) (every : EveryArmed h) where
   says : StepSays h (opened_on h x) (facts_on_with no_job h) (refusal (call_tests (facts_on_with no_job h) (opening_of x))) (opening_of x) (single_open (facts_on_with no_job) opened_on h x)

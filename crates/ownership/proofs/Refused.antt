@@ -6,7 +6,7 @@ use mathlib.Core.List.{List, [], ◌∷◌, ◌++◌}
 use Prim.Native.Nat.{ℕ}
 use lib.ListN.{replicate}
 use Rattle.common.proofs.Tests.{same?}
-use Rattle.paths.specs.Send.{Outcome, acknowledged, route_rejected_lem, receive_rejected_lem}
+use Rattle.paths.specs.Send.{Outcome, acknowledged, route_rejected, receive_rejected}
 use Rattle.table.specs.View.{view}
 use Rattle.ownership.specs.Calls.{Call, making, blocking, unblocking, opening, closing, tracing, arming, disarming, opening_all, booking, form, lent}
 use Rattle.ownership.specs.Sends.{sends_in}
@@ -26,9 +26,9 @@ Zero a g =
 send_zero : (a : Call) (helps : Bool) (o : Outcome) (n : ℕ) → (answered helps o n).number ≢ 0 → ((answered helps o n).buffers ≡ []) × Zero a (answered helps o n)
 unfolding answered
 send_zero a helps (acknowledged w k) n f = absurd (f refl)
-send_zero a true route_rejected_lem n f = (refl, inr (inl (inl refl, refl)))
-send_zero a false route_rejected_lem n f = (refl, inr (inl (inr (inl refl), refl)))
-send_zero a helps receive_rejected_lem n f = (refl, inr (inl (inr (inr refl), refl)))
+send_zero a true route_rejected n f = (refl, inr (inl (inl refl, refl)))
+send_zero a false route_rejected n f = (refl, inr (inl (inr (inl refl), refl)))
+send_zero a helps receive_rejected n f = (refl, inr (inl (inr (inr refl), refl)))
 
 result_refused : (f : CallFacts) (a : Call) → (result_of f a).number ≢ 0 → ((result_of f a).buffers ≡ lent a) × Zero a (result_of f a)
 unfolding result_of

@@ -13,9 +13,9 @@ use Rattle.common.specs.Tests.{refusal}
 use Rattle.common.proofs.Tests.{same?}
 use Rattle.common.proofs.Lowest.{lowest_same}
 use Rattle.cube.specs.Cube.{largest_dimension, channels, next}
-use Rattle.paths.specs.Network.{Path, LinkState, link-free, link_held_lem, link-blocked, link_state, is_free}
+use Rattle.paths.specs.Network.{Path, LinkState, link_free, link_held, link_blocked, link_state, is_free}
 use Rattle.paths.specs.Between.{Between, VectorUphill}
-use Rattle.paths.specs.Send.{Receive, channel, none_available, Outcome, acknowledged, route_rejected_lem, receive_rejected_lem, SendResult, lowest_of, attempted, runs}
+use Rattle.paths.specs.Send.{Receive, channel, none_available, Outcome, acknowledged, route_rejected, receive_rejected, SendResult, lowest_of, attempted, runs}
 use Rattle.paths.specs.Waiting.{finds_path, some_attempt}
 use Rattle.paths.specs.CubeNetwork.{ports, unfolded, network, attempts, send}
 use Rattle.paths.proofs.CubeNetwork.{unfolded_port}
@@ -38,9 +38,9 @@ use Rattle.ownership.proofs.FromTable.{sound_represents}
 
 -- the state of a link tells whether it is enabled
 is_enabled : LinkState → Bool
-is_enabled link-free = true
-is_enabled link_held_lem = true
-is_enabled link-blocked = false
+is_enabled link_free = true
+is_enabled link_held = true
+is_enabled link_blocked = false
 
 state_enabled : (enabled held : Bool) → is_enabled (link_state enabled held) ≡ enabled
 unfolding link_state is_enabled
@@ -146,9 +146,9 @@ module _ (b : List ℕ) (small : AllBytes b) (e : refusal (table_tests b) ≡ 0)
 found_path : (helps : Bool) (o : Outcome) (n : ℕ) → (answered helps o n).number ≡ 0 → (w : Path) × (k : ℕ) × (o ≡ acknowledged w k)
 unfolding answered
 found_path helps (acknowledged w k) n e = (w, k, refl)
-found_path true route_rejected_lem n e = absurd (omega arith)
-found_path false route_rejected_lem n e = absurd (omega arith)
-found_path helps receive_rejected_lem n e = absurd (omega arith)
+found_path true route_rejected n e = absurd (omega arith)
+found_path false route_rejected n e = absurd (omega arith)
+found_path helps receive_rejected n e = absurd (omega arith)
 
 -- "a type 0 open whose send vector is uphill, without folding, gets the same number, path, channel and scouts in two sound tables" that agree as SameBetween says.
 module _ (a b : List ℕ) (all₁ : AllBytes a) (all₂ : AllBytes b) (pass₁ : refusal (table_tests a) ≡ 0) (pass₂ : refusal (table_tests b) ≡ 0) (s c t vector : ℕ)

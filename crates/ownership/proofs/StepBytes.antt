@@ -9,7 +9,7 @@ use lib.Dec.{eqb}
 use borrow.Author.Tests.{eqb-true, ne_eqb}
 use Rattle.common.proofs.Tests.{same?, both}
 use Rattle.cube.specs.Cube.{largest_dimension, channels, circuit_of}
-use Rattle.paths.specs.Send.{Outcome, acknowledged, route_rejected_lem, receive_rejected_lem}
+use Rattle.paths.specs.Send.{Outcome, acknowledged, route_rejected, receive_rejected}
 use Rattle.layout.specs.Layout.{enabled_at, armed_at}
 use Rattle.table.specs.View.{View, view, set_at, set_enabled, set_armed, fresh}
 use Rattle.table.specs.Encode.{encode, Bytes}
@@ -36,8 +36,8 @@ rejected_same v (opening s c t y x) f = go (waiting_helps v s t y x) (send_in v 
   where
     go : (helps : Bool) (o : Outcome) (n : ℕ) → (answered helps o n).number ≢ 0 → view_after_send v (circuit_of s c) s t o ≡ v
     go helps (acknowledged w k) n g = unfold answered in absurd (g refl)
-    go helps route_rejected_lem n g = unfold view_after_send in refl
-    go helps receive_rejected_lem n g = unfold view_after_send in refl
+    go helps route_rejected n g = unfold view_after_send in refl
+    go helps receive_rejected n g = unfold view_after_send in refl
 rejected_same v (closing s c) f = absurd (f refl)
 rejected_same v (tracing s c buffer) f = absurd (f refl)
 rejected_same v (arming n k) f = absurd (f refl)

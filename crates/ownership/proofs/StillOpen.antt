@@ -13,7 +13,7 @@ use borrow.Author.Tests.{eqb-true, eq-eqb, not-true}
 use Rattle.common.specs.Lists.{any, keep}
 use Rattle.common.proofs.Tests.{same?, clash, is_false, both, and, either, or_left, or_right}
 use Rattle.common.proofs.Lists.{keep_mem, mem_keep, any_some, some_any}
-use Rattle.paths.specs.Send.{Outcome, acknowledged, route_rejected_lem, receive_rejected_lem}
+use Rattle.paths.specs.Send.{Outcome, acknowledged, route_rejected, receive_rejected}
 use Rattle.ownership.specs.Calls.{Call, making, blocking, unblocking, opening, closing, tracing, arming, disarming, opening_all, booking, CallResult, answered, result_of}
 use Rattle.ownership.specs.History.{Circuit, History, belongs, open_on, facts_on, stopped_on, send_on, with_opened, applied, history_step, waiting_on, new_history}
 use Rattle.ownership.specs.Agrees.{history_after, history_results, leaves, answers}
@@ -40,7 +40,7 @@ module _ (s c : ℕ) where
 
   -- a call that changes no circuit
   step_same : (h next : History) (a : Call) (n : ℕ) → open_on next s c ≡ open_on h s c → (Opens a n → ⊥) → Spares a n → Step h next a n
-  step_same h next a n e no-open spare = record { from_next = λ o. inr (sym e ∙ o, spare); opens = λ o. absurd (no-open o); spares = λ o z. e ∙ o }
+  step_same h next a n e no_open spare = record { from_next = λ o. inr (sym e ∙ o, spare); opens = λ o. absurd (no_open o); spares = λ o z. e ∙ o }
 
   -- an accepted making
   step_making : (h : History) (D : ℕ) → Step h (new_history D) (making D) 0
@@ -64,9 +64,9 @@ module _ (s c : ℕ) where
     where
       new : (eqb m s ≡ true) × (eqb d c ≡ true) → Opens (opening m d t y v) 0
       new r = (t, y, v, (λ i. opening (eqb-true m s r.0 i) (eqb-true d c r.1 i) t y v), refl)
-  step_opening h m d t y v k true route_rejected_lem z = absurd (omega (arith, z))
-  step_opening h m d t y v k false route_rejected_lem z = absurd (omega (arith, z))
-  step_opening h m d t y v k helps receive_rejected_lem z = absurd (omega (arith, z))
+  step_opening h m d t y v k true route_rejected z = absurd (omega (arith, z))
+  step_opening h m d t y v k false route_rejected z = absurd (omega (arith, z))
+  step_opening h m d t y v k helps receive_rejected z = absurd (omega (arith, z))
 
   -- an accepted close
   step_closing : (h : History) (m d : ℕ) → Step h (applied h (closing m d)) (closing m d) 0

@@ -7,7 +7,7 @@ use Prim.Native.Nat.{ℕ, ◌≤◌}
 use native.Mathlib.Omega.{arith}
 use Rattle.cube.specs.Cube.{largest_dimension}
 use Rattle.common.proofs.Tests.{same?}
-use Rattle.paths.specs.Send.{Outcome, acknowledged, route_rejected_lem, receive_rejected_lem}
+use Rattle.paths.specs.Send.{Outcome, acknowledged, route_rejected, receive_rejected}
 use Rattle.paths.specs.CubeNetwork.{attempts}
 use Rattle.paths.proofs.Inclusion.{fixed_route, helix_route}
 use Rattle.paths.proofs.Send.{fixed_bounded, helix_bounded}
@@ -51,8 +51,8 @@ module _ (b : List ℕ) (s c t v : ℕ) where
   answered_scouts : (helps : Bool) (o : Outcome) (n : ℕ) → scouts_of (answered helps o n) ≡ n
   unfolding answered
   answered_scouts helps (acknowledged w k) n = refl
-  answered_scouts helps route_rejected_lem n = refl
-  answered_scouts helps receive_rejected_lem n = refl
+  answered_scouts helps route_rejected n = refl
+  answered_scouts helps receive_rejected n = refl
 
   scouts_most : (y m : ℕ) → ((p : dimension_at b ≤ largest_dimension) → (send_in (view b) s t y v).scouts ≤ m) → scouts_of (table_step b (opening s c t y v)).result ≤ m
   unfolding result_of facts_of

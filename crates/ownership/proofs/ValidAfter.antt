@@ -14,7 +14,7 @@ use Rattle.common.specs.Tests.{refusal}
 use Rattle.common.proofs.Tests.{clash, is_false, both}
 use Rattle.common.proofs.Lists.{keep_mem, keep_pairwise, some_any}
 use Rattle.paths.specs.Network.{Path, Link, links}
-use Rattle.paths.specs.Send.{Outcome, acknowledged, route_rejected_lem, receive_rejected_lem}
+use Rattle.paths.specs.Send.{Outcome, acknowledged, route_rejected, receive_rejected}
 use Rattle.paths.proofs.Words.{free_link}
 use Rattle.table.specs.View.{set_at}
 use Rattle.ownership.specs.Sends.{Send, sends_in}
@@ -150,8 +150,8 @@ module _ (h : History) (valid : Valid h) where
   opened_valid : (s c t y v : ℕ) → Allowed (facts_on h) (opening s c t y v) → (o : Outcome) → (send_on h s t y v).outcome ≡ o → Valid (with_opened h s c t o)
   unfolding with_opened send_on Allowed facts_on
   opened_valid s c t y v r (acknowledged w k) e = added_valid s c t r.0 r.2 r.5 w k (send_taken (shape_on h) (free_on h) (receive_on h t) s t v valid.most r.0 r.1 w k y e)
-  opened_valid s c t y v r route_rejected_lem e = valid
-  opened_valid s c t y v r receive_rejected_lem e = valid
+  opened_valid s c t y v r route_rejected e = valid
+  opened_valid s c t y v r receive_rejected e = valid
 
 -- An acknowledged open of a job keeps the history valid, and so do all of them.
 pub open_valid : (h : History) (x : Send) → Valid h → (single_open (facts_on_with no_job) opened_on h x).result.number ≡ 0 → Valid (single_open (facts_on_with no_job) opened_on h x).state

@@ -15,7 +15,7 @@ use Rattle.common.proofs.Tests.{is_false, same?, avoids, avoiding, never_answere
 use Rattle.common.proofs.Lists.{any_some}
 use Rattle.cube.specs.Cube.{circuit_of, source_of, next, channels}
 use Rattle.paths.specs.Network.{Path}
-use Rattle.paths.specs.Send.{Outcome, acknowledged, route_rejected_lem, receive_rejected_lem}
+use Rattle.paths.specs.Send.{Outcome, acknowledged, route_rejected, receive_rejected}
 use Rattle.paths.specs.Waiting.{AllEnabled, SomePathEnabled, EveryPathBlocked, CrossesBlocked}
 use Rattle.paths.specs.CubeNetwork.{attempts, ports}
 use Rattle.paths.proofs.Words.{free_link, free_links}
@@ -187,8 +187,8 @@ hold_same v c n (p ∷ w) = let r = hold_same (set_owner v n p c) c (next n p) w
 sent_same : (v : View) (c s t : ℕ) (o : Outcome) → SameEnabled (view_after_send v c s t o) v
 unfolding view_after_send set_receiver
 sent_same v c s t (acknowledged w k) = let r = hold_same v c s w in record { dimension = r.dimension; enabled = r.enabled }
-sent_same v c s t route_rejected_lem = record { dimension = refl; enabled = refl }
-sent_same v c s t receive_rejected_lem = record { dimension = refl; enabled = refl }
+sent_same v c s t route_rejected = record { dimension = refl; enabled = refl }
+sent_same v c s t receive_rejected = record { dimension = refl; enabled = refl }
 
 not_off : (c x : Bool) → cond c false x ≡ true → x ≡ true
 not_off true x e = absurd (clash e refl)

@@ -3,7 +3,7 @@
 use Rattle.std.specs.Prelude.{Bool, true, false, cond, not, ◌||◌, List, [], ◌∷◌, ℕ, suc, ◌*◌, ◌^◌, ◌%◌, eqb, ltb, length, get_or, replicate}
 use Rattle.common.specs.Tests.{Test, test, refusal}
 use Rattle.paths.specs.Network.{Path}
-use Rattle.paths.specs.Send.{Outcome, acknowledged, route_rejected_lem, receive_rejected_lem, SendResult}
+use Rattle.paths.specs.Send.{Outcome, acknowledged, route_rejected, receive_rejected, SendResult}
 use Rattle.circuit_path.specs.Traced.{traced_into}
 use Rattle.cube.specs.Cube.{cube_nodes}
 use Rattle.soundness.specs.TableTests.{dimension_test}
@@ -89,8 +89,8 @@ refused_with n a = record { number = n; values = replicate (form a).value_count 
 -- "becomes 22, beside 10 after the search, carrying and printing the same scouts".
 unfoldable pub answered : (helps : Bool) → Outcome → ℕ → CallResult
 answered helps (acknowledged w k) n = record { number = 0; values = length w ∷ k ∷ n ∷ []; buffers = [] }
-answered helps route_rejected_lem n = record { number = cond helps 10 22; values = 0 ∷ 0 ∷ n ∷ []; buffers = [] }
-answered helps receive_rejected_lem n = record { number = 11; values = 0 ∷ 0 ∷ n ∷ []; buffers = [] }
+answered helps route_rejected n = record { number = cond helps 10 22; values = 0 ∷ 0 ∷ n ∷ []; buffers = [] }
+answered helps receive_rejected n = record { number = 11; values = 0 ∷ 0 ∷ n ∷ []; buffers = [] }
 
 -- the numbers that come with the scouts of an open: success, and the three of a rejected search
 unfoldable pub carries_scouts : ℕ → Bool

@@ -8,7 +8,7 @@ use Rattle.cube.specs.Cube.{uphill}
 use Rattle.cube.specs.Helical.{helical}
 use Rattle.paths.specs.Network.{offered, end, link_state, is_free, free_path}
 use Rattle.paths.specs.Pass.{over, ways, beginnings, scan, whole, pass, scouts}
-use Rattle.paths.specs.Send.{acknowledged, route_rejected_lem, lowest_of, received, outcome, attempted, SendResult, send_goes_on, runs}
+use Rattle.paths.specs.Send.{acknowledged, route_rejected, lowest_of, received, outcome, attempted, SendResult, send_goes_on, runs}
 use Rattle.paths.specs.Waiting.{finds_path, some_attempt}
 use Rattle.paths.specs.CubeNetwork.{ports, network, send_ports, other_ports, attempts, send}
 use Rattle.table.specs.View.{View, fresh, set_at, set_armed, set_enabled, set_owner, set_receiver, held_in, without_circuit, available, receive}
@@ -68,13 +68,13 @@ freedom_answers =
     ∷ record { outcome = acknowledged (1 ∷ 0 ∷ 1 ∷ []) 0; scouts = 3 }
     ∷ record { outcome = acknowledged (1 ∷ 1 ∷ 0 ∷ []) 0; scouts = 3 }
     ∷ record { outcome = acknowledged (1 ∷ 0 ∷ 1 ∷ []) 0; scouts = 3 }
-    ∷ record { outcome = route_rejected_lem; scouts = 2 }
-    ∷ record { outcome = route_rejected_lem; scouts = 0 }
-    ∷ record { outcome = route_rejected_lem; scouts = 0 }
+    ∷ record { outcome = route_rejected; scouts = 2 }
+    ∷ record { outcome = route_rejected; scouts = 0 }
+    ∷ record { outcome = route_rejected; scouts = 0 }
     ∷ record { outcome = acknowledged (1 ∷ 0 ∷ []) 1; scouts = 2 }
     ∷ record { outcome = acknowledged (0 ∷ 1 ∷ []) 1; scouts = 2 }
     ∷ record { outcome = acknowledged (1 ∷ []) 1; scouts = 1 }
-    ∷ record { outcome = route_rejected_lem; scouts = 0 }
+    ∷ record { outcome = route_rejected; scouts = 0 }
     ∷ []
 
 freedom_sends_lem : freedom_sends ≡ freedom_answers

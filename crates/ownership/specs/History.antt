@@ -4,7 +4,7 @@ use Rattle.std.specs.Prelude.{Bool, cond, ◌&&◌, not, List, [], ◌∷◌, ma
 use Rattle.common.specs.Lists.{keep, from, any}
 use Rattle.common.specs.Tests.{refusal}
 use Rattle.paths.specs.Network.{Network, Path, Link, links, has_link, link_state, is_free}
-use Rattle.paths.specs.Send.{Receive, Outcome, acknowledged, route_rejected_lem, receive_rejected_lem, SendResult, lowest_of}
+use Rattle.paths.specs.Send.{Receive, Outcome, acknowledged, route_rejected, receive_rejected, SendResult, lowest_of}
 use Rattle.paths.specs.Waiting.{some_attempt}
 use Rattle.paths.specs.CubeNetwork.{Shape, network, attempts, send, unfolded, is_link_of, circuit_count}
 use Rattle.cube.specs.Cube.{source_of, channel_of}
@@ -112,8 +112,8 @@ without_entry n p ls = keep (λ l. not (eqb l.0 n && eqb l.1 p)) ls
 -- "an open adds its circuit with path and channel"
 unfoldable pub with_opened : History → ℕ → ℕ → ℕ → Outcome → History
 with_opened h s c t (acknowledged w k) = with_circuits h (record { source = s; channel = c; ports = w; target = t; receive = k } ∷ h.circuits)
-with_opened h s c t route_rejected_lem = h
-with_opened h s c t receive_rejected_lem = h
+with_opened h s c t route_rejected = h
+with_opened h s c t receive_rejected = h
 
 -- Document 02, (e): the listed circuits in order of their numbers, each with its ports
 unfoldable pub book_on : History → List BookCircuit

@@ -11,7 +11,7 @@ use Rattle.common.proofs.Tests.{clash}
 use Rattle.paths.specs.Network.{Network, Path}
 use Rattle.paths.specs.Permitted.{ComesBefore}
 use Rattle.paths.specs.Pass.{PassResult, none, found, scouts}
-use Rattle.paths.specs.Send.{Receive, channel, none_available, Outcome, acknowledged, route_rejected_lem, receive_rejected_lem, Acknowledged, received, outcome, Attempt, pass_over, helix_paths_lem, attempted, one_result, send_goes_on, runs}
+use Rattle.paths.specs.Send.{Receive, channel, none_available, Outcome, acknowledged, route_rejected, receive_rejected, Acknowledged, received, outcome, Attempt, pass_over, helix_paths, attempted, one_result, send_goes_on, runs}
 use Rattle.paths.specs.Sentences.{Free, AnswerSays, says_acknowledged, says_receive_rejected, says_route_rejected, Tries, SearchSays, AttemptSays, AttemptsSay, last, ends, goes_on}
 use Rattle.paths.proofs.TriedHelix.{tried_helix_lem, tried_first, tried_nothing}
 
@@ -23,11 +23,11 @@ answer_says Search (channel k) (found w c) h = says_acknowledged refl h
 answer_says Search none_available (found w c) h = says_receive_rejected refl h
 
 -- A send goes on exactly after a route rejection; then the next attempt's answer counts, and all scouts are added.
-pub goes_on_after : (o : Outcome) → (send_goes_on o ≡ true) ↔ (o ≡ route_rejected_lem)
+pub goes_on_after : (o : Outcome) → (send_goes_on o ≡ true) ↔ (o ≡ route_rejected)
 unfolding send_goes_on
 goes_on_after (acknowledged w c) = ((λ e. absurd (true≢false (sym e))), (λ h. ap send_goes_on h))
-goes_on_after route_rejected_lem = ((λ e. refl), (λ h. refl))
-goes_on_after receive_rejected_lem = ((λ e. absurd (true≢false (sym e))), (λ h. ap send_goes_on h))
+goes_on_after route_rejected = ((λ e. refl), (λ h. refl))
+goes_on_after receive_rejected = ((λ e. absurd (true≢false (sym e))), (λ h. ap send_goes_on h))
 
 pub runs_stop : (r : Receive) (x y : PassResult) (ys : List PassResult) → send_goes_on (outcome r x) ≡ false → runs r (x ∷ y ∷ ys) ≡ one_result r x
 runs_stop r x y ys e = unfold runs in rw e
@@ -39,7 +39,7 @@ runs_on r x y ys e = unfold runs in rw e
 -- the ports over which an attempt leaves its source
 unfoldable pub ports_tried : Attempt → List ℕ
 ports_tried (pass_over ps) = ps
-ports_tried (helix_paths_lem ps) = ps
+ports_tried (helix_paths ps) = ps
 
 -- What an attempt says, whatever it tries: acknowledged, it has a free path and a channel; receive rejected, a free path and no channel; route
 -- rejected, no free path.
@@ -47,41 +47,41 @@ module _ (N : Network) (s t : ℕ) (free : ℕ → ℕ → Bool) where
   found_says : (a : Attempt) (w : Path) (c : ℕ) → SearchSays N s t free a (found w c) → Tries N s t a w × Free N free s w
   unfolding SearchSays Tries
   found_says (pass_over ps) w c f = (f.permitted, f.is_free)
-  found_says (helix_paths_lem ps) w c f = (tried_helix_lem N s t free ps f.1 f.2, f.2.is_free)
+  found_says (helix_paths ps) w c f = (tried_helix_lem N s t free ps f.1 f.2, f.2.is_free)
 
   -- a path found comes before every other free path that is tried, where the ports rise
   pub found_first : (a : Attempt) → Pairwise ◌<◌ (ports_tried a) → (w : Path) (c : ℕ) → SearchSays N s t free a (found w c)
       → (v : Path) → Tries N s t a v → Free N free s v → (v ≡ w) ⊎ ComesBefore w v
   unfolding ports_tried SearchSays Tries
   found_first (pass_over ps) rise w c f v x = f.first v x
-  found_first (helix_paths_lem ps) rise w c f v x = tried_first N s t free ps f.1 rise f.2 x.0 x.1 v x.2
+  found_first (helix_paths ps) rise w c f v x = tried_first N s t free ps f.1 rise f.2 x.0 x.1 v x.2
 
   nothing_says : (a : Attempt) (c : ℕ) → SearchSays N s t free a (none c) → (w : Path) → Tries N s t a w → Free N free s w → ⊥
   unfolding SearchSays Tries
   nothing_says (pass_over ps) c f w x = f.nothing w x
-  nothing_says (helix_paths_lem ps) c f w x = tried_nothing N s t free ps f.1 f.2 x.0 x.1 w x.2
+  nothing_says (helix_paths ps) c f w x = tried_nothing N s t free ps f.1 f.2 x.0 x.1 w x.2
 
 module _ (N : Network) (s t : ℕ) (free : ℕ → ℕ → Bool) (r : Receive) where
   pub acknowledged_says : (a : Attempt) (w : Path) (k n : ℕ) → AttemptSays N s t free r a (acknowledged w k) n
       → Tries N s t a w × Free N free s w × (r ≡ channel k)
   acknowledged_says a w k n (says_acknowledged e f) = let x = found_says N s t free a w n f in (x.0, x.1, e)
 
-  pub receive_rejected_says : (a : Attempt) (n : ℕ) → AttemptSays N s t free r a receive_rejected_lem n
+  pub receive_rejected_says : (a : Attempt) (n : ℕ) → AttemptSays N s t free r a receive_rejected n
       → ((w : Path) × Tries N s t a w × Free N free s w) × (r ≡ none_available)
   receive_rejected_says a n (says_receive_rejected {w} e f) = let x = found_says N s t free a w n f in ((w, x.0, x.1), e)
 
-  pub route_rejected_says : (a : Attempt) (n : ℕ) → AttemptSays N s t free r a route_rejected_lem n → (w : Path) → Tries N s t a w → Free N free s w → ⊥
+  pub route_rejected_says : (a : Attempt) (n : ℕ) → AttemptSays N s t free r a route_rejected n → (w : Path) → Tries N s t a w → Free N free s w → ⊥
   route_rejected_says a n (says_route_rejected f) = nothing_says N s t free a n f
 
   -- where a channel is there to take, an attempt is acknowledged or route rejected
-  settles : (a : Attempt) (o : Outcome) (n : ℕ) → AttemptSays N s t free r a o n → r ≢ none_available → o ≢ route_rejected_lem → Acknowledged o
+  settles : (a : Attempt) (o : Outcome) (n : ℕ) → AttemptSays N s t free r a o n → r ≢ none_available → o ≢ route_rejected → Acknowledged o
   unfolding Acknowledged
   settles a (acknowledged w k) n h g f = tt
-  settles a route_rejected_lem n h g f = f refl
-  settles a receive_rejected_lem n h g f = g (receive_rejected_says a n h).1
+  settles a route_rejected n h g f = f refl
+  settles a receive_rejected n h g f = g (receive_rejected_says a n h).1
 
   -- route rejected, it has no free path
-  no_route : (a : Attempt) (o : Outcome) (n : ℕ) → AttemptSays N s t free r a o n → (w : Path) → Tries N s t a w → Free N free s w → o ≢ route_rejected_lem
+  no_route : (a : Attempt) (o : Outcome) (n : ℕ) → AttemptSays N s t free r a o n → (w : Path) → Tries N s t a w → Free N free s w → o ≢ route_rejected
   no_route a o n h w i f e = route_rejected_says a n (rw e at h) w i f
 
   -- The answer of a send is that of one of its attempts;
@@ -95,7 +95,7 @@ module _ (N : Network) (s t : ℕ) (free : ℕ → ℕ → Bool) (r : Receive) w
   abbrev pub Route : List Attempt → Type 0
   Route xs = (a : Attempt) × (a ∈ xs) × ((w : Path) × Tries N s t a w × Free N free s w)
 
-  pub not_route_rejected : (xs : List Attempt) (o : Outcome) (n : ℕ) → AttemptsSay N s t free r xs o n → Route xs → o ≢ route_rejected_lem
+  pub not_route_rejected : (xs : List Attempt) (o : Outcome) (n : ℕ) → AttemptsSay N s t free r xs o n → Route xs → o ≢ route_rejected
   not_route_rejected _ o n (last {a} h) x =
       let e = ⊎_elim (λ z. z) (λ z. absurd (Memᴰ.not-nil z)) (Memᴰ.cases_cons x.1) in
       no_route a o n h x.2.0 (subst (λ b. Tries N s t b x.2.0) e x.2.1) x.2.2
@@ -116,9 +116,9 @@ module _ (N : Network) (s t : ℕ) (free : ℕ → ℕ → Bool) (r : Receive) w
   route_acknowledged xs o n h x g = let y = said_by xs o n h in settles y.0 o y.2.0 y.2.1 g (not_route_rejected xs o n h x)
 
   -- it is receive rejected only where one of them has a free path and no channel is there to take.
-  pub receive_rejected_route : (xs : List Attempt) (n : ℕ) → AttemptsSay N s t free r xs receive_rejected_lem n → Route xs × (r ≡ none_available)
+  pub receive_rejected_route : (xs : List Attempt) (n : ℕ) → AttemptsSay N s t free r xs receive_rejected n → Route xs × (r ≡ none_available)
   receive_rejected_route xs n h =
-      let x = said_by xs receive_rejected_lem n h in
+      let x = said_by xs receive_rejected n h in
       let y = receive_rejected_says x.0 x.2.0 x.2.1 in
       ((x.0, x.1, y.0), y.1)
 

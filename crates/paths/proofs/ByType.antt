@@ -19,7 +19,7 @@ use Rattle.cube.proofs.Order.{helical_mem}
 use Rattle.paths.specs.Network.{Network, Path, offered, take_first, free_path, Nearing}
 use Rattle.paths.specs.Pass.{pass}
 use Rattle.paths.specs.Helix.{helix_from, helix_path, free_front, try_paths}
-use Rattle.paths.specs.Send.{pass_over, helix_paths_lem, attempted}
+use Rattle.paths.specs.Send.{pass_over, helix_paths, attempted}
 use Rattle.paths.specs.CubeNetwork.{Shape, ports, network, send_ports, other_ports, attempts}
 use Rattle.paths.specs.Waiting.{finds_path, some_attempt}
 use Rattle.paths.specs.Reach.{reaches}
@@ -48,7 +48,7 @@ module _ (N : Network) (allowed : ℕ → ℕ → Bool) (s t : ℕ) where
   abbrev pub helix_free : ℕ → Bool
   helix_free p = free_path N allowed s (helix_path N s t p)
 
-  pub helix_finds : (ps : List ℕ) → finds_path (attempted N allowed s t (helix_paths_lem ps)) ≡ any helix_free ps
+  pub helix_finds : (ps : List ℕ) → finds_path (attempted N allowed s t (helix_paths ps)) ≡ any helix_free ps
   unfolding attempted
   helix_finds ps = paths_find N allowed s 0 (map (helix_path N s t) ps) ∙ any_map (free_path N allowed s) (helix_path N s t) ps
 
@@ -109,12 +109,12 @@ module _ (S : Shape) (allowed : ℕ → ℕ → Bool) (s t : ℕ) where
   unfolding some_attempt attempts any
   finds_by_type type vector = go (eqb type 3) (eqb type 1) (eqb type 4)
     where
-      helix : (ps : List ℕ) → finds_path (attempted (network S) allowed s t (helix_paths_lem ps)) || false ≡ any (helix_free (network S) allowed s t) ps
+      helix : (ps : List ℕ) → finds_path (attempted (network S) allowed s t (helix_paths ps)) || false ≡ any (helix_free (network S) allowed s t) ps
       helix ps = or-false _ ∙ helix_finds (network S) allowed s t ps
 
       go : (x y z : Bool)
-          → any finds_path (map (attempted (network S) allowed s t) (cond x (helix_paths_lem (take 1 (send_ports S vector)) ∷ [])
-          (cond y (helix_paths_lem (send_ports S vector) ∷ []) (pass_over (send_ports S vector) ∷ cond z (pass_over (other_ports S vector) ∷ []) []))))
+          → any finds_path (map (attempted (network S) allowed s t) (cond x (helix_paths (take 1 (send_ports S vector)) ∷ [])
+          (cond y (helix_paths (send_ports S vector) ∷ []) (pass_over (send_ports S vector) ∷ cond z (pass_over (other_ports S vector) ∷ []) []))))
           ≡ cond x (any (helix_free (network S) allowed s t) (take 1 (send_ports S vector)))
           (cond y (any (helix_free (network S) allowed s t) (send_ports S vector)) (cond z (pass_finds (ports S)) (pass_finds (send_ports S vector))))
       go true y z = helix (take 1 (send_ports S vector))

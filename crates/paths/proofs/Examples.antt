@@ -8,7 +8,7 @@ use Rattle.cube.specs.Cube.{uphill}
 use Rattle.cube.specs.Helical.{helical}
 use Rattle.paths.specs.Network.{Link, offered, end, free_path}
 use Rattle.paths.specs.Pass.{over, ways, beginnings, scan, whole, pass, scouts}
-use Rattle.paths.specs.Send.{channel, none_available, Outcome, acknowledged, route_rejected_lem, receive_rejected_lem, received, attempted, outcome, SendResult, send_goes_on, runs}
+use Rattle.paths.specs.Send.{channel, none_available, Outcome, acknowledged, route_rejected, receive_rejected, received, attempted, outcome, SendResult, send_goes_on, runs}
 use Rattle.paths.specs.CubeNetwork.{unfolded, ports, network, send_ports, other_ports, attempts, send}
 use Rattle.paths.specs.OldRule.{old_goes_on, old_runs, old_send}
 
@@ -45,7 +45,7 @@ answers =
     ∷ answer (acknowledged (0 ∷ 0 ∷ []) 0) 2
     ∷ answer (acknowledged (1 ∷ 0 ∷ 1 ∷ []) 0) 3
     ∷ answer (acknowledged (1 ∷ 1 ∷ 0 ∷ []) 0) 3
-    ∷ answer route_rejected_lem 0
+    ∷ answer route_rejected 0
     ∷ answer (acknowledged (1 ∷ 0 ∷ 1 ∷ []) 0) 3
     ∷ []
 
@@ -59,7 +59,7 @@ unfolding send attempts attempted network ports send_ports other_ports present a
 acknowledged_second = refl
 
 -- With no receive channel to take: type 0 is receive rejected.
-receive_rejected_once : send 0 (unfolded 1) (free_but []) none_available 0 1 1 ≡ answer receive_rejected_lem 1
+receive_rejected_once : send 0 (unfolded 1) (free_but []) none_available 0 1 1 ≡ answer receive_rejected 1
 unfolding send attempts attempted network ports send_ports present axis keep from has flip uphill helical offered end free_path over ways beginnings scan whole pass scouts received outcome runs
 receive_rejected_once = refl
 
@@ -73,7 +73,7 @@ rejected_sends =
     ∷ send 4 (unfolded 2) (free_but []) none_available 0 1 1
     ∷ []
 
-receive_rejected_first : rejected_sends ≡ answer receive_rejected_lem 1 ∷ answer receive_rejected_lem 1 ∷ []
+receive_rejected_first : rejected_sends ≡ answer receive_rejected 1 ∷ answer receive_rejected 1 ∷ []
 unfolding send attempts attempted network ports send_ports other_ports present axis keep from has flip uphill helical offered end free_path over ways beginnings scan whole pass scouts received outcome send_goes_on runs
 receive_rejected_first = refl
 
@@ -81,12 +81,12 @@ receive_rejected_first = refl
 abbrev old_rejected_sends : List SendResult
 old_rejected_sends = old_send 4 (unfolded 1) (free_but []) none_available 0 1 1 ∷ old_send 4 (unfolded 2) (free_but []) none_available 0 1 1 ∷ []
 
-rejected_before : old_rejected_sends ≡ answer route_rejected_lem 1 ∷ answer receive_rejected_lem 4 ∷ []
+rejected_before : old_rejected_sends ≡ answer route_rejected 1 ∷ answer receive_rejected 4 ∷ []
 unfolding old_send attempts attempted network ports send_ports other_ports present axis keep from has flip uphill helical offered end free_path over ways beginnings scan whole pass scouts received outcome old_goes_on old_runs
 rejected_before = refl
 
 -- A first pass that finds no path does not end it: D 2, 0 to 3, vector 1, link 1 to 3 blocked. The first sends one scout, the second two.
-receive_rejected_second : send 4 (unfolded 2) (free_but ((1, 1) ∷ [])) none_available 0 1 3 ≡ answer receive_rejected_lem 3
+receive_rejected_second : send 4 (unfolded 2) (free_but ((1, 1) ∷ [])) none_available 0 1 3 ≡ answer receive_rejected 3
 unfolding send attempts attempted network ports send_ports other_ports present axis keep from has flip uphill helical offered end free_path over ways beginnings scan whole pass scouts received outcome send_goes_on runs
 receive_rejected_second = refl
 

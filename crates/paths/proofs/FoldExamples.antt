@@ -8,7 +8,7 @@ use Rattle.cube.specs.Cube.{uphill}
 use Rattle.cube.specs.Helical.{helical}
 use Rattle.paths.specs.Network.{Path, offered, take_first, end, links, has_link, free_path}
 use Rattle.paths.specs.Pass.{over, ways, beginnings, scan, whole, pass, scouts}
-use Rattle.paths.specs.Send.{channel, acknowledged, route_rejected_lem, received, attempted, outcome, SendResult, send_goes_on, runs}
+use Rattle.paths.specs.Send.{channel, acknowledged, route_rejected, received, attempted, outcome, SendResult, send_goes_on, runs}
 use Rattle.paths.specs.CubeNetwork.{Shape, ports, network, send_ports, other_ports, attempts, send}
 use Rattle.paths.specs.Bound.{ways_from, sends_from}
 use Rattle.paths.specs.Recover.{drop_axis, walk_from, way_back, first_hop_choices, path_of_links}
@@ -38,7 +38,7 @@ folded_answers =
     answer (acknowledged (0 ∷ []) 0) 1
     ∷ answer (acknowledged (17 ∷ []) 0) 1
     ∷ answer (acknowledged (0 ∷ 17 ∷ []) 0) 2
-    ∷ answer route_rejected_lem 2
+    ∷ answer route_rejected 2
     ∷ answer (acknowledged (1 ∷ 17 ∷ []) 0) 4
     ∷ answer (acknowledged (0 ∷ 17 ∷ 1 ∷ []) 0) 3
     ∷ []

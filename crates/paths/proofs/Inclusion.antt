@@ -13,7 +13,7 @@ use Rattle.common.specs.Lists.{◌∈◌}
 use Rattle.paths.specs.Network.{Network, Path}
 use Rattle.paths.specs.Permitted.{Permitted}
 use Rattle.paths.specs.Helix.{IsHelix}
-use Rattle.paths.specs.Send.{Receive, channel, none_available, Outcome, acknowledged, route_rejected_lem, receive_rejected_lem, Acknowledged, Attempt, pass_over, helix_paths_lem}
+use Rattle.paths.specs.Send.{Receive, channel, none_available, Outcome, acknowledged, route_rejected, receive_rejected, Acknowledged, Attempt, pass_over, helix_paths}
 use Rattle.paths.specs.Sentences.{Free, Tries, AttemptsSay}
 use Rattle.paths.specs.CubeNetwork.{Shape, Node, network, send_ports, attempts, send}
 use Rattle.paths.proofs.Helix.{helix_permitted}
@@ -46,14 +46,14 @@ module _ (S : Shape) (free : ℕ → ℕ → Bool) (r : Receive) (s vector t : �
   pub fixed_route : Route (network S) s t free r (attempts S 3 vector) → Route (network S) s t free r (attempts S 1 vector)
   unfolding attempts Tries
   fixed_route x =
-      let y = only_route (network S) s t free r (helix_paths_lem (take 1 (send_ports S vector))) x in
+      let y = only_route (network S) s t free r (helix_paths (take 1 (send_ports S vector))) x in
       let z = lowest_in_helix (network S) free s t (send_ports S vector) (y.1.0, y.1.1, (y.0, y.1.2, y.2)) in
-      (helix_paths_lem (send_ports S vector), Memᴰ.head refl, (z.2.0, (z.0, z.1, z.2.1), z.2.2))
+      (helix_paths (send_ports S vector), Memᴰ.head refl, (z.2.0, (z.0, z.1, z.2.1), z.2.2))
 
   pub helix_route : Route (network S) s t free r (attempts S 1 vector) → Route (network S) s t free r (attempts S 0 vector)
   unfolding attempts Tries
   helix_route x =
-      let y = only_route (network S) s t free r (helix_paths_lem (send_ports S vector)) x in
+      let y = only_route (network S) s t free r (helix_paths (send_ports S vector)) x in
       let z = helix_in_permitted (network S) free s t (send_ports S vector) (y.1.0, y.1.1, (y.0, y.1.2, y.2)) in
       (pass_over (send_ports S vector), Memᴰ.head refl, z)
 
@@ -79,8 +79,8 @@ module _ (S : Shape) (fits : S.dimension ≤ largest_dimension) (free : ℕ → 
         where
           taken : r ≡ channel k → r ≢ none_available
           taken e h = let z : ◌≡◌ {A = ℕ} 0 1 = cc in omega arith
-      go route_rejected_lem e a = unfold Acknowledged in absurd a
-      go receive_rejected_lem e a = unfold Acknowledged in absurd a
+      go route_rejected e a = unfold Acknowledged in absurd a
+      go receive_rejected e a = unfold Acknowledged in absurd a
 
   -- "type 1 acknowledges all that type 3 does,
   pub fixed_in_helix : Acknowledged (AnswerOf 3) → Acknowledged (AnswerOf 1)

@@ -8,7 +8,7 @@ use Prim.Native.Nat.{ℕ, ◌+◌, ◌<◌}
 use native.Mathlib.Omega.{arith}
 use Rattle.paths.specs.Network.{Network, Path, free_path}
 use Rattle.paths.specs.Pass.{PassResult, none, found, whole, beginnings, pass, scouts}
-use Rattle.paths.specs.Send.{Receive, channel, none_available, route_rejected_lem, receive_rejected_lem, Acknowledged, received, outcome, attempted, SendResult, send_goes_on, runs}
+use Rattle.paths.specs.Send.{Receive, channel, none_available, route_rejected, receive_rejected, Acknowledged, received, outcome, attempted, SendResult, send_goes_on, runs}
 use Rattle.paths.specs.CubeNetwork.{Shape, network, send_ports, other_ports, attempts, send}
 use Rattle.paths.specs.OldRule.{old_goes_on, old_runs, old_send, EndsEarly, here, later, Changes, AlternateChanges}
 use Rattle.paths.proofs.Scan.{scan_found}
@@ -17,8 +17,8 @@ use Rattle.paths.proofs.Scan.{scan_found}
 abbrev after : ℕ → SendResult → SendResult
 after c x = record { outcome = x.outcome; scouts = c + x.scouts }
 
-no_more : (c : ℕ) → ◌≡◌ {A = SendResult} (record { outcome = route_rejected_lem; scouts = c }) (after c (record { outcome = route_rejected_lem; scouts = 0 }))
-no_more c = let e : c ≡ c + 0 = omega arith in ap (λ (m : ℕ). record { outcome = route_rejected_lem; scouts = m }) e
+no_more : (c : ℕ) → ◌≡◌ {A = SendResult} (record { outcome = route_rejected; scouts = c }) (after c (record { outcome = route_rejected; scouts = 0 }))
+no_more c = let e : c ≡ c + 0 = omega arith in ap (λ (m : ℕ). record { outcome = route_rejected; scouts = m }) e
 
 none_goes_on : (r : Receive) (c : ℕ) (xs : List PassResult) → runs r (none c ∷ xs) ≡ after c (runs r xs)
 unfolding runs send_goes_on outcome scouts
@@ -40,7 +40,7 @@ early_or_same (channel k) (found w n ∷ y ∷ ys) = inr (unfold runs old_runs s
 early_or_same none_available (found w n ∷ y ∷ ys) = inl (n, here)
 
 -- Where it ends early, it is receive rejected with the scouts up to there,
-early_ends : (r : Receive) (xs : List PassResult) (n : ℕ) → EndsEarly r xs n → runs r xs ≡ record { outcome = receive_rejected_lem; scouts = n }
+early_ends : (r : Receive) (xs : List PassResult) (n : ℕ) → EndsEarly r xs n → runs r xs ≡ record { outcome = receive_rejected; scouts = n }
 early_ends _ _ n here = unfold runs send_goes_on outcome received scouts in refl
 early_ends r _ _ (later {c = c} {n} {xs} e) = none_goes_on r c xs ∙ ap (after c) (early_ends r xs n e)
 
@@ -89,10 +89,10 @@ unfolding old_runs old_goes_on outcome received scouts
 both w n y = refl
 
 apart : (n : ℕ) (y : PassResult) → ((w : Path) (m : ℕ) → y ≡ found w m → 0 < m)
-    → ◌≢◌ {A = SendResult} (record { outcome = receive_rejected_lem; scouts = n }) (record { outcome = outcome none_available y; scouts = n + scouts y })
+    → ◌≢◌ {A = SendResult} (record { outcome = receive_rejected; scouts = n }) (record { outcome = outcome none_available y; scouts = n + scouts y })
 unfolding outcome received scouts
 apart n (none c) f e =
-    let o : receive_rejected_lem ≡ route_rejected_lem = ap (λ (x : SendResult). x.outcome) e in
+    let o : receive_rejected ≡ route_rejected = ap (λ (x : SendResult). x.outcome) e in
     let z : ◌≡◌ {A = ℕ} 0 1 = cc in omega arith
 apart n (found w m) f e = let z : n ≡ n + m = ap (λ (x : SendResult). x.scouts) e in omega (arith, f w m refl)
 
@@ -135,7 +135,7 @@ module _ (S : Shape) (free : ℕ → ℕ → Bool) (r : Receive) (s vector t : �
             (sym is ∙ q ∙ was ∙ ap (λ (x : Receive). record { outcome = outcome x second; scouts = n + scouts second }) h);
       }
     where
-      is : send 4 S free r s vector t ≡ record { outcome = receive_rejected_lem; scouts = n }
+      is : send 4 S free r s vector t ≡ record { outcome = receive_rejected; scouts = n }
       is = unfold send attempts attempted in rw (e, h) (early_ends none_available (found w n ∷ second ∷ []) n here)
 
       was : old_send 4 S free r s vector t ≡ record { outcome = outcome r second; scouts = n + scouts second }

@@ -16,7 +16,7 @@ use Rattle.paths.specs.Network.{Network, Path}
 use Rattle.paths.specs.Permitted.{Permitted, ComesBefore}
 use Rattle.paths.specs.Pass.{PassResult, pass, scouts}
 use Rattle.paths.specs.Helix.{helix_path}
-use Rattle.paths.specs.Send.{Receive, acknowledged, outcome, Attempt, pass_over, helix_paths_lem, attempted, one_result, send_goes_on, runs}
+use Rattle.paths.specs.Send.{Receive, acknowledged, outcome, Attempt, pass_over, helix_paths, attempted, one_result, send_goes_on, runs}
 use Rattle.paths.specs.Sentences.{Free, says_acknowledged, Tries, SearchSays, AttemptSays, AttemptsSay}
 use Rattle.paths.specs.CubeNetwork.{Shape, Node, ports, network, send_ports, other_ports, attempts, send}
 use Rattle.paths.proofs.CubeNetwork.{port_inside, send_port, other_port, send_ports_rise, cube_nearing, cube_leading, cube_says, scouts_bound}
@@ -54,13 +54,13 @@ module _ (P : List Attempt → Type 0) (S : Shape) (type vector : ℕ) where
   abbrev others : List ℕ
   others = other_ports S vector
 
-  each_type : P (helix_paths_lem (take 1 given) ∷ []) → P (helix_paths_lem given ∷ []) → P (pass_over given ∷ []) → P (pass_over given ∷ pass_over others ∷ [])
+  each_type : P (helix_paths (take 1 given) ∷ []) → P (helix_paths given ∷ []) → P (pass_over given ∷ []) → P (pass_over given ∷ pass_over others ∷ [])
       → P (attempts S type vector)
   unfolding attempts
   each_type fixed helix maze alternate = go (eqb type 3) (eqb type 1) (eqb type 4)
     where
       go : (x y z : Bool)
-          → P (cond x (helix_paths_lem (take 1 given) ∷ []) (cond y (helix_paths_lem given ∷ []) (pass_over given ∷ cond z (pass_over others ∷ []) [])))
+          → P (cond x (helix_paths (take 1 given) ∷ []) (cond y (helix_paths given ∷ []) (pass_over given ∷ cond z (pass_over others ∷ []) [])))
       go true y z = fixed
       go false true z = helix
       go false false true = alternate
@@ -102,7 +102,7 @@ module _ (S : Shape) where
     where
       go : (a : Attempt) → InCube a → Tries (network S) s t a w → Permitted (network S) s (ports S) t w
       go (pass_over ps) i h = unfold InCube CubePorts ports_tried Tries in wider (network S) s ps (ports S) t w i.1 h
-      go (helix_paths_lem ps) i h = unfold InCube CubePorts ports_tried Tries in helix_permitted (network S) s t h.0 h.2 (ports S) (i.1 h.0 h.1)
+      go (helix_paths ps) i h = unfold InCube CubePorts ports_tried Tries in helix_permitted (network S) s t h.0 h.2 (ports S) (i.1 h.0 h.1)
 
   -- an acknowledged one takes the first of those that are free, in the order of document 01;
   pub acknowledged_first : (s t : ℕ) (free : ℕ → ℕ → Bool) (r : Receive) (type vector : ℕ) (a : Attempt) → a ∈ attempts S type vector
@@ -116,7 +116,7 @@ module _ (S : Shape) where
       → SearchSays (network S) s t free a (attempted (network S) free s t a)
   unfolding SearchSays attempted InCube CubePorts ports_tried
   search_says h free s t i l (pass_over ps) c = cube_says S h free s ps t i l c.0 c.1
-  search_says h free s t i l (helix_paths_lem ps) c = (
+  search_says h free s t i l (helix_paths ps) c = (
     map (helix_path (network S) s t) ps,
     helix_paths_are (cube_nearing S t) (cube_leading S h t l) s ps (λ q m. port_inside S s q i (c.1 q m)),
     tried_says (network S) free s _,

@@ -9,7 +9,7 @@ use Rattle.cube.specs.Helical.{helical}
 use Rattle.paths.specs.Network.{Path, Link, offered, take_first, end, free_path}
 use Rattle.paths.specs.Pass.{over, ways, beginnings, scan, whole, pass, scouts}
 use Rattle.paths.specs.Helix.{helix_from, helix_path, free_front, try_paths}
-use Rattle.paths.specs.Send.{channel, none_available, acknowledged, route_rejected_lem, receive_rejected_lem, received, attempted, outcome, SendResult, send_goes_on, runs}
+use Rattle.paths.specs.Send.{channel, none_available, acknowledged, route_rejected, receive_rejected, received, attempted, outcome, SendResult, send_goes_on, runs}
 use Rattle.paths.specs.CubeNetwork.{Shape, unfolded, ports, network, send_ports, other_ports, attempts, send}
 use Rattle.paths.specs.Waiting.{finds_path, some_attempt}
 use Rattle.paths.proofs.Examples.{free_but, answer}
@@ -78,18 +78,18 @@ helix_sends =
 
 abbrev helix_answers : List SendResult
 helix_answers =
-    answer route_rejected_lem 2
+    answer route_rejected 2
     ∷ answer (acknowledged (1 ∷ 2 ∷ 0 ∷ []) 0) 5
     ∷ answer (acknowledged (1 ∷ 2 ∷ 0 ∷ []) 0) 5
     ∷ answer (acknowledged (0 ∷ 1 ∷ 0 ∷ []) 5) 3
-    ∷ answer route_rejected_lem 1
-    ∷ answer route_rejected_lem 1
-    ∷ answer route_rejected_lem 0
+    ∷ answer route_rejected 1
+    ∷ answer route_rejected 1
+    ∷ answer route_rejected 0
     ∷ answer (acknowledged (1 ∷ 0 ∷ []) 0) 2
-    ∷ answer route_rejected_lem 2
-    ∷ answer receive_rejected_lem 2
+    ∷ answer route_rejected 2
+    ∷ answer receive_rejected 2
     ∷ answer (acknowledged (16 ∷ 0 ∷ []) 0) 2
-    ∷ answer route_rejected_lem 4
+    ∷ answer route_rejected 4
     ∷ []
 
 helix_sends_lem : helix_sends ≡ helix_answers

@@ -12,7 +12,7 @@ use Rattle.common.specs.Lists.{◌∈◌, any}
 use Rattle.common.proofs.Tests.{clash, is_false, and}
 use Rattle.paths.specs.Network.{Network, Path, Link, links, free_path}
 use Rattle.paths.specs.Pass.{PassResult, none, found}
-use Rattle.paths.specs.Send.{Receive, channel, none_available, Outcome, acknowledged, route_rejected_lem, receive_rejected_lem, Acknowledged, received, outcome, Attempt, send_goes_on, runs}
+use Rattle.paths.specs.Send.{Receive, channel, none_available, Outcome, acknowledged, route_rejected, receive_rejected, Acknowledged, received, outcome, Attempt, send_goes_on, runs}
 use Rattle.paths.specs.Sentences.{Free, Tries, AttemptsSay}
 use Rattle.paths.specs.CubeNetwork.{Shape, Node, network, attempts, send}
 use Rattle.paths.specs.Waiting.{finds_path, some_attempt, CrossesBlocked, AllEnabled, EveryPathBlocked, SomePathEnabled}
@@ -26,25 +26,25 @@ is_true true h = refl
 is_true false h = absurd (h refl)
 
 -- What one attempt comes to is a route rejection exactly where it finds no path,
-rejected_one : (r : Receive) (x : PassResult) → (outcome r x ≡ route_rejected_lem) ↔ (finds_path x ≡ false)
+rejected_one : (r : Receive) (x : PassResult) → (outcome r x ≡ route_rejected) ↔ (finds_path x ≡ false)
 unfolding outcome received finds_path
 rejected_one r (none c) = ((λ e. refl), (λ e. refl))
 rejected_one (channel k) (found w c) = ((λ e. let z : ◌≡◌ {A = ℕ} 0 1 = cc in absurd (omega arith)), (λ e. absurd (clash refl e)))
 rejected_one none_available (found w c) = ((λ e. let z : ◌≡◌ {A = ℕ} 0 1 = cc in absurd (omega arith)), (λ e. absurd (clash refl e)))
 
 -- and so is what attempts made in turn come to, exactly where none of them finds one.
-pub route_rejected_exactly : (r : Receive) (xs : List PassResult) → ((runs r xs).outcome ≡ route_rejected_lem) ↔ (any finds_path xs ≡ false)
+pub route_rejected_exactly : (r : Receive) (xs : List PassResult) → ((runs r xs).outcome ≡ route_rejected) ↔ (any finds_path xs ≡ false)
 unfolding any
 route_rejected_exactly r [] = ((λ e. refl), (λ e. unfold runs in refl))
 route_rejected_exactly r (x ∷ []) = go (finds_path x) refl
   where
-    go : (b : Bool) → finds_path x ≡ b → ((runs r (x ∷ [])).outcome ≡ route_rejected_lem) ↔ (finds_path x || false ≡ false)
+    go : (b : Bool) → finds_path x ≡ b → ((runs r (x ∷ [])).outcome ≡ route_rejected) ↔ (finds_path x || false ≡ false)
     go true e = ((λ h. unfold runs in absurd (clash e ((rejected_one r x).0 h))), (λ h. absurd (clash refl (rw e at h))))
     go false e = ((λ h. rw e refl), (λ h. unfold runs in (rejected_one r x).1 e))
 route_rejected_exactly r (x ∷ y ∷ ys) = go (finds_path x) refl (route_rejected_exactly r (y ∷ ys))
   where
-    go : (b : Bool) → finds_path x ≡ b → (((runs r (y ∷ ys)).outcome ≡ route_rejected_lem) ↔ (any finds_path (y ∷ ys) ≡ false))
-        → ((runs r (x ∷ y ∷ ys)).outcome ≡ route_rejected_lem) ↔ (finds_path x || any finds_path (y ∷ ys) ≡ false)
+    go : (b : Bool) → finds_path x ≡ b → (((runs r (y ∷ ys)).outcome ≡ route_rejected) ↔ (any finds_path (y ∷ ys) ≡ false))
+        → ((runs r (x ∷ y ∷ ys)).outcome ≡ route_rejected) ↔ (finds_path x || any finds_path (y ∷ ys) ≡ false)
     go true e ih =
         let off : send_goes_on (outcome r x) ≡ false = is_false _ (λ h. clash e ((rejected_one r x).0 ((goes_on_after (outcome r x)).0 h))) in
         rw (runs_stop r x y ys off, e) ((λ h. absurd (clash e ((rejected_one r x).0 h))), (λ h. absurd (clash refl h)))
@@ -94,7 +94,7 @@ module _ (S : Shape) (fits : S.dimension ≤ largest_dimension) (s t type vector
   says allowed r = send_says S allowed r s vector t type fits source target
 
   -- A send is route rejected exactly where none of them finds a path.
-  pub rejected_exactly : (free : ℕ → ℕ → Bool) (r : Receive) → ((send type S free r s vector t).outcome ≡ route_rejected_lem) ↔ (finds free ≡ false)
+  pub rejected_exactly : (free : ℕ → ℕ → Bool) (r : Receive) → ((send type S free r s vector t).outcome ≡ route_rejected) ↔ (finds free ≡ false)
   unfolding send some_attempt
   rejected_exactly free r = route_rejected_exactly r _
 
@@ -104,8 +104,8 @@ module _ (S : Shape) (fits : S.dimension ≤ largest_dimension) (s t type vector
     where
       there : finds allowed ≡ true → (o : Outcome) → (send type S allowed (channel 0) s vector t).outcome ≡ o → FreePathOf allowed
       there e (acknowledged w k) i = (acknowledged_route (network S) s t allowed (channel 0) tried w k _ (rw i at (says allowed (channel 0)))).0
-      there e route_rejected_lem i = absurd (clash e ((rejected_exactly allowed (channel 0)).0 i))
-      there e receive_rejected_lem i = (receive_rejected_route (network S) s t allowed (channel 0) tried _ (rw i at (says allowed (channel 0)))).0
+      there e route_rejected i = absurd (clash e ((rejected_exactly allowed (channel 0)).0 i))
+      there e receive_rejected i = (receive_rejected_route (network S) s t allowed (channel 0) tried _ (rw i at (says allowed (channel 0)))).0
 
       back : FreePathOf allowed → finds allowed ≡ true
       back x =
@@ -136,12 +136,12 @@ module _ (S : Shape) (fits : S.dimension ≤ largest_dimension) (s t type vector
 
   -- So where every free link is enabled, a send for which every path is blocked is route rejected, whatever is held:
   pub blocked_rejects : (free enabled : ℕ → ℕ → Bool) → ((n p : ℕ) → free n p ≡ true → enabled n p ≡ true) → finds enabled ≡ false
-      → (r : Receive) → (send type S free r s vector t).outcome ≡ route_rejected_lem
+      → (r : Receive) → (send type S free r s vector t).outcome ≡ route_rejected
   blocked_rejects free enabled less e r = (rejected_exactly free r).1 (is_false _ (λ h. clash (more_finds free enabled less h) e))
 
   -- it never stands where a path was found.
   pub found_waits : (free enabled : ℕ → ℕ → Bool) → ((n p : ℕ) → free n p ≡ true → enabled n p ≡ true) → (r : Receive)
-      → (send type S free r s vector t).outcome ≢ route_rejected_lem → finds enabled ≡ true
+      → (send type S free r s vector t).outcome ≢ route_rejected → finds enabled ≡ true
   found_waits free enabled less r h = is_true _ (λ e. h (blocked_rejects free enabled less e r))
 
   -- Where the free links are exactly the enabled ones, as once all circuits are closed, a send that could be helped is acknowledged if the target has a

@@ -8,7 +8,7 @@ use mathlib.Core.List.{List, [], ◌∷◌, ◌++◌, cons≢nil}
 use Prim.Native.Nat.{ℕ}
 use Rattle.common.specs.Lists.{◌∈◌}
 use Rattle.common.proofs.Tests.{both, and}
-use Rattle.paths.specs.Network.{Network, Path, Link, link_held_lem, link-blocked, link_state, is_free, offered, end, links, free_path}
+use Rattle.paths.specs.Network.{Network, Path, Link, link_held, link_blocked, link_state, is_free, offered, end, links, free_path}
 use Rattle.paths.specs.Permitted.{Onward, Permitted, InWords, SameLinks}
 use Rattle.paths.proofs.Sentences.{onward_end}
 
@@ -73,11 +73,11 @@ free_link true true = ((λ e. absurd (false≢true e)), (λ h. absurd (true≢fa
 free_link true false = ((λ e. (refl, refl)), (λ h. refl))
 
 -- A link that is not free is blocked where it is not enabled, and held where it is and a circuit has it.
-pub blocked_link : (enabled held : Bool) → enabled ≡ false → link_state enabled held ≡ link-blocked
+pub blocked_link : (enabled held : Bool) → enabled ≡ false → link_state enabled held ≡ link_blocked
 unfolding link_state
 blocked_link enabled held e = rw e
 
-pub held_link : (enabled held : Bool) → enabled ≡ true → held ≡ true → link_state enabled held ≡ link_held_lem
+pub held_link : (enabled held : Bool) → enabled ≡ true → held ≡ true → link_state enabled held ≡ link_held
 unfolding link_state
 held_link enabled held e h = rw (e, h)
 

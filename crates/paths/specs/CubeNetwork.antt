@@ -6,7 +6,7 @@ use Rattle.cube.specs.Bits.{has}
 use Rattle.cube.specs.Cube.{channels, cube_nodes, NodeOf, next, uphill}
 use Rattle.cube.specs.Axes.{positions, axis, present}
 use Rattle.paths.specs.Network.{Network}
-use Rattle.paths.specs.Send.{Receive, Attempt, pass_over, helix_paths_lem, attempted, SendResult, runs}
+use Rattle.paths.specs.Send.{Receive, Attempt, pass_over, helix_paths, attempted, SendResult, runs}
 
 -- what a network is read from: the dimension of the cube and its fold mask. Document 01's cube has fold mask 0.
 pub record Shape : Type 0 where
@@ -63,8 +63,8 @@ other_ports S vector = keep (λ q. not (has vector (axis q))) (ports S)
 -- free, the send is rejected at once. Type 1 tries such a path for each port of the send vector in rising order until one is free."
 unfoldable pub attempts : Shape → ℕ → ℕ → List Attempt
 attempts S type vector =
-    cond (eqb type 3) (helix_paths_lem (take 1 (send_ports S vector)) ∷ [])
-    (cond (eqb type 1) (helix_paths_lem (send_ports S vector) ∷ [])
+    cond (eqb type 3) (helix_paths (take 1 (send_ports S vector)) ∷ [])
+    (cond (eqb type 1) (helix_paths (send_ports S vector) ∷ [])
     (pass_over (send_ports S vector) ∷ cond (eqb type 4) (pass_over (other_ports S vector) ∷ []) []))
 
 -- the send of a routing type

@@ -51,17 +51,17 @@ pub record Exactly (N : Network) (s : ℕ) (w : Path) (own : ℕ → ℕ → Boo
 
 -- The state of a link, from whether it is enabled and whether a circuit holds it. "A link is free if enabled and held by nobody."
 pub data LinkState : Type 0 where
-  link-free link_held_lem link-blocked : LinkState
+  link_free link_held link_blocked : LinkState
 
 unfoldable pub link_state : (enabled held : Bool) → LinkState
-link_state false held = link-blocked
-link_state true true = link_held_lem
-link_state true false = link-free
+link_state false held = link_blocked
+link_state true true = link_held
+link_state true false = link_free
 
 unfoldable pub is_free : LinkState → Bool
-is_free link-free = true
-is_free link_held_lem = false
-is_free link-blocked = false
+is_free link_free = true
+is_free link_held = false
+is_free link_blocked = false
 
 -- "A path is free if all its links are": `free n p` says whether the link out of port p of node n is
 unfoldable pub free_path : Network → (ℕ → ℕ → Bool) → ℕ → Path → Bool

@@ -4,18 +4,18 @@
 use Rattle.std.specs.Prelude.{◌≡◌, ◌⊎◌, ◌≢◌, Bool, true, false, cond, List, [], ◌∷◌, map, ℕ, ◌+◌}
 use Rattle.paths.specs.Network.{Path}
 use Rattle.paths.specs.Pass.{PassResult, none, found, pass, scouts}
-use Rattle.paths.specs.Send.{Receive, none_available, Outcome, acknowledged, route_rejected_lem, receive_rejected_lem, Acknowledged, outcome, attempted, SendResult, one_result, runs}
+use Rattle.paths.specs.Send.{Receive, none_available, Outcome, acknowledged, route_rejected, receive_rejected, Acknowledged, outcome, attempted, SendResult, one_result, runs}
 use Rattle.paths.specs.CubeNetwork.{Shape, network, other_ports, attempts, send}
 
 -- document 01: "If it does not end in an acknowledgement, a second"
 unfoldable pub old_goes_on : Outcome → Bool
 old_goes_on (acknowledged w c) = false
-old_goes_on route_rejected_lem = true
-old_goes_on receive_rejected_lem = true
+old_goes_on route_rejected = true
+old_goes_on receive_rejected = true
 
 -- attempts made in turn, and the send of a routing type, by that rule
 unfoldable pub old_runs : Receive → List PassResult → SendResult
-old_runs r [] = record { outcome = route_rejected_lem; scouts = 0 }
+old_runs r [] = record { outcome = route_rejected; scouts = 0 }
 old_runs r (x ∷ []) = one_result r x
 old_runs r (x ∷ y ∷ ys) =
     cond (old_goes_on (outcome r x)) (record { outcome = (old_runs r (y ∷ ys)).outcome; scouts = scouts x + (old_runs r (y ∷ ys)).scouts }) (one_result r x)
@@ -33,7 +33,7 @@ pub data EndsEarly : Receive → List PassResult → ℕ → Type 0 where
 -- acknowledgement appears or disappears, since the later attempts meet the same target without a channel.
 pub record Changes (r : Receive) (xs : List PassResult) : Type 0 where
   pub same : ((n : ℕ) → EndsEarly r xs n → ⊥) → runs r xs ≡ old_runs r xs
-  pub ends : (n : ℕ) → EndsEarly r xs n → runs r xs ≡ record { outcome = receive_rejected_lem; scouts = n }
+  pub ends : (n : ℕ) → EndsEarly r xs n → runs r xs ≡ record { outcome = receive_rejected; scouts = n }
   pub stays : Acknowledged (runs r xs).outcome ⊎ Acknowledged (old_runs r xs).outcome → runs r xs ≡ old_runs r xs
 
 module _ (S : Shape) (free : ℕ → ℕ → Bool) (r : Receive) (s vector t : ℕ) where
@@ -43,7 +43,7 @@ module _ (S : Shape) (free : ℕ → ℕ → Bool) (r : Receive) (s vector t : �
   -- Of a type 4 send whose first pass, with n scouts, finds a path to a target without a channel: what it answers, and what it answered, a rejection with
   -- the scouts of both passes, and never the same.
   pub record AlternateChanges (n : ℕ) : Type 0 where
-    pub answers : send 4 S free r s vector t ≡ record { outcome = receive_rejected_lem; scouts = n }
+    pub answers : send 4 S free r s vector t ≡ record { outcome = receive_rejected; scouts = n }
     pub answered : old_send 4 S free r s vector t ≡ record { outcome = outcome r second; scouts = n + scouts second }
     pub rejected : Acknowledged (outcome r second) → ⊥
     pub differs : send 4 S free r s vector t ≢ old_send 4 S free r s vector t

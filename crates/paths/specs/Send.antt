@@ -19,33 +19,33 @@ lowest_of f = cond (eqb (lowest f channels 0) channels) none_available (channel 
 -- "With none, route rejected. With one", the target takes its channel; where there is none to take, receive rejected.
 pub data Outcome : Type 0 where
   acknowledged : Path → ℕ → Outcome
-  route_rejected_lem : Outcome
-  receive_rejected_lem : Outcome
+  route_rejected : Outcome
+  receive_rejected : Outcome
 
 -- the outcomes that are acknowledgements
 unfoldable pub Acknowledged : Outcome → Type 0
 Acknowledged (acknowledged w c) = Unit
-Acknowledged route_rejected_lem = ⊥
-Acknowledged receive_rejected_lem = ⊥
+Acknowledged route_rejected = ⊥
+Acknowledged receive_rejected = ⊥
 
 unfoldable pub received : Path → Receive → Outcome
 received w (channel c) = acknowledged w c
-received w none_available = receive_rejected_lem
+received w none_available = receive_rejected
 
 unfoldable pub outcome : Receive → PassResult → Outcome
-outcome r (none c) = route_rejected_lem
+outcome r (none c) = route_rejected
 outcome r (found w c) = received w r
 
 -- What a send tries in turn: the permitted paths whose first hop is a port of a list, in one pass; or the helix path of each port of a list, one after
 -- another.
 pub data Attempt : Type 0 where
   pass_over : (ports : List ℕ) → Attempt
-  helix_paths_lem : (ports : List ℕ) → Attempt
+  helix_paths : (ports : List ℕ) → Attempt
 
 -- what an attempt from s to t comes to
 unfoldable pub attempted : Network → (ℕ → ℕ → Bool) → ℕ → ℕ → Attempt → PassResult
 attempted N free s t (pass_over ports) = pass N free s ports t
-attempted N free s t (helix_paths_lem ports) = try_paths N free s 0 (map (helix_path N s t) ports)
+attempted N free s t (helix_paths ports) = try_paths N free s 0 (map (helix_path N s t) ports)
 
 -- what a send answers: its outcome and the scouts of all its attempts
 pub record SendResult : Type 0 where
@@ -59,13 +59,13 @@ one_result r x = record { outcome = outcome r x; scouts = scouts x }
 -- in the first pass ends a type 4 send".
 unfoldable pub send_goes_on : Outcome → Bool
 send_goes_on (acknowledged w c) = false
-send_goes_on route_rejected_lem = true
-send_goes_on receive_rejected_lem = false
+send_goes_on route_rejected = true
+send_goes_on receive_rejected = false
 
 -- Attempts made in turn, from what each comes to. "The answer is that of the last pass run; scouts of both are added." Where nothing is tried,
 -- nothing is found.
 unfoldable pub runs : Receive → List PassResult → SendResult
-runs r [] = record { outcome = route_rejected_lem; scouts = 0 }
+runs r [] = record { outcome = route_rejected; scouts = 0 }
 runs r (x ∷ []) = one_result r x
 runs r (x ∷ y ∷ ys) =
     cond (send_goes_on (outcome r x)) (record { outcome = (runs r (y ∷ ys)).outcome; scouts = scouts x + (runs r (y ∷ ys)).scouts }) (one_result r x)

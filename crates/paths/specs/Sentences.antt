@@ -7,7 +7,7 @@ use Rattle.paths.specs.Network.{Network, Path, free_path}
 use Rattle.paths.specs.Permitted.{Permitted, Beginning, ComesBefore}
 use Rattle.paths.specs.Pass.{PassResult, none, found}
 use Rattle.paths.specs.Helix.{IsHelix, HelixPaths, TriedSays}
-use Rattle.paths.specs.Send.{Receive, channel, none_available, Outcome, acknowledged, route_rejected_lem, receive_rejected_lem, Attempt, pass_over, helix_paths_lem}
+use Rattle.paths.specs.Send.{Receive, channel, none_available, Outcome, acknowledged, route_rejected, receive_rejected, Attempt, pass_over, helix_paths}
 
 -- c is the number of paths with P: a list holds exactly those, each once, and is c long
 pub record Number (P : Path → Type 0) (c : ℕ) : Type 0 where
@@ -44,20 +44,20 @@ module _ (N : Network) (free : ℕ → ℕ → Bool) (s : ℕ) (vector : List �
 -- the target takes the receive channel that is there to take; where there is none, receive rejected. The scouts are the search's in each case.
 pub data AnswerSays (Search : PassResult → Type 0) (r : Receive) : Outcome → ℕ → Type 0 where
   says_acknowledged : {w : Path} {k c : ℕ} → r ≡ channel k → Search (found w c) → AnswerSays Search r (acknowledged w k) c
-  says_receive_rejected : {w : Path} {c : ℕ} → r ≡ none_available → Search (found w c) → AnswerSays Search r receive_rejected_lem c
-  says_route_rejected : {c : ℕ} → Search (none c) → AnswerSays Search r route_rejected_lem c
+  says_receive_rejected : {w : Path} {c : ℕ} → r ≡ none_available → Search (found w c) → AnswerSays Search r receive_rejected c
+  says_route_rejected : {c : ℕ} → Search (none c) → AnswerSays Search r route_rejected c
 
 module _ (N : Network) (s t : ℕ) where
   -- the paths that an attempt tries
   unfoldable pub Tries : Attempt → Path → Type 0
   Tries (pass_over ports) w = Permitted N s ports t w
-  Tries (helix_paths_lem ports) w = (p : ℕ) × (p ∈ ports) × IsHelix N s t p w
+  Tries (helix_paths ports) w = (p : ℕ) × (p ∈ ports) × IsHelix N s t p w
 
   module _ (free : ℕ → ℕ → Bool) where
     -- what its search says: of a pass, and of the helix paths of its ports tried in their order
     unfoldable pub SearchSays : Attempt → PassResult → Type 0
     SearchSays (pass_over ports) x = Says N free s ports t x
-    SearchSays (helix_paths_lem ports) x = (paths : List Path) × HelixPaths N s t ports paths × TriedSays N free s paths x
+    SearchSays (helix_paths ports) x = (paths : List Path) × HelixPaths N s t ports paths × TriedSays N free s paths x
 
     module _ (r : Receive) where
       abbrev pub AttemptSays : Attempt → Outcome → ℕ → Type 0
@@ -67,6 +67,6 @@ module _ (N : Network) (s t : ℕ) where
       -- acknowledgement ends the send, and so does the other rejection: document 02, (f), "receive rejection in the first pass ends a type 4 send".
       pub data AttemptsSay : List Attempt → Outcome → ℕ → Type 0 where
         last : {a : Attempt} {o : Outcome} {n : ℕ} → AttemptSays a o n → AttemptsSay (a ∷ []) o n
-        ends : {a : Attempt} {later : List Attempt} {o : Outcome} {n : ℕ} → AttemptSays a o n → o ≢ route_rejected_lem → AttemptsSay (a ∷ later) o n
-        goes_on : {a : Attempt} {later : List Attempt} {o₂ : Outcome} {n₂ : ℕ} (n : ℕ) → AttemptSays a route_rejected_lem n
+        ends : {a : Attempt} {later : List Attempt} {o : Outcome} {n : ℕ} → AttemptSays a o n → o ≢ route_rejected → AttemptsSay (a ∷ later) o n
+        goes_on : {a : Attempt} {later : List Attempt} {o₂ : Outcome} {n₂ : ℕ} (n : ℕ) → AttemptSays a route_rejected n
             → AttemptsSay later o₂ n₂ → AttemptsSay (a ∷ later) o₂ (n + n₂)

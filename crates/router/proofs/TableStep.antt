@@ -11,7 +11,7 @@ use lib.ListN.{length}
 use borrow.Author.Tests.{ne_eqb, le-leb, lt-leb}
 use Rattle.common.proofs.Tests.{refused, passed, accepted}
 use Rattle.cube.specs.Cube.{largest_dimension, circuit_of}
-use Rattle.paths.specs.Send.{Outcome, acknowledged, route_rejected_lem, receive_rejected_lem}
+use Rattle.paths.specs.Send.{Outcome, acknowledged, route_rejected, receive_rejected}
 use Rattle.layout.specs.Layout.{table_length}
 use Rattle.table.specs.Encode.{encode, AllBytes}
 use Rattle.entries.specs.EntryContracts.{put_enabled, put_armed}
@@ -96,8 +96,8 @@ module _ (b : List ℕ) where
 
       shown_same : (helps : Bool) (o : Outcome) (n : ℕ) (b₁ : List ℕ) → shown (answer_of_outcome helps o n b₁) ≡ record { state = b₁; result = answered helps o n }
       shown_same helps (acknowledged w k) n b₁ = unfold answered answer_of_outcome in refl
-      shown_same helps route_rejected_lem n b₁ = unfold answered answer_of_outcome in refl
-      shown_same helps receive_rejected_lem n b₁ = unfold answered answer_of_outcome in refl
+      shown_same helps route_rejected n b₁ = unfold answered answer_of_outcome in refl
+      shown_same helps receive_rejected n b₁ = unfold answered answer_of_outcome in refl
 
   -- a trace
   pub call_traces : (s c : ℕ) (buffer : List ℕ) {m : ℕ} → m ≡ stopped_at b (tracing s c buffer) → m ≡ 0 → AllBytes b → {k : ℕ} → k ≡ circuit_of s c → {h : ℕ} {after : List ℕ}

@@ -163,10 +163,10 @@ module _ {b now : List ℕ} {t c n a h v left p sent s : ℕ} (may : MayTry b t 
       }
 
   -- the link is free: the arrival behind it answers
-  module _ (free-now : free_in (view now) n p ≡ true) {b₁ b₂ : List ℕ} {n₁ x : ℕ} (held : b₁ ≡ put_owner now n p c) (to : n₁ ≡ next n p)
+  module _ (free_now : free_in (view now) n p ≡ true) {b₁ b₂ : List ℕ} {n₁ x : ℕ} (held : b₁ ≡ put_owner now n p c) (to : n₁ ≡ next n p)
       (arrival : Packed x b₂ (arrive_answer b₁ t c n₁ p (h + 1) (sent + 1))) where
     free : free_in (view b) n p ≡ true
-    free = rw (← inv.same) free-now
+    free = rw (← inv.same) free_now
 
     -- its answer, on the table before the hop
     answer : {y : PassAnswer} → answer_in x b₂ ≡ y → y ≡ answer_of_pass (put_owner b n p c) c (next n p) (h + 1) (receive (view b) t) (on p (suc sent))

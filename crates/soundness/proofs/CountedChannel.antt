@@ -79,7 +79,7 @@ module _ {v : View} where
       count =
           links_added x.on way (unfold way in permitted_distinct (cube_nearing (shape_of v) n) (source_of c) (ports (shape_of v)) path.path path.permitted)
           (λ i j. let r = inside i.0 i.1 j in (r.0, r.1, off i.0 i.1 j))
-          ∙ omega (arith, x.count, path.hop_count_lem, way_length)
+          ∙ omega (arith, x.count, path.hop_count, way_length)
         where
           way_length : length way ≡ length path.path
           way_length = unfold way in length_links (net v) (source_of c) path.path

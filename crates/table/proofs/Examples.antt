@@ -36,11 +36,11 @@ unfolding from bits_from mask_byte mask_bytes entry_bytes encode set_at
 encode_armed = refl
 
 -- what these bytes show, at these entries and those beside them
-view-low-first :
+view_low_first :
     (map ((view bytes).owner 200) (from 0 8) ≡ 0 ∷ 0 ∷ 0 ∷ 0 ∷ 0 ∷ 1604 ∷ 0 ∷ 0 ∷ [])
     × (map ((view bytes).receiver 232) (from 0 8) ≡ 0 ∷ 0 ∷ 0 ∷ 0 ∷ 0 ∷ 0 ∷ 1604 ∷ 0 ∷ [])
 unfolding from view owner_at receiver_at entry_at
-view-low-first = (refl, refl)
+view_low_first = (refl, refl)
 
 view_armed : map ((view bytes).armed 232) (from 0 8) ≡ false ∷ false ∷ false ∷ false ∷ false ∷ false ∷ true ∷ true ∷ []
 unfolding from view armed_at mask_at has

@@ -3,7 +3,7 @@ use Rattle.table.specs.View.{view, held_in}
 use Rattle.ownership.specs.Calls.{call_tests}
 use Rattle.ownership.specs.OnTable.{facts_of, lent_tests, stopped_at}
 use Rattle.ownership.proofs.Allowed.{below}
-use Rattle.call_tests.proofs.Stopping.{stops, passed-before, node_passed, link_within}
+use Rattle.call_tests.proofs.Stopping.{stops, passed_before, node_passed, link_within}
 use Rattle.call_tests.proofs.block.Goals as goal
 
 pub returns-then-refused-ne-ACCEPTED : goal.returns-then-refused-ne-ACCEPTED
@@ -20,7 +20,7 @@ returns-then-no_port c = search stops depth 12
 
 pub owner-requires : goal.owner-requires
 unfolding facts_of view
-owner-requires c = link_within (node_passed _ _ (search passed-before) (search passed-before), below _ _ (search passed-before))
+owner-requires c = link_within (node_passed _ _ (search passed_before) (search passed_before), below _ _ (search passed_before))
 
 pub returns-then-owner-ne0 : goal.returns-then-owner-ne0
 unfolding stopped_at lent_tests call_tests facts_of held_in view

@@ -1,7 +1,7 @@
 -- `call_tests::close` meets its contract: the table, the node, the channel, the circuit.
 use Rattle.ownership.specs.Calls.{call_tests}
 use Rattle.ownership.specs.OnTable.{facts_of, lent_tests, stopped_at}
-use Rattle.call_tests.proofs.Stopping.{stops, passed-before, below_eight}
+use Rattle.call_tests.proofs.Stopping.{stops, passed_before, below_eight}
 use Rattle.call_tests.proofs.close.Goals as goal
 
 pub returns-then-refused-ne-ACCEPTED : goal.returns-then-refused-ne-ACCEPTED
@@ -17,7 +17,7 @@ unfolding stopped_at lent_tests call_tests facts_of
 returns-then-channel-gt-LAST_CHANNEL c = search stops depth 12
 
 pub has_circuit-requires : goal.has_circuit-requires
-has_circuit-requires c = record { t_value = search passed-before; s_value = search passed-before; c_lt_channels = below_eight c.if-channel-gt-LAST_CHANNEL.false }
+has_circuit-requires c = record { t_value = search passed_before; s_value = search passed_before; c_lt_channels = below_eight c.if-channel-gt-LAST_CHANNEL.false }
 
 pub returns-then-not-has_circuit : goal.returns-then-not-has_circuit
 unfolding stopped_at lent_tests call_tests facts_of

@@ -3,7 +3,7 @@ use Rattle.table.specs.View.{view}
 use Rattle.ownership.specs.Calls.{call_tests}
 use Rattle.ownership.specs.TableFacts.{taken_in}
 use Rattle.ownership.specs.OnTable.{facts_of, lent_tests, stopped_at}
-use Rattle.call_tests.proofs.Stopping.{stops, passed-before, node_passed, below_eight, receive_within}
+use Rattle.call_tests.proofs.Stopping.{stops, passed_before, node_passed, below_eight, receive_within}
 use Rattle.call_tests.proofs.disarm.Goals as goal
 
 pub returns-then-refused-ne-ACCEPTED : goal.returns-then-refused-ne-ACCEPTED
@@ -19,7 +19,7 @@ unfolding stopped_at lent_tests call_tests facts_of
 returns-then-channel-gt-LAST_CHANNEL c = search stops depth 12
 
 pub receiver-requires : goal.receiver-requires
-receiver-requires c = receive_within (node_passed _ _ (search passed-before) (search passed-before), below_eight (search passed-before))
+receiver-requires c = receive_within (node_passed _ _ (search passed_before) (search passed_before), below_eight (search passed_before))
 
 pub returns-then-receiver-ne0 : goal.returns-then-receiver-ne0
 unfolding stopped_at lent_tests call_tests facts_of taken_in view
