@@ -34,7 +34,7 @@ all:
 help:
 	@echo 'make                  prove every crate, run its programs, build the library for C'
 	@echo 'make demo             the examples: the printed list, the console, the map, command words'
-	@echo 'make test             the gate: prove everything from nothing, run every test'
+	@echo 'make test             the gate: prove everything, run every test'
 	@echo 'make library program  the library, or the listing program, alone'
 	@echo 'make install          archive, header, maze.pc, maze_list and manual pages, to PREFIX; LIBDIR, DESTDIR'
 	@echo 'make install-shared   the shared library beside them'
