@@ -1,4 +1,5 @@
 -- The laws of answers, and the users' second demand.
+pub mod Opens
 pub mod PassOnBytes
 pub mod SendAnswer
 pub mod AfterSend

@@ -6,7 +6,8 @@ ghost use Rattle.entries.specs.EntryContracts.{Within};
 ghost use Rattle.table.specs.View.{view};
 ghost use Rattle.answers.specs.SendOnTable.{state_in, state_of};
 
-use cube::{Node, Port};
+use common::refusal::Refusal;
+use cube::{Circuit, Node, Port};
 
 // A link: free, held by a circuit, or blocked.
 #[derive(Clone, Copy)]
@@ -33,12 +34,35 @@ pub fn link_state(t: &[u8], n: Node, p: Port, enabled: bool) -> LinkState
     }
 }
 
-// What a pass, a send and an open answer: 0 with the hops of the path and the receive channel taken, or the refusal; and the scouts sent.
-#[repr(C)]
-#[derive(Clone, Copy)]
-pub struct Opened {
-    pub number: u16,
+// What a send is asked for: a circuit from a source to a target, over the ports of a vector.
+#[derive(Clone, Copy, Debug, PartialEq, Eq)]
+pub struct SendRequest {
+    pub source: Node,
+    pub target: Node,
+    pub circuit: Circuit,
+    pub vector: u16,
+}
+
+// An open that was acknowledged: the hops of its path, the receive channel taken, and the scouts sent.
+#[derive(Clone, Copy, Debug, PartialEq, Eq)]
+pub struct Acknowledged {
     pub hops: u16,
     pub receive: u16,
     pub scouts: u32,
+}
+
+// One that was not: the refusal, and the scouts sent until then.
+#[derive(Clone, Copy, Debug, PartialEq, Eq)]
+pub struct Rejected {
+    pub refusal: Refusal,
+    pub scouts: u32,
+}
+
+// A refusal before the search: no scout was sent.
+impl From<Refusal> for Rejected {
+    ghost from_gives = { λ refusal rejected. rejected ≡ record { refusal = refusal; scouts = 0 } };
+
+    fn from(refusal: Refusal) -> Rejected {
+        Rejected { refusal, scouts: 0 }
+    }
 }

@@ -13,14 +13,15 @@ use borrow.Author.Tests.{lt-ltb, le-ltb, le-leb, lt-leb, ltb-false, leb-false, n
 use Rattle.common.specs.Tests.{refusal}
 use Rattle.common.proofs.Lists.{keep_none}
 use Rattle.common.proofs.Tests.{refused, passed, accepted, or_left, or_right, neither, below_or, clash}
-use Rattle.arbiter.specs.declared.Choice.{Choice}
 use Rattle.arbiter.specs.Arbiter as A
-use Rattle.arbiter.specs.Arbiter.{asks, order, chosen, arbiter_tests, arbitrated}
+use Rattle.arbiter.specs.Arbiter.{Choice, asks, order, chosen, arbiter_tests, arbitrated, choice, last_after}
 use Rattle.arbiter.specs.ArbiterContracts.{Requested}
 use Rattle.arbiter.specs.Chosen.{Chosen, CallSays, bad_request, bad_record, nobody_asks, one_served}
 use Rattle.arbiter.proofs.Order.{chosen_says, chosen_is}
 use Rattle.common.proofs.LowestBit.{lowest_set}
-use Rattle.arbiter.proofs.Requests.{asks_zero, asks_high, asks_below, high_asks, none_asks}
+use Rattle.common.specs.FirstAfter.{FirstAfter}
+use Rattle.std.proofs.Common.{rules, Option, Some, None, Ok, MatchOption, IfSome}
+use Rattle.arbiter.proofs.Requests.{asks_zero, asks_high, asks_below, asks_some, high_asks, none_asks, found}
 
 module _ (last requests : ℕ) where
   -- a call is refused where its one test applies, and accepted where it does not
@@ -75,8 +76,18 @@ recorded last requests h =
     let below = (served last requests h).requester in
     allowed last requests h.stored h.inside ∙ (unfold A.accepted in rw (ne_eqb (chosen last requests) 26 (λ e. omega arith)))
 
-pub answered : (last requests : ℕ) → Requested last requests → {r : ℕ} → r ≡ chosen last requests → record { number = 0; requester = r; last = r } ≡ arbitrated last requests
-answered last requests h e = rw e (sym (recorded last requests h))
+-- what the code answers: the first bit after the record, if there is one
+pub answered : (last requests : ℕ) → last < 26 → requests < 2 ^ 26 → (first : Option ℕ) → MatchOption first (requests ≡ 0) (FirstAfter requests last)
+    → choice (Ok first) (last_after (Ok first) last) ≡ arbitrated last requests
+answered last requests stored inside None z = sym (ap (arbitrated last) z ∙ nobody last stored)
+answered last requests stored inside (Some r) f =
+    let c = found last requests stored inside f in
+    let h : Requested last requests = record { stored = stored; inside = inside; some = asks_some requests r c.requested } in
+    sym (rw (← chosen_is last stored requests r c) (recorded last requests h))
+
+pub one_of_them : (last requests : ℕ) → last < 26 → requests < 2 ^ 26 → (first : Option ℕ) → MatchOption first (requests ≡ 0) (FirstAfter requests last) → IfSome first (λ r. r < 26)
+one_of_them last requests stored inside None z = search rules
+one_of_them last requests stored inside (Some r) f = let c = found last requests stored inside f in search rules
 
 -- A call gives what the plain words say,
 pub call_says : (last requests : ℕ) → CallSays last requests (arbitrated last requests)
@@ -98,6 +109,5 @@ says_only last requests _ (bad_record h) = refused_record last requests h
 says_only last requests _ (nobody_asks h e) = rw (none_asks requests e) (nobody last (omega arith))
 says_only last requests _ (one_served r h e c) =
     let inside : requests < 2 ^ 26 = ⊎_elim (λ l. l) (λ l. let g = high_asks 26 requests l in absurd (clash g.2 (e g.0 g.1))) (below_or (2 ^ 26) requests) in
-    let some : 0 < requests = ⊎_elim (λ l. l) (λ l. absurd (let z : requests ≡ 0 = omega arith in clash (rw z at c.requested) (asks_zero r))) (below_or requests 0) in
-    let h : Requested last requests = record { stored = omega arith; inside = inside; some = some } in
+    let h : Requested last requests = record { stored = omega arith; inside = inside; some = asks_some requests r c.requested } in
     recorded last requests h ∙ rw (chosen_is last (omega arith) requests r c)

@@ -3,8 +3,7 @@
 use Rattle.std.specs.Prelude.{◌≡◌, refl, [], ◌∷◌, ◌++◌, map, ℕ, ◌+◌, ◌-◌, ◌^◌, replicate}
 use Rattle.common.specs.Lists.{keep, from}
 use Rattle.common.specs.Tests.{refusal}
-use Rattle.arbiter.specs.declared.Choice.{Choice}
-use Rattle.arbiter.specs.Arbiter.{asks, order, chosen, arbiter_tests, accepted, arbitrated}
+use Rattle.arbiter.specs.Arbiter.{Choice, asks, order, chosen, arbiter_tests, accepted, arbitrated}
 use Rattle.arbiter.specs.Calls.{calls, accepted_calls, served_by}
 
 abbrev gave : ℕ → ℕ → ℕ → Choice

@@ -16,13 +16,12 @@ use Rattle.common.specs.Tests.{refusal}
 use Rattle.common.proofs.Every.{at}
 use Rattle.common.proofs.Lists.{keep_yes, keep_no}
 use Rattle.common.proofs.Tests.{both, neither, clash, same?, below_or}
-use Rattle.arbiter.specs.declared.Choice.{Choice}
-use Rattle.arbiter.specs.Arbiter.{asks, order, chosen, arbiter_tests, accepted, arbitrated}
+use Rattle.arbiter.specs.Arbiter.{Choice, asks, order, chosen, arbiter_tests, accepted, arbitrated}
 use Rattle.arbiter.specs.ArbiterContracts.{Requested}
 use Rattle.arbiter.specs.Chosen.{steps}
 use Rattle.arbiter.specs.Calls.{Call, call_made, calls, accepted_calls, served_by, KeepsAsking, ServedWithin, ServedLast, limit}
 use Rattle.arbiter.proofs.Order.{steps_above, steps_round}
-use Rattle.arbiter.proofs.Requests.{asks_below, asks_zero}
+use Rattle.arbiter.proofs.Requests.{asks_below, asks_some}
 use Rattle.arbiter.proofs.Answers.{accepted_for, refused_else, served, recorded}
 
 -- a requester is 1 to 26 places after a record
@@ -76,7 +75,7 @@ one_more q more ih (suc m) r last some near k = go (same? (arbitrated last q).nu
         let a = asks_first keeps in
         let b = accepted_for last q e in
         let small : r < 26 = asks_below 26 q r b.1 a.0 in
-        let h : Requested last q = record { stored = b.0; inside = b.1; some = (⊎_elim (λ l. l) (λ l. absurd (let z : q ≡ 0 = omega arith in clash (rw z at a.0) (asks_zero r))) (below_or q 0)) } in
+        let h : Requested last q = record { stored = b.0; inside = b.1; some = asks_some q r a.0 } in
         let c = served last q h in
         let gave = recorded last q h in
         let before = near b.0 small in

@@ -1,10 +1,16 @@
 -- Document 02, request (l): what a call of the arbiter answers, and the record after it.
 -- Assumes nothing.
-use Rattle.std.specs.Prelude.{Bool, cond, ◌||◌, List, [], ◌∷◌, ◌++◌, ℕ, ◌+◌, ◌-◌, ◌/◌, ◌%◌, ◌^◌, eqb, leb, ltb, get_or}
+use Rattle.std.specs.Prelude.{Bool, cond, ◌||◌, List, [], ◌∷◌, ◌++◌, ℕ, ◌+◌, ◌-◌, ◌/◌, ◌%◌, ◌^◌, eqb, leb, ltb, get_or, Option, Some, None, Result, Ok, Err}
 use Rattle.common.specs.Lists.{keep, from}
 use Rattle.common.specs.Tests.{Test, test, refusal}
-use Rattle.arbiter.specs.declared.Served.{Served}
-use Rattle.arbiter.specs.declared.Choice.{Choice}
+use Rattle.common.specs.Refusals.{answer_of}
+use Rattle.common.specs.declared.refusal.Refusal.{Refusal}
+
+-- what a call answers, its number and the requester, and the record after it
+pub record Choice : Type 0 where
+  pub number : ℕ
+  pub requester : ℕ
+  pub last : ℕ
 
 -- "26 requesters, 18 input ports and then 8 send channels, one bit each from bit 0 of a 32-bit number": requester r asks
 unfoldable pub asks : ℕ → ℕ → Bool
@@ -36,6 +42,18 @@ arbitrated last requests =
     let number = refusal (arbiter_tests last requests) in
     cond (eqb number 0) (accepted last (chosen last requests)) (refused last number)
 
+-- the requester that an answer tells C: 26 for nobody, and zero beside a refusal
+abbrev pub requester_of : Result (Option ℕ) Refusal → ℕ
+requester_of (Ok (Some r)) = r
+requester_of (Ok None) = 26
+requester_of (Err e) = 0
+
+-- the record after an answer: who was served, if anybody
+abbrev pub last_after : Result (Option ℕ) Refusal → ℕ → ℕ
+last_after (Ok (Some r)) last = r
+last_after (Ok None) last = last
+last_after (Err e) last = last
+
 -- an answer with the record after it, as one call
-abbrev pub choice : Served → ℕ → Choice
-choice served last = record { number = served.number; requester = served.requester; last = last }
+abbrev pub choice : Result (Option ℕ) Refusal → ℕ → Choice
+choice answer last = record { number = answer_of answer; requester = requester_of answer; last = last }

@@ -1,4 +1,4 @@
--- What the function that chooses asks. Nobody has to believe it.
+-- The calls in which somebody is served, as the proofs speak of them. Nobody has to believe it.
 -- Assumes nothing.
 use Rattle.std.specs.Prelude.{ℕ, ◌^◌, ◌<◌}
 

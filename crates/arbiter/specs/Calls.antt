@@ -2,8 +2,7 @@
 -- Assumes nothing.
 use Rattle.std.specs.Prelude.{◌≡◌, true, List, [], ◌∷◌, map, ℕ, ◌-◌, eqb, length, take}
 use Rattle.common.specs.Lists.{◌∈◌, keep}
-use Rattle.arbiter.specs.declared.Choice.{Choice}
-use Rattle.arbiter.specs.Arbiter.{asks, arbitrated}
+use Rattle.arbiter.specs.Arbiter.{Choice, asks, arbitrated}
 
 -- a call that was made: its requests, and what it gave
 pub record Call : Type 0 where

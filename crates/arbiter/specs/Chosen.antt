@@ -1,8 +1,7 @@
 -- A call a second time, in plain words and with no list: who is chosen asks, and nobody who asks comes sooner after the record.
 -- Assumes nothing.
 use Rattle.std.specs.Prelude.{◌≡◌, cond, true, false, ℕ, ◌+◌, ◌-◌, ◌≤◌, ◌<◌, ltb}
-use Rattle.arbiter.specs.declared.Choice.{Choice}
-use Rattle.arbiter.specs.Arbiter.{asks}
+use Rattle.arbiter.specs.Arbiter.{Choice, asks}
 
 -- how many places after the record a requester comes, round the 26: 1 for the next one, 26 for the record itself
 unfoldable pub steps : ℕ → ℕ → ℕ

@@ -2,102 +2,46 @@
 // a 32-bit number, from bit 0 on.
 #![tactic(auto)]
 
-ghost use Rattle.std.specs.Prelude.{◌≡◌};
-ghost use Rattle.arbiter.specs.Arbiter.{chosen, arbitrated, choice};
-ghost use Rattle.arbiter.specs.ArbiterContracts.{Requested};
+ghost use Rattle.std.specs.Prelude.{◌≡◌, ◌<◌, IfOk, IfSome};
+ghost use Rattle.arbiter.specs.Arbiter.{arbitrated, choice, last_after};
 
-use common::refusal;
+use common::bits;
+use common::refusal::Refusal;
 
 // The requesters: 0 to 17 are the input ports, 18 to 25 the send channels.
 pub const REQUESTERS: u16 = 26;
 
-// The answer where nobody asks.
-pub const NOBODY: u16 = 26;
-
 // The lowest number with a bit that no requester has.
 pub const REQUESTS_END: u32 = 67108864;
 
-// The record, kept by the caller: the last requester served.
+// The record, kept by the caller, who may be C: the last requester served.
 #[repr(C)]
 #[derive(Clone, Copy)]
 pub struct Arbiter {
     pub last: u16,
 }
 
-// The answer of a call: a refusal has a zero beside its number.
-#[repr(C)]
-#[derive(Clone, Copy)]
-pub struct Served {
-    pub number: u16,
-    pub requester: u16,
-}
-
-// A call by value: its answer, and the record after it.
-#[derive(Clone, Copy)]
-pub struct Choice {
-    pub number: u16,
-    pub requester: u16,
-    pub last: u16,
-}
-
-// The first requester after the last one served, where somebody asks: the lowest one above it, or else the lowest of all.
-fn first_after(last: u16, requests: u32) -> u16
-    requires { Requested last requests }
-    ensures { result ≡ chosen last requests }
-{
-    let past = last + 1;
-    let above = requests >> past;
-    if above == 0 {
-        u32::trailing_zeros(requests) as u16
-    } else {
-        u32::trailing_zeros(above) as u16 + past
+impl Arbiter {
+    // Whom a call serves, nobody where nobody asks: the first requester after the last one served.
+    pub fn choose(self, requests: u32) -> Result<Option<u16>, Refusal>
+        ensures call { choice result (last_after result self.last) ≡ arbitrated self.last requests }
+        ensures requester { IfOk result (λ chosen. IfSome chosen (λ r. r < 26)) }
+    {
+        if requests >= REQUESTS_END || self.last >= REQUESTERS {
+            return Err(Refusal::Requester);
+        }
+        Ok(bits::first_after(requests, self.last))
     }
-}
 
-// A call by value.
-pub fn choose(last: u16, requests: u32) -> Choice
-    ensures { result ≡ arbitrated last requests }
-{
-    if requests >= REQUESTS_END || last >= REQUESTERS {
-        return Choice {
-            number: refusal::REQUESTER,
-            requester: 0,
-            last,
-        };
+    // A call: the choice, and the record is then the requester that was served.
+    pub fn serve(&mut self, requests: u32) -> Result<Option<u16>, Refusal>
+        ensures call { choice result self.new.last ≡ arbitrated self.old.last requests }
+        ensures requester { IfOk result (λ chosen. IfSome chosen (λ r. r < 26)) }
+    {
+        let chosen = self.choose(requests)?;
+        if let Some(requester) = chosen {
+            self.last = requester;
+        }
+        Ok(chosen)
     }
-    if requests == 0 {
-        return Choice {
-            number: refusal::ACCEPTED,
-            requester: NOBODY,
-            last,
-        };
-    }
-    let requester = first_after(last, requests);
-    Choice {
-        number: refusal::ACCEPTED,
-        requester,
-        last: requester,
-    }
-}
-
-// A call on a record that the caller keeps and lends: the choice by value, and the record after it put where the caller has it.
-pub fn serve(arbiter: &mut Arbiter, requests: u32) -> Served
-    ensures { choice result arbiter.new.last ≡ arbitrated arbiter.old.last requests }
-{
-    let chosen = choose(arbiter.last, requests);
-    arbiter.last = chosen.last;
-    Served {
-        number: chosen.number,
-        requester: chosen.requester,
-    }
-}
-
-// The same for a caller that keeps the record as a bare number: its parameters are plain, so whoever calls it is proved without a walk.
-pub fn serve_number(last: &mut u16, requests: u32) -> Served
-    ensures { choice result last.new ≡ arbitrated last.old requests }
-{
-    let mut arbiter = Arbiter { last: *last };
-    let served = serve(&mut arbiter, requests);
-    *last = arbiter.last;
-    served
 }

@@ -10,34 +10,13 @@ use native.Mathlib.Omega.{arith}
 use lib.Dec.{eqb, leb, ltb}
 use lib.ListN.{length, drop}
 use lib.Seq.{get_or-drop, drop-drop}
-use borrow.Author.Tests.{eqb-true, eq-eqb, ne_eqb, ltb-true, lt-ltb, le-ltb, leb-true, le-leb, lt-leb}
+use borrow.Author.Tests.{eqb-true, eq-eqb, ne_eqb, ltb-true, leb-true, le-leb}
 use Rattle.common.specs.Lists.{any}
 use Rattle.common.proofs.Tests.{both, clash}
 use Rattle.layout.specs.Layout.{word_at}
 use Rattle.book.specs.Lookup.{IndexLine, first_line, lines, line_fits, lines_fit, is_listed, line_of, well_formed}
 
--- a line that does not fit, by its first fault, and one that does
 module _ (above at : ℕ) (x : IndexLine) where
-  pub number_low : x.number ≤ above → line_fits above at x ≡ false
-  unfolding line_fits
-  number_low h = rw (le-ltb above x.number h)
-
-  pub number_high : above < x.number → 2048 < x.number → line_fits above at x ≡ false
-  unfolding line_fits
-  number_high h k = rw (lt-ltb above x.number h, lt-leb x.number 2048 k)
-
-  pub offset_other : above < x.number → x.number ≤ 2048 → x.offset ≢ at → line_fits above at x ≡ false
-  unfolding line_fits
-  offset_other h k o = rw (lt-ltb above x.number h, le-leb x.number 2048 k, ne_eqb x.offset at o)
-
-  pub no_hop : above < x.number → x.number ≤ 2048 → x.offset ≡ at → x.hops < 1 → line_fits above at x ≡ false
-  unfolding line_fits
-  no_hop h k o n = rw (lt-ltb above x.number h, le-leb x.number 2048 k, eq-eqb x.offset at o, lt-leb 1 x.hops n)
-
-  pub hops_decide : above < x.number → x.number ≤ 2048 → x.offset ≡ at → 1 ≤ x.hops → line_fits above at x ≡ leb x.hops 9
-  unfolding line_fits
-  hops_decide h k o n = rw (lt-ltb above x.number h, le-leb x.number 2048 k, eq-eqb x.offset at o, le-leb 1 x.hops n)
-
   -- what it says that a line fits
   pub record Fits : Type 0 where
     pub rises : above < x.number
@@ -105,16 +84,6 @@ line_found c above at (x ∷ xs) total e l =
     go true q f m ih = record { some = f.some; few = f.few; inside = omega (arith, m, f.begins) }
     go false q f m ih = ih (rw q at l)
 
--- and where it is not listed, its line is zeros
-pub line_none : (c : ℕ) (xs : List IndexLine) → is_listed c xs ≡ false → (line_of c xs).hops ≡ 0
-unfolding is_listed any line_of
-line_none c [] l = refl
-line_none c (x ∷ xs) l = go (eqb x.number c) refl (line_none c xs)
-  where
-    go : (b : Bool) → eqb x.number c ≡ b → (is_listed c xs ≡ false → (line_of c xs).hops ≡ 0) → (cond b x (line_of c xs)).hops ≡ 0
-    go true q ih = absurd (clash (rw q) l)
-    go false q ih = ih (rw q at l)
-
 pub lines_all : (b : List ℕ) (n : ℕ) → lines_from b n 0 ≡ lines n b
 lines_all b n = ap (λ (m : ℕ). lines m b) (sub-zero n)
 
@@ -124,13 +93,13 @@ module _ (b : List ℕ) (n i : ℕ) (x : IndexLine) (is : x ≡ first_line (drop
   begins_with = lines_on b n i h ∙ ap (λ (y : IndexLine). y ∷ lines_from b n (i + 1)) (sym is)
 
   -- the line of a circuit is x, or it is behind it
-  pub line_here : (c : ℕ) → x.number ≡ c → line_of c (lines_from b n i) ≡ x
-  unfolding line_of
-  line_here c e = ap (line_of c) begins_with ∙ ap (λ (y : Bool). cond y x (line_of c (lines_from b n (i + 1)))) (eq-eqb x.number c e)
+  pub line_here : (c : ℕ) → x.number ≡ c → (is_listed c (lines_from b n i) ≡ true) × (line_of c (lines_from b n i) ≡ x)
+  unfolding is_listed any line_of
+  line_here c e = rw (begins_with, eq-eqb x.number c e) (refl, refl)
 
-  pub line_on : (c : ℕ) → x.number ≢ c → line_of c (lines_from b n i) ≡ line_of c (lines_from b n (i + 1))
-  unfolding line_of
-  line_on c e = ap (line_of c) begins_with ∙ ap (λ (y : Bool). cond y x (line_of c (lines_from b n (i + 1)))) (ne_eqb x.number c e)
+  pub line_on : (c : ℕ) → x.number ≢ c → (is_listed c (lines_from b n i) ≡ is_listed c (lines_from b n (i + 1))) × (line_of c (lines_from b n i) ≡ line_of c (lines_from b n (i + 1)))
+  unfolding is_listed any line_of
+  line_on c e = rw (begins_with, ne_eqb x.number c e) (refl, refl)
 
   -- they fit where x does and those behind it do
   pub fits_on : (above at total : ℕ) → line_fits above at x ≡ true → lines_fit above at (lines_from b n i) total ≡ lines_fit x.number (at + x.hops) (lines_from b n (i + 1)) total
@@ -143,9 +112,9 @@ module _ (b : List ℕ) (n i : ℕ) (x : IndexLine) (is : x ≡ first_line (drop
 
 -- behind the last line
 module _ (b : List ℕ) (n i : ℕ) (h : n ≤ i) where
-  pub line_past : (c : ℕ) → line_of c (lines_from b n i) ≡ record { number = 0; offset = 0; hops = 0 }
-  unfolding line_of
-  line_past c = ap (line_of c) (lines_end b n i h)
+  pub line_past : (c : ℕ) → is_listed c (lines_from b n i) ≡ false
+  unfolding is_listed any
+  line_past c = ap (is_listed c) (lines_end b n i h)
 
   pub fits_past : (above at total : ℕ) → lines_fit above at (lines_from b n i) total ≡ eqb at total
   unfolding lines_fit
@@ -153,14 +122,6 @@ module _ (b : List ℕ) (n i : ℕ) (h : n ≤ i) where
 
 -- A book whose counts do not fit their buffers is not well formed; where they fit, its lines decide.
 module _ (ports index : List ℕ) (circuits hops : ℕ) where
-  pub index_short : length index < 6 * circuits → well_formed ports index circuits hops ≡ false
-  unfolding well_formed
-  index_short h = rw (lt-leb (6 * circuits) (length index) h)
-
-  pub ports_short : 6 * circuits ≤ length index → length ports < hops → well_formed ports index circuits hops ≡ false
-  unfolding well_formed
-  ports_short h k = rw (le-leb (6 * circuits) (length index) h, lt-leb hops (length ports) k)
-
   pub lines_decide : 6 * circuits ≤ length index → hops ≤ length ports → well_formed ports index circuits hops ≡ lines_fit 0 0 (lines circuits index) hops
   unfolding well_formed
   lines_decide h k = rw (le-leb (6 * circuits) (length index) h, le-leb hops (length ports) k)

@@ -1,8 +1,21 @@
 -- What the functions of this crate ask and answer. Nobody has to believe these: the contract of a lookup is over Lookup.
 -- Assumes nothing.
-use Rattle.book.specs.Lookup.{IndexLine}
+use Rattle.std.specs.Prelude.{◌≡◌, true, false, ℕ, List, Option, None, Some, Result}
+use Rattle.std.specs.Result.{result_unwrap_or}
+use Rattle.common.specs.declared.refusal.Refusal.{Refusal}
+use Rattle.common.specs.Refusals.{answer_of}
+use Rattle.book.specs.Lookup.{IndexLine, is_listed, line_of, LookupResult}
 use Rattle.book.specs.declared.BookLine.{BookLine}
 
 -- a line as the code has it
 abbrev pub line_is : BookLine → IndexLine
 line_is x = record { number = x.number; offset = x.offset; hops = x.hops }
+
+-- the line of a circuit where lines have one
+abbrev pub line_if : ℕ → List IndexLine → Option BookLine → Type 0
+line_if c xs None = is_listed c xs ≡ false
+line_if c xs (Some x) = (is_listed c xs ≡ true) × (line_is x ≡ line_of c xs)
+
+-- what a lookup answers: the hops, or the refusal; with the bytes of its buffer afterwards
+abbrev pub lookup_result : Result ℕ Refusal → List ℕ → LookupResult
+lookup_result answer buffer = record { number = answer_of answer; hops = result_unwrap_or answer 0; buffer = buffer }

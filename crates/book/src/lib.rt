@@ -3,10 +3,11 @@
 #![tactic(auto)]
 
 ghost use Rattle.std.specs.Prelude.{◌≡◌, ◌+◌, ◌*◌, ◌≤◌, ◌<◌, length, drop};
-ghost use Rattle.book.specs.Lookup.{first_line, lines, line_fits, lines_fit, well_formed, line_of, looked_up};
-ghost use Rattle.book.specs.BookContracts.{line_is};
+ghost use Rattle.std.proofs.lemmas.List.Edits.{sets};
+ghost use Rattle.book.specs.Lookup.{first_line, lines, line_fits, lines_fit, well_formed, looked_up};
+ghost use Rattle.book.specs.BookContracts.{line_is, line_if, lookup_result};
 
-use common::refusal;
+use common::refusal::Refusal;
 use cube::Circuit;
 
 // The most hops that a circuit has; with a lookup, the bytes that its buffer has to have.
@@ -25,136 +26,107 @@ pub struct BookLine {
     pub hops: u16,
 }
 
-// What a lookup answers.
-#[derive(Clone, Copy)]
-pub struct LookedUp {
-    pub number: u16,
-    pub hops: u16,
-}
-
 // Line i of an index.
 fn line(index: &[u8], i: u16) -> BookLine
     requires { 6 * i + 6 ≤ length index.now }
     ensures { line_is result ≡ first_line (drop (6 * i) index.now) }
 {
     let at = LINE * i as usize;
-    let number = layout::word(index, at);
-    let offset = layout::word(index, at + 2);
-    let hops = layout::word(index, at + 4);
     BookLine {
-        number,
-        offset,
-        hops,
+        number: layout::word(index, at),
+        offset: layout::word(index, at + 2),
+        hops: layout::word(index, at + 4),
     }
 }
 
 // Whether a line may follow one with the number `above`, where its ports should begin at `at`.
+#[tactic(auto, unfolding(crate::specs::Lookup::line_fits))]
 fn line_fits(x: BookLine, above: u16, at: u16) -> bool
     ensures { result ≡ line_fits above at (line_is x) }
 {
-    if x.number <= above {
-        return false;
-    }
-    if x.number > LARGEST_CIRCUIT {
-        return false;
-    }
-    if x.offset != at {
-        return false;
-    }
-    if x.hops < 1 {
-        return false;
-    }
-    x.hops <= LONGEST_PATH
+    x.number > above
+        && x.number <= LARGEST_CIRCUIT
+        && x.offset == at
+        && x.hops >= 1
+        && x.hops <= LONGEST_PATH
 }
 
+// Whether the lines of an index may follow each other, from number 0 and port 0 on, up to the count of hops.
 fn lines_fit(index: &[u8], circuits: u16, hops: u16) -> bool
     requires { 6 * circuits ≤ length index.now }
     ensures { result ≡ lines_fit 0 0 (lines circuits index.now) hops }
 {
-    let mut i: u16 = 0;
     let mut above: u16 = 0;
     let mut at: u16 = 0;
-    while i < circuits {
+    for i in 0..circuits {
         let x = line(index, i);
         if !line_fits(x, above, at) {
             return false;
         }
         above = x.number;
         at += x.hops;
-        i += 1;
     }
     at == hops
 }
 
-// Whether a book is well formed.
-pub fn well_formed(ports: &[u8], index: &[u8], circuits: u16, hops: u16) -> bool
-    ensures { result ≡ well_formed ports.now index.now circuits hops }
-{
-    if index.len() < LINE * circuits as usize {
-        return false;
-    }
-    if ports.len() < hops as usize {
-        return false;
-    }
-    lines_fit(index, circuits, hops)
-}
-
-// The line of a circuit; zeros where the index has none.
-fn line_of(index: &[u8], circuits: u16, c: Circuit) -> BookLine
+// The line of a circuit, where an index has one.
+fn line_of(index: &[u8], circuits: u16, c: Circuit) -> Option<BookLine>
     requires { 6 * circuits ≤ length index.now }
-    ensures { line_is result ≡ line_of c.0 (lines circuits index.now) }
+    ensures { line_if c.0 (lines circuits index.now) result }
 {
-    let mut i: u16 = 0;
-    while i < circuits {
+    for i in 0..circuits {
         let x = line(index, i);
         if x.number == c.0 {
-            return x;
+            return Some(x);
         }
-        i += 1;
     }
-    BookLine {
-        number: 0,
-        offset: 0,
-        hops: 0,
+    None
+}
+
+// Copies a path to the start of a buffer: by a loop, since the library's copy would ask the caller's C for memmove.
+fn put_path(buffer: &mut [u8], path: &[u8])
+    requires { length path.now ≤ length buffer.old }
+    ensures { buffer.new ≡ sets buffer.old 0 path.now }
+{
+    for i in 0..path.len() {
+        buffer[i] = path[i];
     }
 }
 
-// Writes the ports of a circuit of a book to the start of a buffer. A refused lookup writes nothing.
-pub fn lookup(
-    ports: &[u8],
-    index: &[u8],
-    circuits: u16,
-    hops: u16,
-    c: Circuit,
-    buffer: &mut [u8],
-) -> LookedUp
-    ensures { (record { number = result.number; hops = result.hops; buffer = buffer.new } ≡ looked_up ports.now index.now circuits hops c.0 buffer.old)
-        × (ports.now ≡ ports.now) × (index.now ≡ index.now) }
-{
-    if !well_formed(ports, index, circuits, hops) {
-        return LookedUp {
-            number: refusal::BOOK,
-            hops: 0,
-        };
+// A book as it is lent: its two buffers, how many circuits it has, and how many hops in all.
+#[derive(Clone, Copy)]
+pub struct Book<'a> {
+    pub ports: &'a [u8],
+    pub index: &'a [u8],
+    pub circuits: u16,
+    pub hops: u16,
+}
+
+impl Book<'_> {
+    // Whether a book is well formed.
+    #[tactic(auto, unfolding(crate::specs::Lookup::well_formed))]
+    pub fn well_formed(&self) -> bool
+        ensures { result ≡ well_formed self.now.ports.now self.now.index.now self.now.circuits self.now.hops }
+    {
+        self.index.len() >= LINE * self.circuits as usize
+            && self.ports.len() >= self.hops as usize
+            && lines_fit(self.index, self.circuits, self.hops)
     }
-    let x = line_of(index, circuits, c);
-    if x.hops == 0 {
-        return LookedUp {
-            number: refusal::NO_CIRCUIT,
-            hops: 0,
-        };
-    }
-    if buffer.len() < LONGEST_PATH as usize {
-        return LookedUp {
-            number: refusal::BUFFER_SHORT,
-            hops: 0,
-        };
-    }
-    let at = x.offset as usize;
-    let end = at + x.hops as usize;
-    text::put::text(buffer, 0, &ports[at..end]);
-    LookedUp {
-        number: refusal::ACCEPTED,
-        hops: x.hops,
+
+    // Writes the ports of a circuit of a book to the start of a buffer, and answers how many they are. A refused lookup writes nothing.
+    pub fn lookup(&self, c: Circuit, buffer: &mut [u8]) -> Result<u16, Refusal>
+        ensures { lookup_result result buffer.new ≡ looked_up self.now.ports.now self.now.index.now self.now.circuits self.now.hops c.0 buffer.old }
+    {
+        if !self.well_formed() {
+            return Err(Refusal::Book);
+        }
+        let x = line_of(self.index, self.circuits, c).ok_or(Refusal::NoCircuit)?;
+        if buffer.len() < LONGEST_PATH as usize {
+            return Err(Refusal::BufferShort);
+        }
+        let at = x.offset as usize;
+        let path = &self.ports[at..at + x.hops as usize];
+        put_path(buffer, path);
+        Ok(x.hops)
     }
 }

@@ -1,7 +1,6 @@
 -- What the call that writes a book gives: where a test of the table stops it, where a buffer is short, and where the book is written.
 -- Assumes nothing.
 use mathlib.Core.Path.{◌≡◌, refl, ap₂, sym, ◌∙◌}
-use mathlib.Core.Logic.{◌≢◌}
 use mathlib.Core.Bool.{◌||◌}
 use mathlib.Core.List.{List, [], ◌∷◌}
 use Prim.Native.Nat.{ℕ, ◌*◌, ◌≤◌, ◌<◌}
@@ -9,7 +8,11 @@ use native.Mathlib.Omega.{arith}
 use lib.Dec.{ltb}
 use lib.ListN.{length}
 use borrow.Author.Tests.{lt-ltb, le-ltb}
+use mathlib.Core.Logic.{◌⊎◌, inl, inr, ⊎_elim}
+use Rattle.common.specs.declared.refusal.Refusal.{Refusal}
+use Rattle.common.specs.Refusals.{number_of}
 use Rattle.common.specs.Tests.{refusal}
+use Rattle.common.proofs.Refusals.{refused as refused_lem}
 use Rattle.common.proofs.Tests.{or_left, or_right, refused, passed, accepted}
 use Rattle.table.specs.View.{view}
 use Rattle.table.specs.Encode.{AllBytes}
@@ -20,24 +23,36 @@ use Rattle.book.specs.BookOf.{book_of}
 use Rattle.ownership.specs.Calls.{booking, call_tests, result_of}
 use Rattle.ownership.specs.OnTable.{facts_of, lent_tests, stopped_at, table_step, done}
 use Rattle.ownership.proofs.BytesAfter.{written_by}
+use Rattle.ownership.proofs.Stops.{pass_tests}
+use Rattle.table_book.specs.Writing.{BookPre}
 use Rattle.call_tests.proofs.Stopping.{by_table, by_call}
 use Rattle.router.proofs.TableStep.{call_stopped, call_passed}
 
-module _ (b ports index : List ℕ) {n : ℕ} (e : n ≡ refusal (table_tests b)) where
+module _ (b ports index : List ℕ) where
   -- a test of the table stops it
-  pub table_stops : n ≢ 0 → done b n (0 ∷ 0 ∷ []) (ports ∷ index ∷ []) ≡ table_step b (booking ports index)
+  pub table_stops : (e : Refusal) → number_of e ≡ refusal (table_tests b) → done b (number_of e) (0 ∷ 0 ∷ []) (ports ∷ index ∷ []) ≡ table_step b (booking ports index)
   unfolding stopped_at lent_tests
-  table_stops f = call_stopped b (booking ports index) (by_table b _ e f) f
+  table_stops e q = call_stopped b (booking ports index) (by_table b _ q refl (refused_lem e)) (refused_lem e)
 
-  module _ (z : n ≡ 0) where
+  module _ (z : 0 ≡ refusal (table_tests b)) where
+    pub book_pre : BookPre b
+    book_pre = let r = pass_tests b (sym z) in record { bytes = r.0; fits = r.2 }
+
     -- a buffer is short
-    pub ports_short : length ports < hop_count (book_of (view b)) → done b 23 (0 ∷ 0 ∷ []) (ports ∷ index ∷ []) ≡ table_step b (booking ports index)
+    pub book_short : (length ports < hop_count (book_of (view b))) ⊎ (length index < 6 * length (book_of (view b)))
+        → done b 23 (0 ∷ 0 ∷ []) (ports ∷ index ∷ []) ≡ table_step b (booking ports index)
     unfolding stopped_at lent_tests call_tests facts_of
-    ports_short h = call_stopped b (booking ports index) (by_call b _ e z (sym (refused 23 [] (or_left _ (lt-ltb (length ports) (hop_count (book_of (view b))) h))))) (λ q. omega arith)
+    book_short h =
+        let short = ⊎_elim (λ p. or_left (ltb (length index) (6 * length (book_of (view b)))) (lt-ltb (length ports) (hop_count (book_of (view b))) p))
+        (λ i. or_right (ltb (length ports) (hop_count (book_of (view b)))) (lt-ltb (length index) (6 * length (book_of (view b))) i)) h in
+        call_stopped b (booking ports index) (by_call b _ z refl refl (sym (refused 23 [] short))) (λ q. omega arith)
+
+    -- each of the two by itself
+    pub ports_short : length ports < hop_count (book_of (view b)) → done b 23 (0 ∷ 0 ∷ []) (ports ∷ index ∷ []) ≡ table_step b (booking ports index)
+    ports_short h = book_short (inl h)
 
     pub index_short : length index < 6 * length (book_of (view b)) → done b 23 (0 ∷ 0 ∷ []) (ports ∷ index ∷ []) ≡ table_step b (booking ports index)
-    unfolding stopped_at lent_tests call_tests facts_of
-    index_short h = call_stopped b (booking ports index) (by_call b _ e z (sym (refused 23 [] (or_right (ltb (length ports) (hop_count (book_of (view b)))) (lt-ltb (length index) (6 * length (book_of (view b))) h))))) (λ q. omega arith)
+    index_short h = book_short (inr h)
 
     -- or it is written
     pub book_written : AllBytes b → hop_count (book_of (view b)) ≤ length ports → 6 * length (book_of (view b)) ≤ length index → {circuits hops : ℕ} {p i : List ℕ}
@@ -45,6 +60,6 @@ module _ (b ports index : List ℕ) {n : ℕ} (e : n ≡ refusal (table_tests b)
         → done b 0 (circuits ∷ hops ∷ []) (p ∷ i ∷ []) ≡ table_step b (booking ports index)
     unfolding stopped_at lent_tests call_tests facts_of result_of written_by
     book_written small h k c d q r =
-        call_passed b (booking ports index) {n = 0}
-        (by_call b _ e z (sym (passed 23 [] (ap₂ ◌||◌ (le-ltb (length ports) (hop_count (book_of (view b))) h) (le-ltb (length index) (6 * length (book_of (view b))) k)) ∙ accepted)))
-        refl small refl (rw (c, d, q, r))
+        call_passed b (booking ports index)
+        (by_call b _ z refl refl (sym (passed 23 [] (ap₂ ◌||◌ (le-ltb (length ports) (hop_count (book_of (view b))) h) (le-ltb (length index) (6 * length (book_of (view b))) k)) ∙ accepted)))
+        small refl (rw (c, d, q, r))

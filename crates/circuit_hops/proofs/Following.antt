@@ -26,16 +26,12 @@ use Rattle.layout.specs.Layout.{dimension_at}
 use Rattle.table.specs.TableContracts.{HeldBy, links_held}
 use Rattle.table.specs.View.{View, view, shape_of, net, held_by}
 use Rattle.circuit_path.specs.CircuitSound.{end_for, CircuitSound}
-use Rattle.circuit_hops.specs.CountHops.{OnePort, Sole, SoleWay, Walks, FollowedPath}
+use Rattle.std.proofs.Common.{Option, Some, None}
+use Rattle.circuit_hops.specs.CountHops.{OnePort, Sole, SoleWay, Walks, HoldsPath, StandsNowhere, Leaving, FollowedPath}
 use Rattle.circuit_hops.proofs.OneKept.{one_kept, few_kept}
 use Rattle.circuit_hops.proofs.OneBit.{sole_bit, some_bit, bit_has, bit_only, has_rest}
 use Rattle.circuit_hops.proofs.Ways.{way_onward, way_owned, way_only, onward_way, onward_once, onward_uphill, one_nearer, shown}
 use Rattle.circuit_hops.proofs.Taken.{HopsFollowed}
-
--- a path whose links circuit c holds, and no others, from its source over port a
-pub record HoldsPath (v : View) (c t a : ℕ) (w : Path) : Type 0 where
-  pub permitted : Permitted (net v) (source_of c) (ports (shape_of v)) t (a ∷ w)
-  pub exactly : Exactly (net v) (source_of c) (a ∷ w) (held_by v c)
 
 module _ {v : View} {c t a : ℕ} {w : Path} (d : v.dimension ≤ largest_dimension) (x : HoldsPath v c t a w) where
   pub first_below : a < v.dimension
@@ -93,33 +89,23 @@ holds_path v c t z e = go z.path (subst (λ (n : ℕ). Permitted (net v) (source
     go [] o x = unfold Permitted in absurd o
     go (a ∷ w) o x = (a, w, refl, record { permitted = o; exactly = x })
 
--- Of the links that circuit c holds at its source, as a vector, those by which a path to node t may leave it: one, if there is any.
-pub record Leaving (b : List ℕ) (c t first : ℕ) : Type 0 where
-  pub one : first ≢ 0 → OnePort first
-  pub held : (p : ℕ) → p < port_count → has first p ≡ true → (held_by (view b) c (source_of c) p ≡ true) × (p < dimension_at b)
-  pub leaves : (a : ℕ) (w : Path) → HoldsPath (view b) c t a w → has first a ≡ true
-
--- where there is none, it holds no path to t
-pub leaves_none : {b : List ℕ} {c t first : ℕ} → Leaving b c t first → first ≡ 0 → (z : CircuitSound (view b) c) → end_for (view b) c z.path ≡ t → ⊥
-leaves_none {b} {c} {t} l e z q = let r = holds_path (view b) c t z q in clash (l.leaves r.0 r.1 r.3) (ap (λ x. has x r.0) e ∙ zero_has r.0)
-
 -- where there is one, what walking on from there comes to, following the circuit comes to
-module _ {b : List ℕ} {c s t first : ℕ} (d : dimension_at b ≤ largest_dimension) (at : s ≡ source_of c) (l : Leaving b c t first) (h : first ≢ 0) where
+module _ (b : List ℕ) {c t first : ℕ} (d : dimension_at b ≤ largest_dimension) (l : Leaving (view b) c t first) where
   small : (view b).dimension ≤ largest_dimension
   small = omega (arith, shown b)
 
   port : (p : ℕ) × (p < port_count) × (first ≡ 2 ^ p)
   unfolding OnePort
-  port = l.one h
+  port = l.one
 
-  there : (held_by (view b) c (source_of c) port.0 ≡ true) × (port.0 < dimension_at b)
+  there : (held_by (view b) c (source_of c) port.0 ≡ true) × (port.0 < (view b).dimension)
   there = l.held port.0 port.1 (ap (λ x. has x port.0) port.2 ∙ bit_has port.0)
 
-  to : bit_xor s first ≡ next (source_of c) port.0
-  to = ap₂ bit_xor at port.2 ∙ flip_xor (source_of c) port.0 ∙ ap (flip (source_of c)) (sym (axis_low port.0 (omega (arith, port.1))))
+  to : bit_xor (source_of c) first ≡ next (source_of c) port.0
+  to = ap (bit_xor (source_of c)) port.2 ∙ flip_xor (source_of c) port.0 ∙ ap (flip (source_of c)) (sym (axis_low port.0 (omega (arith, port.1))))
 
-  pub leads_inside : NodeOf (dimension_at b) (source_of c) → NodeOf (dimension_at b) (bit_xor s first)
-  leads_inside i = rw to (next_inside (dimension_at b) (source_of c) port.0 d i there.1)
+  pub leads_inside : NodeOf (dimension_at b) (source_of c) → NodeOf (dimension_at b) (bit_xor (source_of c) first)
+  leads_inside i = rw to (next_inside (dimension_at b) (source_of c) port.0 d i (omega (arith, shown b, there.1)))
 
   begins : (z : CircuitSound (view b) c) → end_for (view b) c z.path ≡ t → (w : Path) × (z.path ≡ port.0 ∷ w) × HoldsPath (view b) c t port.0 w
   begins z e =
@@ -127,55 +113,58 @@ module _ {b : List ℕ} {c s t first : ℕ} (d : dimension_at b ≤ largest_dime
       let same : r.0 ≡ port.0 = bit_only port.0 r.0 (ap (λ x. has x r.0) (sym port.2) ∙ l.leaves r.0 r.1 r.3) in
       (r.1, r.2 ∙ ap (◌∷ r.1) same, subst (λ (p : ℕ). HoldsPath (view b) c t p r.1) same r.3)
 
-  pub followed : {hops : ℕ} → Walks (view b) c t (bit_xor s first) 1 hops → HopsFollowed (view b) c t hops
-  followed {hops} walks =
+  path_of_lem : {hops : ℕ} (w : Path) → SoleWay (view b) c t (next (source_of c) port.0) w → hops ≡ 1 + length w → FollowedPath (view b) c t hops
+  path_of_lem w x k =
       record {
-        found = λ k. let w = walks.way k in path_of_lem w.0 (subst (λ (n : ℕ). SoleWay (view b) c t n w.0) to w.1) w.2;
-        forced = λ z e. let r = begins z e in
-            walks.forced r.0 (subst (λ (n : ℕ). SoleWay (view b) c t n r.0) (sym to) (onward_way (view b) c t _ r.0 (onward small r.2) (later_sole small r.2)));
-        most = walks.most;
+        path = port.0 ∷ w;
+        permitted = unfold Permitted network in ((unfolded_port (shape_of (view b)) small refl port.0).1 there.1, way_onward (view b) c t _ w x);
+        owned = λ m q i. unfold On network in ⊎_elim (λ (e : (m ≡ source_of c) × (q ≡ port.0)). rw (e.0, e.1) there.0) (way_owned (view b) c t _ w x m q) (on_cases (net (view b)) (source_of c) port.0 w m q i);
+        hop_count = omega arith;
+        whole = λ z e. let r = begins z e in r.1 ∙ ap (port.0 ∷◌) (way_only (view b) c t small _ w r.0 x (onward small r.2) (later_held small r.2));
       }
-    where
-      path_of_lem : (w : Path) → SoleWay (view b) c t (next (source_of c) port.0) w → hops ≡ 1 + length w → FollowedPath (view b) c t hops
-      path_of_lem w x k =
-          record {
-            path = port.0 ∷ w;
-            permitted = unfold Permitted network in ((unfolded_port (shape_of (view b)) small refl port.0).1 (omega (arith, shown b, there.1)), way_onward (view b) c t _ w x);
-            owned = λ m q i. unfold On network in ⊎_elim (λ (e : (m ≡ source_of c) × (q ≡ port.0)). rw (e.0, e.1) there.0) (way_owned (view b) c t _ w x m q) (on_cases (net (view b)) (source_of c) port.0 w m q i);
-            hop_count = omega arith;
-            whole = λ z e. let r = begins z e in r.1 ∙ ap (port.0 ∷◌) (way_only (view b) c t small _ w r.0 x (onward small r.2) (later_held small r.2));
-          }
 
--- the links at the source s, as the code has them
-module _ {b : List ℕ} {nodes c s held : ℕ} (t : ℕ) (d : dimension_at b ≤ largest_dimension) (count : nodes ≡ 2 ^ dimension_at b) (at : s ≡ source_of c) (f : HeldBy b c s held) where
+  no_path : ((w : Path) → SoleWay (view b) c t (bit_xor (source_of c) first) w → ⊥) → StandsNowhere (view b) c t
+  no_path none z e =
+      let r = begins z e in
+      none r.0 (subst (λ (n : ℕ). SoleWay (view b) c t n r.0) (sym to) (onward_way (view b) c t _ r.0 (onward small r.2) (later_sole small r.2)))
+
+  pub followed : (hops : Option ℕ) → Walks (view b) c t (bit_xor (source_of c) first) 1 hops → HopsFollowed (view b) c t hops
+  followed (Some hops) walked = let w = walked.way in (path_of_lem w.0 (subst (λ (n : ℕ). SoleWay (view b) c t n w.0) to w.1) w.2, walked.most)
+  followed None none = no_path none
+
+-- the links at the source
+module _ {b : List ℕ} {nodes c held : ℕ} (t : ℕ) (d : dimension_at b ≤ largest_dimension) (count : nodes ≡ 2 ^ dimension_at b) (f : HeldBy b c (source_of c) held) where
   here : (p : ℕ) → p < port_count → has held p ≡ held_by (view b) c (source_of c) p
   unfolding view
-  here p l = f.held p l ∙ ap (λ n. held_by (view b) c n p) at
+  here = f.held
 
   fits : (view b).dimension ≤ largest_dimension
   fits = omega (arith, shown b)
 
   -- a held port is one of the cube's where the vector is one of its ports
-  inside : held < nodes → (p : ℕ) → p < port_count → held_by (view b) c (source_of c) p ≡ true → p < dimension_at b
+  inside : held < nodes → (p : ℕ) → p < port_count → held_by (view b) c (source_of c) p ≡ true → p < (view b).dimension
   inside low p l h =
-      ⊎_elim (λ y. y) (λ y. absurd (omega (arith, has_room held p (here p l ∙ h), pow_mono {i = dimension_at b} {j = p} y))) (below_or (dimension_at b) p)
+      ⊎_elim (λ y. omega (arith, shown b, y)) (λ y. absurd (omega (arith, has_room held p (here p l ∙ h), pow_mono {i = dimension_at b} {j = p} y))) (below_or (dimension_at b) p)
 
   below : {a : ℕ} {w : Path} → HoldsPath (view b) c t a w → a < port_count
   below x = omega (arith, fits, first_below fits x)
 
   -- one link at most
-  pub leaving_one : links_held (view b) c s ≤ 1 → held < nodes → Leaving b c t held
+  pub leaving_one : {s : ℕ} → s ≡ source_of c → links_held (view b) c s ≤ 1 → held < nodes → held ≢ 0 → Leaving (view b) c t held
   unfolding links_held OnePort
-  leaving_one few low =
+  leaving_one at few low h =
       record {
-        one = λ h. let p = some_bit f.small here h in
-            (p.0, p.1, sole_bit f.small here p.1 p.2 (few_kept (held_by (view b) c (source_of c)) (subst (λ (n : ℕ). length (keep (held_by (view b) c n) (from 0 8)) ≤ 1) at few) p.0 p.1 p.2));
+        one = let p = some_bit f.small here h in (p.0, p.1, sole_bit f.small here p.1 p.2 (few_kept (held_by (view b) c (source_of c)) (subst (λ (n : ℕ). length (keep (held_by (view b) c n) (from 0 8)) ≤ 1) at few) p.0 p.1 p.2));
         held = λ p l h. let k = sym (here p l) ∙ h in (k, inside low p l k);
         leaves = λ a w x. here a (below x) ∙ first_held_lem fits x;
       }
 
+  -- no link
+  pub leaving_none : held ≡ 0 → StandsNowhere (view b) c t
+  leaving_none e z q = let r = holds_path (view b) c t z q in clash (here r.0 (below r.3) ∙ first_held_lem fits r.3) (ap (λ x. has x r.0) e ∙ zero_has r.0)
+
   -- several: those that are not uphill
-  module _ {vector : ℕ} (u : UphillVector s t vector) (more : 1 < links_held (view b) c s) where
+  module _ {s vector : ℕ} (at : s ≡ source_of c) (u : UphillVector s t vector) (more : 1 < links_held (view b) c s) where
     pub out_small : bit_xor held (bit_and held vector) < 256
     out_small = xor_lt 8 held (bit_and held vector) f.small (omega (arith, and_le_l held vector, f.small))
 
@@ -185,16 +174,16 @@ module _ {b : List ℕ} {nodes c s held : ℕ} (t : ℕ) (d : dimension_at b ≤
     alone : {a : ℕ} {w : Path} → HoldsPath (view b) c t a w → (uphill t (source_of c) a ≡ false) × ((r : ℕ) → held_by (view b) c (source_of c) r ≡ true → uphill t (source_of c) r ≡ false → r ≡ a)
     alone x = first_alone fits x (subst (λ (n : ℕ). 1 < links_held (view b) c n) at more)
 
-    pub leaving_several : held < nodes → OnePort (bit_xor held (bit_and held vector)) → Leaving b c t (bit_xor held (bit_and held vector))
+    pub leaving_several : held < nodes → OnePort (bit_xor held (bit_and held vector)) → Leaving (view b) c t (bit_xor held (bit_and held vector))
     leaving_several low one =
         record {
-          one = λ h. one;
+          one = one;
           held = λ p l h. let k = (both _ _ (sym (out_bits p l) ∙ h)).0 in (k, inside low p l k);
           leaves = λ a w x. out_bits a (below x) ∙ and (first_held_lem fits x) (ap not (alone x).0);
         }
 
     -- where they are not one, it holds no path to t
-    pub several_none : (OnePort (bit_xor held (bit_and held vector)) → ⊥) → (z : CircuitSound (view b) c) → end_for (view b) c z.path ≡ t → ⊥
+    pub several_none : (OnePort (bit_xor held (bit_and held vector)) → ⊥) → StandsNowhere (view b) c t
     several_none none z e = go (holds_path (view b) c t z e).3
       where
         go : {a : ℕ} {w : Path} → HoldsPath (view b) c t a w → ⊥

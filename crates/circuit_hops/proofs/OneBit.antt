@@ -2,22 +2,21 @@
 -- Assumes nothing.
 use mathlib.Core.Path.{◌≡◌, refl, ap, sym, ◌∙◌}
 use mathlib.Core.Logic.{⊎_elim, ◌≢◌}
-use mathlib.Core.Bool.{Bool, true, false, not, ◌&&◌, beq}
-use Prim.Native.Nat.{ℕ, ◌*◌, ◌%◌, ◌^◌, ◌<◌}
+use mathlib.Core.Bool.{Bool, true, false, not, ◌&&◌, ◌||◌, beq}
+use Prim.Native.Nat.{ℕ, ◌^◌, ◌<◌}
 use native.Mathlib.Omega.{arith}
 use lib.Bits.{bit_xor, bit_and}
-use lib.Dec.{eqb, ltb}
+use lib.Count.{ones}
+use lib.Dec.{eqb, ltb, leb}
 use lib.Pow.{pow_mono}
-use borrow.Author.Tests.{ltb-true, eqb-true, eqb-false}
+use borrow.Author.Tests.{ltb-true, eqb-true, not-true}
 use Rattle.common.specs.Decides.{Decides}
 use Rattle.common.specs.Lists.{lowest}
 use Rattle.common.proofs.Every.{at, decide}
-use Rattle.common.proofs.Lowest.{lowest_most, lowest_passes, lowest_found}
-use Rattle.common.proofs.Tests.{same?, below_or, clash, is_false}
+use Rattle.common.proofs.Tests.{same?, below_or, clash, either, is_false}
 use Rattle.cube.specs.Bits.{bit_at, has}
 use Rattle.cube.specs.Cube.{port_count}
 use Rattle.cube.proofs.Bits.{two_bits, bit_lt, bit_xor_lem, bit_power, bit_power_other, has_and, has_bit, has_no_bit, no_ports, same_bits}
-use Rattle.cube.proofs.Ports.{port_bit}
 use Rattle.circuit_hops.specs.CountHops.{OnePort}
 
 module _ {x : ℕ} {f : ℕ → Bool} (small : x < 256) (bits : (p : ℕ) → p < port_count → has x p ≡ f p) where
@@ -41,21 +40,26 @@ pub bit_only : (p q : ℕ) → has (2 ^ p) q ≡ true → q ≡ p
 unfolding has
 bit_only p q t = ⊎_elim (λ e. e) (λ h. absurd (clash t (rw (bit_power_other p q h)))) (same? q p)
 
--- a vector of one port is the bit of the lowest
-pub lowest_one : {x r : ℕ} → x < 256 → r ≡ lowest (has x) 8 0 → Decides (OnePort x) (eqb x (1 * 2 ^ r % 65536))
+-- a vector of one port at most
+few : (x : ℕ) → x < 256 → leb (ones x) 1 ≡ true → x ≢ 0 → x ≡ 2 ^ lowest (has x) 8 0
+unfolding ones has lowest
+few x small t h =
+    ⊎_elim (λ e. absurd (clash t (not-true _ e))) (λ e. ⊎_elim (λ z. absurd (h (eqb-true x 0 z))) (λ z. eqb-true x _ z) (either (eqb x 0) _ e))
+    (either (not (leb (ones x) 1)) _ (at 256 (λ x. not (leb (ones x) 1) || (eqb x 0 || eqb x (2 ^ lowest (has x) 8 0))) refl x small))
+
+one_is_few : (p : ℕ) → p < 8 → leb (ones (2 ^ p)) 1 ≡ true
+unfolding ones
+one_is_few p l = at 8 (λ p. leb (ones (2 ^ p)) 1) refl p l
+
+pub few_ones : (x : ℕ) → x < 256 → Decides (x ≢ 0 → OnePort x) (leb (ones x) 1)
 unfolding OnePort
-lowest_one {x} {r} l e = record { holds = λ t. yes (eqb-true _ _ t ∙ bit); fails = λ t p. eqb-false _ _ t (p.2 ∙ ap (2 ^◌) (sym (e ∙ low p)) ∙ sym bit) }
+few_ones x small = record { holds = λ t h. one (few x small t h); fails = λ e k. ⊎_elim (λ z. clash (none_is_few z) e) (λ h. let r = k h in clash (ap (λ x. leb (ones x) 1) r.2 ∙ one_is_few r.0 r.1) e) (same? x 0) }
   where
-    bit : 1 * 2 ^ r % 65536 ≡ 2 ^ r
-    bit = port_bit 16 r (omega (arith, lowest_most (has x) 8 0))
+    one : x ≡ 2 ^ lowest (has x) 8 0 → (p : ℕ) × (p < port_count) × (x ≡ 2 ^ p)
+    one q = ⊎_elim (λ k. (lowest (has x) 8 0, k, q)) (λ k. absurd (omega (arith, pow_mono {i = 8} {j = lowest (has x) 8 0} k))) (below_or 8 (lowest (has x) 8 0))
 
-    yes : x ≡ 2 ^ r → (p : ℕ) × (p < port_count) × (x ≡ 2 ^ p)
-    yes q = ⊎_elim (λ k. (r, k, q)) (λ k. absurd (omega (arith, pow_mono {i = 8} {j = r} k))) (below_or 8 r)
-
-    low : (p : (p : ℕ) × (p < port_count) × (x ≡ 2 ^ p)) → lowest (has x) 8 0 ≡ p.0
-    low p =
-        let few = lowest_found (has x) 8 0 p.0 (omega arith) (ap (λ y. has y p.0) p.2 ∙ bit_has p.0) in
-        bit_only p.0 _ (ap (λ y. has y (lowest (has x) 8 0)) (sym p.2) ∙ lowest_passes (has x) 8 0 (omega (arith, p.1)))
+    none_is_few : x ≡ 0 → leb (ones x) 1 ≡ true
+    none_is_few z = unfold ones in ap (λ x. leb (ones x) 1) z
 
 -- what is left of a vector without those of its ports that another has
 has_xor : (n m p : ℕ) → has (bit_xor n m) p ≡ not (beq (has n p) (has m p))

@@ -13,7 +13,6 @@ use Rattle.common.proofs.Tests.{below_or, clash, is_false}
 use Rattle.cube.specs.Bits.{has}
 use Rattle.cube.specs.Cube.{largest_dimension, port_count, NodeOf, VectorOf, source_of}
 use Rattle.cube.proofs.Bits.{high_has, no_bit_above}
-use Rattle.cube.proofs.Ports.{most_nodes}
 use Rattle.paths.proofs.Apart.{permitted_inside}
 use Rattle.paths.proofs.CubeNetwork.{unfolded_port}
 use Rattle.paths.proofs.Links.{On}
@@ -22,7 +21,9 @@ use Rattle.table.specs.TableContracts.{HeldBy}
 use Rattle.table.specs.View.{View, view, shape_of, net, held_by}
 use Rattle.circuit_path.specs.CircuitSound.{end_for, CircuitSound}
 use Rattle.circuit_hops.specs.Seen.{with_marks}
-use Rattle.circuit_hops.specs.CountHops.{FollowedPath, Taken, HopsPre}
+use Rattle.std.proofs.Common.{Option, Some, None}
+use Rattle.paths.specs.CubeNetwork.{circuit_count}
+use Rattle.circuit_hops.specs.CountHops.{FollowedPath, StandsNowhere, Taken}
 use Rattle.circuit_hops.proofs.Seen.{not_seen, seen_before, marks_after}
 use Rattle.circuit_hops.proofs.Ways.{shown}
 
@@ -47,64 +48,36 @@ module _ (b : List ℕ) (c : ℕ) (d : dimension_at b ≤ largest_dimension) (i 
       go p l t (inl k) = let r = held_inside (source_of c) p (unfold view in sym (f.held p k) ∙ t) in omega arith
       go p l t (inr k) = clash t (high_has 8 held p f.small k)
 
--- what looking for a path asks, in numbers
-pub nodes_most : {D nodes : ℕ} → D ≤ largest_dimension → nodes ≡ 2 ^ D → nodes ≤ 256
-nodes_most d m = omega (arith, most_nodes d)
-
 pub positive : {c : ℕ} → c ≢ 0 → 0 < c
 positive {c} h = ⊎_elim (λ z. absurd (h (omega arith))) (λ z. z) (below_or 1 c)
 
-pub source_inside : {b : List ℕ} {nodes c : ℕ} {m : List ℕ} → HopsPre b nodes m → 0 < c → c ≤ 8 * nodes → NodeOf (dimension_at b) (source_of c)
-source_inside pre h k = omega (arith, pre.count)
+pub source_inside : (D : ℕ) {nodes c : ℕ} → nodes ≡ 2 ^ D → 0 < c → c ≤ 8 * nodes → NodeOf D (source_of c)
+source_inside D q h k = omega (arith, q)
 
 -- what following circuit c to node t comes to
-pub record HopsFollowed (v : View) (c t hops : ℕ) : Type 0 where
-  pub found : hops < 4096 → FollowedPath v c t hops
-  pub forced : (s : CircuitSound v c) → end_for v c s.path ≡ t → hops < 4096
-  pub most : hops < 8192
+abbrev pub HopsFollowed : View → ℕ → ℕ → Option ℕ → Type 0
+HopsFollowed v c t (Some hops) = FollowedPath v c t hops × (hops ≤ 9)
+HopsFollowed v c t None = StandsNowhere v c t
 
--- a circuit that cannot stand on a path to t; one that is followed and marked; one that was marked before; and one with a link that the cube lacks
-module _ (b : List ℕ) (c t : ℕ) (before after : List ℕ) where
-  pub taken_none : (c ≤ 8 * 2 ^ (view b).dimension → (z : CircuitSound (view b) c) → end_for (view b) c z.path ≡ t → ⊥) → Taken (view b) c t before after 4096
-  taken_none h =
+-- a circuit that is followed and marked; and one that was marked before
+module _ (b : List ℕ) (c t : ℕ) (before after : List ℕ) {s held : ℕ} (at : s ≡ source_of c) (f : HeldBy b c s held) where
+  here : HeldBy b c (source_of c) held
+  here = subst (λ (n : ℕ). HeldBy b c n held) at f
+
+  marked_at : {x : Bool} → x ≡ eqb (bit_and (get_or before s 0) held) 0 → eqb (bit_and (get_or before (source_of c) 0) held) 0 ≡ x
+  marked_at e = ap (λ n. eqb (bit_and (get_or before n 0) held) 0) (sym at) ∙ sym e
+
+  pub taken_new : (hops : Option ℕ) → true ≡ eqb (bit_and (get_or before s 0) held) 0 → after ≡ with_marks before s held → s < length before → c ≤ circuit_count (shape_of (view b))
+      → HopsFollowed (view b) c t hops → Taken (view b) c t before after hops
+  taken_new (Some hops) e m i l x =
       record {
-        in_range = λ k. absurd (omega arith);
-        found = λ k. absurd (omega arith);
-        unseen = λ k. absurd (omega arith);
-        marks = λ k. absurd (omega arith);
-        forced = λ l z q u. absurd (h l z q);
-        most = omega arith;
+        in_range = l;
+        found = x.0;
+        unseen = not_seen before here (marked_at e);
+        marks = λ s p h. marks_after before here (m ∙ ap (λ n. with_marks before n held) at) (omega arith) s p;
+        most = x.1;
       }
+  taken_new None e m i l x = λ k z q u. x z q
 
-  module _ {s held : ℕ} (q : s ≡ source_of c) (at : HeldBy b c s held) where
-    f : HeldBy b c (source_of c) held
-    f = subst (λ (x : ℕ). HeldBy b c x held) q at
-
-    marked_at : {x : Bool} → eqb (bit_and (get_or before s 0) held) 0 ≡ x → eqb (bit_and (get_or before (source_of c) 0) held) 0 ≡ x
-    marked_at e = ap (λ y. eqb (bit_and (get_or before y 0) held) 0) (sym q) ∙ e
-
-    pub taken_new : {hops : ℕ} → eqb (bit_and (get_or before s 0) held) 0 ≡ true → after ≡ with_marks before s held → s < length before → source_of c < 2 ^ dimension_at b → HopsFollowed (view b) c t hops
-        → Taken (view b) c t before after hops
-    taken_new e m small i x =
-        record {
-          in_range = λ k. omega (arith, ap (2 ^◌) (shown b));
-          found = x.found;
-          unseen = λ k. not_seen before f (marked_at e);
-          marks = λ k s p h l. marks_after before f (m ∙ ap (λ y. with_marks before y held) q) (omega arith) s p l;
-          forced = λ l z q u. x.forced z q;
-          most = x.most;
-        }
-
-    pub taken_seen : eqb (bit_and (get_or before s 0) held) 0 ≡ false → Taken (view b) c t before after 4096
-    taken_seen e =
-        record {
-          in_range = λ k. absurd (omega arith);
-          found = λ k. absurd (omega arith);
-          unseen = λ k. absurd (omega arith);
-          marks = λ k. absurd (omega arith);
-          forced = λ l z q u. absurd (u (seen_before before f (marked_at e)));
-          most = omega arith;
-        }
-
-    pub taken_absent : {nodes : ℕ} {m : List ℕ} → HopsPre b nodes m → NodeOf (dimension_at b) (source_of c) → nodes ≤ held → Taken (view b) c t before after 4096
-    taken_absent pre i l = taken_none (λ k z e. omega (arith, pre.count, vector_inside b c pre.fits i z f))
+  pub taken_seen : false ≡ eqb (bit_and (get_or before s 0) held) 0 → Taken (view b) c t before after None
+  taken_seen e l z q u = u (seen_before before here (marked_at e))

@@ -2,7 +2,9 @@
 -- Assumes nothing.
 use mathlib.Core.Path.{◌≡◌, refl, ap, ap₂, sym, ◌∙◌, subst}
 use mathlib.Core.Logic.{◌⊎◌, inl, inr, ⊎_elim, ◌≢◌}
-use mathlib.Core.Bool.{true, ◌&&◌}
+use mathlib.Core.Bool.{true, not, ◌&&◌}
+use lib.Dec.{eqb}
+use borrow.Author.Tests.{eqb-false, not-true}
 use mathlib.Core.List.{List, [], ◌∷◌}
 use Prim.Native.Nat.{ℕ, ◌+◌, ◌^◌, ◌≤◌, ◌<◌}
 use native.Mathlib.Omega.{arith}
@@ -25,6 +27,7 @@ use Rattle.paths.proofs.Links.{On, on_cases, on_first_lem, on_later, on_none, on
 use Rattle.layout.specs.Layout.{dimension_at}
 use Rattle.table.specs.TableContracts.{HeldBy, links_held}
 use Rattle.table.specs.View.{View, view, shape_of, net, held_by}
+use Rattle.std.proofs.Common.{Option, Some, None}
 use Rattle.circuit_hops.specs.CountHops.{OnePort, Sole, SoleWay, Walks}
 use Rattle.circuit_hops.proofs.OneKept.{few_kept}
 use Rattle.circuit_hops.proofs.OneBit.{sole_bit, some_bit, bit_has, bit_only}
@@ -87,6 +90,15 @@ module _ (v : View) (c t : ℕ) where
       go (inr k) (inl f) ih = absurd (past q f.0 k)
       go (inr k) (inr l) ih = ih k l
 
+-- the link out of node n that circuit c holds and that is uphill towards node t, as a vector, if that is one
+abbrev pub SoleUphill : View → ℕ → ℕ → ℕ → Option ℕ → Type 0
+SoleUphill v c t n (Some on) = (p : ℕ) × (p < port_count) × (on ≡ 2 ^ p) × Sole v c t n p × (uphill t n p ≡ true)
+SoleUphill v c t n None = (p : ℕ) → p < port_count → Sole v c t n p → uphill t n p ≡ true → ⊥
+
+-- nodes that a test found to differ
+pub differ : {m n : ℕ} → true ≡ not (eqb m n) → m ≢ n
+differ {m} {n} e = eqb-false m n (not-true _ (sym e))
+
 -- a vector of one port is not empty
 pub not_none : {x : ℕ} → OnePort x → x ≢ 0
 unfolding OnePort
@@ -102,11 +114,12 @@ module _ {b : List ℕ} {c n t held vector : ℕ} (f : HeldBy b c n held) (u : U
   uphill_bits p l = has_and held vector p ∙ ap₂ ◌&&◌ (f.held p l) (u.bits p)
 
   -- one port in it is that of the only one, and of no more than one link one at most is uphill
-  pub one_sole : {p : ℕ} → p < port_count → bit_and held vector ≡ 2 ^ p → Sole (view b) c t n p × (uphill t n p ≡ true)
-  unfolding Sole
-  one_sole {p} l e =
-      let r = both (held_by (view b) c n p) (uphill t n p) (sym (uphill_bits p l) ∙ ap (λ x. has x p) e ∙ bit_has p) in
-      ((r.0, λ q k h s. bit_only p q (ap (λ x. has x q) (sym e) ∙ uphill_bits q k ∙ and h s)), r.1)
+  pub one_sole : OnePort (bit_and held vector) → SoleUphill (view b) c t n (Some (bit_and held vector))
+  unfolding Sole OnePort
+  one_sole one =
+      let p = one.0 in
+      let r = both (held_by (view b) c n p) (uphill t n p) (sym (uphill_bits p one.1) ∙ ap (λ x. has x p) one.2 ∙ bit_has p) in
+      (p, one.1, one.2, (r.0, λ q k h s. bit_only p q (ap (λ x. has x q) (sym one.2) ∙ uphill_bits q k ∙ and h s)), r.1)
 
   pub sole_one : {p : ℕ} → p < port_count → Sole (view b) c t n p → uphill t n p ≡ true → OnePort (bit_and held vector)
   unfolding Sole OnePort
@@ -141,59 +154,49 @@ module _ (b : List ℕ) (c n t hops : ℕ) (d : dimension_at b ≤ largest_dimen
   small : (view b).dimension ≤ largest_dimension
   small = omega (arith, shown b)
 
-  pub walks_here : n ≡ t → hops < 4096 → Walks (view b) c t n hops hops
+  pub walks_here : n ≡ t → hops ≤ 9 → Walks (view b) c t n hops (Some hops)
   unfolding SoleWay
-  walks_here e l = record { way = λ k. ([], e, omega arith); forced = λ w x. l; most = omega arith }
+  walks_here e l = record { way = ([], e, omega arith); most = l }
 
   -- not one link that is held there is uphill
-  pub walks_none : {held vector : ℕ} → n ≢ t → HeldBy b c n held → UphillVector n t vector → (OnePort (bit_and held vector) → ⊥) → Walks (view b) c t n hops 4096
-  walks_none {held} {vector} h f u none =
-      record { way = λ e. absurd (omega arith); forced = λ w s. absurd (go w s); most = omega arith }
-    where
-      go : (w : Path) → SoleWay (view b) c t n w → ⊥
-      go [] s = unfold SoleWay in h s
-      go (p ∷ w) s = unfold SoleWay in none (sole_one f u (offered_below (view b) c t small n p s.1) s.2 (offered_uphill (view b) c t small n p s.1))
+  pub walks_none : n ≢ t → SoleUphill (view b) c t n None → Walks (view b) c t n hops None
+  walks_none h none [] s = unfold SoleWay in h s
+  walks_none h none (p ∷ w) s = unfold SoleWay in none p (offered_below (view b) c t small n p s.1) s.2 (offered_uphill (view b) c t small n p s.1)
 
   -- a port is uphill only where the cube has it
   uphill_below : NodeOf (dimension_at b) n → NodeOf (dimension_at b) t → (p : ℕ) → uphill t n p ≡ true → p < dimension_at b
   unfolding uphill
   uphill_below h l p u = ⊎_elim (λ k. k) (λ k. absurd (clash u (rw (bit_high _ n p h k, bit_high _ t p l k)))) (below_or (dimension_at b) p)
 
-  pub turn : {held vector : ℕ} → HeldBy b c n held → UphillVector n t vector → OnePort (bit_and held vector) → NodeOf (dimension_at b) n → NodeOf (dimension_at b) t
-      → WalkStep b c n t (bit_xor n (bit_and held vector))
-  unfolding OnePort
-  turn {held} {vector} f u one i j =
+  pub turn : {on : ℕ} → SoleUphill (view b) c t n (Some on) → NodeOf (dimension_at b) n → NodeOf (dimension_at b) t → WalkStep b c n t (bit_xor n on)
+  turn {on} one i j =
       let p = one.0 in
-      let s = one_sole f u one.1 one.2 in
-      let low : p < dimension_at b = uphill_below i j p s.1 in
-      let to : bit_xor n (bit_and held vector) ≡ next n p = ap (bit_xor n) one.2 ∙ flip_xor n p ∙ ap (flip n) (sym (axis_low p (omega arith))) in
-      let mine : p ∈ offered (net (view b)) t n = port_offered (shape_of (view b)) t n p ((unfolded_port (shape_of (view b)) small refl p).1 (rw (shown b) low)) (rw (axis_low p (omega arith)) s.1) in
+      let low : p < dimension_at b = uphill_below i j p one.4 in
+      let to : bit_xor n on ≡ next n p = ap (bit_xor n) one.2 ∙ flip_xor n p ∙ ap (flip n) (sym (axis_low p (omega arith))) in
+      let mine : p ∈ offered (net (view b)) t n = port_offered (shape_of (view b)) t n p ((unfolded_port (shape_of (view b)) small refl p).1 (rw (shown b) low)) (rw (axis_low p (omega arith)) one.4) in
       record {
         port = p;
-        sole = s.0;
+        sole = one.3;
         is_offered = mine;
         there = to;
         inside = rw to (next_inside (dimension_at b) n p d i low);
         nearer = one_nearer (view b) t n p mine ∙ ap (λ x. 1 + (net (view b)).distance t x) (sym to);
       }
 
-  pub walks_on : {to r : ℕ} → n ≢ t → WalkStep b c n t to → Walks (view b) c t to (hops + 1) r → Walks (view b) c t n hops r
-  walks_on {to} {r} h x k =
-      record {
-        way = λ l. let w = k.way l in (x.port ∷ w.0, on w.0 w.1, omega (arith, w.2));
-        forced = go;
-        most = k.most;
-      }
-    where
-      on : (w : Path) → SoleWay (view b) c t to w → SoleWay (view b) c t n (x.port ∷ w)
-      on w s = unfold SoleWay in (h, x.is_offered, x.sole, subst (λ (y : ℕ). SoleWay (view b) c t y w) x.there s)
+  module _ {to : ℕ} (h : n ≢ t) (x : WalkStep b c n t to) where
+    on : (w : Path) → SoleWay (view b) c t to w → SoleWay (view b) c t n (x.port ∷ w)
+    on w s = unfold SoleWay in (h, x.is_offered, x.sole, subst (λ (y : ℕ). SoleWay (view b) c t y w) x.there s)
 
-      go : (w : Path) → SoleWay (view b) c t n w → r < 4096
-      go [] s = unfold SoleWay in absurd (h s)
-      go (q ∷ w) s =
-          unfold SoleWay Sole in
-          let same : q ≡ x.port = x.sole.1 q (offered_below (view b) c t small n q s.1) s.2.0 (offered_uphill (view b) c t small n q s.1) in
-          k.forced w (subst (λ (y : ℕ). SoleWay (view b) c t y w) (ap (next n) same ∙ sym x.there) s.3)
+    no_way : ((w : Path) → SoleWay (view b) c t to w → ⊥) → (w : Path) → SoleWay (view b) c t n w → ⊥
+    unfolding SoleWay Sole
+    no_way none [] s = h s
+    no_way none (q ∷ w) s =
+        let same : q ≡ x.port = x.sole.1 q (offered_below (view b) c t small n q s.1) s.2.0 (offered_uphill (view b) c t small n q s.1) in
+        none w (subst (λ (y : ℕ). SoleWay (view b) c t y w) (ap (next n) same ∙ sym x.there) s.3)
+
+    pub walks_on : (r : Option ℕ) → Walks (view b) c t to (hops + 1) r → Walks (view b) c t n hops r
+    walks_on (Some r) k = record { way = let w = k.way in (x.port ∷ w.0, on w.0 w.1, omega (arith, w.2)); most = k.most }
+    walks_on None k = no_way k
 
 -- a target is at most 8 hops away
 pub distance_most : (v : View) (t n : ℕ) → v.dimension ≤ largest_dimension → (net v).distance t n ≤ 8

@@ -1,16 +1,15 @@
--- Counting the hops of a circuit to a node. What the functions that count them ask and answer; a number of 4,096 or more stands for a test that fails,
--- since there are 2,048 links.
+-- Counting the hops of a circuit to a node: what the functions that count them answer.
 -- Assumes nothing.
-use Rattle.std.specs.Prelude.{◌≡◌, ◌⊎◌, ◌≢◌, true, List, [], ◌∷◌, ℕ, ◌+◌, ◌^◌, ◌≤◌, ◌<◌, length}
+use Rattle.std.specs.Prelude.{◌≡◌, ◌⊎◌, ◌≢◌, true, List, [], ◌∷◌, ℕ, ◌+◌, ◌^◌, ◌≤◌, ◌<◌, length, Option, Some, None}
 use Rattle.common.specs.Lists.{◌∈◌}
-use Rattle.cube.specs.Cube.{largest_dimension, port_count, next, source_of, NodeOf, cube_nodes, uphill}
-use Rattle.paths.specs.Network.{Path, links, offered}
+use Rattle.cube.specs.Bits.{has}
+use Rattle.cube.specs.Cube.{port_count, next, source_of, uphill}
+use Rattle.paths.specs.Network.{Path, links, offered, Exactly}
 use Rattle.paths.specs.Permitted.{Permitted}
 use Rattle.paths.specs.CubeNetwork.{ports, circuit_count}
-use Rattle.layout.specs.Layout.{table_length, dimension_at}
 use Rattle.table.specs.View.{View, shape_of, net, held_by}
 use Rattle.circuit_path.specs.CircuitSound.{end_for, CircuitSound}
-use Rattle.circuit_hops.specs.Seen.{mark_count, seen_at, Seen}
+use Rattle.circuit_hops.specs.Seen.{seen_at, Seen}
 
 -- a vector of one port
 unfoldable pub OnePort : ℕ → Type 0
@@ -26,16 +25,34 @@ SoleWay v c t n [] = n ≡ t
 SoleWay v c t n (p ∷ w) = (n ≢ t) × (p ∈ offered (net v) t n) × Sole v c t n p × SoleWay v c t (next n p) w
 
 -- what walking on such a way from node n comes to, after some hops
-pub record Walks (v : View) (c t n walked hops : ℕ) : Type 0 where
-  pub way : hops < 4096 → (w : Path) × SoleWay v c t n w × (hops ≡ walked + length w)
-  pub forced : (w : Path) → SoleWay v c t n w → hops < 4096
-  pub most : hops < 8192
+pub record Walked (v : View) (c t n walked hops : ℕ) : Type 0 where
+  pub way : (w : Path) × SoleWay v c t n w × (hops ≡ walked + length w)
+  pub most : hops ≤ 9
 
-pub record WalkPre (b : List ℕ) (n t : ℕ) : Type 0 where
-  pub bytes : length b ≡ table_length
-  pub fits : dimension_at b ≤ largest_dimension
-  pub start : NodeOf (dimension_at b) n
-  pub target : NodeOf (dimension_at b) t
+-- and where it comes to nothing, there is no such way
+abbrev pub Walks : View → ℕ → ℕ → ℕ → ℕ → Option ℕ → Type 0
+Walks v c t n walked (Some hops) = Walked v c t n walked hops
+Walks v c t n walked None = (w : Path) → SoleWay v c t n w → ⊥
+
+-- a path whose links circuit c holds, and no others, from its source over port a
+pub record HoldsPath (v : View) (c t a : ℕ) (w : Path) : Type 0 where
+  pub permitted : Permitted (net v) (source_of c) (ports (shape_of v)) t (a ∷ w)
+  pub exactly : Exactly (net v) (source_of c) (a ∷ w) (held_by v c)
+
+-- circuit c stands on no path to node t
+abbrev pub StandsNowhere : View → ℕ → ℕ → Type 0
+StandsNowhere v c t = (s : CircuitSound v c) → end_for v c s.path ≡ t → ⊥
+
+-- of the links that circuit c holds at its source, the one by which a path to node t may leave it, as a vector
+pub record Leaving (v : View) (c t first : ℕ) : Type 0 where
+  pub one : OnePort first
+  pub held : (p : ℕ) → p < port_count → has first p ≡ true → (held_by v c (source_of c) p ≡ true) × (p < v.dimension)
+  pub leaves : (a : ℕ) (w : Path) → HoldsPath v c t a w → has first a ≡ true
+
+-- and where there is none, the circuit stands on no such path
+abbrev pub Leaves : View → ℕ → ℕ → Option ℕ → Type 0
+Leaves v c t (Some first) = Leaving v c t first
+Leaves v c t None = StandsNowhere v c t
 
 -- a permitted path to node t over links of circuit c, and the circuit's own if it stands on one that ends there
 pub record FollowedPath (v : View) (c t hops : ℕ) : Type 0 where
@@ -46,18 +63,15 @@ pub record FollowedPath (v : View) (c t hops : ℕ) : Type 0 where
   pub whole : (s : CircuitSound v c) → end_for v c s.path ≡ t → s.path ≡ path
 
 -- what following circuit c to node t and marking it comes to: a circuit that is marked already is not followed again
-pub record Taken (v : View) (c t : ℕ) (before after : List ℕ) (hops : ℕ) : Type 0 where
-  pub in_range : hops < 4096 → c ≤ circuit_count (shape_of v)
-  pub found : hops < 4096 → FollowedPath v c t hops
-  pub unseen : hops < 4096 → Seen v before c → ⊥
-  pub marks : hops < 4096 → (s p : ℕ) → s < 256 → p < port_count → (seen_at after s p ≡ true → (seen_at before s p ≡ true) ⊎ (v.owner s p ≡ c))
+pub record Followed (v : View) (c t : ℕ) (before after : List ℕ) (hops : ℕ) : Type 0 where
+  pub in_range : c ≤ circuit_count (shape_of v)
+  pub found : FollowedPath v c t hops
+  pub unseen : Seen v before c → ⊥
+  pub marks : (s p : ℕ) → s < 256 → p < port_count → (seen_at after s p ≡ true → (seen_at before s p ≡ true) ⊎ (v.owner s p ≡ c))
       × (seen_at before s p ≡ true → seen_at after s p ≡ true) × ((s ≡ source_of c) → held_by v c s p ≡ true → seen_at after s p ≡ true)
-  pub forced : c ≤ circuit_count (shape_of v) → (s : CircuitSound v c) → end_for v c s.path ≡ t → (Seen v before c → ⊥) → hops < 4096
-  pub most : hops < 8192
+  pub most : hops ≤ 9
 
--- what counting the hops of a circuit asks: the bytes of a table, how many nodes its cube has, and marks
-pub record HopsPre (b : List ℕ) (nodes : ℕ) (m : List ℕ) : Type 0 where
-  pub bytes : length b ≡ table_length
-  pub fits : dimension_at b ≤ largest_dimension
-  pub count : nodes ≡ cube_nodes (dimension_at b)
-  pub size : length m ≡ mark_count
+-- and where it comes to nothing, the number is out of range, or the circuit stands on no path that ends there, or it was marked
+abbrev pub Taken : View → ℕ → ℕ → List ℕ → List ℕ → Option ℕ → Type 0
+Taken v c t before after (Some hops) = Followed v c t before after hops
+Taken v c t before after None = c ≤ circuit_count (shape_of v) → (s : CircuitSound v c) → end_for v c s.path ≡ t → (Seen v before c → ⊥) → ⊥

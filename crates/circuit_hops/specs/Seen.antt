@@ -7,10 +7,6 @@ use Rattle.cube.specs.Bits.{has}
 use Rattle.cube.specs.Cube.{port_count, source_of}
 use Rattle.table.specs.View.{View, held_by}
 
--- a byte for each of 256 nodes
-abbrev pub mark_count : ℕ
-mark_count = 256
-
 unfoldable pub seen_at : List ℕ → ℕ → ℕ → Bool
 seen_at m n p = has (get_or m n 0) p
 

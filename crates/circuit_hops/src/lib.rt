@@ -1,95 +1,94 @@
 // The hops of one circuit from its source to a node, each circuit counted once.
 #![tactic(auto)]
 
-ghost use Rattle.std.specs.Prelude.{◌≡◌, true, ◌<◌, eqb, length, get_or};
-ghost use Rattle.std.specs.Int.Bits.{bit_and};
+mod cube_table;
+mod marks;
+
+ghost use Rattle.std.specs.Prelude.{◌≡◌, ◌≢◌, ◌<◌, ◌≤◌, length};
 ghost use Rattle.common.specs.Decides.{Decides};
+ghost use Rattle.cube.specs.Cube.{source_of, NodeOf};
+ghost use Rattle.layout.specs.Layout.{dimension_at};
+ghost use Rattle.table.specs.TableContracts.{HeldBy};
 ghost use Rattle.table.specs.View.{view};
-ghost use Rattle.circuit_hops.specs.Seen.{with_marks};
-ghost use Rattle.circuit_hops.specs.CountHops.{OnePort, Walks, WalkPre, Taken, HopsPre};
+ghost use Rattle.circuit_hops.specs.CountHops.{OnePort, Walks, Leaves, Taken};
 
 use cube::{Circuit, Node};
+pub use cube_table::CubeTable;
+pub use marks::Marks;
 
-// More hops than there are links: the answer where a circuit does not lead where it should.
-pub const NONE: u32 = 4096;
-
-// Whether a vector has exactly one port.
-fn one_port(vector: u16) -> bool
+// Whether a vector has one port at most.
+fn one_at_most(vector: u16) -> bool
     requires { vector < 256 }
-    ensures { Decides (OnePort vector) result }
+    ensures { Decides (vector ≢ 0 → OnePort vector) result }
 {
-    vector == 1 << cube::lowest_bit(vector)
+    vector.count_ones() <= 1
 }
 
-// The hops of a circuit that has made one, to a node: at each node the link that it holds there and that is uphill, if that is one. NONE where it does not lead there.
-fn walk(t: &[u8], c: Circuit, from: Node, end: Node) -> u32
-    requires { WalkPre t.now from.0 end.0 }
-    ensures { Walks (view t.now) c.0 end.0 from.0 1 result }
+// The hops of a circuit that has made one, to a node: at each node the link that it holds there and that is uphill, if that is one. None where it does not lead there.
+fn walk(table: CubeTable, c: Circuit, from: Node, end: Node) -> Option<u32>
+    requires { (from.0 < table.nodes) × (end.0 < table.nodes) }
+    ensures { Walks (view table.entry.bytes.now) c.0 end.0 from.0 1 result }
 {
     let mut at = from;
-    let mut hops: u32 = 1;
-    while at.0 != end.0 {
-        // The count beside the vector, and the vector behind both ends of the test: so the compiler reads the row in one go.
-        let held = table::held_by(t, c, at);
+    let mut hops = 1;
+    while at != end {
+        // The count beside the vector, and the vector behind both ends of the test: so the compiler reads the row in one go, as it does not where a function answers the link.
+        let held = table::held_by(table.bytes, c, at);
         let on = held & cube::uphill_vector(at, end);
-        if table::links_held(t, c, at) > 1 {
-            if !one_port(on) {
-                return NONE;
+        if table::links_held(table.bytes, c, at) > 1 {
+            if !one_at_most(on) {
+                return None;
             }
         }
         if on == 0 {
-            return NONE;
+            return None;
         }
         at = Node(at.0 ^ on);
         hops += 1;
     }
-    hops
+    Some(hops)
 }
 
-// Marks the links that a circuit holds at its source. No other circuit holds one of them: so where one was marked before, the circuit was.
-fn mark_new(source: Node, held: u16, seen: &mut [u8]) -> bool
-    requires { (source.0 < 256) × (held < 256) × (length seen.old ≡ 256) }
-    ensures value { result ≡ eqb (bit_and (get_or seen.old source.0 0) held) 0 }
-    ensures seen_after { result ≡ true → seen.new ≡ with_marks seen.old source.0 held }
+// The link by which a path to a node leaves the source of a circuit, of the links that the circuit holds there. None where there is none, or where one is none of the cube's.
+fn first_link(table: CubeTable, c: Circuit, held: u16, end: Node) -> Option<u16>
+    requires c_in_cube { (0 < c.0) × NodeOf (dimension_at table.bytes.now) (source_of c.0) }
+    requires held_there { HeldBy table.bytes.now c.0 (source_of c.0) held }
+    ensures { Leaves (view table.entry.bytes.now) c.0 end.0 result }
 {
-    let at = source.0 as usize;
-    let old = table::wide(seen[at]);
-    if old & held != 0 {
-        return false;
+    let source = cube::source_of(c);
+    // Whether the links are the cube's is asked in both branches, and whether there is one behind them: in any other order the compiler reads the row entry by entry.
+    let first = if table::links_held(table.bytes, c, source) > 1 {
+        // Its path comes through its source again, so it went out over a port that is not uphill, and the others are uphill.
+        let out = held ^ (held & cube::uphill_vector(source, end));
+        if !one_at_most(out) || table.nodes <= held {
+            return None;
+        }
+        out
+    } else {
+        if held >= table.nodes {
+            return None;
+        }
+        held
+    };
+    if first == 0 {
+        return None;
     }
-    seen[at] = ((old | held) % 256) as u8;
-    true
+    Some(first)
 }
 
-// The hops of the circuit that holds a receive channel at a node; NONE where its links do not fit together or it was counted before.
-pub fn hops_to(t: &[u8], nodes: u16, c: Circuit, end: Node, seen: &mut [u8]) -> u32
-    requires { HopsPre t.now nodes seen.old × (0 < c.0) × (end.0 < nodes) }
-    ensures { Taken (view t.now) c.0 end.0 seen.old seen.new result }
+// The hops of the circuit that holds a receive channel at a node; None where its links do not fit together or it was counted before.
+pub fn hops_to(table: CubeTable, c: Circuit, end: Node, seen: &mut Marks) -> Option<u32>
+    requires { (0 < c.0) × (end.0 < table.nodes) }
+    ensures { Taken (view table.entry.bytes.now) c.0 end.0 seen.old.of_node seen.new.of_node result }
 {
-    if c.0 > cube::CHANNELS * nodes {
-        return NONE;
+    if c.0 > cube::CHANNELS * table.nodes {
+        return None;
     }
     let source = cube::source_of(c);
-    let held = table::held_by(t, c, source);
-    let mut first = held;
-    if table::links_held(t, c, source) > 1 {
-        // Its path comes through its source again, so it went out over a port that is not uphill, and the others are uphill.
-        first = held ^ (held & cube::uphill_vector(source, end));
-        if !one_port(first) {
-            return NONE;
-        }
-        if nodes <= held {
-            return NONE;
-        }
-    } else if held >= nodes {
-        return NONE;
+    let held = table::held_by(table.bytes, c, source);
+    let first = first_link(table, c, held, end)?;
+    if !seen.mark(source, held) {
+        return None;
     }
-    if first == 0 {
-        return NONE;
-    }
-    if mark_new(source, held, seen) {
-        walk(t, c, Node(source.0 ^ first), end)
-    } else {
-        NONE
-    }
+    walk(table, c, Node(source.0 ^ first), end)
 }

@@ -4,13 +4,18 @@ use mathlib.Core.Path.{◌≡◌, refl, ap, ap₂, sym, ◌∙◌}
 use mathlib.Core.Bool.{Bool, true, false, cond}
 use mathlib.Core.List.Memᴰ
 use mathlib.Core.List.{List, [], ◌∷◌, ◌++◌}
-use Prim.Native.Nat.{ℕ, zero, suc, ◌+◌, ◌/◌, ◌%◌, ◌^◌, ◌≤◌, ◌<◌}
+use Prim.Native.Nat.{ℕ, zero, suc, ◌+◌, ◌-◌, ◌≤◌, ◌<◌}
 use native.Mathlib.Omega.{arith}
 use native.Mathlib.Numerals.{add-one}
-use borrow.Author.Tests.{eq-eqb, ne_eqb}
+use Rattle.std.specs.Prelude.{Option, None, Some}
+use Rattle.std.specs.Option.{option_or}
+use Rattle.cube.specs.declared.kinds.Port.{Port}
+use Rattle.common.proofs.Tests.{below_or, both}
+use Rattle.common.proofs.Lowest.{lowest_here, lowest_on, lowest_end, lowest_most, lowest_passes, lowest_found}
+use mathlib.Core.Logic.{⊎_elim}
 use Rattle.common.specs.Lists.{◌∈◌, keep, from, lowest}
 use Rattle.common.proofs.Lists.{keep_yes, keep_no, keep_nil, keep_mem, keep_keep, keep_same}
-use Rattle.cube.specs.Bits.{bit_at, has}
+use Rattle.cube.specs.Bits.{has}
 use Rattle.cube.specs.CubeContracts.{Without}
 use Rattle.cube.specs.Cube.{port_count, next}
 use Rattle.cube.specs.Helical.{ports_of, first_or}
@@ -20,24 +25,26 @@ use Rattle.paths.specs.Recover.{drop_axis, walk_from, way_back, first_hop_choice
 use Rattle.paths.proofs.Recover.{first_choice}
 use Rattle.paths.proofs.Walks.{walk_none, walk_some, drop_port, way_back_one}
 use Rattle.table.specs.View.{View, net, held_by}
-use Rattle.circuit_path.specs.Follow.{takes, comes_back, links_followed, first_hop}
+use Rattle.circuit_path.specs.Follow.{takes, comes_back, links_followed, first_hop, port_is}
 
-module _ (v : View) (c n vector p : ℕ) where
-  pub takes_on : vector / 2 ^ p % 2 ≡ 1 → (r : Bool) → r ≡ held_by v c n p → r ≡ takes v c n vector p
-  unfolding takes has bit_at
-  takes_on e r q = rw (eq-eqb _ 1 e) q
+-- a port found below p is the lowest that passes; where none was, the lowest from p on is
+abbrev pub Found : (ℕ → Bool) → ℕ → Option Port → Type 0
+Found f p None = lowest f (8 - p) p ≡ lowest f 8 0
+Found f p (Some q) = (q.0 ≡ lowest f 8 0) × (q.0 < 8)
 
-  pub takes_off : (vector / 2 ^ p % 2 ≡ 1 → ⊥) → false ≡ takes v c n vector p
-  unfolding takes has bit_at
-  takes_off h = rw (ne_eqb _ 1 h)
+module _ (f : ℕ → Bool) (p : Port) (h : p.0 < 8) where
+  pub found_here : f p.0 ≡ true → (found : Option Port) → Found f p.0 found → Found f (p.0 + 1) (option_or found (Some p))
+  found_here e None g = (sym (lowest_here f 8 p.0 h e) ∙ g, h)
+  found_here e (Some q) g = g
 
-  pub back_on : takes v c n vector p ≡ true → (m : ℕ) → m ≡ next n p → (r : Bool) → r ≡ held_by v c m p → r ≡ comes_back v c n vector p
-  unfolding comes_back
-  back_on e m q r h = rw e (h ∙ ap (λ x. held_by v c x p) q)
+  pub found_past : f p.0 ≡ false → (found : Option Port) → Found f p.0 found → Found f (p.0 + 1) found
+  found_past e None g = sym (lowest_on f 8 p.0 h e) ∙ g
+  found_past e (Some q) g = g
 
-  pub back_off : takes v c n vector p ≡ false → false ≡ comes_back v c n vector p
-  unfolding comes_back
-  back_off e = rw e
+-- a port that is not taken does not come back
+pub no_back : (v : View) (c n vector p : ℕ) → takes v c n vector p ≡ false → comes_back v c n vector p ≡ false
+unfolding comes_back
+no_back v c n vector p e = rw e
 
 -- the lowest that passes is the first kept
 lowest_from : (f : ℕ → Bool) (k i : ℕ) → lowest f k i ≡ first_or (i + k) (keep f (from i k))
@@ -107,11 +114,27 @@ module _ (v : View) (c n vector : ℕ) where
   pub first_back : (p : ℕ) → p ≡ lowest (comes_back v c n vector) 8 0 → p < port_count → p ≡ first_hop v c n vector
   first_back p e h = let q : p ≡ first_or 8 back = e ∙ lowest_back in q ∙ sym (hop_is ∙ first_some back taken (omega arith))
 
-  pub first_taken : (p q : ℕ) → p ≡ lowest (comes_back v c n vector) 8 0 → 8 ≤ p → q ≡ lowest (takes v c n vector) 8 0 → q ≡ first_hop v c n vector
+  first_taken : (p q : ℕ) → p ≡ lowest (comes_back v c n vector) 8 0 → 8 ≤ p → q ≡ lowest (takes v c n vector) 8 0 → q ≡ first_hop v c n vector
   first_taken p q e h f =
       let z : p ≡ first_or 8 back = e ∙ lowest_back in
       let none : back ≡ [] = first_none back back_port (omega arith) in
       f ∙ lowest_taken ∙ sym (hop_is ∙ ap (λ xs. first_or 8 (xs ++ taken)) none)
+
+  -- none is taken before the lowest of the vector
+  pub vector_first : lowest (has vector) 8 0 ≤ lowest (takes v c n vector) 8 0
+  unfolding takes
+  vector_first =
+      ⊎_elim (λ l. lowest_found (has vector) 8 0 _ (omega arith) (both (has vector (lowest (takes v c n vector) 8 0)) _ (lowest_passes (takes v c n vector) 8 0 l)).0)
+      (λ l. omega (arith, lowest_most (has vector) 8 0)) (below_or 8 (lowest (takes v c n vector) 8 0))
+
+  -- where the way back is not held at any port, the first hop is the lowest that was found
+  pub first_found : (p : ℕ) → p ≡ 8 → lowest (comes_back v c n vector) (8 - p) p ≡ lowest (comes_back v c n vector) 8 0
+      → (found : Option Port) → Found (takes v c n vector) p found → port_is (first_hop v c n vector) found
+  first_found p z e None g =
+      let low = sym (lowest_end _ 8 p z) ∙ e in
+      let hop = first_taken p p low (omega arith) (sym (lowest_end _ 8 p z) ∙ g) in
+      omega arith
+  first_found p z e (Some q) g = (first_taken p q.0 (sym (lowest_end _ 8 p z) ∙ e) (omega arith) g.0, g.1)
 
   -- following: on by the lowest port, or no further
   pub follow_port : (q : ℕ) → q ≡ lowest (takes v c n vector) 8 0 → q < port_count → has vector q ≡ true
@@ -124,10 +147,10 @@ module _ (v : View) (c n vector : ℕ) where
       let drop : drop_axis q (ports_of port_count vector) ≡ ports_of port_count rest = drop_port 8 vector q rest (omega arith) (omega arith) w in
       walk_some (net v) (held_by v c) 8 (ports_of port_count vector) n q r.0 (length_ports 8 vector) r.1 ∙ ap (λ l. q ∷ walk_from 8 (net v) l (held_by v c) (next n q)) drop
 
-  pub follow_end : (q : ℕ) → q ≡ lowest (takes v c n vector) 8 0 → 8 ≤ q → links_followed v c n vector ≡ []
+  pub follow_end : 8 ≤ lowest (takes v c n vector) 8 0 → links_followed v c n vector ≡ []
   unfolding links_followed taken
-  follow_end q e h =
-      let z : q ≡ first_or 8 taken = e ∙ lowest_taken in
+  follow_end h =
+      let z = lowest_taken in
       walk_none (net v) (held_by v c) 8 (ports_of port_count vector) n (first_none taken (λ p m. (taken_port p m).0) (omega arith))
 
 pub hop_port : (v : View) (c n vector p : ℕ) → p ∈ first_hop_choices (net v) (ports_of port_count vector) (held_by v c) n → p < port_count

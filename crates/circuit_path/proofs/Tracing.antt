@@ -24,7 +24,10 @@ use Rattle.circuit_path.specs.CircuitSound.{end_for}
 use Rattle.circuit_path.specs.PathOf.{path_of}
 use Rattle.circuit_path.specs.OpenCircuit.{is_open_in}
 use Rattle.circuit_path.specs.Traced.{traced_into}
-use Rattle.circuit_path.specs.Follow.{takes, links_followed, first_hop, HasSource}
+use Rattle.circuit_path.specs.Follow.{takes, links_followed, first_hop, port_is, HasSource}
+use Rattle.std.specs.Prelude.{Option, None, Some}
+use Rattle.std.specs.Option.{IsSome}
+use Rattle.cube.specs.declared.kinds.Port.{Port}
 use Rattle.circuit_path.proofs.Hops.{follow_on, follow_end, follow_port}
 use Rattle.circuit_path.proofs.Examine.{hop_below, path_after, source_within}
 
@@ -81,8 +84,8 @@ module _ {v : View} {c left₀ n₀ left n hops q : ℕ} {buffer₀ buffer : Lis
         long = length-set buffer hops q ∙ inv.long;
       }
 
--- the whole path, of the numbers that the code has: the dimension, the count of nodes, the source and the first hop
-module _ {b : List ℕ} {c D nodes s a : ℕ} (known : HasSource b c) (d : D ≡ dimension_at b) (m : NodeCount D nodes) (q : s ≡ source_of c) (e : a ≡ first_hop (view b) c s (nodes - 1)) (some : is_open_in (view b) c ≡ true) where
+-- the whole path, of the numbers that the code has: the dimension, the count of nodes and the source
+module _ {b : List ℕ} {c D nodes s : ℕ} (known : HasSource b c) (d : D ≡ dimension_at b) (m : NodeCount D nodes) (q : s ≡ source_of c) (some : is_open_in (view b) c ≡ true) where
   shown : D ≡ (view b).dimension
   unfolding view
   shown = d
@@ -90,17 +93,19 @@ module _ {b : List ℕ} {c D nodes s a : ℕ} (known : HasSource b c) (d : D ≡
   fits : D ≤ largest_dimension
   fits = omega (arith, known.fits)
 
-  pub first_below : a < port_count
-  first_below = hop_below (view b) c shown fits m.value some q e
+  -- there is a first hop
+  pub hop_found : (r : Option Port) → port_is (first_hop (view b) c s (nodes - 1)) r → IsSome r
+  hop_found None h = absurd (omega (arith, h, hop_below (view b) c shown fits m.value some q refl))
+  hop_found (Some p) h = refl
 
-  module _ {start : ℕ} (to : start ≡ next s a) where
+  module _ {a start : ℕ} (e : a ≡ first_hop (view b) c s (nodes - 1)) (below : a < port_count) (to : start ≡ next s a) where
     path_is : path_of (view b) c ≡ a ∷ links_followed (view b) c start (nodes - 1)
-    path_is = path_after (view b) c shown fits m.value q e first_below to
+    path_is = path_after (view b) c shown fits m.value q e below to
 
     pub start_tracing : (buffer : List ℕ) → Tracing (view b) c buffer (nodes - 1) start buffer (nodes - 1) start 1
     start_tracing buffer =
         record {
-          node = rw to (next_inside 8 s a (omega arith) (source_within known d m q).node first_below);
+          node = rw to (next_inside 8 s a (omega arith) (source_within known d m q).node below);
           ports = omega (arith, m.some, m.most);
           count = refl;
           ends = refl;
@@ -109,15 +114,16 @@ module _ {b : List ℕ} {c D nodes s a : ℕ} (known : HasSource b c) (d : D ≡
         }
 
     -- no hop is left
-    pub end_tracing : (buffer : List ℕ) {after : List ℕ} {left n hops p : ℕ} → 9 ≤ length buffer → Tracing (view b) c (set buffer 0 a) (nodes - 1) start after left n hops
-        → p ≡ lowest (takes (view b) c n left) 8 0 → 8 ≤ p
-        → (hops ≡ length (path_of (view b) c)) × ((n ≡ end_for (view b) c (path_of (view b) c)) × (after ≡ traced_into (path_of (view b) c) buffer))
+    pub end_tracing : (buffer : List ℕ) {after : List ℕ} {left n hops : ℕ} → 9 ≤ length buffer → Tracing (view b) c (set buffer 0 a) (nodes - 1) start after left n hops
+        → 8 ≤ lowest (takes (view b) c n left) 8 0
+        → (hops ≡ length (path_of (view b) c)) × (hops ≤ 9) × ((n ≡ end_for (view b) c (path_of (view b) c)) × (after ≡ traced_into (path_of (view b) c) buffer))
     unfolding end network
-    end_tracing buffer {after} {left} {n} {hops} {p} room inv f l =
-        let none = follow_end (view b) c n left p f l in
+    end_tracing buffer {after} {left} {n} {hops} room inv l =
+        let none = follow_end (view b) c n left l in
         let short : length (path_of (view b) c) ≤ length buffer = omega (arith, ap length path_is, followed_short (view b) c start (nodes - 1)) in
         let starts : start ≡ next (source_of c) a = to ∙ ap (λ x. next x a) q in (
           omega (arith, inv.count, ap length none, ap length path_is),
+          omega (arith, inv.count, ap length none, followed_short (view b) c start (nodes - 1)),
           (
             sym (ap (end (net (view b)) n) none) ∙ inv.ends ∙ ap (λ x. end (net (view b)) x (links_followed (view b) c start (nodes - 1))) starts ∙ ap (end_for (view b) c) (sym path_is),
             sym (ap (sets after hops) none) ∙ inv.bytes ∙ ap (sets buffer 0) (sym path_is) ∙ written_whole (path_of (view b) c) buffer short,

@@ -1,7 +1,7 @@
 // The path of a circuit, recovered from the links that it holds.
 #![tactic(auto)]
 
-ghost use Rattle.std.specs.Prelude.{◌≡◌, true, cond, ltb, ◌≤◌, ◌<◌, length};
+ghost use Rattle.std.specs.Prelude.{◌≡◌, true, ◌≤◌, ◌<◌, length};
 ghost use Rattle.entries.specs.EntryContracts.{Within};
 ghost use Rattle.common.specs.Lists.{lowest};
 ghost use Rattle.cube.specs.Cube.{port_count};
@@ -10,11 +10,11 @@ ghost use Rattle.circuit_path.specs.CircuitSound.{end_for};
 ghost use Rattle.circuit_path.specs.PathOf.{path_of};
 ghost use Rattle.circuit_path.specs.OpenCircuit.{is_open_in};
 ghost use Rattle.circuit_path.specs.Traced.{traced_into};
-ghost use Rattle.circuit_path.specs.Follow.{takes, comes_back, first_hop, HasSource};
+ghost use Rattle.circuit_path.specs.Follow.{takes, comes_back, first_hop, port_is, HasSource};
 
 use cube::{Circuit, Node, Port};
 
-// How many hops a path has, and the node where it ends.
+// How many hops a path has, which a trace answers to C, and the node where it ends.
 #[derive(Clone, Copy)]
 pub struct WrittenPath {
     pub hops: u16,
@@ -22,75 +22,60 @@ pub struct WrittenPath {
 }
 
 // Whether a circuit holds the link out of a port.
+#[tactic(auto, unfolding(table::specs::View::view))]
 fn holds(t: &[u8], c: Circuit, n: Node, p: Port) -> bool
     requires { Within t.now n.0 p.0 }
     ensures { result ≡ held_by (view t.now) c.0 n.0 p.0 }
 {
-    table::owner(t, n, p).0 == c.0
+    table::owner(t, n, p) == c
 }
 
 // Whether a port is in a vector and a circuit holds the link out of it.
+#[tactic(auto, unfolding(crate::specs::Follow::takes, cube::specs::Bits::has, cube::specs::Bits::bit_at))]
 fn takes(t: &[u8], c: Circuit, n: Node, vector: u16, p: Port) -> bool
     requires { Within t.now n.0 p.0 }
     ensures { result ≡ takes (view t.now) c.0 n.0 vector p.0 }
 {
     let q = p.0;
-    if (vector >> q) % 2 == 1 {
-        holds(t, c, n, p)
-    } else {
-        false
-    }
+    (vector >> q) % 2 == 1 && holds(t, c, n, p)
 }
 
 // Whether it holds the way back too.
+#[tactic(auto, unfolding(crate::specs::Follow::comes_back))]
 fn comes_back(t: &[u8], c: Circuit, n: Node, vector: u16, p: Port) -> bool
     requires { Within t.now n.0 p.0 }
     ensures { result ≡ comes_back (view t.now) c.0 n.0 vector p.0 }
 {
-    if takes(t, c, n, vector, p) {
-        holds(t, c, cube::neighbour(n, p), p)
-    } else {
-        false
-    }
+    takes(t, c, n, vector, p) && holds(t, c, cube::neighbour(n, p), p)
 }
 
-// The lowest port of a vector whose link a circuit holds at a node: 8 where there is none. No port below the lowest of the vector is looked at.
-fn held_port(t: &[u8], c: Circuit, n: Node, vector: u16) -> Port
+// The lowest port of a vector whose link a circuit holds at a node. No port below the lowest of the vector is looked at.
+fn held_port(t: &[u8], c: Circuit, n: Node, vector: u16) -> Option<Port>
     requires { Within t.now n.0 0 × (vector < 256) }
-    ensures { result.0 ≡ lowest (takes (view t.now) c.0 n.0 vector) port_count 0 }
+    ensures { port_is (lowest (takes (view t.now) c.0 n.0 vector) port_count 0) result }
 {
-    let mut p = cube::lowest_bit(vector);
-    while p < cube::PORTS {
+    let first = cube::lowest_of(vector)?;
+    for p in first..cube::PORTS {
         if takes(t, c, n, vector, Port(p)) {
-            return Port(p);
+            return Some(Port(p));
         }
-        p += 1;
     }
-    Port(p)
+    None
 }
 
-// The first of two ports that were found, 8 standing for none.
-fn first_of(found: Port, p: Port) -> Port
-    ensures { result.0 ≡ cond (ltb found.0 port_count) found.0 p.0 }
-{
-    if found.0 < cube::NO_PORT { found } else { p }
-}
-
-// The first hop of a circuit's path from its source: one whose way back it holds too, or else the lowest. 8 where it holds none.
-fn first_hop(t: &[u8], c: Circuit, s: Node, vector: u16) -> Port
+// The first hop of a circuit's path from its source: one whose way back it holds too, or else the lowest.
+fn first_hop(t: &[u8], c: Circuit, s: Node, vector: u16) -> Option<Port>
     requires { Within t.now s.0 0 }
-    ensures { result.0 ≡ first_hop (view t.now) c.0 s.0 vector }
+    ensures { port_is (first_hop (view t.now) c.0 s.0 vector) result }
 {
-    let mut found = Port(cube::NO_PORT);
-    let mut p: u16 = 0;
-    while p < cube::PORTS {
+    let mut found = None;
+    for p in 0..cube::PORTS {
         if takes(t, c, s, vector, Port(p)) {
             if comes_back(t, c, s, vector, Port(p)) {
-                return Port(p);
+                return Some(Port(p));
             }
-            found = first_of(found, Port(p));
+            found = found.or(Some(Port(p)));
         }
-        p += 1;
     }
     found
 }
@@ -110,24 +95,22 @@ pub fn write_path(t: &[u8], c: Circuit, buffer: &mut [u8]) -> WrittenPath
     requires c_value { is_open_in (view t.now) c.0 ≡ true }
     requires in_bounds { 9 ≤ length buffer.old }
     ensures hops_value { result.hops ≡ length (path_of (view t.now) c.0) }
+    ensures few { result.hops ≤ 9 }
     ensures end_value { result.end.0 ≡ end_for (view t.now) c.0 (path_of (view t.now) c.0) }
     ensures buffer_after { buffer.new ≡ traced_into (path_of (view t.now) c.0) buffer.old }
 {
     let mut left = cube::node_count(table::dimension(t)) - 1;
     let source = cube::source_of(c);
-    let first = first_hop(t, c, source, left);
+    let first = first_hop(t, c, source, left).unwrap();
     buffer[0] = first.0 as u8;
     // The port of the first hop may be taken again; behind it each port is taken once.
     let mut at = cube::neighbour(source, first);
     let mut hops: u16 = 1;
-    loop {
-        let p = held_port(t, c, at, left);
-        if p.0 >= cube::NO_PORT {
-            return WrittenPath { hops, end: at };
-        }
+    while let Some(p) = held_port(t, c, at, left) {
         buffer[hops as usize] = p.0 as u8;
         hops += 1;
         at = cube::neighbour(at, p);
         left = cube::without(left, p);
     }
+    WrittenPath { hops, end: at }
 }

@@ -3,10 +3,8 @@
 use Rattle.std.specs.Prelude.{◌≡◌, refl, List, [], ◌∷◌, map, ℕ, ◌+◌, ◌*◌, eqb, length}
 use Rattle.common.specs.Lists.{keep, from}
 use Rattle.common.specs.Tests.{Test, refusal}
-use Rattle.command_word.specs.declared.WordRead.{WordRead}
-use Rattle.command_word.specs.declared.WordWritten.{WordWritten}
 use Rattle.command_word.specs.Commands.{commands, values_in, values, reserved}
-use Rattle.command_word.specs.Word.{read_tests, reading, read_word, write_tests, writing, write_word}
+use Rattle.command_word.specs.Word.{WordRead, WordWritten, read_tests, reading, read_word, write_tests, writing, write_word}
 
 abbrev read : ℕ → ℕ → ℕ → WordRead
 read n c k = record { number = n; command = c; carried = k }

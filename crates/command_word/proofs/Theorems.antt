@@ -9,9 +9,8 @@ use native.Mathlib.Nat.{mod-lt, mod-eq_of_lt}
 use lib.Dec.{eqb, leb, ltb}
 use borrow.Author.Tests.{ltb-true, ltb-false, leb-true, leb-false, eqb-true, eqb-false}
 use Rattle.common.specs.Tests.{refusal}
-use Rattle.command_word.specs.declared.WordRead.{WordRead}
 use Rattle.command_word.specs.Commands.{word_of, type_of, command_of, status_of, type_for, end_to_end_not_acknowledged, code_of, error_of, commands, values_in, values}
-use Rattle.command_word.specs.Word.{read_tests, carried_of, reading, no_reading, read_word, write_tests, writing, no_writing, write_word, cleared}
+use Rattle.command_word.specs.Word.{WordRead, read_tests, carried_of, reading, no_reading, read_word, write_tests, writing, no_writing, write_word, cleared}
 use Rattle.command_word.specs.Reasons.{ReadReason, too_large, no_command, wrong_type, reserved_command, readable, WriteReason, above_15, reserved_number, too_much, writable}
 use Rattle.command_word.proofs.Answers.{reason_number, read_accepted, write_number, write_accepted}
 use Rattle.command_word.proofs.Values.{values_small}

@@ -1,5 +1,5 @@
 -- The command word of document 01: its fields and its command list, what reading and writing answer, and why either is refused.
 pub mod Commands
-pub mod CommandContracts
+pub mod Kinds
 pub mod Word
 pub mod Reasons

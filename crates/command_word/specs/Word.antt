@@ -1,10 +1,24 @@
 -- Document 01, "Command words" and numbers 15 to 19 of "Where each call is stopped": what reading and writing a word answer.
 -- Assumes nothing.
-use Rattle.std.specs.Prelude.{cond, not, ◌||◌, List, [], ◌∷◌, ℕ, ◌+◌, ◌*◌, ◌/◌, ◌%◌, eqb, leb, ltb}
+use Rattle.std.specs.Prelude.{cond, not, ◌||◌, List, [], ◌∷◌, ℕ, ◌+◌, ◌*◌, ◌/◌, ◌%◌, eqb, leb, ltb, Result, Ok, Err}
 use Rattle.common.specs.Tests.{Test, test, refusal}
-use Rattle.command_word.specs.declared.WordRead.{WordRead}
-use Rattle.command_word.specs.declared.WordWritten.{WordWritten}
+use Rattle.common.specs.Refusals.{number_of}
+use Rattle.common.specs.declared.refusal.Refusal.{Refusal}
+use Rattle.command_word.specs.declared.CommandWord.{CommandWord}
+use Rattle.command_word.specs.declared.Reading.{Reading}
 use Rattle.command_word.specs.Commands.{word_of, type_of, command_of, status_of, type_for, values, reserved}
+use Rattle.command_word.specs.Kinds.{command_number}
+
+-- "reading a word, number, command and carried number"
+pub record WordRead : Type 0 where
+  pub number : ℕ
+  pub command : ℕ
+  pub carried : ℕ
+
+-- "writing one, number and word"
+pub record WordWritten : Type 0 where
+  pub number : ℕ
+  pub word : ℕ
 
 -- the tests of reading: 15 above 4,095; 16 packet type 0 or 1; 17 type does not go with the command; 18 reserved command
 unfoldable pub read_tests : ℕ → List Test
@@ -46,6 +60,15 @@ no_writing number = record { number = number; word = 0 }
 -- what writing answers
 unfoldable pub write_word : ℕ → ℕ → WordWritten
 write_word command carried = let number = refusal (write_tests command carried) in cond (eqb number 0) (writing command carried) (no_writing number)
+
+-- what the code's answers tell C: the numbers of what was read or written, or of the refusal
+abbrev pub read_answer : Result Reading Refusal → WordRead
+read_answer (Ok r) = record { number = 0; command = command_number r.command; carried = r.carried }
+read_answer (Err e) = no_reading (number_of e)
+
+abbrev pub write_answer : Result CommandWord Refusal → WordWritten
+write_answer (Ok word) = record { number = 0; word = word.0 }
+write_answer (Err e) = no_writing (number_of e)
 
 -- the word with its ignored bits cleared: below the command, only what the command carries is left
 unfoldable pub cleared : ℕ → ℕ

@@ -5,3 +5,4 @@ pub mod Lists
 pub mod From
 pub mod Lowest
 pub mod LowestBit
+pub mod Refusals

@@ -7,7 +7,8 @@ use Prim.Native.Nat.{ℕ, zero, suc, ◌+◌, ◌-◌, ◌≤◌, ◌<◌}
 use native.Mathlib.Omega.{arith}
 use lib.Dec.{ltb}
 use borrow.Author.Tests.{lt-ltb, le-ltb, ltb-true, ltb-false}
-use Rattle.common.specs.Lists.{lowest}
+use Rattle.std.specs.Prelude.{Some, None}
+use Rattle.common.specs.Lists.{lowest, some_below}
 use Rattle.common.proofs.Tests.{same?, clash, below_or}
 
 module _ (f : ℕ → Bool) (n k : ℕ) (h : k < n) where
@@ -100,3 +101,18 @@ unfolding lowest
 lowest_same f g zero i h = refl
 lowest_same f g (suc k) i h =
     rw (h i (omega arith) (omega arith)) (ap (cond (g i) i) (lowest_same f g k (i + 1) (λ j a b. h j (omega arith) (omega arith))))
+
+-- what an answer says that is a number where it is below n, and nothing where it is not
+pub some_is : {n k x : ℕ} → Some k ≡ some_below n x → (k ≡ x) × (x < n)
+some_is {n} {k} {x} e = go (ltb x n) refl e
+  where
+    go : (y : Bool) → ltb x n ≡ y → Some k ≡ cond y (Some x) None → (k ≡ x) × (x < n)
+    go true q z = (cc, ltb-true x n q)
+    go false q z = absurd (cc)
+
+pub none_is : {n x : ℕ} → None ≡ some_below n x → n ≤ x
+none_is {n} {x} e = go (ltb x n) refl e
+  where
+    go : (y : Bool) → ltb x n ≡ y → None ≡ cond y (Some x) None → n ≤ x
+    go true q z = absurd (cc)
+    go false q z = ltb-false x n q

@@ -3,18 +3,15 @@
 -- Assumes nothing.
 use mathlib.Core.Path.{◌≡◌, refl, ap, sym, ◌∙◌}
 use mathlib.Core.Logic.{◌≢◌, ⊎_elim}
-use mathlib.Core.Bool.{Bool, true, false}
+use mathlib.Core.Bool.{true, false}
 use Prim.Native.Nat.{ℕ, zero, suc, ◌+◌, ◌-◌, ◌/◌, ◌%◌, ◌^◌, ◌≤◌, ◌<◌}
 use native.Mathlib.Omega.{arith}
 use native.Mathlib.Nat.{div-one, div-eq_of_lt, lt_of_lt_of_le, pow-succ'}
 use lib.Dec.{eqb}
 use lib.Pow.{pow_mono, shr-shr, shr_le}
 use lib.Count.{count_trailing_zeros, under}
+use Rattle.common.specs.FirstAfter.{bit_set, FirstAfter, above, round}
 use Rattle.common.proofs.Tests.{below_or, clash}
-
--- bit j of n is set
-abbrev pub bit_set : ℕ → ℕ → Bool
-bit_set n j = eqb (n / 2 ^ j % 2) 1
 
 -- the bits of what is left of a number behind its first k bits, and of its half
 pub bit_after : (n k j : ℕ) → bit_set (n / 2 ^ k) j ≡ bit_set n (k + j)
@@ -70,3 +67,10 @@ module _ (k n a : ℕ) (room : n < 2 ^ k) where
   pub none_above : n / 2 ^ (a + 1) ≡ 0 → (j : ℕ) → bit_set n j ≡ true → j ≤ a
   none_above z j e =
       ⊎_elim (λ l. omega arith) (λ l. absurd (clash (rw z at (left_after j (omega arith) e)) (no_bit_at 0 0 (j - (a + 1)) (omega arith) (omega arith)))) (below_or (a + 1) j)
+
+  -- So it is the first one after the place.
+  pub found_above : n / 2 ^ (a + 1) ≢ 0 → FirstAfter n a (count_trailing_zeros k (n / 2 ^ (a + 1)) + (a + 1))
+  found_above some = above (above_set some) (omega arith) (above_least some)
+
+  pub found_round : n ≢ 0 → n / 2 ^ (a + 1) ≡ 0 → FirstAfter n a (count_trailing_zeros k n)
+  found_round some none = round (lowest_set k n some room) (none_above none) (lowest_least k n)

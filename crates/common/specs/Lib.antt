@@ -2,3 +2,5 @@
 pub mod Tests
 pub mod Lists
 pub mod Decides
+pub mod Refusals
+pub mod FirstAfter

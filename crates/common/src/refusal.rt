@@ -1,69 +1,69 @@
-// The refusal numbers of document 01, "Where each call is stopped", and of document 02. Success is 0.
+// Why a call is refused: the numbers of document 01, "Where each call is stopped", and of document 02.
+ghost use Rattle.std.specs.Prelude.{◌≡◌};
+ghost use Rattle.common.specs.Refusals.{number_of, answer_of};
+
+// A refusal is its number to C: 1 to 31, as the papers have them. Success is 0, which is no refusal.
+#[derive(Clone, Copy, Debug, PartialEq, Eq)]
+pub enum Refusal {
+    // The lent table.
+    TableLength = 1,
+    Dimension = 2,
+    NotSound = 3,
+    // Node, channel and port.
+    Node = 4,
+    Channel = 5,
+    Port = 6,
+    // Open, before the search.
+    RoutingType = 7,
+    SendVector = 8,
+    ChannelInUse = 9,
+    // Open, after the search.
+    RouteRejected = 10,
+    ReceiveRejected = 11,
+    // Close, trace and block.
+    NoCircuit = 12,
+    LinkHeld = 13,
+    BufferShort = 14,
+    // Command words.
+    WordTooLarge = 15,
+    NotACommand = 16,
+    WrongType = 17,
+    ReservedCommand = 18,
+    CarriedTooLarge = 19,
+    // The printed list.
+    UnreadableLine = 20,
+    // Disarm (document 02): a circuit holds the receive channel.
+    ChannelHeld = 21,
+    // Open, after the search: beside a route rejection, where waiting does not help.
+    NoRoute = 22,
+    // A book of circuits (document 02): a buffer cannot hold its part; a book that is read is not well formed.
+    BookShort = 23,
+    Book = 25,
+    // A job (document 02): a length that no list of sends has.
+    SendList = 28,
+    // A packet to a receive channel (document 02).
+    ChannelStopped = 30,
+    // The arbiter: a request or a record that is no requester.
+    Requester = 31,
+}
+
+impl Refusal {
+    pub fn number(self) -> u16
+        ensures { result ≡ number_of self }
+    {
+        self as u16
+    }
+}
+
+// Success.
 pub const ACCEPTED: u16 = 0;
 
-// The lent table.
-pub const TABLE_LENGTH: u16 = 1;
-
-pub const DIMENSION: u16 = 2;
-
-pub const NOT_SOUND: u16 = 3;
-
-// Node, channel and port.
-pub const NODE: u16 = 4;
-
-pub const CHANNEL: u16 = 5;
-
-pub const PORT: u16 = 6;
-
-// Open, before the search.
-pub const ROUTING_TYPE: u16 = 7;
-
-pub const SEND_VECTOR: u16 = 8;
-
-pub const CHANNEL_IN_USE: u16 = 9;
-
-// Open, after the search.
-pub const ROUTE_REJECTED: u16 = 10;
-
-pub const RECEIVE_REJECTED: u16 = 11;
-
-// Close, trace and block.
-pub const NO_CIRCUIT: u16 = 12;
-
-pub const LINK_HELD: u16 = 13;
-
-pub const BUFFER_SHORT: u16 = 14;
-
-// Command words.
-pub const WORD_TOO_LARGE: u16 = 15;
-
-pub const NOT_A_COMMAND: u16 = 16;
-
-pub const WRONG_TYPE: u16 = 17;
-
-pub const RESERVED_COMMAND: u16 = 18;
-
-pub const CARRIED_TOO_LARGE: u16 = 19;
-
-// The printed list.
-pub const UNREADABLE_LINE: u16 = 20;
-
-// Disarm (document 02): a circuit holds the receive channel.
-pub const CHANNEL_HELD: u16 = 21;
-
-// Open, after the search: beside a route rejection, where waiting does not help.
-pub const NO_ROUTE: u16 = 22;
-
-// A book of circuits (document 02): a buffer cannot hold its part; a book that is read is not well formed.
-pub const BOOK_SHORT: u16 = 23;
-
-pub const BOOK: u16 = 25;
-
-// A job (document 02): a length that no list of sends has.
-pub const SEND_LIST: u16 = 28;
-
-// A packet to a receive channel (document 02).
-pub const CHANNEL_STOPPED: u16 = 30;
-
-// The arbiter: a request or a record that is no requester.
-pub const REQUESTER: u16 = 31;
+// The number that C gets: 0 for success.
+pub fn answer(result_of_call: Result<(), Refusal>) -> u16
+    ensures { result ≡ answer_of result_of_call }
+{
+    match result_of_call {
+        Ok(()) => ACCEPTED,
+        Err(refused) => refused.number(),
+    }
+}

@@ -1,19 +1,18 @@
--- The port tried first, as the code counts it: the lowest above the arrival port, or else the lowest, is the first of the helical order, at every width.
+-- The port tried first, as the code finds it: the lowest above the arrival port, or else the lowest, is the first of the helical order, at every width.
 -- Assumes nothing.
 use mathlib.Core.Path.{◌≡◌, refl, ap, sym, ◌∙◌}
 use mathlib.Core.Logic.{◌≢◌, ⊎_elim}
 use mathlib.Core.Bool.{true}
 use mathlib.Core.List.Memᴰ
 use mathlib.Core.List.{List, [], ◌∷◌, ◌++◌, append-nil}
-use Prim.Native.Nat.{ℕ, ◌+◌, ◌/◌, ◌^◌, ◌≤◌, ◌<◌}
+use Prim.Native.Nat.{ℕ, ◌^◌, ◌≤◌, ◌<◌}
 use native.Mathlib.Omega.{arith}
 use lib.Dec.{ltb, leb}
-use lib.Count.{count_trailing_zeros}
 use borrow.Author.Tests.{lt-ltb, ltb-true}
 use Rattle.common.specs.Lists.{◌∈◌, keep, Pairwise}
+use Rattle.common.specs.FirstAfter.{FirstAfter, above, round}
 use Rattle.common.proofs.Lists.{keep_mem, mem_keep, keep_pairwise}
 use Rattle.common.proofs.Tests.{below_or, clash}
-use Rattle.common.proofs.LowestBit.{lowest_set, lowest_least, above_set, above_least, none_above}
 use Rattle.cube.specs.Bits.{bit_at, has}
 use Rattle.cube.specs.Helical.{ports_of, helical, first_or}
 use Rattle.cube.specs.CubeContracts.{FirstTried, FirstByRule}
@@ -46,12 +45,8 @@ module _ (w v a p : ℕ) (inside : v < 2 ^ w) (on : has v p ≡ true) where
       rw (helical_last a (ports_of w v) (λ j m. none j (ports_mem w v m).1))
       (sym (ap (first_or 0) (append-nil (ports_of w v))) ∙ first_least p (ports_of w v) [] (ports_pairwise w v) member (λ j m. least j (ports_mem w v m).1))
 
--- what the code finds
-module _ (v a : ℕ) (room : v < 2 ^ 32) (some : v ≢ 0) where
-  pub rule_above : v / 2 ^ (a + 1) ≢ 0 → FirstByRule v a (count_trailing_zeros 32 (v / 2 ^ (a + 1)) + (a + 1))
-  unfolding has bit_at
-  rule_above z = record { tried = λ w h. let on = above_set 32 v a room z in tried w v a _ h on (first_above w v a _ h on (omega arith) (above_least 32 v a room z)) some }
-
-  pub rule_round : v / 2 ^ (a + 1) ≡ 0 → FirstByRule v a (count_trailing_zeros 32 v)
-  unfolding has bit_at
-  rule_round z = record { tried = λ w h. let on = lowest_set 32 v some room in tried w v a _ h on (first_round w v a _ h on (none_above 32 v a room z) (lowest_least 32 v)) some }
+-- The first port after the arrival port is the one by rule.
+pub by_rule : (v a p : ℕ) → v ≢ 0 → FirstAfter v a p → FirstByRule v a p
+unfolding has bit_at
+by_rule v a p some (above on past least) = record { tried = λ w h. tried w v a p h on (first_above w v a p h on past least) some }
+by_rule v a p some (round on low least) = record { tried = λ w h. tried w v a p h on (first_round w v a p h on low least) some }

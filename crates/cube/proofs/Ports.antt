@@ -1,21 +1,25 @@
 -- Vectors of ports: the uphill vector, a vector without one of its ports, and the shift by which the code names a port.
 -- Assumes nothing.
-use mathlib.Core.Path.{◌≡◌, refl, ap, ◌∙◌}
+use mathlib.Core.Path.{◌≡◌, refl, ap, sym, ◌∙◌}
 use mathlib.Core.Bool.{Bool, true, false, not, ◌&&◌, and-true}
-use Prim.Native.Nat.{ℕ, zero, suc, ◌+◌, ◌-◌, ◌*◌, ◌%◌, ◌^◌, ◌≤◌, ◌<◌}
+use mathlib.Core.Logic.{◌≢◌, ⊎_elim}
+use Rattle.std.specs.Prelude.{Some, None}
+use Prim.Native.Nat.{ℕ, zero, suc, ◌-◌, ◌*◌, ◌%◌, ◌^◌, ◌≤◌, ◌<◌}
 use native.Mathlib.Omega.{arith}
 use native.Mathlib.Nat.{one-mul, lt_of_lt_of_le}
 use lib.Count.{count_trailing_zeros}
 use lib.Dec.{eqb, lit<}
 use lib.Bits.{bit_xor}
 use lib.Pow.{shl_exact, pow_pos, pow_mono}
-use borrow.Author.Tests.{eqb-true, eqb-false}
-use Rattle.common.specs.Lists.{lowest}
-use Rattle.common.proofs.Every.{at}
+use borrow.Author.Tests.{eqb-true, eqb-false, lt-ltb}
+use Rattle.common.specs.Lists.{lowest, some_below}
+use Rattle.common.proofs.Lowest.{lowest_here, lowest_skip}
+use Rattle.common.proofs.LowestBit.{lowest_set, lowest_least}
+use Rattle.common.proofs.Tests.{below_or, clash, is_false}
 use Rattle.cube.specs.Bits.{bit_at, has, flip}
 use Rattle.cube.specs.CubeContracts.{NodeCount, UphillVector, Without}
 use Rattle.cube.specs.Cube.{NodeOf, largest_dimension, uphill}
-use Rattle.cube.proofs.Bits.{bit_lt, bit_xor_lem, bit_flipped, bit_kept, has_bit, flip_drops}
+use Rattle.cube.proofs.Bits.{bit_lt, bit_xor_lem, bit_flipped, bit_kept, has_bit, flip_drops, high_has}
 
 -- `1 << p` of w bits
 pub port_bit : (w p : ℕ) → p < w → 1 * 2 ^ p % 2 ^ w ≡ 2 ^ p
@@ -62,7 +66,18 @@ without_power v p e =
     let same : flip v p ≡ v - 2 ^ p = omega (arith, flip_drops v p e) in
     rw same at (without_of v p e)
 
--- the lowest of eight bits, as the code counts it: a ninth bit stands for none
-pub lowest_is : (v : ℕ) → v < 256 → count_trailing_zeros 16 (v + 256) ≡ lowest (has v) 8 0
-unfolding has count_trailing_zeros lowest
-lowest_is v h = eqb-true _ _ (at 256 (λ v. eqb (count_trailing_zeros 16 (v + 256)) (lowest (has v) 8 0)) refl v h)
+-- the lowest of eight bits, as the code counts it, and that there is none
+module _ (v : ℕ) (h : v < 256) where
+  pub lowest_none : v ≡ 0 → None ≡ some_below 8 (lowest (has v) 8 0)
+  unfolding has bit_at lowest
+  lowest_none e = rw e
+
+  pub lowest_some : v ≢ 0 → Some (count_trailing_zeros 16 v) ≡ some_below 8 (lowest (has v) 8 0)
+  unfolding has bit_at
+  lowest_some z =
+      let k = count_trailing_zeros 16 v in
+      let on : has v k ≡ true = lowest_set 16 v z (omega arith) in
+      let small : k < 8 = ⊎_elim (λ l. l) (λ l. absurd (clash on (high_has 8 v k h l))) (below_or 8 k) in
+      let none : (j : ℕ) → j < k → has v j ≡ false = λ j l. is_false (has v j) (λ f. omega (arith, l, lowest_least 16 v j f)) in
+      let e : lowest (has v) 8 0 ≡ k = sym (lowest_skip (has v) 8 k (omega arith) none) ∙ lowest_here (has v) 8 k small on in
+      rw (e, lt-ltb k 8 small)

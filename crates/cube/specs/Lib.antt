@@ -4,3 +4,4 @@ pub mod Axes
 pub mod Cube
 pub mod Helical
 pub mod CubeContracts
+pub mod RoutingTypes

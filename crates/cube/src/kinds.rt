@@ -18,14 +18,14 @@ pub const NO_CHANNEL: u16 = CHANNELS;
 // "Sends use arrival port 7": behind it the order begins with port 0.
 pub const SEND_ARRIVAL: u16 = 7;
 
-#[derive(Clone, Copy)]
+#[derive(Clone, Copy, Debug, PartialEq, Eq)]
 pub struct Node(pub u16);
 
-#[derive(Clone, Copy)]
+#[derive(Clone, Copy, Debug, PartialEq, Eq)]
 pub struct Port(pub u16);
 
 // 0 is no circuit.
-#[derive(Clone, Copy)]
+#[derive(Clone, Copy, Debug, PartialEq, Eq)]
 pub struct Circuit(pub u16);
 
 // The circuit of a send channel.

@@ -1,6 +1,6 @@
 // Where a port leads, and vectors of ports: bit p of a vector stands for port p.
 ghost use Rattle.std.specs.Prelude.{◌≡◌, true, ◌≤◌, ◌<◌};
-ghost use Rattle.common.specs.Lists.{lowest};
+ghost use Rattle.common.specs.Lists.{lowest, some_below};
 ghost use Rattle.cube.specs.Bits.{has};
 ghost use Rattle.cube.specs.Axes.{own_axes};
 ghost use Rattle.cube.specs.CubeContracts.{NodeCount, UphillVector, Without};
@@ -44,10 +44,14 @@ pub fn without(vector: u16, port: Port) -> u16
     vector ^ (1 << p)
 }
 
-// The lowest bit that is set of eight: 8 where none is.
-pub fn lowest_bit(vector: u16) -> u16
+// The lowest bit that is set of eight.
+pub fn lowest_of(vector: u16) -> Option<u16>
     requires { vector < 256 }
-    ensures { result ≡ lowest (has vector) port_count 0 }
+    ensures { result ≡ some_below port_count (lowest (has vector) port_count 0) }
 {
-    u16::trailing_zeros(vector + 256) as u16
+    if vector == 0 {
+        None
+    } else {
+        Some(u16::trailing_zeros(vector) as u16)
+    }
 }

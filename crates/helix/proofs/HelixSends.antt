@@ -15,7 +15,7 @@ use Rattle.common.proofs.Tests.{clash, same?}
 use Rattle.cube.specs.Bits.{has}
 use Rattle.cube.specs.CubeContracts.{Without, FirstTried}
 use Rattle.cube.specs.Cube.{largest_dimension, port_count, channels, VectorOf}
-use Rattle.cube.specs.Helical.{helical, ports_of, first_port, no_port}
+use Rattle.cube.specs.Helical.{helical, ports_of, first_port}
 use Rattle.cube.proofs.Bits.{bit_power_other}
 use Rattle.cube.proofs.Order.{length_helical, length_ports, helical_zero, port_tried, low_port}
 use Rattle.paths.specs.Pass.{PassResult, none, found, scouts}
@@ -33,7 +33,7 @@ use Rattle.table.specs.TableContracts.{lowest_channel}
 use Rattle.answers.specs.SendOnTable.{free_in, pass_answer, answer_of_outcome}
 use Rattle.answers.specs.PassOnBytes.{hold_path}
 use Rattle.answers.specs.SendAnswer.{bytes_after_send, send_answer, searched, MaySend}
-use Rattle.helix.specs.HelixContracts.{MayFollow, free_all, helix_in, FrontOf, tried_in, MayTryPaths, FirstFree}
+use Rattle.helix.specs.HelixContracts.{MayFollow, free_all, helix_in, FrontOf, tried_in, MayTryPaths, FirstPath}
 use Rattle.answers.proofs.PassOnBytes.{receive_small}
 use Rattle.answers.proofs.SendAnswer.{ports_in_turn}
 
@@ -58,9 +58,8 @@ first_path_turn {b} {s} {t} {vector} may =
     }
 
 -- no port is left
-pub path_turns_over : {b : List ℕ} {s t vector left sent : ℕ} → PathTurn b s t vector left sent → left ≡ 0 → FirstFree b s t vector no_port 0 sent
-path_turns_over {b} {s} {t} {vector} {left} {sent} inv z =
-    record { nothing = λ e. sym inv.rest ∙ rw z nothing_left; path = λ f. absurd (f refl); there = λ f. absurd (f refl); long = λ f. absurd (f refl) }
+pub path_turns_over : {b : List ℕ} {s t vector left sent : ℕ} → PathTurn b s t vector left sent → left ≡ 0 → tried_in b s t vector ≡ none sent
+path_turns_over {b} {s} {t} {vector} {left} {sent} inv z = sym inv.rest ∙ rw z nothing_left
   where
     nothing_left : tried_after b s t sent (helical 7 (ports_of port_count 0)) ≡ none sent
     nothing_left = unfold try_paths in rw (helical_zero 8 7)
@@ -96,14 +95,13 @@ module _ {b : List ℕ} {s t vector left sent p : ℕ} (may : MayTryPaths b s t 
     whole_order : tried_after b s t sent (p ∷ helical 7 (ports_of port_count (left - 2 ^ p))) ≡ tried_in b s t vector
     whole_order = ap (tried_after b s t sent) (sym turn_port.rest) ∙ inv.rest
 
-    pub turn_found : whole ≡ true → FirstFree b s t vector p hops (sent + hops)
+    pub turn_found : whole ≡ true → FirstPath b s t vector p hops (sent + hops)
     turn_found e =
         let free : free_all b s (helix_in b s t p) ≡ true = sym front.all ∙ e in
         record {
-          nothing = λ z. absurd (omega (arith, turn_port.small, z));
-          path = λ f. sym whole_order ∙ try_free (net (view b)) (free_in (view b)) s sent _ _ free ∙ ap (λ n. found (helix_in b s t p) (sent + n)) (sym front.count);
-          there = λ f. turn_follows.port;
-          long = λ f. front.count ∙ front_free (net (view b)) (free_in (view b)) s (helix_in b s t p) free;
+          path = sym whole_order ∙ try_free (net (view b)) (free_in (view b)) s sent _ _ free ∙ ap (λ n. found (helix_in b s t p) (sent + n)) (sym front.count);
+          there = turn_follows.port;
+          long = front.count ∙ front_free (net (view b)) (free_in (view b)) s (helix_in b s t p) free;
         }
 
     pub turn_more : whole ≡ false → {r : ℕ} → Without left p r → PathTurn b s t vector r (sent + hops)
@@ -117,8 +115,8 @@ module _ {b : List ℕ} {s t vector left sent p : ℕ} (may : MayTryPaths b s t 
           rest = ap (λ n. tried_after b s t (sent + n) (helical 7 (ports_of port_count (left - 2 ^ p)))) front.count ∙ sym (try_on (net (view b)) (free_in (view b)) s sent _ _ busy) ∙ whole_order;
         }
 
--- What becomes of the first free path.
-module _ {b : List ℕ} {s t c vector port hops sent : ℕ} (may : MaySend b s t c vector) (got : FirstFree b s t vector port hops sent) where
+-- What becomes of them.
+module _ {b : List ℕ} {s t c vector : ℕ} (may : MaySend b s t c vector) where
   r : Receive
   r = receive (view b) t
 
@@ -126,16 +124,18 @@ module _ {b : List ℕ} {s t c vector port hops sent : ℕ} (may : MaySend b s t
   unfolding searched tried_in r
   helix_send x e = ap (send_answer true b c s t) (helix_answers_lem (shape_of (view b)) (free_in (view b)) (receive (view b) t) s vector t ∙ ap (one_result (receive (view b) t)) e)
 
-  pub helix_none : port ≡ 8 → pass_answer 10 0 0 sent b ≡ searched b s t c 1 vector
+  -- none is free
+  pub helix_none : {sent : ℕ} → tried_in b s t vector ≡ none sent → pass_answer 10 0 0 sent b ≡ searched b s t c 1 vector
   unfolding send_answer bytes_after_send answer_of_outcome outcome scouts
-  helix_none z = sym (helix_send (none sent) (got.nothing z))
+  helix_none {sent} e = sym (helix_send (none sent) e)
 
-  module _ (some : port ≢ 8) {k : ℕ} (low : k ≡ lowest_channel (view b) t) where
+  -- the first that is
+  module _ {port hops sent : ℕ} (got : FirstPath b s t vector port hops sent) {k : ℕ} (low : k ≡ lowest_channel (view b) t) where
     pub path_follows : MayFollow b s t port
-    path_follows = record { bytes = may.bytes; fits = may.fits; node = may.source; target = may.target; port = got.there some }
+    path_follows = record { bytes = may.bytes; fits = may.fits; node = may.source; target = may.target; port = got.there }
 
     path_sent : searched b s t c 1 vector ≡ send_answer true b c s t (one_result r (found (helix_in b s t port) sent))
-    path_sent = helix_send _ (got.path some)
+    path_sent = helix_send _ got.path
 
     none_there : k ≡ 8 → r ≡ none_available
     unfolding r receive lowest_of lowest_channel
@@ -155,7 +155,7 @@ module _ {b : List ℕ} {s t c vector port hops sent : ℕ} (may : MaySend b s t
 
       pub helix_taken : {b₁ b₂ : List ℕ} → b₁ ≡ hold_path b c s (helix_in b s t port) → b₂ ≡ put_receiver b₁ t k c → pass_answer 0 hops k sent b₂ ≡ searched b s t c 1 vector
       unfolding send_answer bytes_after_send answer_of_outcome outcome received scouts
-      helix_taken held taken = rw (taken, held, got.long some) (sym (path_sent ∙ rw channel_is))
+      helix_taken held taken = rw (taken, held, got.long) (sym (path_sent ∙ rw channel_is))
 
 -- A vector of one port lists that port alone.
 power_off : (p q : ℕ) → q ≢ p → has (2 ^ p) q ≡ false

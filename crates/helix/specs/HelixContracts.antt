@@ -1,15 +1,17 @@
 -- What the functions that follow helix paths on a table ask and answer. Nobody has to believe these: the proofs join them to what a send means.
 -- Assumes nothing.
-use Rattle.std.specs.Prelude.{◌≡◌, Bool, ◌≢◌, List, map, ℕ, ◌≤◌, ◌<◌, length}
+use Rattle.std.specs.Prelude.{◌≡◌, Bool, true, false, List, map, ℕ, ◌≤◌, ◌<◌, length, Result, Ok, Err}
+use Rattle.common.specs.declared.refusal.Refusal.TheVariants.{RouteRejected}
 use Rattle.paths.specs.Network.{Path, free_path}
 use Rattle.cube.specs.Cube.{largest_dimension, NodeOf, VectorOf}
-use Rattle.cube.specs.Helical.{no_port}
 use Rattle.paths.specs.Pass.{PassResult, none, found}
 use Rattle.paths.specs.Helix.{helix_path, free_front, try_paths}
 use Rattle.paths.specs.CubeNetwork.{send_ports}
 use Rattle.layout.specs.Layout.{table_length, dimension_at}
 use Rattle.table.specs.View.{view, net, shape_of}
+use Rattle.answers.specs.declared.Rejected.{Rejected}
 use Rattle.answers.specs.SendOnTable.{free_in}
+use Rattle.helix.specs.declared.FreePath.{FreePath}
 
 -- what they ask: a table of a cube up to dimension 8, two nodes and a port of it
 pub record MayFollow (b : List ℕ) (n t p : ℕ) : Type 0 where
@@ -34,6 +36,11 @@ pub record FrontOf (b : List ℕ) (n t p hops : ℕ) (whole : Bool) : Type 0 whe
   pub count : hops ≡ front_in b n (helix_in b n t p)
   pub all : whole ≡ free_all b n (helix_in b n t p)
 
+-- what following it answers: its hops where it is free, and else the free hops at its front
+abbrev pub FreeFront : List ℕ → ℕ → ℕ → ℕ → Result ℕ ℕ → Type 0
+FreeFront b n t p (Ok hops) = FrontOf b n t p hops true
+FreeFront b n t p (Err hops) = FrontOf b n t p hops false
+
 -- what trying the helix paths of a vector's ports from s to t comes to
 unfoldable pub tried_in : List ℕ → ℕ → ℕ → ℕ → PassResult
 tried_in b s t vector = try_paths (net (view b)) (free_in (view b)) s 0 (map (helix_in b s t) (send_ports (shape_of (view b)) vector))
@@ -45,9 +52,13 @@ pub record MayTryPaths (b : List ℕ) (s t vector : ℕ) : Type 0 where
   pub target : NodeOf (dimension_at b) t
   pub ports : VectorOf (dimension_at b) vector
 
--- the first of those paths that is free, by its first port; no port where none is free
-pub record FirstFree (b : List ℕ) (s t vector port hops scouts : ℕ) : Type 0 where
-  pub nothing : port ≡ no_port → tried_in b s t vector ≡ none scouts
-  pub path : port ≢ no_port → tried_in b s t vector ≡ found (helix_in b s t port) scouts
-  pub there : port ≢ no_port → port < dimension_at b
-  pub long : port ≢ no_port → hops ≡ length (helix_in b s t port)
+-- the first of those paths that is free, by its first port
+pub record FirstPath (b : List ℕ) (s t vector port hops scouts : ℕ) : Type 0 where
+  pub path : tried_in b s t vector ≡ found (helix_in b s t port) scouts
+  pub there : port < dimension_at b
+  pub long : hops ≡ length (helix_in b s t port)
+
+-- and where none is, a route rejection
+abbrev pub FirstFree : List ℕ → ℕ → ℕ → ℕ → Result FreePath Rejected → Type 0
+FirstFree b s t vector (Ok x) = FirstPath b s t vector x.port.0 x.hops x.scouts
+FirstFree b s t vector (Err r) = (r.refusal ≡ RouteRejected) × (tried_in b s t vector ≡ none r.scouts)

@@ -3,21 +3,21 @@
 use mathlib.Core.Path.{◌≡◌, refl, ap, sym, ◌∙◌}
 use mathlib.Core.Logic.{◌≢◌, ⊎_elim}
 use mathlib.Core.Bool.{Bool, true, false, cond}
-use mathlib.Core.List.{List, [], ◌∷◌, ◌++◌, append-nil}
+use mathlib.Core.List.{List, [], ◌∷◌, ◌++◌, append-nil, append_assoc}
 use mathlib.Core.Option.{Option, none, some}
-use Prim.Native.Nat.{ℕ, suc, ◌+◌, ◌≤◌, ◌<◌}
+use Prim.Native.Nat.{ℕ, suc, ◌+◌, ◌-◌, ◌≤◌, ◌<◌}
 use native.Mathlib.Omega.{arith}
 use native.Mathlib.Numerals.{add-one}
 use lib.Dec.{eqb, lit≤}
-use lib.ListN.{length, get_or, take, drop, set}
-use lib.Seq.{take-suc-set, append_snoc, length-take-le}
+use lib.ListN.{length, get_or, take, drop, drop_of_length-le}
+use Rattle.std.proofs.lemmas.Slice.{between_to_end}
+use lib.Seq.{drop-cons}
 use borrow.Author.Tests.{eq-eqb, ne_eqb, le-leb, lt-leb}
 use Rattle.common.proofs.Tests.{same?}
 use Rattle.ownership.specs.Calls.{Call, making, blocking, unblocking, opening, closing, arming, disarming}
 use Rattle.text.specs.Text.{space, number}
 use Rattle.text.specs.Lines.{on_first, cut, fields}
 use Rattle.input_line.specs.Line.{letter_b, letter_c, letter_d, letter_e, letter_f, letter_r, letter_s, in_front, numbers, numbers_of, asked, by_letter, with_numbers, of_fields, longest, asks}
-use Rattle.input_line.specs.ReadLine.{ReadNumbers}
 use Rattle.text.proofs.Reading.{IfRead, number_small}
 
 -- numbers that were read, in front of those of the fields that are left
@@ -31,27 +31,24 @@ joined_none none = refl
 joined_none (some ms) = refl
 
 -- one number more, put behind the others
-joined_more : (vs : List ℕ) (k n : ℕ) → k < length vs → (m : Option (List ℕ))
-    → joined (take k vs) (in_front (some n) m) ≡ joined (take (k + 1) (set vs k n)) m
+joined_more : (ns : List ℕ) (n : ℕ) (m : Option (List ℕ)) → joined ns (in_front (some n) m) ≡ joined (ns ++ n ∷ []) m
 unfolding joined in_front
-joined_more vs k n h none = refl
-joined_more vs k n h (some ms) =
-    ap some (sym (append_snoc (take k vs) n ms) ∙ ap (◌++ ms) (sym (ap (λ j. take j (set vs k n)) (add-one k) ∙ take-suc-set vs k n h)))
+joined_more ns n none = refl
+joined_more ns n (some ms) = ap some (sym (append_assoc ns (n ∷ []) ms))
 
--- a field that is no number, one that is, and the last one
-module _ (vs : List ℕ) (k : ℕ) {f : List ℕ} {fs rest : List (List ℕ)} (cut : fs ≡ f ∷ rest) where
-  pub numbers_none : number f ≡ none → joined (take k vs) (numbers fs) ≡ none
+-- a field that is no number, one that is, and none
+module _ (fs : List (List ℕ)) (ns : List ℕ) (k : ℕ) (inside : k < length fs) where
+  pub numbers_none : number (get_or fs k []) ≡ none → joined ns (numbers (drop k fs)) ≡ none
   unfolding numbers in_front joined
-  numbers_none e = ap (λ x. joined (take k vs) (numbers x)) cut ∙ ap (λ o. joined (take k vs) (in_front o (numbers rest))) e
+  numbers_none e = rw (drop-cons fs k [] inside, e)
 
-  pub numbers_more : (n : ℕ) → k < length vs → number f ≡ some n → joined (take k vs) (numbers fs) ≡ joined (take (k + 1) (set vs k n)) (numbers rest)
+  pub numbers_more : (n : ℕ) → number (get_or fs k []) ≡ some n → joined ns (numbers (drop k fs)) ≡ joined (ns ++ n ∷ []) (numbers (drop (k + 1) fs))
   unfolding numbers
-  numbers_more n h e =
-      ap (λ x. joined (take k vs) (numbers x)) cut ∙ ap (λ o. joined (take k vs) (in_front o (numbers rest))) e ∙ joined_more vs k n h (numbers rest)
+  numbers_more n e = rw (add-one k, drop-cons fs k [] inside, e) (joined_more ns n (numbers (drop (suc k) fs)))
 
-pub numbers_last : (vs : List ℕ) (k : ℕ) → joined (take k vs) (numbers []) ≡ some (take k vs)
+pub numbers_last : (fs : List (List ℕ)) (ns : List ℕ) (k : ℕ) → length fs ≤ k → joined ns (numbers (drop k fs)) ≡ some ns
 unfolding numbers joined
-numbers_last vs k = ap some (append-nil (take k vs))
+numbers_last fs ns k h = rw (drop_of_length-le fs {i = k} h) (ap some (append-nil ns))
 
 pub unread : (x : ℕ) (m : Option (List ℕ)) → m ≡ none → with_numbers x m ≡ none
 unfolding with_numbers
@@ -108,23 +105,6 @@ many fs h x = go (numbers fs) (numbers_hold (λ fs ns. length ns ≡ length fs) 
     go : (m : Option (List ℕ)) → IfRead (λ ns. length ns ≡ length fs) m → with_numbers x m ≡ none
     go none e = refl
     go (some ns) e = over_five x ns (omega arith)
-
--- a letter with as many numbers as it has
-own_count_lem : (x k : ℕ) (vs : List ℕ) → length vs ≡ 5 → k ≡ numbers_of x
-    → by_letter x (take k vs) ≡ asked x (get_or vs 0 0) (get_or vs 1 0) (get_or vs 2 0) (get_or vs 3 0) (get_or vs 4 0)
-unfolding by_letter
-own_count_lem x k [] l e = absurd (omega arith)
-own_count_lem x k (a ∷ []) l e = absurd (omega arith)
-own_count_lem x k (a ∷ b ∷ []) l e = absurd (omega arith)
-own_count_lem x k (a ∷ b ∷ c ∷ []) l e = absurd (omega arith)
-own_count_lem x k (a ∷ b ∷ c ∷ d ∷ []) l e = absurd (omega arith)
-own_count_lem x k (a ∷ b ∷ c ∷ d ∷ f ∷ []) l e = rw e (each_letter Own refl refl refl refl refl refl refl refl x)
-  where
-    Own : ℕ → (ℕ → ℕ → ℕ → ℕ → ℕ → Option Call) → Type 0
-    Own n g =
-        let ns = take n (a ∷ b ∷ c ∷ d ∷ f ∷ []) in
-        cond (eqb (length ns) n) (g (get_or ns 0 0) (get_or ns 1 0) (get_or ns 2 0) (get_or ns 3 0) (get_or ns 4 0)) none ≡ g a b c d f
-own_count_lem x k (a ∷ b ∷ c ∷ d ∷ f ∷ g ∷ vs) l e = absurd (omega arith)
 
 -- the lines that a first look refuses
 pub too_long_line : (l : List ℕ) → longest < length l → asks l ≡ none
@@ -190,30 +170,19 @@ unfolding with_numbers by_letter numbers_of asked
 space_asks none = refl
 space_asks (some ns) = either_none (eqb (length ns) 0)
 
--- a byte, a space, and the rest
-letter_line : (l : List ℕ) → 2 ≤ length l → length l ≤ longest → get_or l 1 0 ≡ space → asks l ≡ with_numbers (get_or l 0 0) (numbers (fields (drop 2 l)))
+-- a byte, a space, and the rest, which the code reads as a part of the line
+letter_rest : (l : List ℕ) → 2 ≤ length l → length l ≤ longest → get_or l 1 0 ≡ space → asks l ≡ with_numbers (get_or l 0 0) (numbers (fields (drop 2 l)))
 unfolding fields cut on_first of_fields
-letter_line [] h s e = absurd (omega arith)
-letter_line (x ∷ []) h s e = absurd (omega arith)
-letter_line (x ∷ y ∷ l) h s e =
+letter_rest [] h s e = absurd (omega arith)
+letter_rest (x ∷ []) h s e = absurd (omega arith)
+letter_rest (x ∷ y ∷ l) h s e =
     of_line (x ∷ y ∷ l) s
     ∙ ⊎_elim
     (λ p. rw (eq-eqb x space p) (sym (ap (λ b. with_numbers b (numbers (cut space ([] ∷ []) l))) p ∙ space_asks (numbers (cut space ([] ∷ []) l)))))
     (λ p. rw (ne_eqb x space p, eq-eqb y space e)) (same? x space)
 
--- numbers that were read into five places, by their count
-by_five : (x k : ℕ) (vs : List ℕ) → length vs ≡ 5 → k ≤ 5
-    → cond (eqb k (numbers_of x)) (asked x (get_or vs 0 0) (get_or vs 1 0) (get_or vs 2 0) (get_or vs 3 0) (get_or vs 4 0)) none ≡ by_letter x (take k vs)
-by_five x k vs l h =
-    ⊎_elim (λ e. rw (eq-eqb k (numbers_of x) e) (sym (own_count_lem x k vs l e)))
-    (λ e. rw (ne_eqb k (numbers_of x) e) (sym (other_count x (take k vs) (λ n. e (sym (length-take-le k vs (omega arith)) ∙ n)))))
-    (same? k (numbers_of x))
-
--- A line that a look at its numbers decides: what was read of the numbers behind the second byte, a space.
-pub line_read : (l : List ℕ) {vs : List ℕ} {k : ℕ} → 2 ≤ length l → length l ≤ longest → get_or l 1 0 ≡ space → ReadNumbers (fields (drop 2 l)) vs k
-    → cond (eqb k (numbers_of (get_or l 0 0))) (asked (get_or l 0 0) (get_or vs 0 0) (get_or vs 1 0) (get_or vs 2 0) (get_or vs 3 0) (get_or vs 4 0)) none ≡ asks l
-unfolding with_numbers
-line_read l {vs = vs} {k = k} least most gap numbered =
-    ⊎_elim (λ z. rw z (none_counted (get_or l 0 0) _ _ _ _ _) ∙ sym (numbered.unread z (get_or l 0 0)))
-    (λ z. by_five (get_or l 0 0) k vs numbered.room numbered.few ∙ sym (ap (with_numbers (get_or l 0 0)) (numbered.read z))) (same? k 0)
-    ∙ sym (letter_line l least most gap)
+pub letter_line : (l : List ℕ) → 2 ≤ length l → length l ≤ longest → get_or l 1 0 ≡ space
+    → asks l ≡ with_numbers (get_or l 0 0) (numbers (fields (take (length l - 2) (drop 2 l))))
+letter_line l h s e =
+    letter_rest l h s e
+    ∙ ap (λ (r : List ℕ). with_numbers (get_or l 0 0) (numbers (fields r))) (sym (between_to_end l 2 (length l) (omega arith)))

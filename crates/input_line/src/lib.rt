@@ -1,38 +1,73 @@
 // Reading a line: the call that it asks for.
 #![tactic(auto)]
 
-ghost use Rattle.std.specs.Prelude.{◌≡◌, cond, ◌≤◌, eqb, length, drop};
-ghost use Rattle.std.proofs.Math.Option.{none};
+ghost use Rattle.std.specs.Prelude.{◌≡◌, ◌≤◌, List, [], ◌∷◌, ◌++◌, ℕ, length, take, MatchOption};
 ghost use Rattle.text.specs.Lines.{fields};
-ghost use Rattle.input_line.specs.Line.{numbers_of, asked, asks};
+ghost use Rattle.input_line.specs.Line.{by_letter, asks};
 ghost use Rattle.input_line.specs.ReadLine.{call_of, ReadNumbers};
 
 use cube::{Node, Port};
+use std::marker::Model;
 use text::number;
 
 const LONGEST: usize = 40;
 
-// The numbers of a line from a place on, one space between: how many, or 0 where they cannot be read or are more than five.
-fn numbers(line: &[u8], from: usize, values: &mut [u16; 5]) -> usize
-    requires { (from ≤ length line.now) × (length values.old ≡ 5) }
-    ensures { ReadNumbers (fields (drop from line.now)) values.new result }
-{
-    let mut at = from;
-    let mut count: usize = 0;
-    while count < 5 {
-        let end = text::find(line, at, b' ');
-        let n = number::read(&line[at..end]);
-        if n == number::NO_NUMBER {
-            return 0;
+// The most numbers that a call letter has.
+const MOST: usize = 5;
+
+// The numbers behind a call letter, as far as they were read.
+#[derive(Drop)]
+struct Numbers {
+    values: [u16; 5],
+    count: usize,
+}
+
+impl Model for Numbers {
+    ghost Value = { List ℕ };
+
+    ghost view = { λ n. take n.count n.values };
+
+    ghost invariant = { λ n. n.count ≤ 5 };
+}
+
+impl Numbers {
+    fn new() -> Numbers
+        ensures { result ≡ [] }
+    {
+        Numbers {
+            values: [0; 5],
+            count: 0,
         }
-        values[count] = n as u16;
-        count += 1;
-        if end == line.len() {
-            return count;
-        }
-        at = end + 1;
     }
-    0
+
+    // Adds a number, where there is room for it.
+    fn push(&mut self, n: u16) -> Option<()>
+        ensures { MatchOption result (5 ≤ length self.old) (λ _. self.new ≡ self.old ++ n ∷ []) }
+    {
+        if self.count == MOST {
+            return None;
+        }
+        self.values[self.count] = n;
+        self.count += 1;
+        Some(())
+    }
+
+    // The numbers of a text, one space between; None where they cannot be read or are more than five.
+    fn read(text: &[u8]) -> Option<Numbers>
+        ensures { ReadNumbers (fields text.now) result }
+    {
+        let mut numbers = Numbers::new();
+        for field in text.split(|x| *x == b' ') {
+            numbers.push(number::read(field)?)?;
+        }
+        Some(numbers)
+    }
+
+    fn as_slice(&self) -> &[u16]
+        ensures { result.now ≡ self.now }
+    {
+        &self.values[..self.count]
+    }
 }
 
 // What a line asks.
@@ -45,51 +80,39 @@ pub enum Asked {
     Close(Node, u16),
     Arm(Node, u16),
     Disarm(Node, u16),
-    Unreadable,
 }
 
-// What is asked with a count of numbers, where that is the letter's own.
-fn counted(count: usize, own: usize, what: Asked) -> Asked
-    ensures { call_of result ≡ cond (eqb count own) (call_of what) none }
+// What a letter and the numbers behind it ask, where they are as many as it has.
+#[tactic(auto, using(std::proofs::lemmas::Bool::Decides::nat_tests), unfolding(crate::specs::Line::by_letter, crate::specs::Line::numbers_of, crate::specs::Line::asked))]
+fn by_letter(letter: u8, numbers: &[u16]) -> Option<Asked>
+    ensures { call_of result ≡ by_letter letter numbers.now }
 {
-    if count == own {
-        what
-    } else {
-        Asked::Unreadable
+    match (letter, numbers) {
+        (b'F', [dimension]) => Some(Asked::Make(*dimension)),
+        (b'B', [node, port]) => Some(Asked::Block(Node(*node), Port(*port))),
+        (b'E', [node, port]) => Some(Asked::Unblock(Node(*node), Port(*port))),
+        (b'S', [source, channel, target, routing, vector]) => Some(Asked::Open(
+            Node(*source),
+            *channel,
+            Node(*target),
+            *routing,
+            *vector,
+        )),
+        (b'C', [source, channel]) => Some(Asked::Close(Node(*source), *channel)),
+        (b'R', [node, channel]) => Some(Asked::Arm(Node(*node), *channel)),
+        (b'D', [node, channel]) => Some(Asked::Disarm(Node(*node), *channel)),
+        _ => None,
     }
 }
 
-// What a letter and the numbers behind it ask.
-fn by_letter(letter: u8, count: usize, a: u16, b: u16, c: u16, d: u16, e: u16) -> Asked
-    ensures { call_of result ≡ cond (eqb count (numbers_of letter)) (asked letter a b c d e) none }
-{
-    match letter {
-        b'F' => counted(count, 1, Asked::Make(a)),
-        b'B' => counted(count, 2, Asked::Block(Node(a), Port(b))),
-        b'E' => counted(count, 2, Asked::Unblock(Node(a), Port(b))),
-        b'S' => counted(count, 5, Asked::Open(Node(a), b, Node(c), d, e)),
-        b'C' => counted(count, 2, Asked::Close(Node(a), b)),
-        b'R' => counted(count, 2, Asked::Arm(Node(a), b)),
-        b'D' => counted(count, 2, Asked::Disarm(Node(a), b)),
-        _ => Asked::Unreadable,
-    }
-}
-
-pub fn read(line: &[u8]) -> Asked
+pub fn read(line: &[u8]) -> Option<Asked>
     ensures { call_of result ≡ asks line.now }
 {
     if LONGEST < line.len() {
-        return Asked::Unreadable;
+        return None;
     }
-    if line.len() < 2 {
-        return Asked::Unreadable;
+    match line {
+        [letter, b' ', rest @ ..] => by_letter(*letter, Numbers::read(rest)?.as_slice()),
+        _ => None,
     }
-    if line[1] != b' ' {
-        return Asked::Unreadable;
-    }
-    let mut values = [0u16; 5];
-    let count = numbers(line, 2, &mut values);
-    by_letter(
-        line[0], count, values[0], values[1], values[2], values[3], values[4],
-    )
 }

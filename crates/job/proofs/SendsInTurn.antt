@@ -1,14 +1,14 @@
 -- The sends of a list in turn, as a loop opens them: what is left to be opened at each place.
 -- Assumes nothing.
-use mathlib.Core.Path.{◌≡◌, ap, sym, ◌∙◌}
+use mathlib.Core.Bool.{true, false}
+use mathlib.Core.Path.{◌≡◌, refl, ap, sym, ◌∙◌}
 use mathlib.Core.Logic.{◌≢◌}
 use mathlib.Core.List.{List, [], ◌∷◌, map}
 use Prim.Native.Nat.{ℕ, suc, ◌+◌, ◌-◌, ◌*◌, ◌/◌, ◌≤◌, ◌<◌}
 use native.Mathlib.Omega.{arith}
 use native.Mathlib.Numerals.{add-one}
-use lib.ListN.{length, get_or, set, take}
-use borrow.Author.Tests.{eq-eqb, ne_eqb}
-use lib.Seq.{take-suc, take-suc-set, take_all}
+use lib.ListN.{length}
+use borrow.Author.Tests.{ne_eqb}
 use Rattle.common.specs.Lists.{from}
 use Rattle.common.specs.Tests.{refusal}
 use Rattle.layout.specs.Layout.{word_at}
@@ -16,7 +16,10 @@ use Rattle.table.specs.View.{view}
 use Rattle.table.specs.Encode.{AllBytes}
 use Rattle.soundness.specs.TableTests.{table_tests}
 use Rattle.cube.specs.Cube.{circuit_of}
-use Rattle.answers.specs.SendOnTable.{pass_answer}
+use Rattle.answers.specs.declared.Acknowledged.{Acknowledged}
+use Rattle.answers.specs.declared.Rejected.{Rejected}
+use Rattle.answers.specs.Opens.{opened_number, opened_answer}
+use Rattle.std.proofs.Common.{Result, Ok, Err}
 use Rattle.answers.specs.SendAnswer.{sent_on_bytes}
 use Rattle.ownership.specs.Sends.{Send, send_at, sends_in}
 use Rattle.ownership.specs.Calls.{opening, opening_all, opening_of, call_tests, Job, After, one_more, ends_with, in_turn, after_job}
@@ -26,15 +29,15 @@ use Rattle.ownership.proofs.Steps.{table_step_lem}
 use Rattle.ownership.proofs.FromTable.{keeps_sound}
 use Rattle.ownership.proofs.JobSays.{job_step}
 use Rattle.ownership.proofs.Stops.{pass_tests, stopped_is}
-use Rattle.router.proofs.TableStep.{call_stopped, call_opens}
-use Rattle.job.specs.JobContracts.{OpenedAt, job_of}
-
--- a byte more is copied
-pub copied_more : (s t : List ℕ) (i : ℕ) → length s ≡ length t → i < length t → take i t ≡ take i s → take (i + 1) (set t i (get_or s i 0)) ≡ take (i + 1) s
-copied_more s t i e h q = rw add-one (take-suc-set t i (get_or s i 0) h ∙ rw q (sym (take-suc s i 0 (omega (arith, e, h)))))
-
-pub copied_all : (s t : List ℕ) (i : ℕ) → length s ≡ length t → length t ≤ i → take i t ≡ take i s → t ≡ s
-copied_all s t i e h q = sym (take_all i t h) ∙ q ∙ take_all i s (omega (arith, e, h))
+use Rattle.router.proofs.TableStep.{call_stopped, call_refused, call_opens}
+use Rattle.call_tests.proofs.Stopping.{job_passed}
+use Rattle.common.specs.Refusals.{number_of}
+use Rattle.common.proofs.Refusals.{refused}
+use Rattle.common.proofs.Tests.{clash}
+use Rattle.layout.specs.Layout.{table_length}
+use Rattle.std.specs.Result.{is_err}
+use Rattle.job.specs.declared.JobRefused.{JobRefused}
+use Rattle.job.specs.JobContracts.{OpenedAt, job_number, job_sends, job_of}
 
 -- the sends from a place on
 abbrev pub sends_from : List ℕ → ℕ → List Send
@@ -119,21 +122,37 @@ module _ (b₀ b sends : List ℕ) (i : ℕ) (left : in_turn opens_on b₀ (send
 pub still_passes : {b sends after : List ℕ} {i n : ℕ} → OpenedAt b sends i n after → AllBytes b → refusal (table_tests b) ≡ 0 → refusal (table_tests after) ≡ 0
 still_passes {b} {sends} {after} {i} o small pass = rw o.bytes_are (keeps_sound b small pass (opening_of (send_at sends i)))
 
+-- What a job that no test stops asks of its table and of its list.
+module _ (b sends : List ℕ) (e : 0 ≡ stopped_at b (opening_all sends)) where
+  pub all_passes : refusal (table_tests b) ≡ 0
+  all_passes = (job_passed b sends e).0
+
+  pub all_long : table_length ≡ length b
+  all_long = sym (pass_tests b all_passes).0
+
+  pub all_short : length sends ≤ 640
+  all_short = (job_passed b sends e).2
+
 -- The whole job, from what its sends came to: the bytes kept where one was refused, and else those after them.
-module _ (b sends : List ℕ) {after : List ℕ} {n k m : ℕ} (j : job_of after n k ≡ in_turn opens_on b (sends_in sends)) (small : AllBytes b) (e : m ≡ stopped_at b (opening_all sends)) (z : m ≡ 0) where
-  came_to : {left : List ℕ} → left ≡ after_job b (job_of after n k) → done left n (k ∷ []) (sends ∷ []) ≡ table_step b (opening_all sends)
-  came_to q =
+module _ (b sends : List ℕ) (e : 0 ≡ stopped_at b (opening_all sends)) (small : AllBytes b) where
+  came_to : {left after : List ℕ} {n k : ℕ} → job_of after n k ≡ in_turn opens_on b (sends_in sends) → left ≡ after_job b (job_of after n k)
+      → done left n (k ∷ []) (sends ∷ []) ≡ table_step b (opening_all sends)
+  came_to {n = n} {k = k} j q =
       ap (λ u. done u n (k ∷ []) (sends ∷ [])) q
       ∙ ap (λ (x : Job (List ℕ)). done (after_job b x) x.result.number (x.result.sends ∷ []) (sends ∷ [])) j
-      ∙ sym (job_step b sends small (sym e ∙ z))
+      ∙ sym (job_step b sends small (sym e))
 
-  pub none_opened : n ≢ 0 → {left : List ℕ} → left ≡ b → done left n (k ∷ []) (sends ∷ []) ≡ table_step b (opening_all sends)
+  pub none_opened : (r : Result ℕ JobRefused) {after left : List ℕ} → job_of after (job_number r) (job_sends r) ≡ in_turn opens_on b (sends_in sends) → is_err r ≡ true → left ≡ b
+      → done left (job_number r) (job_sends r ∷ []) (sends ∷ []) ≡ table_step b (opening_all sends)
   unfolding after_job
-  none_opened f q = came_to (q ∙ rw (ne_eqb n 0 f))
+  none_opened (Ok k) j f q = absurd (clash f refl)
+  none_opened (Err x) j f q = came_to j (q ∙ rw (ne_eqb (number_of x.refusal) 0 (refused x.refusal)))
 
-  pub each_opened : n ≡ 0 → done after n (k ∷ []) (sends ∷ []) ≡ table_step b (opening_all sends)
+  pub each_opened : (r : Result ℕ JobRefused) {after : List ℕ} → job_of after (job_number r) (job_sends r) ≡ in_turn opens_on b (sends_in sends) → is_err r ≡ false
+      → done after (job_number r) (job_sends r ∷ []) (sends ∷ []) ≡ table_step b (opening_all sends)
   unfolding after_job
-  each_opened h = came_to (rw (eq-eqb n 0 h))
+  each_opened (Ok k) j f = came_to j refl
+  each_opened (Err x) j f = absurd (clash refl f)
 
 -- One send: its numbers, as the code reads them,
 module _ (b sends : List ℕ) (i : ℕ) {s c t y v : ℕ} (q : record { source = s; channel = c; target = t; type = y; vector = v } ≡ send_at sends i) where
@@ -148,11 +167,13 @@ module _ (b sends : List ℕ) (i : ℕ) {s c t y v : ℕ} (q : record { source =
     pub stopped : n ≡ stopped_at b (opening s c t y v)
     stopped = let p = pass_tests b pass in e ∙ sym (stopped_is b p.0 p.1 p.2 p.3 (opening s c t y v))
 
-    pub open_sent : n ≡ 0 → AllBytes b → {d : ℕ} → d ≡ circuit_of s c → {x h r m : ℕ} {after : List ℕ} → pass_answer x h r m after ≡ sent_on_bytes b s t d y v → OpenedAt b sends i x after
-    open_sent z small p g = open_done (call_opens b s c t y v stopped z small p g)
-
     pub open_refused : n ≢ 0 → OpenedAt b sends i n b
     open_refused f = open_done (call_stopped b (opening s c t y v) stopped f)
+
+  pub open_sent : 0 ≡ stopped_at b (opening s c t y v) → AllBytes b → {d : ℕ} → d ≡ circuit_of s c → (r : Result Acknowledged Rejected) {after : List ℕ} → opened_answer r after ≡ sent_on_bytes b s t d y v
+      → OpenedAt b sends i (opened_number r) after
+  open_sent e small p (Ok a) g = open_done (call_opens b s c t y v e small p (Ok a) g)
+  open_sent e small p (Err a) g = open_done (call_opens b s c t y v e small p (Err a) g)
 
 -- which stand in ten bytes of the list.
 pub send_is : (sends : List ℕ) (i : ℕ) {s c t y v : ℕ} → s ≡ word_at sends (10 * i) → c ≡ word_at sends (10 * i + 2) → t ≡ word_at sends (10 * i + 4) → y ≡ word_at sends (10 * i + 6) → v ≡ word_at sends (10 * i + 8)
@@ -162,3 +183,6 @@ send_is sends i es ec et ey ev = λ k. record { source = (es ∙ ap (word_at sen
   where
     first : 10 * i ≡ 10 * i + 0
     first = omega arith
+
+-- With these the check proves what a whole job answers, and what it asks.
+pub ruleset whole_job = (call_refused, all_passes, all_long, all_short)

@@ -1,9 +1,12 @@
 -- What the functions of a job do to the bytes of a table, as their contracts say it.
 -- Assumes nothing.
-use Rattle.std.specs.Prelude.{◌≡◌, List, ℕ, ◌+◌, ◌*◌, ◌≤◌, length}
+use Rattle.std.specs.Prelude.{◌≡◌, List, ℕ, ◌+◌, ◌*◌, ◌≤◌, length, Result, Ok, Err}
+use Rattle.common.specs.Refusals.{number_of}
 use Rattle.common.specs.Tests.{refusal}
+use Rattle.job.specs.declared.JobRefused.{JobRefused}
+use Rattle.job.specs.declared.Send as code
 use Rattle.soundness.specs.TableTests.{table_tests}
-use Rattle.ownership.specs.Sends.{send_at}
+use Rattle.ownership.specs.Sends.{Send, send_at}
 use Rattle.ownership.specs.Calls.{Job}
 use Rattle.ownership.specs.OnTable.{opens_on}
 
@@ -20,3 +23,17 @@ pub record MayOpen (b sends : List ℕ) (i : ℕ) : Type 0 where
 -- the sends of a list in turn: bytes, number and count of a job
 abbrev pub job_of : List ℕ → ℕ → ℕ → Job (List ℕ)
 job_of b number sends = record { result = record { number = number; sends = sends }; state = b }
+
+-- the number that a job answers: "Success is 0"
+abbrev pub job_number : Result ℕ JobRefused → ℕ
+job_number (Ok sends) = 0
+job_number (Err refused) = number_of refused.refusal
+
+-- and beside it the number of its sends, or the place of the one that is refused
+abbrev pub job_sends : Result ℕ JobRefused → ℕ
+job_sends (Ok sends) = sends
+job_sends (Err refused) = refused.place
+
+-- a send as the code reads it
+abbrev pub read_as : code.Send → Send
+read_as x = record { source = x.source.0; channel = x.channel; target = x.target.0; type = x.routing; vector = x.vector }

@@ -6,17 +6,18 @@ use mathlib.Core.Bool.{Bool, true, false, cond, not, beq}
 use mathlib.Core.List.{List}
 use Prim.Native.Nat.{ℕ, ◌+◌, ◌-◌, ◌*◌, ◌/◌, ◌%◌, ◌^◌, ◌≤◌, ◌<◌}
 use native.Mathlib.Omega.{arith}
-use native.Mathlib.Nat.{mod-eq_of_lt}
-use lib.ListN.{length, get_or, set, length-set}
+use lib.ListN.{length, drop, get_or, set, length-set}
+use Rattle.std.proofs.lemmas.List.{get_or-take, get_or-drop}
 use lib.Seq.{set-get_or, get_or-set_same, get_or-set_other}
 use lib.Bits.{bit_xor}
 use borrow.Author.Tests.{lt-ltb, not-true, not-false}
 use Rattle.common.proofs.Tests.{both_below}
-use Rattle.cube.specs.Bits.{has, flip, with_bit}
-use Rattle.cube.proofs.Bits.{flip_xor, flip_inside}
+use Rattle.cube.specs.Bits.{has, with_bit}
+use Rattle.cube.proofs.Bits.{flip_xor}
 use Rattle.cube.proofs.Ports.{port_bit}
 use Rattle.layout.specs.Layout.{in_table, mask_place, enable_part, enable_place, entry_place, word_at, mask_at, enabled_at, entry_at}
-use Rattle.layout.specs.LayoutContracts.{put_word}
+use Rattle.layout.specs.LayoutContracts.{put_word, node_rows, RunOr}
+use Rattle.layout.proofs.Runs.{run_zero}
 
 pub within : (n p : ℕ) → n < 256 → p < 8 → in_table n p ≡ true
 within n p h l = rw (lt-ltb n 256 h, lt-ltb p 8 l)
@@ -85,29 +86,40 @@ module _ (b : List ℕ) (i k : ℕ) (on : Bool) {x : Bool} (e : x ≡ has (get_o
   unfolding with_bit
   bit_kept h = rw (ap (λ y. beq y on) (sym e) ∙ not-false _ h) (sym (set-get_or b i 0))
 
-  pub bit_changed : k < 8 → {y : ℕ} → y ≡ get_or b i 0 → y < 256 → not (beq x on) ≡ true
-      → set b i (bit_xor y (1 * 2 ^ k % 65536) % 256) ≡ set b i (with_bit (get_or b i 0) k on)
+  pub bit_changed : k < 8 → not (beq x on) ≡ true → set b i (bit_xor (get_or b i 0) (1 * 2 ^ k % 256)) ≡ set b i (with_bit (get_or b i 0) k on)
   unfolding with_bit
-  bit_changed l {y} q s h =
-      let inside : flip y k < 256 = flip_inside 8 y k s l in
-      rw (port_bit 16 k (omega arith), flip_xor y k, mod-eq_of_lt inside, q, ap (λ z. beq z on) (sym e) ∙ not-true _ h)
+  bit_changed l h = rw (port_bit 8 k l, flip_xor (get_or b i 0) k, ap (λ z. beq z on) (sym e) ∙ not-true _ h)
+
+-- the rows of some nodes: their bytes and words
+module _ (part : ℕ) (b : List ℕ) (n nodes : ℕ) where
+  rows_byte : (i : ℕ) → i < 16 * nodes → get_or (node_rows part b n nodes) i 0 ≡ get_or b (entry_place part n 0 + i) 0
+  rows_byte i h = get_or-take (16 * nodes) (drop (entry_place part n 0) b) i 0 h ∙ get_or-drop (entry_place part n 0) b i 0
+
+  pub rows_word : (i : ℕ) → i < 8 * nodes → word_at (node_rows part b n nodes) (2 * i) ≡ word_at b (entry_place part n 0 + 2 * i)
+  rows_word i h =
+      let low = rows_byte (2 * i) (omega arith) in
+      let after : entry_place part n 0 + (2 * i + 1) ≡ entry_place part n 0 + 2 * i + 1 = omega arith in
+      let high = rows_byte (2 * i + 1) (omega arith) ∙ ap (λ j. get_or b j 0) after in
+      rw (low, high)
+
+pub row_entry : (b : List ℕ) (n part k : ℕ) {row : List ℕ} → n < 256 → k < 8 → row ≡ node_rows part b n 1 → word_at row (2 * k) ≡ entry_at part b n k
+row_entry b n part k {row} h l e =
+    entry_is b n k h l part (word_at row (2 * k)) (entry_place part n 0 + 2 * k) (omega arith) (ap (λ ys. word_at ys (2 * k)) e ∙ rows_word part b n 1 k (omega arith))
 
 -- rows whose bytes are zero hold nothing
-pub rows_zero : (b : List ℕ) (part n rows : ℕ) → ((i : ℕ) → i < 16 * rows → get_or b (entry_place part n 0 + i) 0 ≡ 0) → (m k : ℕ) → n ≤ m → m < n + rows → k < 8 → entry_at part b m k ≡ 0
+pub rows_zero : (b : List ℕ) (part n nodes : ℕ) {all : ℕ} → part + 4096 ≤ length b → n + nodes ≤ 256 → RunOr (node_rows part b n nodes) all → all ≡ 0
+    → (m k : ℕ) → n ≤ m → m < n + nodes → k < 8 → entry_at part b m k ≡ 0
 unfolding entry_at
-rows_zero b part n rows z m k g l h = go (in_table m k)
+rows_zero b part n nodes room last run none m k g l h = go (in_table m k)
   where
-    place : entry_place part n 0 + (16 * (m - n) + 2 * k) ≡ entry_place part m k
-    place = omega arith
-
-    after : entry_place part n 0 + (16 * (m - n) + 2 * k + 1) ≡ entry_place part m k + 1
-    after = omega arith
+    zero_at : (i j : ℕ) → i < 16 * nodes → entry_place part n 0 + i ≡ j → get_or b j 0 ≡ 0
+    zero_at i j l e = ap (λ x. get_or b x 0) (sym e) ∙ run_zero b (entry_place part n 0) (16 * nodes) run (omega arith) none i l
 
     low : get_or b (entry_place part m k) 0 ≡ 0
-    low = rw place at (z (16 * (m - n) + 2 * k) (omega arith))
+    low = zero_at (16 * (m - n) + 2 * k) (entry_place part m k) (omega arith) (omega arith)
 
     high : get_or b (entry_place part m k + 1) 0 ≡ 0
-    high = rw after at (z (16 * (m - n) + 2 * k + 1) (omega arith))
+    high = zero_at (16 * (m - n) + 2 * k + 1) (entry_place part m k + 1) (omega arith) (omega arith)
 
     go : (x : Bool) → cond x (word_at b (entry_place part m k)) 0 ≡ 0
     go true = rw (low, high)

@@ -2,5 +2,4 @@
 pub mod Entries
 pub mod Runs
 pub mod Rows
-pub mod Fills
 pub mod Examples

@@ -22,28 +22,28 @@ use Rattle.layout.specs.Layout.{word_at}
 use Rattle.layout.specs.LayoutContracts.{RowVector}
 
 -- what was found of the first k entries
-pub record Found (b : List ℕ) (i c k vector : ℕ) : Type 0 where
+pub record Found (b : List ℕ) (c k vector : ℕ) : Type 0 where
   pub below : vector < 2 ^ k
-  pub bits : (j : ℕ) → j < k → has vector j ≡ eqb (word_at b (i + 2 * j)) c
+  pub bits : (j : ℕ) → j < k → has vector j ≡ eqb (word_at b (2 * j)) c
 
-module _ (b : List ℕ) (i c : ℕ) where
-  pub found_none : Found b i c 0 0
+module _ (b : List ℕ) (c : ℕ) where
+  pub found_none : Found b c 0 0
   found_none = record { below = lit< tt; bits = λ j h. absurd (omega arith) }
 
-  module _ (k vector x : ℕ) (f : Found b i c k vector) (h : k < 8) (e : x ≡ word_at b (i + 2 * k)) where
+  module _ (k vector x : ℕ) (f : Found b c k vector) (h : k < 8) (e : x ≡ word_at b (2 * k)) where
     wider : vector < 2 ^ (k + 1)
     wider = lt_of_lt_of_le f.below (pow_mono {i = k} {j = k + 1} (omega arith))
 
     clear : has vector k ≡ false
     clear = high_has k vector k f.below (omega arith)
 
-    pub found_no : x ≢ c → Found b i c (k + 1) vector
-    found_no z = record { below = wider; bits = below_more (λ (j : ℕ). has vector j ≡ eqb (word_at b (i + 2 * j)) c) k f.bits (clear ∙ sym (ne_eqb _ c (λ y. z (e ∙ y)))) }
+    pub found_no : x ≢ c → Found b c (k + 1) vector
+    found_no z = record { below = wider; bits = below_more (λ (j : ℕ). has vector j ≡ eqb (word_at b (2 * j)) c) k f.bits (clear ∙ sym (ne_eqb _ c (λ y. z (e ∙ y)))) }
 
-    pub found_yes : x ≡ c → Found b i c (k + 1) (bit_xor vector (1 * 2 ^ k % 65536))
+    pub found_yes : x ≡ c → Found b c (k + 1) (bit_xor vector (1 * 2 ^ k % 65536))
     found_yes z = rw (port_bit 16 k (omega arith), flip_xor vector k) (record {
       below = flip_inside (k + 1) vector k wider (omega arith);
-      bits = below_more (λ (j : ℕ). has (flip vector k) j ≡ eqb (word_at b (i + 2 * j)) c) k (λ j l. kept j l ∙ f.bits j l) (now ∙ sym (eq-eqb _ c (sym e ∙ z)));
+      bits = below_more (λ (j : ℕ). has (flip vector k) j ≡ eqb (word_at b (2 * j)) c) k (λ j l. kept j l ∙ f.bits j l) (now ∙ sym (eq-eqb _ c (sym e ∙ z)));
     })
       where
         kept : (j : ℕ) → j < k → has (flip vector k) j ≡ has vector j
@@ -52,13 +52,13 @@ module _ (b : List ℕ) (i c : ℕ) where
         now : has (flip vector k) k ≡ true
         now = unfold has in rw (bit_flipped vector k, has_no_bit vector k clear)
 
-  pub found_all : (k vector : ℕ) → k ≡ 8 → Found b i c k vector → RowVector b i c vector
-  found_all k vector e f = let g = subst (λ (x : ℕ). Found b i c x vector) e f in record { small = g.below; bits = g.bits }
+  pub found_all : (k vector : ℕ) → k ≡ 8 → Found b c k vector → RowVector b c vector
+  found_all k vector e f = let g = subst (λ (x : ℕ). Found b c x vector) e f in record { small = g.below; bits = g.bits }
 
 -- a mask that has every entry of the row that is not zero
-module _ {b : List ℕ} {i free mask : ℕ} (r : RowVector b i 0 free) (small : mask < 256) where
+module _ {b : List ℕ} {free mask : ℕ} (r : RowVector b 0 free) (small : mask < 256) where
   MaskHasHeld : Type 0
-  MaskHasHeld = (k : ℕ) → k < 8 → word_at b (i + 2 * k) ≢ 0 → has mask k ≡ true
+  MaskHasHeld = (k : ℕ) → k < 8 → word_at b (2 * k) ≢ 0 → has mask k ≡ true
 
   every_bit : (k : ℕ) → k < 8 → has 255 k ≡ true
   every_bit k l = at 8 (has 255) (unfold has in refl) k l
@@ -67,9 +67,9 @@ module _ {b : List ℕ} {i free mask : ℕ} (r : RowVector b i 0 free) (small : 
   unfolding MaskHasHeld
   mask_has_held h =
       same_bits 8 (bit_or free mask) 255 (or_lt 8 free mask r.small small) (lit< tt)
-      (λ k l. has_bit _ k (has_or free mask k ∙ there k l (same? (word_at b (i + 2 * k)) 0)) ∙ sym (has_bit 255 k (every_bit k l)))
+      (λ k l. has_bit _ k (has_or free mask k ∙ there k l (same? (word_at b (2 * k)) 0)) ∙ sym (has_bit 255 k (every_bit k l)))
     where
-      there : (k : ℕ) → k < 8 → (word_at b (i + 2 * k) ≡ 0) ⊎ (word_at b (i + 2 * k) ≢ 0) → (has free k || has mask k) ≡ true
+      there : (k : ℕ) → k < 8 → (word_at b (2 * k) ≡ 0) ⊎ (word_at b (2 * k) ≢ 0) → (has free k || has mask k) ≡ true
       there k l (inl z) = or_left _ (r.bits k l ∙ eq-eqb _ 0 z)
       there k l (inr z) = or_right (has free k) (h k l z)
 
@@ -79,6 +79,6 @@ module _ {b : List ℕ} {i free mask : ℕ} (r : RowVector b i 0 free) (small : 
       ⊎_elim (λ f. absurd (clash f (r.bits k l ∙ ne_eqb _ 0 z))) (λ f. f)
       (either (has free k) (has mask k) (sym (has_or free mask k) ∙ ap (λ x. has x k) e ∙ every_bit k l))
 
-  pub mask_decides : Decides ((k : ℕ) → k < 8 → word_at b (i + 2 * k) ≢ 0 → has mask k ≡ true) (eqb (bit_or free mask) 255)
+  pub mask_decides : Decides ((k : ℕ) → k < 8 → word_at b (2 * k) ≢ 0 → has mask k ≡ true) (eqb (bit_or free mask) 255)
   unfolding MaskHasHeld
   mask_decides = record { holds = λ e. covered (eqb-true _ 255 e); fails = λ e h. eqb-false _ 255 e (mask_has_held h) }

@@ -1,32 +1,47 @@
--- The or of a run of bytes, as a loop finds it, and what it says of them.
+-- The or of a run of bytes, and what it says of them.
 -- Assumes nothing.
-use mathlib.Core.Path.{◌≡◌}
-use mathlib.Core.List.{List}
-use Prim.Native.Nat.{ℕ, ◌+◌, ◌≤◌, ◌<◌}
+use mathlib.Core.Path.{◌≡◌, ◌∙◌}
+use mathlib.Core.List.{List, [], ◌∷◌}
+use Prim.Native.Nat.{ℕ, zero, suc, ◌+◌, ◌^◌, ◌≤◌, ◌<◌}
 use native.Mathlib.Omega.{arith}
-use native.Mathlib.Nat.{not-suc-le-zero}
-use lib.ListN.{get_or}
-use lib.Bits.{bit_or, or_add_and, and_le_l, and_le_r, or_lt}
+use lib.ListN.{take, drop, get_or, length}
+use Rattle.std.proofs.lemmas.List.{length-take-le, length-drop, get_or-take, get_or-drop}
+use lib.Bits.{bit_or, or_lt}
 use lib.Pow.{pow_pos}
-use borrow.Author.Count.{below_more}
 use Rattle.layout.specs.LayoutContracts.{RunOr}
+use Rattle.std.specs.List.{fold}
+use Rattle.std.proofs.lemmas.Nat.{le_or_l, le_or_r}
 
-or_left : (a b : ℕ) → a ≤ bit_or a b
-or_left a b = omega (arith, or_add_and a b, and_le_r a b)
+-- more bytes joined to what was found
+fold_above : (xs : List ℕ) (all : ℕ) → all ≤ fold bit_or all xs
+fold_above [] all = omega arith
+fold_above (x ∷ xs) all = omega (arith, le_or_l all x, fold_above xs (bit_or all x))
 
-or_right : (a b : ℕ) → b ≤ bit_or a b
-or_right a b = omega (arith, or_add_and a b, and_le_l a b)
+fold_none_above : (xs : List ℕ) (all j : ℕ) → j < length xs → get_or xs j 0 ≤ fold bit_or all xs
+fold_none_above [] all j h = absurd (omega arith)
+fold_none_above (x ∷ xs) all zero h = omega (arith, le_or_r all x, fold_above xs (bit_or all x))
+fold_none_above (x ∷ xs) all (suc j) h = fold_none_above xs (bit_or all x) j (omega arith)
 
-module _ (b : List ℕ) (i : ℕ) where
-  pub or_bytes_none : RunOr b i 0 0
-  or_bytes_none = record { none_above = λ j h. absurd (not-suc-le-zero h); below = λ w z. pow_pos w }
+fold_below : (xs : List ℕ) (all w : ℕ) → all < 2 ^ w → ((j : ℕ) → j < length xs → get_or xs j 0 < 2 ^ w) → fold bit_or all xs < 2 ^ w
+fold_below [] all w h z = h
+fold_below (x ∷ xs) all w h z = fold_below xs (bit_or all x) w (or_lt w all x h (z 0 (omega arith))) (λ j l. z (suc j) (omega arith))
 
-  pub or_bytes_more : (k all : ℕ) → RunOr b i k all → RunOr b i (k + 1) (bit_or all (get_or b (i + k) 0))
-  or_bytes_more k all g =
-      record {
-        none_above = below_more (λ (j : ℕ). get_or b (i + j) 0 ≤ bit_or all (get_or b (i + k) 0)) k (λ j h. omega (arith, g.none_above j h, or_left all (get_or b (i + k) 0))) (or_right all (get_or b (i + k) 0));
-        below = λ w z. or_lt w all (get_or b (i + k) 0) (g.below w (λ j h. z j (omega arith))) (z k (omega arith));
-      }
+pub run_or : (run : List ℕ) → RunOr run (fold bit_or 0 run)
+run_or run = record { none_above = fold_none_above run 0; below = λ w z. fold_below run 0 w (pow_pos w) z }
 
-  pub or_bytes_zero : (count all : ℕ) → RunOr b i count all → all ≡ 0 → (j : ℕ) → j < count → get_or b (i + j) 0 ≡ 0
-  or_bytes_zero count all g z j h = omega (arith, g.none_above j h)
+-- what it says of a run that is a part of some bytes
+module _ (b : List ℕ) (i k : ℕ) {all : ℕ} (run : RunOr (take k (drop i b)) all) (room : i + k ≤ length b) where
+  long : length (take k (drop i b)) ≡ k
+  long = length-take-le k (drop i b) (rw length-drop (omega arith))
+
+  byte : (j : ℕ) → j < k → get_or (take k (drop i b)) j 0 ≡ get_or b (i + j) 0
+  byte j h = get_or-take k (drop i b) j 0 h ∙ get_or-drop i b j 0
+
+  pub run_none_above : (j : ℕ) → j < k → get_or b (i + j) 0 ≤ all
+  run_none_above j h = omega (arith, byte j h, run.none_above j (omega (arith, long)))
+
+  pub run_below : (w : ℕ) → ((j : ℕ) → j < k → get_or b (i + j) 0 < 2 ^ w) → all < 2 ^ w
+  run_below w z = run.below w (λ j h. let l : j < k = omega (arith, long) in rw (byte j l) (z j l))
+
+  pub run_zero : all ≡ 0 → (j : ℕ) → j < k → get_or b (i + j) 0 ≡ 0
+  run_zero z j h = omega (arith, run_none_above j h)

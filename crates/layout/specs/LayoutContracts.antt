@@ -1,29 +1,29 @@
 -- What the functions over the bytes of a table ask, answer and write. Nobody has to believe these: the proofs join them to what a table shows.
 -- Assumes nothing.
-use Rattle.std.specs.Prelude.{◌≡◌, List, ◌++◌, ℕ, ◌+◌, ◌-◌, ◌*◌, ◌/◌, ◌%◌, ◌^◌, ◌<◌, ◌≤◌, eqb, length, take, drop, get_or, set, replicate}
+use Rattle.std.specs.Prelude.{◌≡◌, List, ℕ, ◌+◌, ◌*◌, ◌/◌, ◌%◌, ◌^◌, ◌<◌, ◌≤◌, eqb, length, take, drop, get_or, set}
 use Rattle.common.specs.Lists.{keep, from}
 use Rattle.cube.specs.Bits.{has}
 use Rattle.cube.specs.Cube.{port_count}
-use Rattle.layout.specs.Layout.{word_at}
+use Rattle.layout.specs.Layout.{entry_place, word_at}
 
 -- the bytes after a word is written at place i
 abbrev pub put_word : List ℕ → ℕ → ℕ → List ℕ
 put_word b i c = set (set b i (c % 256)) (i + 1) (c / 256)
 
--- a list with one value at every place from i on and before j
-unfoldable pub filled : List ℕ → ℕ → ℕ → ℕ → List ℕ
-filled b i j x = take i b ++ replicate (j - i) x ++ drop j b
+-- the rows of so many nodes, from node n on, of one part
+abbrev pub node_rows : ℕ → List ℕ → ℕ → ℕ → List ℕ
+node_rows part b n nodes = take (16 * nodes) (drop (entry_place part n 0) b)
 
 -- a number that no byte of a run is above, and that has no more bits than all of them
-pub record RunOr (b : List ℕ) (i count : ℕ) (all : ℕ) : Type 0 where
-  pub none_above : (j : ℕ) → j < count → get_or b (i + j) 0 ≤ all
-  pub below : (w : ℕ) → ((j : ℕ) → j < count → get_or b (i + j) 0 < 2 ^ w) → all < 2 ^ w
+pub record RunOr (run : List ℕ) (all : ℕ) : Type 0 where
+  pub none_above : (j : ℕ) → j < length run → get_or run j 0 ≤ all
+  pub below : (w : ℕ) → ((j : ℕ) → j < length run → get_or run j 0 < 2 ^ w) → all < 2 ^ w
 
--- Which entries of a row, from place i on, are circuit c's: as a vector, and how many. A row has a node's links or its receive channels, of which there are as
--- many: `portCount` stands for the entries of either.
-pub record RowVector (b : List ℕ) (i c vector : ℕ) : Type 0 where
+-- Which entries of a row are circuit c's: as a vector, and how many. A row has a node's links or its receive channels, of which there are as many:
+-- `portCount` stands for the entries of either.
+pub record RowVector (row : List ℕ) (c vector : ℕ) : Type 0 where
   pub small : vector < 256
-  pub bits : (k : ℕ) → k < port_count → has vector k ≡ eqb (word_at b (i + 2 * k)) c
+  pub bits : (k : ℕ) → k < port_count → has vector k ≡ eqb (word_at row (2 * k)) c
 
-unfoldable pub row_count : List ℕ → ℕ → ℕ → ℕ
-row_count b i c = length (keep (λ k. eqb (word_at b (i + 2 * k)) c) (from 0 port_count))
+unfoldable pub row_count : List ℕ → ℕ → ℕ
+row_count row c = length (keep (λ k. eqb (word_at row (2 * k)) c) (from 0 port_count))

@@ -1,65 +1,73 @@
 // What an input line asks, carried out on the table, and its printed line.
 #![tactic(auto)]
 
-ghost use Rattle.std.specs.Prelude.{◌≡◌, ◌+◌, ◌≤◌, length};
+ghost use Rattle.std.specs.Prelude.{◌≡◌, List, ℕ, ◌+◌, ◌≤◌, length};
 ghost use Rattle.ownership.specs.OnTable.{table_step};
-ghost use Rattle.text.specs.Row.{row_text};
+ghost use Rattle.text.specs.Row.{nothing, shows, row, row_text};
+ghost use Rattle.text.specs.Written.{row_of};
 ghost use Rattle.input_line.specs.Line.{asks};
 ghost use Rattle.input_line.specs.ReadLine.{call_of};
 ghost use Rattle.printed_line.specs.PrintedLine.{zero_buffer, row_for};
 ghost use Rattle.printed_line.specs.LineContracts.{Answered};
 ghost use Rattle.line_answer.specs.LineWritten.{WroteLine};
 
-use common::refusal;
+use common::refusal::{self, Refusal};
+use cube::{Node, Port};
 use input_line::Asked;
 use text::row;
-use text::row::Field;
+use text::row::{Field, Row};
+
+// The line of a call that shows a node and a port.
+fn of_port(line: u16, letter: u8, answer: u16, node: Node, port: Port) -> Row
+    ensures { (w : List ℕ) → row_of w result ≡ row line letter answer (shows node.0) nothing nothing nothing (shows port.0) }
+{
+    Row {
+        call: Some(Field::Letter(letter)),
+        node: Some(node.0.into()),
+        ports: Some(port.0.into()),
+        ..row::answer_alone(line, answer)
+    }
+}
 
 // Carries out what a line asks, and gives the fields of its printed line; the ports of a path are left in the buffer.
-fn carry_out(t: &mut [u8], line: u16, asked: Asked, ports: &mut [u8]) -> row::Row
+fn carry_out(t: &mut [u8], line: u16, asked: Option<Asked>, ports: &mut [u8]) -> Row
     requires { ports.old ≡ zero_buffer }
     ensures { Answered t.old line (call_of asked) ports.new result t.new }
 {
-    let none = Field::Nothing;
+    let Some(asked) = asked else {
+        return row::answer_alone(line, Refusal::UnreadableLine.number());
+    };
     match asked {
         Asked::Make(dimension) => {
-            let answer = router::make(t, dimension);
-            row::of_call(line, b'F', answer, none, none, none, none, none)
+            let answer = refusal::answer(router::make(t, dimension));
+            Row {
+                call: Some(Field::Letter(b'F')),
+                ..row::answer_alone(line, answer)
+            }
         }
         Asked::Block(node, port) => {
-            let answer = router::block(t, node, port);
-            let at = Field::Number(node.0 as u32);
-            let link = Field::Number(port.0 as u32);
-            row::of_call(line, b'B', answer, at, none, none, none, link)
+            let answer = refusal::answer(router::block(t, node, port));
+            of_port(line, b'B', answer, node, port)
         }
         Asked::Unblock(node, port) => {
-            let answer = router::unblock(t, node, port);
-            let at = Field::Number(node.0 as u32);
-            let link = Field::Number(port.0 as u32);
-            row::of_call(line, b'E', answer, at, none, none, none, link)
+            let answer = refusal::answer(router::unblock(t, node, port));
+            of_port(line, b'E', answer, node, port)
         }
         Asked::Open(source, channel, target, routing, vector) => printed_line::open(
             t, line, source, channel, target, routing, vector, ports,
         ),
         Asked::Close(source, channel) => {
-            let answer = router::close(t, source, channel);
-            let node = Field::Number(source.0 as u32);
-            let send = Field::Number(channel as u32);
-            row::of_call(line, b'C', answer, node, send, none, none, none)
+            let answer = refusal::answer(router::close(t, source, channel));
+            printed_line::of_channel(line, b'C', answer, source, channel)
         }
         Asked::Arm(node, channel) => {
-            let answer = router::arm(t, node, channel);
-            let at = Field::Number(node.0 as u32);
-            let receive = Field::Number(channel as u32);
-            row::of_call(line, b'R', answer, at, receive, none, none, none)
+            let answer = refusal::answer(router::arm(t, node, channel));
+            printed_line::of_channel(line, b'R', answer, node, channel)
         }
         Asked::Disarm(node, channel) => {
-            let answer = router::disarm(t, node, channel);
-            let at = Field::Number(node.0 as u32);
-            let receive = Field::Number(channel as u32);
-            row::of_call(line, b'D', answer, at, receive, none, none, none)
+            let answer = refusal::answer(router::disarm(t, node, channel));
+            printed_line::of_channel(line, b'D', answer, node, channel)
         }
-        Asked::Unreadable => row::answer_alone(line, refusal::UNREADABLE_LINE),
     }
 }
 

@@ -1,6 +1,8 @@
 -- What the listing function does to a lent output.
 -- Assumes nothing.
-use Rattle.std.specs.Prelude.{Bool, true, false, cond, List, ◌++◌, ℕ, ◌+◌, ◌*◌, ltb, length, drop}
+use Rattle.std.specs.Prelude.{Bool, true, false, cond, List, ◌++◌, ℕ, ◌+◌, ◌*◌, ltb, length, drop, Ok, Err}
+use Rattle.std.specs.declared.result.Result.{Result}
+use Rattle.listing.specs.declared.whole.TooShort.{TooShort}
 use Rattle.listing.specs.Listing.{printed}
 
 -- the size of an output that is enough for every input: the header, and 24 bytes for each of 60,001 bytes, one more than the longest input has
@@ -12,6 +14,11 @@ pub record Filled : Type 0 where
   pub short : Bool
   pub written : ℕ
   pub output : List ℕ
+
+-- what the function's result and the bytes of its output afterwards come to; nothing is written where the output is too short
+abbrev pub filled : Result ℕ TooShort → List ℕ → Filled
+filled (Ok n) output = record { short = false; written = n; output = output }
+filled (Err e) output = record { short = true; written = 0; output = output }
 
 unfoldable pub lists : List ℕ → List ℕ → Filled
 lists input output =

@@ -3,4 +3,4 @@
 
 mod whole;
 
-pub use whole::{INPUT_LIMIT, Listed, OUTPUT_BYTES, list};
+pub use whole::{INPUT_LIMIT, OUTPUT_BYTES, TooShort, list};

@@ -1,55 +1,57 @@
 // The calls that C links, over bare numbers, byte slices and the arbiter's record. Each hands its arguments on to the call that is proved, and promises the same.
 #![tactic(auto)]
 
+mod structs;
+
 ghost use Rattle.std.specs.Prelude.{◌≡◌, [], ◌∷◌};
-ghost use Rattle.arbiter.specs.Arbiter.{arbitrated, choice};
+ghost use Rattle.arbiter.specs.Arbiter.{arbitrated};
 ghost use Rattle.command_word.specs.Word.{read_word, write_word};
 ghost use Rattle.ownership.specs.Calls.{making, blocking, unblocking, opening, closing, tracing, arming, disarming, opening_all, booking};
 ghost use Rattle.book.specs.Lookup.{looked_up};
 ghost use Rattle.ownership.specs.OnTable.{table_step, done};
 ghost use Rattle.receiver.specs.Receive.{data_packet, command_word, started, received, overshoot};
 
-use arbiter::{Arbiter, Served};
-use booking::Booked;
-use command_word::{CommandWord, WordRead, WordWritten};
+use arbiter::Arbiter;
+use book::Book;
+use command_word::CommandWord;
+use common::refusal;
 use cube::{Circuit, Node, Port};
-use job::OpenedAll;
-use receiver::{Channel, Received};
-use router::{Opened, Traced};
+use receiver::Channel;
+use structs::{Booked, Opened, OpenedAll, Received, Served, Traced, WordRead, WordWritten};
 
 #[unsafe(no_mangle)]
 pub extern "C" fn maze_make(table: &mut [u8], dimension: u16) -> u16
     ensures { done table.new result [] [] ≡ table_step table.old (making dimension) }
 {
-    router::make(table, dimension)
+    refusal::answer(router::make(table, dimension))
 }
 
 #[unsafe(no_mangle)]
 pub extern "C" fn maze_block(table: &mut [u8], node: u16, port: u16) -> u16
     ensures { done table.new result [] [] ≡ table_step table.old (blocking node port) }
 {
-    router::block(table, Node(node), Port(port))
+    refusal::answer(router::block(table, Node(node), Port(port)))
 }
 
 #[unsafe(no_mangle)]
 pub extern "C" fn maze_unblock(table: &mut [u8], node: u16, port: u16) -> u16
     ensures { done table.new result [] [] ≡ table_step table.old (unblocking node port) }
 {
-    router::unblock(table, Node(node), Port(port))
+    refusal::answer(router::unblock(table, Node(node), Port(port)))
 }
 
 #[unsafe(no_mangle)]
 pub extern "C" fn maze_arm(table: &mut [u8], node: u16, channel: u16) -> u16
     ensures { done table.new result [] [] ≡ table_step table.old (arming node channel) }
 {
-    router::arm(table, Node(node), channel)
+    refusal::answer(router::arm(table, Node(node), channel))
 }
 
 #[unsafe(no_mangle)]
 pub extern "C" fn maze_disarm(table: &mut [u8], node: u16, channel: u16) -> u16
     ensures { done table.new result [] [] ≡ table_step table.old (disarming node channel) }
 {
-    router::disarm(table, Node(node), channel)
+    refusal::answer(router::disarm(table, Node(node), channel))
 }
 
 #[unsafe(no_mangle)]
@@ -63,35 +65,35 @@ pub extern "C" fn maze_open(
 ) -> Opened
     ensures { done table.new result.number (result.hops ∷ result.receive ∷ result.scouts ∷ []) [] ≡ table_step table.old (opening node channel target routing vector) }
 {
-    router::open(table, Node(node), channel, Node(target), routing, vector)
+    Opened::from(router::open(table, Node(node), channel, Node(target), routing, vector))
 }
 
 #[unsafe(no_mangle)]
 pub extern "C" fn maze_open_all(table: &mut [u8], sends: &[u8]) -> OpenedAll
     ensures { done table.new result.number (result.sends ∷ []) (sends.now ∷ []) ≡ table_step table.old (opening_all sends.now) }
 {
-    job::open_all(table, sends)
+    OpenedAll::from(job::open_all(table, sends))
 }
 
 #[unsafe(no_mangle)]
 pub extern "C" fn maze_close(table: &mut [u8], node: u16, channel: u16) -> u16
     ensures { done table.new result [] [] ≡ table_step table.old (closing node channel) }
 {
-    router::close(table, Node(node), channel)
+    refusal::answer(router::close(table, Node(node), channel))
 }
 
 #[unsafe(no_mangle)]
 pub extern "C" fn maze_trace(table: &[u8], node: u16, channel: u16, buffer: &mut [u8]) -> Traced
     ensures { done table.now result.number (result.hops ∷ []) (buffer.new ∷ []) ≡ table_step table.now (tracing node channel buffer.old) }
 {
-    router::trace(table, Node(node), channel, buffer)
+    Traced::from(router::trace(table, Node(node), channel, buffer))
 }
 
 #[unsafe(no_mangle)]
 pub extern "C" fn maze_book(table: &[u8], ports: &mut [u8], index: &mut [u8]) -> Booked
     ensures { done table.now result.number (result.circuits ∷ result.hops ∷ []) (ports.new ∷ index.new ∷ []) ≡ table_step table.now (booking ports.old index.old) }
 {
-    booking::book(table, ports, index)
+    Booked::from(booking::book(table, ports, index))
 }
 
 #[unsafe(no_mangle)]
@@ -103,61 +105,62 @@ pub extern "C" fn maze_book_lookup(
     circuit: u16,
     buffer: &mut [u8],
 ) -> Traced
-    ensures { (record { number = result.number; hops = result.hops; buffer = buffer.new } ≡ looked_up ports.now index.now circuits hops circuit buffer.old)
-        × (ports.now ≡ ports.now) × (index.now ≡ index.now) }
+    ensures { record { number = result.number; hops = result.hops; buffer = buffer.new } ≡ looked_up ports.now index.now circuits hops circuit buffer.old }
 {
-    let found = book::lookup(ports, index, circuits, hops, Circuit(circuit), buffer);
-    Traced {
-        number: found.number,
-        hops: found.hops,
-    }
+    let book = Book {
+        ports,
+        index,
+        circuits,
+        hops,
+    };
+    Traced::from(book.lookup(Circuit(circuit), buffer))
 }
 
 #[unsafe(no_mangle)]
 pub extern "C" fn maze_word_read(word: u16) -> WordRead
-    ensures { result ≡ read_word word }
+    ensures { (record { number = result.number; command = result.command; carried = result.carried }) ≡ read_word word }
 {
-    CommandWord::read(word)
+    WordRead::from(CommandWord::read(word))
 }
 
 #[unsafe(no_mangle)]
 pub extern "C" fn maze_word_write(command: u16, carried: u16) -> WordWritten
-    ensures { result ≡ write_word command carried }
+    ensures { (record { number = result.number; word = result.word }) ≡ write_word command carried }
 {
-    CommandWord::write(command, carried)
+    WordWritten::from(CommandWord::write(command, carried))
 }
 
 #[unsafe(no_mangle)]
 pub extern "C" fn maze_arbitrate(arbiter: &mut Arbiter, requests: u32) -> Served
-    ensures { choice result arbiter.new.last ≡ arbitrated arbiter.old.last requests }
+    ensures { (record { number = result.number; requester = result.requester; last = arbiter.new.last }) ≡ arbitrated arbiter.old.last requests }
 {
-    arbiter::serve(arbiter, requests)
+    Served::from(arbiter.serve(requests))
 }
 
 #[unsafe(no_mangle)]
 pub extern "C" fn maze_receive_start(address: u32, count: u32, ignores: u16) -> Channel
     ensures { result ≡ started address count ignores }
 {
-    receiver::start(address, count, ignores)
+    Channel::start(address, count, ignores)
 }
 
 #[unsafe(no_mangle)]
 pub extern "C" fn maze_receive_data(channel: Channel) -> Received
-    ensures { result ≡ received channel data_packet }
+    ensures { (record { channel = result.channel; number = result.number }) ≡ received channel data_packet }
 {
-    receiver::take_data(channel)
+    Received::of(channel, channel.take_data())
 }
 
 #[unsafe(no_mangle)]
 pub extern "C" fn maze_receive_word(channel: Channel, word: u16) -> Received
-    ensures { result ≡ received channel (command_word word) }
+    ensures { (record { channel = result.channel; number = result.number }) ≡ received channel (command_word word) }
 {
-    receiver::take_word(channel, word)
+    Received::of(channel, channel.take_word(word))
 }
 
 #[unsafe(no_mangle)]
 pub extern "C" fn maze_receive_overshoot(channel: Channel) -> u32
     ensures { result ≡ overshoot channel }
 {
-    receiver::overshoot(channel)
+    channel.overshoot()
 }

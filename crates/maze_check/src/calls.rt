@@ -1,201 +1,176 @@
 // Document 01's examples 1 to 7 and 9, with every receive channel armed first, and document 02's arming through the router's calls: each line is
 // a call with its numbers, a colon, and what it answered.
-use crate::print;
-use common::refusal;
+use common::refusal::{Refusal, answer};
 use cube::{Node, Port};
 use std::io;
 
-fn make(rt: &impl Print, t: &mut [u8], dimension: u16) -> io::Result<()> {
-    print::text(rt, "make")?;
-    print::number(rt, dimension)?;
-    print::text(rt, ":")?;
-    print::number(rt, router::make(t, dimension))?;
-    print::end(rt)
+// A call of an example, of node 0 where no node is named.
+#[derive(Clone, Copy)]
+enum Call {
+    // Dimension.
+    Make(u16),
+    // How many nodes have all their receive channels armed.
+    ArmAll(u8),
+    // Node and port.
+    Block(u16, u16),
+    // Node and receive channel.
+    Arm(u16, u16),
+    Disarm(u16, u16),
+    // Send channel, target, routing type, send vector.
+    Open(u16, u16, u16, u16),
+    // Send channel.
+    Close(u16),
+    Trace(u16),
 }
 
-fn block(rt: &impl Print, t: &mut [u8], node: Node, port: Port) -> io::Result<()> {
-    print::text(rt, "block")?;
-    print::number(rt, node.0)?;
-    print::number(rt, port.0)?;
-    print::text(rt, ":")?;
-    print::number(rt, router::block(t, node, port))?;
-    print::end(rt)
-}
-
-fn arm(rt: &impl Print, t: &mut [u8], node: Node, channel: u16) -> io::Result<()> {
-    print::text(rt, "arm")?;
-    print::number(rt, node.0)?;
-    print::number(rt, channel)?;
-    print::text(rt, ":")?;
-    print::number(rt, router::arm(t, node, channel))?;
-    print::end(rt)
-}
-
-fn disarm(rt: &impl Print, t: &mut [u8], node: Node, channel: u16) -> io::Result<()> {
-    print::text(rt, "disarm")?;
-    print::number(rt, node.0)?;
-    print::number(rt, channel)?;
-    print::text(rt, ":")?;
-    print::number(rt, router::disarm(t, node, channel))?;
-    print::end(rt)
-}
-
-// Arms the eight receive channels of each of so many nodes. Answers the last refusal, 0 where each arming was accepted.
-fn arm_all(t: &mut [u8], nodes: u8) -> u16 {
-    let channels = 8 * table::wide(nodes);
-    let mut answer = refusal::ACCEPTED;
-    let mut i: u16 = 0;
-    while i < channels {
-        let refused = router::arm(t, Node(i / 8), i % 8);
-        if refused != refusal::ACCEPTED {
-            answer = refused;
-        }
-        i += 1;
+// Arms the eight receive channels of each of so many nodes, up to the first that is refused.
+fn arm_all(t: &mut [u8], nodes: u8) -> Result<(), Refusal> {
+    for i in 0..8 * u16::from(nodes) {
+        router::arm(t, Node(i / 8), i % 8)?;
     }
-    answer
-}
-
-fn make_armed(rt: &impl Print, t: &mut [u8], dimension: u16, nodes: u8) -> io::Result<()> {
-    make(rt, t, dimension)?;
-    print::text(rt, "arm all of")?;
-    print::number(rt, table::wide(nodes))?;
-    print::text(rt, ":")?;
-    print::number(rt, arm_all(t, nodes))?;
-    print::end(rt)
+    Ok(())
 }
 
 fn open(
     rt: &impl Print,
     t: &mut [u8],
     channel: u16,
-    target: Node,
+    target: u16,
     routing: u16,
     vector: u16,
 ) -> io::Result<()> {
-    print::text(rt, "open 0")?;
-    print::number(rt, channel)?;
-    print::number(rt, target.0)?;
-    print::number(rt, routing)?;
-    print::number(rt, vector)?;
-    print::text(rt, ":")?;
-    let r = router::open(t, Node(0), channel, target, routing, vector);
-    print::number(rt, r.number)?;
-    print::number(rt, r.hops)?;
-    print::number(rt, r.receive)?;
-    print::large(rt, r.scouts)?;
-    print::end(rt)
-}
-
-fn close(rt: &impl Print, t: &mut [u8], channel: u16) -> io::Result<()> {
-    print::text(rt, "close 0")?;
-    print::number(rt, channel)?;
-    print::text(rt, ":")?;
-    print::number(rt, router::close(t, Node(0), channel))?;
-    print::end(rt)
+    print!(rt; "open 0 {channel} {target} {routing} {vector}: ")?;
+    match router::open(t, Node(0), channel, Node(target), routing, vector) {
+        Ok(found) => println!(rt; "0 {} {} {}", found.hops, found.receive, found.scouts),
+        Err(rejected) => println!(rt; "{} 0 0 {}", rejected.refusal.number(), rejected.scouts),
+    }
 }
 
 // The nine bytes of the buffer follow the hops; those behind the path stay 9.
 fn trace(rt: &impl Print, t: &[u8], channel: u16) -> io::Result<()> {
-    print::text(rt, "trace 0")?;
-    print::number(rt, channel)?;
-    print::text(rt, ":")?;
     let mut buffer = [9u8; 9];
-    let r = router::trace(t, Node(0), channel, &mut buffer);
-    print::number(rt, r.number)?;
-    print::number(rt, r.hops)?;
-    print::bytes(rt, &buffer)?;
-    print::end(rt)
+    match router::trace(t, Node(0), channel, &mut buffer) {
+        Ok(hops) => print!(rt; "trace 0 {channel}: 0 {hops}")?,
+        Err(refused) => print!(rt; "trace 0 {channel}: {} 0", refused.number())?,
+    }
+    for port in buffer {
+        print!(rt; " {port}")?;
+    }
+    println!(rt; "")
 }
 
-// 1: nothing blocked.
-fn nothing_blocked(rt: &impl Print, t: &mut [u8]) -> io::Result<()> {
-    make_armed(rt, t, 3, 8)?;
-    open(rt, t, 0, Node(7), 0, 7)?;
-    trace(rt, t, 0)
+// A call, and its line.
+fn carry_out(rt: &impl Print, t: &mut [u8], call: Call) -> io::Result<()> {
+    match call {
+        Call::Make(d) => println!(rt; "make {d}: {}", answer(router::make(t, d))),
+        Call::ArmAll(nodes) => println!(rt; "arm all of {nodes}: {}", answer(arm_all(t, nodes))),
+        Call::Block(n, p) => {
+            println!(rt;
+                "block {n} {p}: {}",
+                answer(router::block(t, Node(n), Port(p)))
+            )
+        }
+        Call::Arm(n, c) => println!(rt; "arm {n} {c}: {}", answer(router::arm(t, Node(n), c))),
+        Call::Disarm(n, c) => {
+            println!(rt; "disarm {n} {c}: {}", answer(router::disarm(t, Node(n), c)))
+        }
+        Call::Open(c, target, routing, vector) => open(rt, t, c, target, routing, vector),
+        Call::Close(c) => println!(rt; "close 0 {c}: {}", answer(router::close(t, Node(0), c))),
+        Call::Trace(c) => trace(rt, t, c),
+    }
 }
 
-// 2: figure 7, with two links blocked.
-fn figure_7(rt: &impl Print, t: &mut [u8]) -> io::Result<()> {
-    make_armed(rt, t, 3, 8)?;
-    block(rt, t, Node(1), Port(2))?;
-    block(rt, t, Node(3), Port(2))?;
-    open(rt, t, 0, Node(7), 0, 7)?;
-    trace(rt, t, 0)
+fn run(rt: &impl Print, t: &mut [u8], calls: &[Call]) -> io::Result<()> {
+    for call in calls {
+        carry_out(rt, t, *call)?;
+    }
+    Ok(())
 }
 
-// 3 and 4: back to the source, and away from the target first.
-fn detours(rt: &impl Print, t: &mut [u8]) -> io::Result<()> {
-    make_armed(rt, t, 1, 2)?;
-    open(rt, t, 0, Node(0), 0, 1)?;
-    trace(rt, t, 0)?;
-    make_armed(rt, t, 2, 4)?;
-    open(rt, t, 0, Node(1), 0, 2)?;
-    trace(rt, t, 0)
-}
+// 1: nothing blocked. 2: figure 7, with two links blocked.
+const FIGURES: [Call; 10] = [
+    Call::Make(3),
+    Call::ArmAll(8),
+    Call::Open(0, 7, 0, 7),
+    Call::Trace(0),
+    Call::Make(3),
+    Call::ArmAll(8),
+    Call::Block(1, 2),
+    Call::Block(3, 2),
+    Call::Open(0, 7, 0, 7),
+    Call::Trace(0),
+];
 
-// 5: through the source.
-fn through_the_source(rt: &impl Print, t: &mut [u8]) -> io::Result<()> {
-    make_armed(rt, t, 2, 4)?;
-    block(rt, t, Node(2), Port(0))?;
-    open(rt, t, 0, Node(1), 0, 2)?;
-    trace(rt, t, 0)
-}
+// 3 and 4: back to the source, and away from the target first. 5: through the source.
+const DETOURS: [Call; 13] = [
+    Call::Make(1),
+    Call::ArmAll(2),
+    Call::Open(0, 0, 0, 1),
+    Call::Trace(0),
+    Call::Make(2),
+    Call::ArmAll(4),
+    Call::Open(0, 1, 0, 2),
+    Call::Trace(0),
+    Call::Make(2),
+    Call::ArmAll(4),
+    Call::Block(2, 0),
+    Call::Open(0, 1, 0, 2),
+    Call::Trace(0),
+];
 
 // 6: the second pass.
-fn second_pass(rt: &impl Print, t: &mut [u8]) -> io::Result<()> {
-    make_armed(rt, t, 2, 4)?;
-    block(rt, t, Node(0), Port(0))?;
-    open(rt, t, 0, Node(1), 0, 1)?;
-    make_armed(rt, t, 2, 4)?;
-    block(rt, t, Node(0), Port(0))?;
-    open(rt, t, 0, Node(1), 4, 1)?;
-    trace(rt, t, 0)
-}
+const SECOND_PASS: [Call; 9] = [
+    Call::Make(2),
+    Call::ArmAll(4),
+    Call::Block(0, 0),
+    Call::Open(0, 1, 0, 1),
+    Call::Make(2),
+    Call::ArmAll(4),
+    Call::Block(0, 0),
+    Call::Open(0, 1, 4, 1),
+    Call::Trace(0),
+];
 
 // 7: a link that is held and freed. The close disarms receive channel 0, and the last open takes channel 1.
-fn link_freed(rt: &impl Print, t: &mut [u8]) -> io::Result<()> {
-    make_armed(rt, t, 1, 2)?;
-    open(rt, t, 0, Node(1), 0, 1)?;
-    open(rt, t, 1, Node(1), 0, 1)?;
-    close(rt, t, 0)?;
-    open(rt, t, 1, Node(1), 0, 1)
-}
+const LINK_FREED: [Call; 6] = [
+    Call::Make(1),
+    Call::ArmAll(2),
+    Call::Open(0, 1, 0, 1),
+    Call::Open(1, 1, 0, 1),
+    Call::Close(0),
+    Call::Open(1, 1, 0, 1),
+];
 
 // 9: the edges of dimension, node, vector and length.
-fn edges(rt: &impl Print, t: &mut [u8]) -> io::Result<()> {
-    make(rt, t, 8)?;
-    make(rt, t, 9)?;
-    make_armed(rt, t, 3, 8)?;
-    open(rt, t, 0, Node(7), 0, 7)?;
-    make_armed(rt, t, 3, 8)?;
-    open(rt, t, 0, Node(8), 0, 7)?;
-    open(rt, t, 0, Node(7), 0, 8)
-}
+const EDGES: [Call; 9] = [
+    Call::Make(8),
+    Call::Make(9),
+    Call::Make(3),
+    Call::ArmAll(8),
+    Call::Open(0, 7, 0, 7),
+    Call::Make(3),
+    Call::ArmAll(8),
+    Call::Open(0, 8, 0, 7),
+    Call::Open(0, 7, 0, 8),
+];
 
-fn wrong_length(rt: &impl Print, t: &mut [u8]) -> io::Result<()> {
-    make(rt, t, 3)?;
-    open(rt, t, 0, Node(7), 0, 7)
-}
+const WRONG_LENGTH: [Call; 2] = [Call::Make(3), Call::Open(0, 7, 0, 7)];
 
-// Document 02, (a): a receive channel is taken only where it is armed,
-fn arming(rt: &impl Print, t: &mut [u8]) -> io::Result<()> {
-    make(rt, t, 3)?;
-    open(rt, t, 0, Node(7), 0, 7)?;
-    arm(rt, t, Node(8), 0)?;
-    arm(rt, t, Node(7), 8)?;
-    arm(rt, t, Node(7), 0)?;
-    open(rt, t, 0, Node(7), 0, 7)
-}
-
-// is not disarmed while it is held, and is disarmed by the close.
-fn disarming(rt: &impl Print, t: &mut [u8]) -> io::Result<()> {
-    disarm(rt, t, Node(8), 0)?;
-    disarm(rt, t, Node(7), 8)?;
-    disarm(rt, t, Node(7), 0)?;
-    disarm(rt, t, Node(7), 1)?;
-    close(rt, t, 0)?;
-    open(rt, t, 0, Node(7), 0, 7)
-}
+// Document 02, (a): a receive channel is taken only where it is armed, is not disarmed while it is held, and is disarmed by the close.
+const ARMING: [Call; 12] = [
+    Call::Make(3),
+    Call::Open(0, 7, 0, 7),
+    Call::Arm(8, 0),
+    Call::Arm(7, 8),
+    Call::Arm(7, 0),
+    Call::Open(0, 7, 0, 7),
+    Call::Disarm(8, 0),
+    Call::Disarm(7, 8),
+    Call::Disarm(7, 0),
+    Call::Disarm(7, 1),
+    Call::Close(0),
+    Call::Open(0, 7, 0, 7),
+];
 
 pub fn examples(rt: &impl Print) -> io::Result<()> {
     let mut t = [0u8; table::BYTES];
@@ -203,16 +178,13 @@ pub fn examples(rt: &impl Print) -> io::Result<()> {
     let mut short = [0u8; table::BYTES - 1];
     let mut long = [0u8; table::BYTES + 1];
     let mut older = [0u8; 8449];
-    nothing_blocked(rt, &mut t)?;
-    figure_7(rt, &mut t)?;
-    detours(rt, &mut t)?;
-    through_the_source(rt, &mut t)?;
-    second_pass(rt, &mut t)?;
-    link_freed(rt, &mut t)?;
-    edges(rt, &mut t)?;
-    wrong_length(rt, &mut short)?;
-    wrong_length(rt, &mut long)?;
-    wrong_length(rt, &mut older)?;
-    arming(rt, &mut t)?;
-    disarming(rt, &mut t)
+    run(rt, &mut t, &FIGURES)?;
+    run(rt, &mut t, &DETOURS)?;
+    run(rt, &mut t, &SECOND_PASS)?;
+    run(rt, &mut t, &LINK_FREED)?;
+    run(rt, &mut t, &EDGES)?;
+    run(rt, &mut short, &WRONG_LENGTH)?;
+    run(rt, &mut long, &WRONG_LENGTH)?;
+    run(rt, &mut older, &WRONG_LENGTH)?;
+    run(rt, &mut t, &ARMING)
 }

@@ -4,7 +4,6 @@
 use std::io;
 
 mod calls;
-mod print;
 mod refusals;
 mod served;
 mod words;
@@ -12,8 +11,10 @@ mod words;
 fn main(rt: HostRuntime) -> io::Result<()> {
     refusals::names(&rt)?;
     words::names(&rt)?;
+    words::types(&rt)?;
     words::carried(&rt)?;
     words::examples(&rt)?;
+    words::written(&rt)?;
     calls::examples(&rt)?;
     served::run(&rt)
 }

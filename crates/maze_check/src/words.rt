@@ -1,123 +1,132 @@
 // Command words: the numbers behind the names, and example 8.
-use crate::print;
-use command_word::CommandWord;
+use command_word::{Command, CommandWord, PacketType};
+use common::refusal;
 use std::io;
 
 // Each command by its name in document 01.
 pub fn names(rt: &impl Print) -> io::Result<()> {
-    print::named(rt, "packet acknowledge", CommandWord::PACKET_ACKNOWLEDGE)?;
-    print::named(rt, "route acknowledge", CommandWord::ROUTE_ACKNOWLEDGE)?;
-    print::named(rt, "route rejected", CommandWord::ROUTE_REJECTED)?;
-    print::named(rt, "receive rejected", CommandWord::RECEIVE_REJECTED)?;
-    print::named(
-        rt,
-        "forwarded route rejected",
-        CommandWord::FORWARDED_ROUTE_REJECTED,
-    )?;
-    print::named(
-        rt,
-        "end-to-end acknowledge",
-        CommandWord::END_TO_END_ACKNOWLEDGE,
-    )?;
-    print::named(
-        rt,
-        "end-to-end not acknowledged",
-        CommandWord::END_TO_END_NOT_ACKNOWLEDGED,
-    )?;
-    print::named(rt, "end of message", CommandWord::END_OF_MESSAGE)?;
-    print::named(rt, "end of transmission", CommandWord::END_OF_TRANSMISSION)?;
-    print::named(rt, "reset CPU", CommandWord::RESET_CPU)?;
-    print::named(rt, "reset node", CommandWord::RESET_NODE)?;
-    print::named(rt, "flush path", CommandWord::FLUSH_PATH)
+    for (name, command) in [
+        ("packet acknowledge", Command::PacketAcknowledge),
+        ("route acknowledge", Command::RouteAcknowledge),
+        ("route rejected", Command::RouteRejected),
+        ("receive rejected", Command::ReceiveRejected),
+        ("forwarded route rejected", Command::ForwardedRouteRejected),
+        ("end-to-end acknowledge", Command::EndToEndAcknowledge),
+        (
+            "end-to-end not acknowledged",
+            Command::EndToEndNotAcknowledged,
+        ),
+        ("end of message", Command::EndOfMessage),
+        ("end of transmission", Command::EndOfTransmission),
+        ("reset CPU", Command::ResetCpu),
+        ("reset node", Command::ResetNode),
+        ("flush path", Command::FlushPath),
+    ] {
+        println!(rt; "{name} {}", command.number())?;
+    }
+    Ok(())
 }
 
-// The packet types, and what the carried numbers mean.
+// The packet types.
+pub fn types(rt: &impl Print) -> io::Result<()> {
+    for (name, packet_type) in [
+        ("address", PacketType::Address),
+        ("data", PacketType::Data),
+        ("back-track", PacketType::BackTrack),
+        ("forward", PacketType::Forward),
+    ] {
+        println!(rt; "type {name} {}", packet_type.number())?;
+    }
+    Ok(())
+}
+
+// What the carried numbers mean.
 pub fn carried(rt: &impl Print) -> io::Result<()> {
-    print::named(rt, "type address", CommandWord::ADDRESS)?;
-    print::named(rt, "type data", CommandWord::DATA)?;
-    print::named(rt, "type back-track", CommandWord::BACK_TRACK)?;
-    print::named(rt, "type forward", CommandWord::FORWARD)?;
-    print::named(
-        rt,
-        "receive rejected: receive rejected",
-        CommandWord::STATUS_RECEIVE_REJECTED,
-    )?;
-    print::named(
-        rt,
-        "receive rejected: parity error flushed back",
-        CommandWord::STATUS_PARITY_ERROR_BACK,
-    )?;
-    print::named(
-        rt,
-        "end-to-end not acknowledged: code above error, in steps of",
-        CommandWord::CODE_PLACE,
-    )?;
-    print::named(rt, "end-to-end not acknowledged: codes", CommandWord::CODES)?;
-    print::named(
-        rt,
-        "end-to-end not acknowledged: errors",
-        CommandWord::ERRORS,
-    )?;
-    print::named(
-        rt,
-        "end of transmission: end-to-end not requested",
-        CommandWord::STATUS_NO_END_TO_END,
-    )?;
-    print::named(
-        rt,
-        "end of transmission: end-to-end requested",
-        CommandWord::STATUS_END_TO_END,
-    )?;
-    print::named(rt, "flush path: flush path", CommandWord::STATUS_FLUSH_PATH)?;
-    print::named(
-        rt,
-        "flush path: parity error flushed forward",
-        CommandWord::STATUS_PARITY_ERROR_FORWARD,
-    )
+    for (name, number) in [
+        (
+            "receive rejected: receive rejected",
+            CommandWord::STATUS_RECEIVE_REJECTED,
+        ),
+        (
+            "receive rejected: parity error flushed back",
+            CommandWord::STATUS_PARITY_ERROR_BACK,
+        ),
+        (
+            "end-to-end not acknowledged: code above error, in steps of",
+            CommandWord::CODE_PLACE,
+        ),
+        ("end-to-end not acknowledged: codes", CommandWord::CODES),
+        ("end-to-end not acknowledged: errors", CommandWord::ERRORS),
+        (
+            "end of transmission: end-to-end not requested",
+            CommandWord::STATUS_NO_END_TO_END,
+        ),
+        (
+            "end of transmission: end-to-end requested",
+            CommandWord::STATUS_END_TO_END,
+        ),
+        ("flush path: flush path", CommandWord::STATUS_FLUSH_PATH),
+        (
+            "flush path: parity error flushed forward",
+            CommandWord::STATUS_PARITY_ERROR_FORWARD,
+        ),
+    ] {
+        println!(rt; "{name} {number}")?;
+    }
+    Ok(())
 }
 
 // A word as read: number, command and carried number.
 fn read(rt: &impl Print, word: u16) -> io::Result<()> {
-    let answer = CommandWord::read(word);
-    print::text(rt, "read")?;
-    print::number(rt, word)?;
-    print::number(rt, answer.number)?;
-    print::number(rt, answer.command)?;
-    print::number(rt, answer.carried)?;
-    print::end(rt)
+    let (number, command, carried) = match CommandWord::read(word) {
+        Ok(read) => (refusal::ACCEPTED, read.command.number(), read.carried),
+        Err(refused) => (refused.number(), 0, 0),
+    };
+    println!(rt; "read {word} {number} {command} {carried}")
 }
 
 // A word as written: number and word.
 fn write(rt: &impl Print, command: u16, carried: u16) -> io::Result<()> {
-    let answer = CommandWord::write(command, carried);
-    print::text(rt, "write")?;
-    print::number(rt, command)?;
-    print::number(rt, carried)?;
-    print::number(rt, answer.number)?;
-    print::number(rt, answer.word)?;
-    print::end(rt)
+    let (number, word) = match CommandWord::write(command, carried) {
+        Ok(written) => (refusal::ACCEPTED, written.0),
+        Err(refused) => (refused.number(), 0),
+    };
+    println!(rt; "write {command} {carried} {number} {word}")
 }
 
-// Example 8 of "Examples at the edges", then a word or a command for each refusal from 15 to 19.
+// Example 8 of "Examples at the edges", then a word for each refusal from 15 to 18,
 pub fn examples(rt: &impl Print) -> io::Result<()> {
     read(rt, 2175)?;
-    write(rt, CommandWord::ROUTE_ACKNOWLEDGE, 0)?;
-    read(rt, 2437)?;
-    read(rt, 3649)?;
-    read(rt, 3136)?;
-    read(rt, 2240)?;
-    read(rt, CommandWord::LARGEST)?;
-    read(rt, CommandWord::LARGEST + 1)?;
-    read(rt, 2047)?;
-    read(rt, 2048)?;
-    write(rt, 15, 0)?;
-    write(rt, CommandWord::COMMANDS, 0)?;
-    write(
-        rt,
-        CommandWord::FLUSH_PATH,
-        CommandWord::STATUS_PARITY_ERROR_FORWARD,
-    )?;
-    write(rt, CommandWord::FLUSH_PATH, 2)?;
-    write(rt, CommandWord::END_TO_END_NOT_ACKNOWLEDGED, 63)?;
-    write(rt, CommandWord::END_TO_END_NOT_ACKNOWLEDGED, 64)
+    write(rt, Command::RouteAcknowledge.number(), 0)?;
+    for word in [
+        2437,
+        3649,
+        3136,
+        2240,
+        CommandWord::LARGEST,
+        CommandWord::LARGEST + 1,
+        2047,
+        2048,
+    ] {
+        read(rt, word)?;
+    }
+    Ok(())
+}
+
+// and a command for 18 and 19.
+pub fn written(rt: &impl Print) -> io::Result<()> {
+    for (command, carried) in [
+        (15, 0),
+        (CommandWord::COMMANDS, 0),
+        (
+            Command::FlushPath.number(),
+            CommandWord::STATUS_PARITY_ERROR_FORWARD,
+        ),
+        (Command::FlushPath.number(), 2),
+        (Command::EndToEndNotAcknowledged.number(), 63),
+        (Command::EndToEndNotAcknowledged.number(), 64),
+    ] {
+        write(rt, command, carried)?;
+    }
+    Ok(())
 }

@@ -1,10 +1,11 @@
 -- What one reading and one writing make of a whole input.
 -- Assumes nothing.
-use Rattle.std.proofs.Common.{◌≡◌, ℕ, ◌<◌, ◌≤◌, List, ◌++◌, length, take, drop, None, Some, IfSome, sym, ap, subst, ◌∙◌, arith, append-nil, length-append, length-take-le, inl, inr}
+use Rattle.std.proofs.Common.{◌≡◌, ℕ, ◌<◌, ◌≤◌, List, ◌++◌, length, take, drop, None, Some, IfSome, Ok, Err, OnOk, is_ok, MatchResult, sym, ap, subst, ◌∙◌, arith, append-nil, length-append, length-take-le, inl, inr}
 use Rattle.std.proofs.Math.Nat.{eq-or-lt_of_le}
 use Rattle.std.proofs.Math.ListN.{replicate}
 use Rattle.std.proofs.lemmas.List.{length-replicate}
 use Rattle.std.specs.declared.option.Option.{Option}
+use Rattle.std.specs.declared.result.Result.{Result}
 use Rattle.std.specs.Io.KnownBytes.{Appends, Consumes, IsAtEnd}
 use Rattle.std.proofs.lemmas.Bool.{lt-ltb, le-ltb}
 use Rattle.std.proofs.Math.Seq.{take-append_seam}
@@ -58,3 +59,14 @@ zeros_long n k h = subst (λ m. k < m) (sym (length-replicate n 0)) h
 
 pub wide_enough : (out : List ℕ) → output_bytes ≡ length out → output_bytes ≤ length out
 wide_enough out e = omega (arith, e)
+
+-- what was answered before an error got its kind
+pub ok_is : {E : Type 0} (F : Type 0) (r : Result ℕ E) (n : ℕ) {B : E → Type 0} → MatchResult r (λ m. ◌≡◌ {A = Result ℕ F} (Ok n) (Ok m)) B → ((e : E) → B e → ⊥) → r ≡ Ok n
+ok_is F (Ok m) n h not_err = cc
+ok_is F (Err e) n h not_err = absurd (not_err e h)
+
+pub on_ok : {A E F P Q : Type 0} (r : Result A E) (s : Result A F) → is_ok s ≡ is_ok r → OnOk r Q → (Q → P) → OnOk s P
+on_ok (Ok x) (Ok y) v q f = f q
+on_ok (Ok x) (Err z) v q f = tt
+on_ok (Err e) (Ok y) v q f = cc
+on_ok (Err e) (Err z) v q f = tt

@@ -21,7 +21,7 @@ fn read_on<R: Read>(from: &mut R, input: &mut [u8], at: usize) -> io::Result<usi
     from.read(rest)
 }
 
-// Reads until the input ends or the buffer is full. Answers how many bytes it read.
+// Reads until the input ends or the buffer is full. Answers how many bytes it read. A loop, since `read_to_end` wants a Vec and `read_exact` no short input.
 fn read_all<R: Read>(from: &mut R, input: &mut [u8]) -> io::Result<usize>
     ensures within { IfOk result (λ n. n ≤ length input.old) }
     ensures bytes { IfOk result (λ n. Consumes (R.remaining from.old) (R.remaining from.new) (take n input.new)) }
@@ -45,16 +45,14 @@ fn room() -> [u8; 1440075]
     [0; 1440075]
 }
 
-// Writes the list of the first bytes of a buffer. The list is in the output also where writing failed.
-fn print<W: Write>(to: &mut W, input: &[u8], bytes: usize, output: &mut [u8]) -> io::Result<()>
-    requires { bytes ≤ length input.now }
-    ensures listed { output.new ≡ (lists (take bytes input.now) output.old).output }
+// Writes the list of an input. The list is in the output also where writing failed.
+fn print<W: Write>(to: &mut W, input: &[u8], output: &mut [u8]) -> io::Result<()>
+    ensures listed { output.new ≡ (lists input.now output.old).output }
     ensures written { OnOk result (Appends (W.contents to.old) (W.contents to.new)
-        (take (lists (take bytes input.now) output.old).written output.new)) }
+        (take (lists input.now output.old).written output.new)) }
 {
-    let listed = listing::list(&input[0..bytes], output);
-    let written = listed.written;
-    to.write_all(&output[0..written])
+    let written = listing::list(input, output).unwrap_or(0);
+    to.write_all(&output[..written])
 }
 
 // Which part failed.
@@ -73,14 +71,8 @@ fn list_all<R: Read, W: Write>(from: &mut R, to: &mut W) -> Result<(), Failed>
 {
     let mut input = [0u8; 60001];
     let mut output = room();
-    let bytes = match read_all(from, &mut input) {
-        Ok(bytes) => bytes,
-        Err(error) => return Err(Failed::Reading(error)),
-    };
-    match print(to, &input, bytes, &mut output) {
-        Ok(()) => Ok(()),
-        Err(error) => Err(Failed::Writing(error)),
-    }
+    let bytes = read_all(from, &mut input).map_err(Failed::Reading)?;
+    print(to, &input[..bytes], &mut output).map_err(Failed::Writing)
 }
 
 // The system's words for an error: std shows the error's number behind them.

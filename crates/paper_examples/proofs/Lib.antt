@@ -1,2 +1,3 @@
 -- Document 01's examples on tables.
 pub mod OnTables
+pub mod FirstPort

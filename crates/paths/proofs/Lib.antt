@@ -26,3 +26,4 @@ pub mod Walks
 pub mod Examples
 pub mod FoldExamples
 pub mod TypeExamples
+pub mod SentAs

@@ -1,36 +1,46 @@
 // The printed line of an open.
 #![tactic(auto)]
 
-ghost use Rattle.std.specs.Prelude.{List, ◌≡◌, ℕ};
+ghost use Rattle.std.specs.Prelude.{List, ◌≡◌, ℕ, Some, None};
+ghost use Rattle.common.specs.Refusals.{number_of};
 ghost use Rattle.std.proofs.Math.Option.{some};
 ghost use Rattle.ownership.specs.Calls.{opening, carries_scouts};
 ghost use Rattle.text.specs.Row.{shows};
 ghost use Rattle.text.specs.Written.{field_of};
+ghost use Rattle.text.specs.declared.row.Field.TheVariants.{Number, Letter};
 ghost use Rattle.printed_line.specs.PrintedLine.{shows_if, zero_buffer};
 ghost use Rattle.printed_line.specs.LineContracts.{Answered};
 
+use answers::Rejected;
 use common::refusal;
+use common::refusal::Refusal;
 use cube::Node;
 use text::row;
-use text::row::Field;
+use text::row::{Field, Row};
 
-// The scouts of an open that was sent: it was accepted, or rejected after the search.
-fn scouts_of(number: u16, scouts: u32) -> Field
-    ensures { (w : List ℕ) → field_of w result ≡ shows_if (carries_scouts number) (shows scouts) }
+// The line of a call that shows a node and a channel.
+pub fn of_channel(line: u16, letter: u8, answer: u16, node: Node, channel: u16) -> Row
+    ensures { result ≡ record { line = line; call = Some (Letter letter); answer = answer; node = Some (Number node.0); channel = Some (Number channel); receive = None; scouts = None; ports = None } }
 {
-    if number == refusal::ACCEPTED {
-        return Field::Number(scouts);
+    Row {
+        call: Some(Field::Letter(letter)),
+        node: Some(node.0.into()),
+        channel: Some(channel.into()),
+        ..row::answer_alone(line, answer)
     }
-    if number == refusal::ROUTE_REJECTED {
-        return Field::Number(scouts);
+}
+
+// The scouts of an open that was rejected after the search.
+#[tactic(auto, unfolding(ownership::specs::Calls::carries_scouts))]
+fn scouts_of(rejected: Rejected) -> Option<Field>
+    ensures { (w : List ℕ) → field_of w result ≡ shows_if (carries_scouts (number_of rejected.refusal)) (shows rejected.scouts) }
+{
+    match rejected.refusal {
+        Refusal::RouteRejected => Some(Field::Number(rejected.scouts)),
+        Refusal::ReceiveRejected => Some(Field::Number(rejected.scouts)),
+        Refusal::NoRoute => Some(Field::Number(rejected.scouts)),
+        _ => None,
     }
-    if number == refusal::RECEIVE_REJECTED {
-        return Field::Number(scouts);
-    }
-    if number == refusal::NO_ROUTE {
-        return Field::Number(scouts);
-    }
-    Field::Nothing
 }
 
 // An open. A trace tells the ports of one that was acknowledged.
@@ -43,20 +53,23 @@ pub fn open(
     routing: u16,
     vector: u16,
     ports: &mut [u8],
-) -> row::Row
+) -> Row
     requires { ports.old ≡ zero_buffer }
     ensures { Answered t.old line (some (opening source.0 channel target.0 routing vector)) ports.new result t.new }
 {
-    let got = router::open(t, source, channel, target, routing, vector);
-    let number = got.number;
-    let scouts = scouts_of(number, got.scouts);
-    let node = Field::Number(source.0 as u32);
-    let send = Field::Number(channel as u32);
-    let none = Field::Nothing;
-    if number != refusal::ACCEPTED {
-        return row::of_call(line, b'S', number, node, send, none, scouts, none);
+    match router::open(t, source, channel, target, routing, vector) {
+        Err(rejected) => Row {
+            scouts: scouts_of(rejected),
+            ..of_channel(line, b'S', rejected.refusal.number(), source, channel)
+        },
+        Ok(acknowledged) => {
+            let hops = router::trace(t, source, channel, ports).unwrap_or(0);
+            Row {
+                receive: Some(acknowledged.receive.into()),
+                scouts: Some(Field::Number(acknowledged.scouts)),
+                ports: Some(Field::Path(hops)),
+                ..of_channel(line, b'S', refusal::ACCEPTED, source, channel)
+            }
+        }
     }
-    let receive = Field::Number(got.receive as u32);
-    let path = Field::Path(router::trace(t, source, channel, ports).hops);
-    row::of_call(line, b'S', number, node, send, receive, scouts, path)
 }

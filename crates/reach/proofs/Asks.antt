@@ -1,17 +1,18 @@
 -- What a send of a routing type would find, were all circuits closed, for each type by what its function answers.
 -- Assumes nothing.
 use mathlib.Core.Path.{◌≡◌, refl, ap, sym, ◌∙◌}
-use mathlib.Core.Logic.{◌≢◌}
 use mathlib.Core.Bool.{Bool, cond}
 use mathlib.Core.List.{List}
 use Prim.Native.Nat.{ℕ, ◌-◌, ◌^◌}
 use native.Mathlib.Omega.{arith}
 use lib.Dec.{eqb}
 use lib.ListN.{take}
-use borrow.Author.Tests.{eq-eqb, ne_eqb, lt-ltb}
+use borrow.Author.Tests.{lt-ltb}
 use Rattle.cube.specs.Cube.{port_count}
 use Rattle.common.specs.Lists.{any}
 use Rattle.common.proofs.Lists.{keep_all}
+use Rattle.cube.specs.RoutingTypes.{SentAs}
+use Rattle.cube.specs.declared.routing_type.RoutingType.TheVariants.{Maze, Helix, Fixed, AlternateMaze}
 use Rattle.cube.specs.Bits.{has}
 use Rattle.cube.specs.Axes.{axis}
 use Rattle.cube.specs.Helical.{ports_of}
@@ -55,21 +56,21 @@ module _ {b : List ℕ} {s t vector : ℕ} (may : MayAsk b s t vector) where
   unfolding helix_enabled pass_finds
   by_type type = rw (all, ← given) (finds_by_type S (view b).enabled s t type vector)
 
-  -- Type 3 finds what its lowest port finds,
-  pub fixed_finds : {type : ℕ} {r : Bool} → type ≡ 3 → r ≡ any (helix_enabled b s t) (take 1 (ports_of port_count vector)) → Finds type r
-  fixed_finds {type} e h = h ∙ sym (by_type type ∙ rw (eq-eqb type 3 e))
+  -- A number that is sent as type 3 finds what its lowest port finds,
+  pub fixed_finds : {n : ℕ} {r : Bool} → SentAs n Fixed → r ≡ any (helix_enabled b s t) (take 1 (ports_of port_count vector)) → Finds n r
+  fixed_finds {n} as_type h = h ∙ sym (by_type n ∙ rw as_type.fixed)
 
-  -- type 1 what one of its ports finds,
-  pub helix_finds : {type : ℕ} {r : Bool} → type ≢ 3 → type ≡ 1 → r ≡ any (helix_enabled b s t) (ports_of port_count vector) → Finds type r
-  helix_finds {type} n e h = h ∙ sym (by_type type ∙ rw (ne_eqb type 3 n, eq-eqb type 1 e))
+  -- one that is sent as type 1 what one of its ports finds,
+  pub helix_finds : {n : ℕ} {r : Bool} → SentAs n Helix → r ≡ any (helix_enabled b s t) (ports_of port_count vector) → Finds n r
+  helix_finds {n} as_type h = h ∙ sym (by_type n ∙ rw (as_type.fixed, as_type.helix))
 
-  -- type 4 what a pass over all ports finds,
-  pub alternate_finds : {type : ℕ} {r : Bool} → type ≢ 3 → type ≢ 1 → type ≡ 4 → {v : ℕ} → v ≡ 2 ^ D - 1
-      → r ≡ finds_path (pass (net (view b)) (view b).enabled s (send_ports S v) t) → Finds type r
+  -- one that is sent as type 4 what a pass over all ports finds,
+  pub alternate_finds : {n : ℕ} {r : Bool} → SentAs n AlternateMaze → {v : ℕ} → v ≡ 2 ^ D - 1
+      → r ≡ finds_path (pass (net (view b)) (view b).enabled s (send_ports S v) t) → Finds n r
   unfolding pass_finds
-  alternate_finds {type} n m e i h = h ∙ ap pass_finds i ∙ sym (by_type type ∙ rw (ne_eqb type 3 n, ne_eqb type 1 m, eq-eqb type 4 e))
+  alternate_finds {n} as_type i h = h ∙ ap pass_finds i ∙ sym (by_type n ∙ rw (as_type.fixed, as_type.helix, as_type.alternate))
 
-  -- and any other type what its pass finds.
-  pub maze_finds : {type : ℕ} {r : Bool} → type ≢ 3 → type ≢ 1 → type ≢ 4 → r ≡ finds_path (pass (net (view b)) (view b).enabled s (send_ports S vector) t) → Finds type r
+  -- and any other what its pass finds.
+  pub maze_finds : {n : ℕ} {r : Bool} → SentAs n Maze → r ≡ finds_path (pass (net (view b)) (view b).enabled s (send_ports S vector) t) → Finds n r
   unfolding pass_finds
-  maze_finds {type} n m k h = h ∙ sym (by_type type ∙ rw (ne_eqb type 3 n, ne_eqb type 1 m, ne_eqb type 4 k))
+  maze_finds {n} as_type h = h ∙ sym (by_type n ∙ rw (as_type.fixed, as_type.helix, as_type.alternate))

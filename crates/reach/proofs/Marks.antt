@@ -1,16 +1,17 @@
 -- The sweep: some port of a vector passes a test, as a loop over its ports finds it.
 -- Assumes nothing.
 use mathlib.Core.Path.{◌≡◌, ap, sym, ◌∙◌}
-use mathlib.Core.Logic.{◌≢◌, ⊎_elim}
+use mathlib.Core.Logic.{⊎_elim}
 use mathlib.Core.Bool.{Bool, true, false, not}
 use Prim.Native.Nat.{ℕ, ◌^◌, ◌<◌}
 use native.Mathlib.Omega.{arith}
 use lib.Dec.{eqb}
 use borrow.Author.Tests.{ne_eqb}
-use Rattle.common.specs.Lists.{any, lowest}
+use Rattle.std.proofs.Common.{Some, None}
+use Rattle.common.specs.Lists.{any, lowest, some_below}
 use Rattle.common.proofs.Tests.{clash, is_false, both, and, below_or}
 use Rattle.common.proofs.Lists.{any_some, some_any}
-use Rattle.common.proofs.Lowest.{lowest_passes, lowest_before}
+use Rattle.common.proofs.Lowest.{lowest_passes, lowest_before, some_is, none_is}
 use Rattle.cube.specs.Bits.{has}
 use Rattle.cube.specs.CubeContracts.{Without}
 use Rattle.cube.specs.Cube.{port_count, next}
@@ -20,11 +21,12 @@ use Rattle.cube.proofs.Axes.{axis_low}
 use Rattle.cube.proofs.Order.{ports_mem, mem_ports}
 use Rattle.paths.proofs.Reach.{any_both}
 
--- the lowest of eight bits of a vector that has one
-pub lowest_of_lem : (v : ℕ) → v < 256 → v ≢ 0 → (lowest (has v) 8 0 < 8) × (has v (lowest (has v) 8 0) ≡ true)
-lowest_of_lem v h some =
-    ⊎_elim (λ l. (l, lowest_passes (has v) 8 0 l))
-    (λ g. absurd (some (no_ports 8 v h (λ p l. lowest_before (has v) 8 0 p (omega arith) (omega arith))))) (below_or 8 (lowest (has v) 8 0))
+-- the lowest of eight bits of a vector is one of its ports, and where there is none it is 0
+pub some_lowest : (v : ℕ) {k : ℕ} → Some k ≡ some_below port_count (lowest (has v) port_count 0) → (k < port_count) × (has v k ≡ true)
+some_lowest v e = let f = some_is e in (rw f.0 f.1, rw f.0 (lowest_passes (has v) 8 0 f.1))
+
+pub no_lowest : (v : ℕ) → v < 256 → None ≡ some_below port_count (lowest (has v) port_count 0) → v ≡ 0
+no_lowest v h e = let g = none_is e in no_ports 8 v h (λ p l. lowest_before (has v) 8 0 p (omega arith) (omega arith))
 
 -- the ports of a vector below 2 ^ D are below D
 pub bit_below : (D v p : ℕ) → v < 2 ^ D → has v p ≡ true → p < D

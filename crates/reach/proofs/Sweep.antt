@@ -68,7 +68,7 @@ narrowed f g v bits h =
     (p, mem_ports 8 (bit_and v bits) p k.0 (has_and v bits p ∙ and k.1 (sym (h p k.0) ∙ j.0)), j.1))
 
 -- the marks of all nodes that differ from the target in a vector below x are right
-pub record Swept (b : List ℕ) (t x : ℕ) (marks : List ℕ) : Type 0 where
+pub record Swept (b : List ℕ) (t x : ℕ) (marks : List Bool) : Type 0 where
   pub size : length marks ≡ 256
   pub right : (k : ℕ) → k < x → k < 2 ^ dimension_at b → marked marks (bit_xor k t) ≡ reaches_on b t (bit_xor k t)
 
@@ -96,7 +96,7 @@ module _ (b : List ℕ) (t : ℕ) (may : MaySweep b t) where
 
   -- A port of a vector leads to a marked node exactly where one does that is enabled and leads to a node that reaches the target, where the marks behind
   -- the vector's ports are right.
-  leads_reaches : (marks : List ℕ) (n v x : ℕ) → NodeOf D n → v < 2 ^ D → x ≡ enable_bits b n
+  leads_reaches : (marks : List Bool) (n v x : ℕ) → NodeOf D n → v < 2 ^ D → x ≡ enable_bits b n
       → ((p : ℕ) → p < D → has v p ≡ true → marked marks (next n p) ≡ reaches_on b t (next n p))
       → leads marks n (bit_and v x) ≡ any (λ p. enabled n p && reaches_on b t (N.next n p)) (ports_of port_count v)
   unfolding leads network
@@ -116,21 +116,21 @@ module _ (b : List ℕ) (t : ℕ) (may : MaySweep b t) where
   step n = reaches_step N enabled t (cube_nearing (shape_of (view b)) t) n
 
   -- The target reaches itself;
-  pub swept_target : (marks : List ℕ) → length marks ≡ 256 → Swept b t 1 (set marks t 1)
+  pub swept_target : (marks : List Bool) → length marks ≡ 256 → Swept b t 1 (set marks t true)
   swept_target marks e =
       record {
         size = simp length-set e;
         right = λ k l h. let z : k ≡ 0 = omega arith in rw (z, xor_zero_l t) (here ∙ sym there);
       }
     where
-      here : marked (set marks t 1) t ≡ true
-      here = eq-eqb _ 1 (get_or-set_same marks t 1 0 (omega (arith, below_256 may.fits may.target)))
+      here : marked (set marks t true) t ≡ true
+      here = get_or-set_same marks t true false (omega (arith, below_256 may.fits may.target))
 
       there : reaches_on b t t ≡ true
       there = step t ∙ or_left _ (eq-eqb t t refl)
 
   -- of any other node, what the marks of the nodes swept before it say is right,
-  pub swept_leads : (marks : List ℕ) (x bits : ℕ) → 0 < x → x < 2 ^ D → Swept b t x marks → bits ≡ enable_bits b (bit_xor x t)
+  pub swept_leads : (marks : List Bool) (x bits : ℕ) → 0 < x → x < 2 ^ D → Swept b t x marks → bits ≡ enable_bits b (bit_xor x t)
       → leads marks (bit_xor x t) (bit_and x bits) ≡ reaches_on b t (bit_xor x t)
   swept_leads marks x bits some h s e =
       leads_reaches marks n x bits i h e right
@@ -154,7 +154,7 @@ module _ (b : List ℕ) (t : ℕ) (may : MaySweep b t) where
           rw there (s.right (flip x p) (omega (arith, flip_drops x p u, pow_pos p)) (flip_inside D x p h l))
 
   -- so that one more node is swept.
-  pub swept_more : (marks : List ℕ) (x r : ℕ) → x < 2 ^ D → Swept b t x marks → eqb r 1 ≡ reaches_on b t (bit_xor x t) → Swept b t (x + 1) (set marks (bit_xor x t) r)
+  pub swept_more : (marks : List Bool) (x : ℕ) (r : Bool) → x < 2 ^ D → Swept b t x marks → r ≡ reaches_on b t (bit_xor x t) → Swept b t (x + 1) (set marks (bit_xor x t) r)
   swept_more marks x r h s e =
       record {
         size = simp length-set s.size;
@@ -162,16 +162,16 @@ module _ (b : List ℕ) (t : ℕ) (may : MaySweep b t) where
       }
     where
       here : marked (set marks (bit_xor x t) r) (bit_xor x t) ≡ reaches_on b t (bit_xor x t)
-      here = ap (λ y. eqb y 1) (get_or-set_same marks (bit_xor x t) r 0 (omega (arith, s.size, below_256 may.fits (inside x h)))) ∙ e
+      here = get_or-set_same marks (bit_xor x t) r false (omega (arith, s.size, below_256 may.fits (inside x h))) ∙ e
 
       other : (k : ℕ) → k < x → k < 2 ^ D → marked (set marks (bit_xor x t) r) (bit_xor k t) ≡ reaches_on b t (bit_xor k t)
-      other k l j = ap (λ y. eqb y 1) (get_or-set_other marks (bit_xor x t) (bit_xor k t) r 0 apart) ∙ s.right k l j
+      other k l j = get_or-set_other marks (bit_xor x t) (bit_xor k t) r false apart ∙ s.right k l j
         where
           apart : bit_xor k t ≢ bit_xor x t
           apart z = omega (arith, sym (xor_back D k t j may.target) ∙ ap (λ y. bit_xor y t) z ∙ xor_back D x t h may.target)
 
   -- With all of them swept, exactly those are marked that reach the target.
-  pub swept_all : (marks : List ℕ) (x : ℕ) → 2 ^ D ≤ x → Swept b t x marks → Marks b t marks
+  pub swept_all : (marks : List Bool) (x : ℕ) → 2 ^ D ≤ x → Swept b t x marks → Marks b t marks
   unfolding Marks
   swept_all marks x h s n i =
       let k = inside n i in
@@ -179,7 +179,7 @@ module _ (b : List ℕ) (t : ℕ) (may : MaySweep b t) where
       rw back at (s.right (bit_xor n t) (omega arith) k)
 
   -- Then a pass would find a path exactly where an enabled port of its vector leads to a marked node.
-  pub marks_find : (marks : List ℕ) (s vector bits : ℕ) → Marks b t marks → NodeOf D s → VectorOf D vector → bits ≡ enable_bits b s
+  pub marks_find : (marks : List Bool) (s vector bits : ℕ) → Marks b t marks → NodeOf D s → VectorOf D vector → bits ≡ enable_bits b s
       → leads marks s (bit_and vector bits) ≡ finds_path (pass N enabled s (send_ports (shape_of (view b)) vector) t)
   marks_find marks s vector bits m i h e =
       leads_reaches marks s vector bits i h e (λ p l u. unfold Marks in m (next s p) (rw (leads_to s p l) (flip_inside D s p i l)))

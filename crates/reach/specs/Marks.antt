@@ -1,7 +1,7 @@
 -- Marks of nodes: what the sweep over a table's cube leaves in its array, and what its functions ask. Nobody has to believe these: the contract of the public
 -- function speaks of the attempts alone.
 -- Assumes nothing.
-use Rattle.std.specs.Prelude.{◌≡◌, Bool, List, ℕ, ◌≤◌, ◌<◌, eqb, length, get_or}
+use Rattle.std.specs.Prelude.{◌≡◌, Bool, List, ℕ, ◌≤◌, ◌<◌, false, length, get_or}
 use Rattle.common.specs.Lists.{any}
 use Rattle.cube.specs.Cube.{largest_dimension, port_count, next, NodeOf, VectorOf}
 use Rattle.cube.specs.Helical.{ports_of}
@@ -12,11 +12,11 @@ use Rattle.layout.specs.Layout.{table_length, dimension_at}
 use Rattle.table.specs.View.{view, net}
 
 -- a node is marked
-abbrev pub marked : List ℕ → ℕ → Bool
-marked marks n = eqb (get_or marks n 0) 1
+abbrev pub marked : List Bool → ℕ → Bool
+marked marks n = get_or marks n false
 
 -- a port of a vector leads from node n to a marked one
-unfoldable pub leads : List ℕ → ℕ → ℕ → Bool
+unfoldable pub leads : List Bool → ℕ → ℕ → Bool
 leads marks n vector = any (λ p. marked marks (next n p)) (ports_of port_count vector)
 
 -- a node of a table's cube reaches t over enabled links
@@ -24,7 +24,7 @@ unfoldable pub reaches_on : List ℕ → ℕ → ℕ → Bool
 reaches_on b t n = reaches (net (view b)) (view b).enabled t n
 
 -- exactly those nodes are marked that do
-unfoldable pub Marks : List ℕ → ℕ → List ℕ → Type 0
+unfoldable pub Marks : List ℕ → ℕ → List Bool → Type 0
 Marks b t marks = (n : ℕ) → NodeOf (dimension_at b) n → marked marks n ≡ reaches_on b t n
 
 -- the links of the helix path of port p are all enabled

@@ -1,11 +1,10 @@
 -- One packet: its number and the channel after it, by what the code's branches have decided.
 -- Assumes nothing.
-use Rattle.std.proofs.Common.{◌≡◌, ℕ, ◌+◌, ◌%◌, ◌^◌, ◌<◌, true, false, not, ◌≢◌, refl, ap, ◌∙◌, arith, eq-eqb, ne_eqb}
+use Rattle.std.proofs.Common.{◌≡◌, ℕ, false, not, ◌≢◌, refl, ap, ◌∙◌, arith, eq-eqb, ne_eqb}
 use Rattle.common.proofs.Tests.{refused, passed, accepted}
-use Rattle.command_word.specs.Commands.{end_of_message, end_of_transmission}
 use Rattle.command_word.specs.Word.{read_word}
 use Rattle.receiver.specs.declared.Channel.{Channel}
-use Rattle.receiver.specs.Receive.{Packet, data_packet, command_word, packet_tests, unread, numbered, taken, received, eight_more, one_less, overflows, after_data, stops, after_command}
+use Rattle.receiver.specs.Receive.{Packet, data_packet, command_word, packet_tests, unread, numbered, taken, received, after_data, stops, after_command}
 
 -- the number of a packet, by which of its tests applies
 pub unread_number : (c : Channel) (p : Packet) (n : ℕ) → n ≡ unread p → n ≢ 0 → numbered c p ≡ n
@@ -57,47 +56,7 @@ pub word_taken : (c d : Channel) (word command : ℕ) → (read_word word).numbe
 unfolding unread taken
 word_taken c d word command r k h e = rw (e, k) (accepted_as c (command_word word) (taken_number c (command_word word) r h))
 
--- A data packet that is taken: the counter that the code has wrapped is one less, and the mark, found set or set now, holds the address.
-pub one_less_lem : (k r : ℕ) → r < 2 ^ 32 → k < 2 ^ 32 → (r + 1) % 2 ^ 32 ≡ k → r ≡ one_less k
-one_less_lem k r h l e = omega arith
-
-pub data_marked : (c : Channel) (k : ℕ) → c.overflow ≢ 0 → k ≡ one_less c.count
-    → record { address = c.address; count = k; running = c.running; overflow = 1; ignores = c.ignores } ≡ after_data c
-unfolding after_data overflows
-data_marked c k h e = rw (e, ne_eqb c.overflow 0 h)
-
-pub data_marks : (c : Channel) (k : ℕ) → c.overflow ≡ 0 → c.count ≡ 0 → k ≡ one_less c.count
-    → record { address = c.address; count = k; running = c.running; overflow = 1; ignores = c.ignores } ≡ after_data c
-unfolding after_data overflows
-data_marks c k h z e = rw (e, h, z)
-
-pub data_counted : (c : Channel) (k a : ℕ) → c.overflow ≡ 0 → c.count ≢ 0 → k ≡ one_less c.count → a ≡ eight_more c.address
-    → record { address = a; count = k; running = c.running; overflow = c.overflow; ignores = c.ignores } ≡ after_data c
-unfolding after_data overflows
-data_counted c k a h z e f = rw (e, f, h, ne_eqb c.count 0 z)
-
--- A command that is obeyed.
-pub stopped_by : (c : Channel) (command : ℕ) → stops c command ≡ true
-    → record { address = c.address; count = c.count; running = 0; overflow = c.overflow; ignores = c.ignores } ≡ after_command c command
-unfolding after_command
-stopped_by c command e = rw e
-
+-- A command that stops nothing changes nothing.
 pub unchanged_by : (c : Channel) (command : ℕ) → stops c command ≡ false → c ≡ after_command c command
 unfolding after_command
 unchanged_by c command e = rw e
-
-pub transmission_ends : (c : Channel) (command : ℕ) → command ≡ end_of_transmission → stops c command ≡ true
-unfolding stops
-transmission_ends c command e = rw e
-
-pub message_ends : (c : Channel) (command : ℕ) → command ≡ end_of_message → c.ignores ≡ 0 → stops c command ≡ true
-unfolding stops
-message_ends c command e h = rw (e, h)
-
-pub message_ignored : (c : Channel) (command : ℕ) → command ≡ end_of_message → c.ignores ≢ 0 → stops c command ≡ false
-unfolding stops
-message_ignored c command e h = rw (e, ne_eqb c.ignores 0 h)
-
-pub other_command : (c : Channel) (command : ℕ) → command ≢ end_of_transmission → command ≢ end_of_message → stops c command ≡ false
-unfolding stops
-other_command c command h l = rw (ne_eqb command end_of_transmission h, ne_eqb command end_of_message l)

@@ -1,13 +1,20 @@
 -- Document 02, request (m): what a receive channel does with each packet. The contracts cite `started`, `received`, `overshoot` and `followed`.
 -- Assumes nothing.
-use Rattle.std.specs.Prelude.{ℕ, ◌+◌, ◌-◌, ◌%◌, ◌^◌, Bool, cond, not, ◌&&◌, ◌||◌, List, [], ◌∷◌, ◌==◌}
+use Rattle.std.specs.Prelude.{ℕ, ◌+◌, ◌-◌, ◌%◌, ◌^◌, Bool, cond, not, ◌&&◌, ◌||◌, List, [], ◌∷◌, ◌==◌, Result, Ok, Err}
 use Rattle.common.specs.Tests.{Test, test, refusal}
+use Rattle.common.specs.Refusals.{number_of}
+use Rattle.common.specs.declared.refusal.Refusal.{Refusal}
 use Rattle.command_word.specs.Commands.{end_of_message, end_of_transmission}
 use Rattle.command_word.specs.Word.{read_word}
-use Rattle.answers.specs.declared.Opened.{Opened}
+use Rattle.answers.specs.declared.Acknowledged.{Acknowledged}
+use Rattle.answers.specs.declared.Rejected.{Rejected}
 use Rattle.receiver.specs.declared.Channel.{Channel}
-use Rattle.receiver.specs.declared.Received.{Received}
 use Rattle.receiver.specs.declared.Followed.{Followed}
+
+-- a packet's number, and the channel after it
+pub record Received : Type 0 where
+  pub channel : Channel
+  pub number : ℕ
 
 -- "any packet, data or command"
 pub data Packet : Type 0 where
@@ -87,19 +94,19 @@ taken c (command_word word) = after_command c (read_word word).command
 unfoldable pub received : Channel → Packet → Received
 received c p = record { channel = cond (numbered c p == 0) (taken c p) c; number = numbered c p }
 
+-- what the code answers a packet: the channel after it, or a refusal, which leaves the channel as it is
+abbrev pub received_as : Channel → Result Channel Refusal → Received
+received_as c (Ok d) = record { channel = d; number = 0 }
+received_as c (Err e) = record { channel = c; number = number_of e }
+
 -- How many doublewords came too many, modulo 2^32, read from the wrapped count: none while the mark is clear.
 unfoldable pub overshoot : Channel → ℕ
 overshoot c = cond (is_set c.overflow) ((2 ^ 32 - c.count) % 2 ^ 32) 0
 
--- "One receive channel that follows its circuit": the channel that an open named, started. A refused open names none, and hands on its number;
--- the channel beside it is all zero, and so stopped.
-unfoldable pub followed : Opened → ℕ → ℕ → ℕ → Followed
-followed o address count ignores =
-    record {
-      number = o.number;
-      receive = cond (o.number == 0) o.receive 0;
-      channel = cond (o.number == 0) (started address count ignores) (record { address = 0; count = 0; running = 0; overflow = 0; ignores = 0 });
-    }
+-- "One receive channel that follows its circuit": the channel that an open named, started. A refused open names none, and hands on its refusal.
+unfoldable pub followed : Result Acknowledged Rejected → ℕ → ℕ → ℕ → Result Followed Refusal
+followed (Ok a) address count ignores = Ok (record { receive = a.receive; channel = started address count ignores })
+followed (Err r) address count ignores = Err r.refusal
 
 -- a list of packets, one after another: the channel afterwards, and the number of each
 unfoldable pub after : Channel → List Packet → Channel

@@ -10,8 +10,8 @@ use Prim.Native.Nat.{ℕ, zero, suc, ◌+◌, ◌/◌, ◌%◌, ◌^◌, ◌≤�
 use native.Mathlib.Omega.{arith}
 use native.Mathlib.Numerals.{add-one}
 use lib.Dec.{eqb, lit<}
-use lib.ListN.{length, get_or, take, drop, set, length-append, length-set, get_or-append}
-use lib.Seq.{slice, slice-cons, slice_empty, take-append_seam}
+use lib.ListN.{length, get_or, take, drop, set, length-set, drop_of_length-le}
+use lib.Seq.{drop-cons, take-append_seam}
 use borrow.Author.Tests.{eqb-true, eqb-false, eq-eqb}
 use Rattle.common.specs.Lists.{◌∈◌, lowest}
 use Rattle.common.proofs.Tests.{below_or, clash, is_false, both, and}
@@ -45,29 +45,25 @@ use Rattle.ownership.proofs.OnSound.{open_sound}
 use Rattle.release.specs.Release.{MayFree}
 
 -- i of the links are freed, and the next is one of node `at`
-pub record Freeing (b ports : List ℕ) (s hops : ℕ) (now : List ℕ) (at i : ℕ) : Type 0 where
-  pub most : i ≤ hops
+pub record Freeing (b path : List ℕ) (s : ℕ) (now : List ℕ) (at i : ℕ) : Type 0 where
   pub node : at < 256
   pub long : length now ≡ length b
-  pub holds : hold_path now 0 at (slice i hops ports) ≡ hold_path b 0 s (take hops ports)
+  pub holds : hold_path now 0 at (drop i path) ≡ hold_path b 0 s path
 
-module _ {b ports : List ℕ} {s hops : ℕ} where
-  pub without_on : {now after : List ℕ} {at to i p : ℕ} → Freeing b ports s hops now at i → i < hops → hops ≤ length ports → p ≡ get_or ports i 0 → p < port_count
-      → after ≡ put_owner now at p 0 → to ≡ next at p → Freeing b ports s hops after to (i + 1)
-  without_on {now} {after} {at} {to} {i} {p} f h room e l q t =
-      let split : slice i hops ports ≡ p ∷ slice (suc i) hops ports = slice-cons i hops ports 0 h room ∙ ap (◌∷ slice (suc i) hops ports) (sym e) in
+module _ {b path : List ℕ} {s : ℕ} where
+  pub without_on : {now after : List ℕ} {at to i p : ℕ} → Freeing b path s now at i → i < length path → p ≡ get_or path i 0 → p < port_count
+      → after ≡ put_owner now at p 0 → to ≡ next at p → Freeing b path s after to (i + 1)
+  without_on {now} {after} {at} {to} {i} {p} f h e l q t =
+      let split : drop i path ≡ p ∷ drop (suc i) path = drop-cons path i 0 h ∙ ap (◌∷ drop (suc i) path) (sym e) in
       record {
-        most = omega arith;
         node = rw t (next_inside 8 at p (omega arith) f.node l);
         long = ap length q ∙ owner_length now at p 0 ∙ f.long;
         holds = rw (q, t, add-one i) (sym (ap (hold_path now 0 at) split ∙ (unfold hold_path in refl)) ∙ f.holds);
       }
 
-  pub freed_bytes_are : {now : List ℕ} {at i : ℕ} → Freeing b ports s hops now at i → hops ≤ i → now ≡ hold_path b 0 s (take hops ports)
+  pub freed_bytes_are : {now : List ℕ} {at i : ℕ} → Freeing b path s now at i → length path ≤ i → now ≡ hold_path b 0 s path
   freed_bytes_are {now} {at} {i} f h =
-      let e : i ≡ hops = omega (arith, f.most) in
-      let none : slice i hops ports ≡ [] = rw e (slice_empty hops ports) in
-      sym (ap (hold_path now 0 at) none ∙ (unfold hold_path in refl)) ∙ f.holds
+      sym (ap (hold_path now 0 at) (drop_of_length-le path h) ∙ (unfold hold_path in refl)) ∙ f.holds
 
 -- the member at a place
 at_member : (w : List ℕ) (i : ℕ) → i < length w → get_or w i 0 ∈ w
@@ -154,25 +150,20 @@ module _ {b : List ℕ} {c : ℕ} (known : HasSource b c) (some : is_open_in (vi
       record { bytes = freed.long; node = below_256 known.fits target_inside; port = stands.small }
       ∙ ap encode (ap (λ (v : View). set_armed v target stands.receive false) shown ∙ shown_freed)
 
-  -- Of what the code has: the ports of the path in a buffer of nine, how many they are, and the source.
-  module _ (buffer : List ℕ) {ports : List ℕ} {hops s : ℕ} (room : 9 ≤ length buffer) (count : hops ≡ length path) (e : ports ≡ traced_into path buffer) (q : s ≡ source_of c) where
+  -- Of what the code has: the ports of the path in a buffer, how many they are, and the source.
+  module _ (buffer : List ℕ) {ports : List ℕ} {hops s : ℕ} (count : hops ≡ length path) (e : ports ≡ traced_into path buffer) (q : s ≡ source_of c) where
     taken : take hops ports ≡ path
     unfolding traced_into
     taken = rw (count, e) (take-append_seam path (drop (length path) buffer))
 
-    pub may_free : MayFree b s ports hops
-    unfolding traced_into PortsBelow
+    pub may_free : MayFree b s (take hops ports)
+    unfolding PortsBelow
     may_free =
-        record {
+        rw taken (record {
           bytes = known.bytes;
           node = rw q (below_256 known.fits known.source);
-          room = omega (arith, count, ap length e, length-append path (drop (length path) buffer));
-          below = λ i h.
-              let l : i < length path = omega arith in
-              let p = ports_below (get_or path i 0) (at_member path i l) in
-              let place : get_or ports i 0 ≡ get_or path i 0 = ap (λ x. get_or x i 0) e ∙ get_or-append path (drop (length path) buffer) 0 i l in
-              omega (arith, p, known.fits);
-        }
+          below = λ i h. let p = ports_below (get_or path i 0) (at_member path i h) in omega (arith, p, known.fits);
+        })
 
     module _ {t : ℕ} {b₁ : List ℕ} (at_Target : t ≡ target) (holds : b₁ ≡ hold_path b 0 s (take hops ports)) where
       held : b₁ ≡ hold_path b 0 (source_of c) path

@@ -1,7 +1,7 @@
 // Freeing a circuit: the links of its path one after another, and then the receive channel at its end, which is disarmed too.
 #![tactic(auto)]
 
-ghost use Rattle.std.specs.Prelude.{◌≡◌, true, take};
+ghost use Rattle.std.specs.Prelude.{◌≡◌, true};
 ghost use Rattle.table.specs.View.{view, without_circuit};
 ghost use Rattle.table.specs.Encode.{encode};
 ghost use Rattle.soundness.specs.Sound.{Sound};
@@ -12,19 +12,16 @@ ghost use Rattle.release.specs.Release.{MayFree};
 
 use cube::{Circuit, Node, Port};
 
-// Frees the link out of a port of a node, then that out of the next port of the node behind it, and so on.
-fn free_links(t: &mut [u8], source: Node, ports: &[u8], hops: u16)
-    requires { MayFree t.old source.0 ports.now hops }
-    ensures { t.new ≡ hold_path t.old 0 source.0 (take hops ports.now) }
+// Frees the link out of the first port of a path at a node, then that out of the next port at the node behind it, and so on.
+fn free_links(t: &mut [u8], source: Node, path: &[u8])
+    requires { MayFree t.old source.0 path.now }
+    ensures { t.new ≡ hold_path t.old 0 source.0 path.now }
 {
     let mut at = source;
-    let mut i: u16 = 0;
-    while i < hops {
-        let hop = i as usize;
-        let p = ports[hop] as u16;
-        table::set_owner(t, at, Port(p), Circuit(0));
-        at = cube::neighbour(at, Port(p));
-        i += 1;
+    for port in path {
+        let p = Port(u16::from(*port));
+        table::set_owner(t, at, p, Circuit(0));
+        at = cube::neighbour(at, p);
     }
 }
 
@@ -37,9 +34,10 @@ pub fn release(t: &mut [u8], c: Circuit)
 {
     let mut ports = [0u8; 9];
     let path = circuit_path::write_path(t, c, &mut ports);
-    free_links(t, cube::source_of(c), &ports, path.hops);
+    free_links(t, cube::source_of(c), &ports[..path.hops as usize]);
     let target = path.end;
-    let channel = table::held_channel(t, c, target);
-    table::set_receiver(t, target, channel, Circuit(0));
-    table::disarm(t, target, channel);
+    if let Some(channel) = table::held_channel(t, c, target) {
+        table::set_receiver(t, target, channel, Circuit(0));
+        table::set_armed(t, target, channel, false);
+    }
 }

@@ -3,5 +3,5 @@
 
 mod calls;
 
-pub use answers::Opened;
-pub use calls::{Traced, arm, block, close, disarm, make, open, trace, unblock};
+pub use answers::{Acknowledged, Rejected};
+pub use calls::{arm, block, close, disarm, make, open, trace, unblock};

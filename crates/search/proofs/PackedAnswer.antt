@@ -7,6 +7,10 @@ use native.Mathlib.Omega.{arith}
 use borrow.Author.Tests.{lt-ltb, le-ltb}
 use Rattle.cube.specs.Cube.{channels}
 use Rattle.answers.specs.SendOnTable.{PassAnswer, pass_answer}
+use Rattle.answers.specs.declared.Acknowledged.{Acknowledged}
+use Rattle.answers.specs.declared.Rejected.{Rejected}
+use Rattle.answers.specs.Opens.{opened_answer}
+use Rattle.std.proofs.Common.{Result}
 use Rattle.search.specs.SearchContracts.{answer_in, Packed, Unpacked}
 
 module _ (x : ℕ) (b : List ℕ) where
@@ -42,6 +46,6 @@ of_acknowledged h k s b lh lk ls =
     ∙ ap (λ y. pass_answer 0 h y (x % 4294967296) b) receive
     ∙ ap (λ y. pass_answer 0 h k y b) scouts
 
--- its parts, read off
-pub read_off : {x number hops receive scouts : ℕ} {b : List ℕ} {answer : PassAnswer} → Unpacked x number hops receive scouts → Packed x b answer → pass_answer number hops receive scouts b ≡ answer
-read_off {b = b} parts packed = parts b ∙ packed.same
+-- the answer that such a number is
+pub read_off : {x : ℕ} (r : Result Acknowledged Rejected) {b : List ℕ} {answer : PassAnswer} → Unpacked x r → Packed x b answer → opened_answer r b ≡ answer
+read_off r {b = b} same packed = same b ∙ packed.same

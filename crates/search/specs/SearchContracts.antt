@@ -1,6 +1,6 @@
 -- What the two halves of the search ask and answer: a node trying its ports, and an arrival.
 -- Assumes nothing.
-use Rattle.std.specs.Prelude.{◌≡◌, ◌≢◌, true, false, cond, List, [], ◌∷◌, ℕ, ◌+◌, ◌-◌, ◌*◌, ◌/◌, ◌%◌, ◌^◌, ◌≤◌, ◌<◌, leb, ltb, length}
+use Rattle.std.specs.Prelude.{◌≡◌, ◌≢◌, true, false, cond, List, [], ◌∷◌, ℕ, ◌+◌, ◌-◌, ◌*◌, ◌/◌, ◌%◌, ◌^◌, ◌≤◌, ◌<◌, leb, ltb, length, Result}
 use Rattle.cube.specs.Bits.{has}
 use Rattle.cube.specs.Cube.{largest_dimension, port_count, channels, NodeOf, VectorOf}
 use Rattle.cube.specs.Helical.{helical, ports_of}
@@ -10,6 +10,9 @@ use Rattle.paths.specs.Search.{trying, arriving}
 use Rattle.layout.specs.Layout.{table_length, dimension_at}
 use Rattle.table.specs.View.{View, view, receive, net}
 use Rattle.answers.specs.SendOnTable.{free_in, PassAnswer, pass_answer}
+use Rattle.answers.specs.declared.Acknowledged.{Acknowledged}
+use Rattle.answers.specs.declared.Rejected.{Rejected}
+use Rattle.answers.specs.Opens.{opened_answer}
 use Rattle.answers.specs.PassOnBytes.{answer_of_pass, arrival_after, hops_left}
 
 -- the largest distance to a target among the nodes behind the ports of a list
@@ -50,9 +53,9 @@ answer_in x b =
 pub record Packed (x : ℕ) (b : List ℕ) (answer : PassAnswer) : Type 0 where
   pub same : answer_in x b ≡ answer
 
--- the parts of such a number
-abbrev pub Unpacked : ℕ → ℕ → ℕ → ℕ → ℕ → Type 0
-Unpacked x number hops receive scouts = (b : List ℕ) → pass_answer number hops receive scouts b ≡ answer_in x b
+-- the answer that such a number is
+abbrev pub Unpacked : ℕ → Result Acknowledged Rejected → Type 0
+Unpacked x answer = (b : List ℕ) → opened_answer answer b ≡ answer_in x b
 
 -- what both ask: a table of a cube up to dimension 8, a node and a target of it, a port, a circuit
 pub record SearchPre (b : List ℕ) (t c n a : ℕ) : Type 0 where

@@ -5,14 +5,13 @@ ghost use Rattle.std.specs.Prelude.{◌≡◌, ◌+◌, ◌*◌};
 ghost use Rattle.entries.specs.EntryContracts.{Within};
 ghost use Rattle.table.specs.View.{view};
 ghost use Rattle.cube.specs.Cube.{channels};
-ghost use Rattle.cube.specs.Helical.{FirstPorts};
-ghost use Rattle.answers.specs.SendOnTable.{pass_answer};
+ghost use Rattle.answers.specs.Opens.{opened_answer};
 ghost use Rattle.search.specs.SearchContracts.{Narrowed, Enabled, Packed, Unpacked, try_answer, arrive_answer, MayTry, MayArrive};
 ghost use Rattle.answers.specs.SendAnswer.{MaySend, searched};
 
-use answers::{LinkState, Opened};
-use common::refusal;
-use cube::{Circuit, Node, Port};
+use answers::{Acknowledged, LinkState, Rejected, SendRequest};
+use common::refusal::Refusal;
+use cube::{Circuit, FirstPortTable, Node, Port};
 
 // The ports of a vector that are enabled at a node: no scout leaves by another.
 fn enabled_ports(t: &[u8], n: Node, vector: u16) -> u16
@@ -24,6 +23,7 @@ fn enabled_ports(t: &[u8], n: Node, vector: u16) -> u16
 
 // A pass's answer in one number, so that it goes back from hop to hop in a register: the scouts sent, where no path is free; RECEIVE_REJECTION more, where one is but no
 // receive channel; and where it is acknowledged, ACKNOWLEDGED more, and RECEIVE_REJECTION times 8 * hops + receive channel.
+// A struct of its parts in its place was slower: 4,000 opens of 77,940 scouts each took 1.15 seconds with it, and 1.01 with one number (docs/PERFORMANCE.md, request (c)).
 const RECEIVE_REJECTION: u64 = 4294967296;
 
 const ACKNOWLEDGED: u64 = 8589934592;
@@ -32,40 +32,35 @@ const ACKNOWLEDGED: u64 = 8589934592;
 fn acknowledged(hops: u16, receive: u16, scouts: u32) -> u64
     ensures { result ≡ 8589934592 + scouts + 4294967296 * (channels * hops + receive) }
 {
-    let place = 8 * (hops as u64) + receive as u64;
-    ACKNOWLEDGED + scouts as u64 + RECEIVE_REJECTION * place
+    let place = 8 * u64::from(hops) + u64::from(receive);
+    ACKNOWLEDGED + u64::from(scouts) + RECEIVE_REJECTION * place
 }
 
-// The parts of that number.
-fn unpacked(answer: u64) -> Opened
-    ensures { Unpacked answer result.number result.hops result.receive result.scouts }
+// The answer that such a number is.
+fn unpacked(answer: u64) -> Result<Acknowledged, Rejected>
+    ensures { Unpacked answer result }
 {
     let scouts = (answer % RECEIVE_REJECTION) as u32;
     if answer < RECEIVE_REJECTION {
-        return Opened {
-            number: refusal::ROUTE_REJECTED,
-            hops: 0,
-            receive: 0,
+        return Err(Rejected {
+            refusal: Refusal::RouteRejected,
             scouts,
-        };
+        });
     }
     if answer < ACKNOWLEDGED {
-        return Opened {
-            number: refusal::RECEIVE_REJECTED,
-            hops: 0,
-            receive: 0,
+        return Err(Rejected {
+            refusal: Refusal::ReceiveRejected,
             scouts,
-        };
+        });
     }
     let place = answer / RECEIVE_REJECTION - 2;
     let hops = (place / 8 % 65536) as u16;
     let receive = (place % 8) as u16;
-    Opened {
-        number: refusal::ACCEPTED,
+    Ok(Acknowledged {
         hops,
         receive,
         scouts,
-    }
+    })
 }
 
 // A node tries the ports of a vector, all of them enabled. With none it rejects at once, as many do in a search that finds no path.
@@ -79,15 +74,14 @@ fn try_ports(
     arrival: Port,
     hops: u16,
     scouts: u32,
-    first: &[u8; 2048],
+    first: &FirstPortTable,
 ) -> u64
-    requires first_ports { FirstPorts first.now }
     requires may_try { MayTry t.old target.0 c.0 at.0 vector arrival.0 hops scouts }
     requires enabled { Enabled (view t.old) at.0 vector }
     ensures { Packed result t.new (try_answer t.old target.0 c.0 at.0 vector arrival.0 hops scouts) }
 {
     if vector == 0 {
-        return scouts as u64;
+        return u64::from(scouts);
     }
     try_in_turn(t, at, target, c, vector, arrival, hops, scouts, first)
 }
@@ -104,9 +98,8 @@ fn try_in_turn(
     arrival: Port,
     hops: u16,
     scouts: u32,
-    first: &[u8; 2048],
+    first: &FirstPortTable,
 ) -> u64
-    requires first_ports { FirstPorts first.now }
     requires may_try { MayTry t.old target.0 c.0 at.0 vector arrival.0 hops scouts }
     requires enabled { Enabled (view t.old) at.0 vector }
     ensures { Packed result t.new (try_answer t.old target.0 c.0 at.0 vector arrival.0 hops scouts) }
@@ -114,7 +107,7 @@ fn try_in_turn(
     let mut left = vector;
     let mut sent = scouts;
     while left != 0 {
-        let p = cube::first_port(first, left, arrival);
+        let p = first.first_port(left, arrival);
         left = cube::without(left, p);
         let state = answers::link_state(t, at, p, true);
         match state {
@@ -143,7 +136,7 @@ fn try_in_turn(
             LinkState::Blocked => {}
         }
     }
-    sent as u64
+    u64::from(sent)
 }
 
 // A scout arrives: at the target, whose lowest receive channel that is armed and not held is answered, or at a node, which hands on to the trying of its
@@ -157,18 +150,15 @@ fn arrive(
     arrival: Port,
     hops: u16,
     scouts: u32,
-    first: &[u8; 2048],
+    first: &FirstPortTable,
 ) -> u64
-    requires first_ports { FirstPorts first.now }
     requires may_arrive { MayArrive t.old target.0 c.0 at.0 arrival.0 hops scouts }
     ensures { Packed result t.new (arrive_answer t.old target.0 c.0 at.0 arrival.0 hops scouts) }
 {
-    if at.0 == target.0 {
-        let receive = table::free_channel(t, at);
-        if receive == cube::NO_CHANNEL {
-            RECEIVE_REJECTION + scouts as u64
-        } else {
-            acknowledged(hops, receive, scouts)
+    if at == target {
+        match table::free_channel(t, at) {
+            None => RECEIVE_REJECTION + u64::from(scouts),
+            Some(receive) => acknowledged(hops, receive, scouts),
         }
     } else {
         let vector = enabled_ports(t, at, cube::uphill_vector(at, target));
@@ -180,60 +170,53 @@ fn arrive(
 // acknowledged, the links of the path and the receive channel are held by the circuit. Routing type 0 is one pass.
 pub fn maze(
     t: &mut [u8],
-    source: Node,
-    target: Node,
-    c: Circuit,
-    vector: u16,
-    first: &[u8; 2048],
-) -> Opened
-    requires first_ports { FirstPorts first.now }
-    requires may_send { MaySend t.old source.0 target.0 c.0 vector }
-    ensures { pass_answer result.number result.hops result.receive result.scouts t.new ≡ searched t.old source.0 target.0 c.0 0 vector }
+    request: SendRequest,
+    first: &FirstPortTable,
+) -> Result<Acknowledged, Rejected>
+    requires may_send { MaySend t.old request.source.0 request.target.0 request.circuit.0 request.vector }
+    ensures { opened_answer result t.new ≡ searched t.old request.source.0 request.target.0 request.circuit.0 0 request.vector }
 {
-    let ports = enabled_ports(t, source, vector);
+    let ports = enabled_ports(t, request.source, request.vector);
     let answer = try_in_turn(
         t,
-        source,
-        target,
-        c,
+        request.source,
+        request.target,
+        request.circuit,
         ports,
         Port(cube::SEND_ARRIVAL),
         0,
         0,
         first,
     );
-    let got = unpacked(answer);
-    if got.number == refusal::ACCEPTED {
-        table::set_receiver(t, target, got.receive, c);
-    }
-    got
+    let found = unpacked(answer)?;
+    table::set_receiver(t, request.target, found.receive, request.circuit);
+    Ok(found)
 }
 
 // Routing type 4: where the pass finds no path, a second one over the ports of the cube that are not in the vector. The answer is that of the last pass,
 // with the scouts of both. A receive rejection ends the send: the second pass would come to the same target.
 pub fn alternate_maze(
     t: &mut [u8],
-    source: Node,
-    target: Node,
-    c: Circuit,
-    vector: u16,
-    first: &[u8; 2048],
-) -> Opened
-    requires first_ports { FirstPorts first.now }
-    requires may_send { MaySend t.old source.0 target.0 c.0 vector }
-    ensures { pass_answer result.number result.hops result.receive result.scouts t.new ≡ searched t.old source.0 target.0 c.0 4 vector }
+    request: SendRequest,
+    first: &FirstPortTable,
+) -> Result<Acknowledged, Rejected>
+    requires may_send { MaySend t.old request.source.0 request.target.0 request.circuit.0 request.vector }
+    ensures { opened_answer result t.new ≡ searched t.old request.source.0 request.target.0 request.circuit.0 4 request.vector }
 {
-    let others = (cube::node_count(table::dimension(t)) - 1) ^ vector;
-    let got = maze(t, source, target, c, vector, first);
-    if got.number != refusal::ROUTE_REJECTED {
-        return got;
-    }
-    let again = maze(t, source, target, c, others, first);
-    let scouts = got.scouts + again.scouts;
-    Opened {
-        number: again.number,
-        hops: again.hops,
-        receive: again.receive,
-        scouts,
+    let vector = (cube::node_count(table::dimension(t)) - 1) ^ request.vector;
+    let scouts = match maze(t, request, first) {
+        Err(rejected) if rejected.refusal == Refusal::RouteRejected => rejected.scouts,
+        Err(rejected) => return Err(rejected),
+        Ok(found) => return Ok(found),
+    };
+    match maze(t, SendRequest { vector, ..request }, first) {
+        Ok(found) => Ok(Acknowledged {
+            scouts: scouts + found.scouts,
+            ..found
+        }),
+        Err(rejected) => Err(Rejected {
+            scouts: scouts + rejected.scouts,
+            ..rejected
+        }),
     }
 }

@@ -1,12 +1,14 @@
 -- What a send makes of the answer of its search: a route rejection is judged by whether waiting helps, and everything else is handed on.
 -- Assumes nothing.
-use borrow.Author.Tests.{ne_eqb}
-use mathlib.Core.Path.{◌≡◌, sym, ◌∙◌}
+use mathlib.Core.Path.{◌≡◌, refl, sym, ◌∙◌}
 use mathlib.Core.Logic.{◌≢◌}
 use mathlib.Core.Bool.{Bool, true, false}
 use mathlib.Core.List.{List}
 use Prim.Native.Nat.{ℕ}
 use native.Mathlib.Omega.{arith}
+use Rattle.cube.specs.RoutingTypes.{type_number, SentAs}
+use Rattle.cube.specs.declared.routing_type.RoutingType.{RoutingType}
+use Rattle.paths.proofs.SentAs.{attempts_sent}
 use Rattle.paths.specs.Waiting.{some_attempt}
 use Rattle.paths.specs.CubeNetwork.{attempts, send}
 use Rattle.table.specs.View.{view, net, shape_of}
@@ -44,7 +46,7 @@ module _ (b : List ℕ) (s t c type vector : ℕ) {x h k n : ℕ} {b₁ : List �
     unfolding searched sent_on_bytes
     judged_blocked e = rw (sym answer ∙ e) (rejected_as b c s t _ _ got z)
 
--- A type that is none of the others makes one pass.
-pub send_maze : (b : List ℕ) (s t c type vector : ℕ) → type ≢ 4 → type ≢ 3 → type ≢ 1 → searched b s t c 0 vector ≡ searched b s t c type vector
-unfolding searched send attempts
-send_maze b s t c type vector f g h = rw (ne_eqb type 3 g, ne_eqb type 1 h, ne_eqb type 4 f)
+-- A number is sent by the search of its type.
+pub searched_as : (b : List ℕ) (s t c n vector : ℕ) (type : RoutingType) → SentAs n type → searched b s t c (type_number type) vector ≡ searched b s t c n vector
+unfolding searched send
+searched_as b s t c n vector type as_type = rw (attempts_sent (shape_of (view b)) n vector type as_type) refl

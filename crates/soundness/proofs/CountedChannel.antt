@@ -23,7 +23,8 @@ use Rattle.table.specs.View.{View, shape_of, net, held_by}
 use Rattle.circuit_path.specs.CircuitSound.{end_for, CircuitSound}
 use Rattle.soundness.specs.Sound.{Sound}
 use Rattle.circuit_hops.specs.Seen.{Seen}
-use Rattle.circuit_hops.specs.CountHops.{FollowedPath, Taken}
+use Rattle.circuit_hops.specs.CountHops.{FollowedPath, Followed, Taken}
+use Rattle.std.proofs.Common.{Option, Some, None}
 use Rattle.soundness.specs.Counting.{Earlier, ReceivedBefore, CircuitFollowed, Counting, Counts}
 use Rattle.soundness.proofs.LinkCount.{links_added}
 use Rattle.soundness.proofs.Soundness.{receive_stands}
@@ -35,31 +36,30 @@ unfolding links
 length_links N s [] = refl
 length_links N s (p ∷ w) = ap suc (length_links N (N.next s p) w)
 
-module _ {v : View} where
+module _ (v : View) where
   -- a receive channel that a circuit holds
-  module _ {c n k hops : ℕ} {m after : List ℕ} (fits : v.dimension ≤ largest_dimension) (held : c ≡ v.receiver n k) (some : c ≢ 0) (l : k < channels) (node : NodeOf v.dimension n) (armed : v.armed n k ≡ true)
-      (taken : Taken v c n m after hops) where
+  module _ {c n k : ℕ} (m after : List ℕ) (fits : v.dimension ≤ largest_dimension) (held : c ≡ v.receiver n k) (some : c ≢ 0) (l : k < channels) (node : NodeOf v.dimension n) (armed : v.armed n k ≡ true) where
     here : ReceivedBefore v (8 * n + k + 1) c
     unfolding ReceivedBefore
     here = (n, k, (l, omega arith), sym held)
 
     -- the state before, and the path that was followed
-    module _ {h : ℕ} (x : Counting v (8 * n + k) h m) (got : hops < 4096) where
+    module _ {h hops : ℕ} (x : Counting v (8 * n + k) h m) (taken : Followed v c n m after hops) where
       path : FollowedPath v c n hops
-      path = taken.found got
+      path = taken.found
 
       way : List Link
       way = links (net v) (source_of c) path.path
 
       fresh : ReceivedBefore v (8 * n + k) c → ⊥
       unfolding ReceivedBefore
-      fresh r = taken.unseen got (subst (Seen v m) r.3 (x.marks r.0 r.1 r.2 (λ z. some (sym r.3 ∙ z))))
+      fresh r = taken.unseen (subst (Seen v m) r.3 (x.marks r.0 r.1 r.2 (λ z. some (sym r.3 ∙ z))))
 
       on_way : (a b : ℕ) → has_link way a b ≡ true → v.owner a b ≡ c
       on_way a b e = unfold way in eqb-true _ c (path.owned a b (true_link _ a b e))
 
       source_inside : source_of c < 2 ^ v.dimension
-      source_inside = omega (arith, taken.in_range got, positive some)
+      source_inside = omega (arith, taken.in_range, positive some)
 
       inside : (a b : ℕ) → (a, b) ∈ way → (a < 256) × (b < 8)
       inside a b i =
@@ -122,7 +122,7 @@ module _ {v : View} where
           record {
             node = node;
             armed = armed;
-            in_range = subst (λ (y : ℕ). y ≤ circuit_count (shape_of v)) held (taken.in_range got);
+            in_range = subst (λ (y : ℕ). y ≤ circuit_count (shape_of v)) held (taken.in_range);
             path = path.path;
             permitted = subst (λ (y : ℕ). Permitted (net v) (source_of y) (ports (shape_of v)) n path.path) held path.permitted;
             exactly = subst (λ (y : ℕ). Exactly (net v) (source_of y) path.path (λ a b. held_by v y a b && on a b)) held (record { all = all; only = only });
@@ -151,11 +151,11 @@ module _ {v : View} where
               let q = (unfolded_port (shape_of v) fits refl p).0 o.0 in
               let mine = own (source_of c) p (on_first_lem (net v) (source_of c) p w) in
               let low : p < port_count = omega arith in
-              (p, low, mine, (taken.marks got (source_of c) p (omega (arith, source_inside, most_nodes fits)) low).2 refl mine)
+              (p, low, mine, (taken.marks (source_of c) p (omega (arith, source_inside, most_nodes fits)) low).2 refl mine)
 
       still_seen : (d : ℕ) → source_of d < 256 → Seen v m d → Seen v after d
       unfolding Seen
-      still_seen d i s = (s.0, s.1, s.2, (taken.marks got (source_of d) s.0 i s.1).1 s.3)
+      still_seen d i s = (s.0, s.1, s.2, (taken.marks (source_of d) s.0 i s.1).1 s.3)
 
       pub counting_more : Counting v (8 * n + k + 1) (h + hops) after
       counting_more =
@@ -166,7 +166,7 @@ module _ {v : View} where
             stands = λ n' k' e z. ⊎_elim (λ o. older o z) (λ o. subst (λ (y : ℕ). CircuitFollowed v on y k') (sym o.0) (subst (λ (y : ℕ). CircuitFollowed v on n y) (sym o.1) newest)) (last e);
             once = λ n' k' m' j' e f q z. one n' k' m' j' (last e) (last f) q z;
             marks = λ n' k' e z. ⊎_elim (λ o. still_seen _ (older_source o z) (x.marks n' k' o z)) (λ o. subst (Seen v after) (held ∙ sym (same_receiver o)) at_source) (last e);
-            marks_received = λ s p a b e. ⊎_elim (λ o. wider v _ _ _ (omega arith) (x.marks_received s p a b o)) (λ o. subst (ReceivedBefore v (8 * n + k + 1)) (sym o) here) ((taken.marks got s p a b).0 e);
+            marks_received = λ s p a b e. ⊎_elim (λ o. wider v _ _ _ (omega arith) (x.marks_received s p a b o)) (λ o. subst (ReceivedBefore v (8 * n + k + 1)) (sym o) here) ((taken.marks s p a b).0 e);
           }
         where
           same_receiver : {n' k' : ℕ} → (n' ≡ n) × (k' ≡ k) → v.receiver n' k' ≡ v.receiver n k
@@ -186,9 +186,9 @@ module _ {v : View} where
           one n' k' m' j' (inr e) (inr f) q z = (e.0 ∙ sym f.0, e.1 ∙ sym f.1)
 
     -- and where the table is sound, the circuit can be followed
-    forced : Sound v → {h : ℕ} → Counting v (8 * n + k) h m → hops < 4096
-    forced s x =
-        taken.forced (subst (λ (y : ℕ). y ≤ circuit_count (shape_of v)) (sym held) (s.receive_number n k)) stands (sym (stands.once n k (sym held)).0) (λ z. again (seen_received z))
+    forced : Taken v c n m after None → Sound v → {h : ℕ} → Counting v (8 * n + k) h m → ⊥
+    forced none s x =
+        none (subst (λ (y : ℕ). y ≤ circuit_count (shape_of v)) (sym held) (s.receive_number n k)) stands (sym (stands.once n k (sym held)).0) (λ z. again (seen_received z))
       where
         stands : CircuitSound v c
         stands = subst (CircuitSound v) (sym held) (receive_stands v s n k (λ z. some (held ∙ z)))
@@ -206,5 +206,6 @@ module _ {v : View} where
             let f = stands.once r.0 r.1 r.3 in
             omega (arith, e.0, e.1, f.0, f.1, r.2.1)
 
-    pub counts_entry : Counts v (8 * n + k) (8 * n + k + 1) m after hops
-    counts_entry = record { counts = λ l h x. counting_more x l; sound = λ s h x. forced s x; most = omega (arith, taken.most) }
+    pub counts_entry : (hops : Option ℕ) → Taken v c n m after hops → Counts v (8 * n + k) (8 * n + k + 1) m after hops
+    counts_entry (Some hops) taken = record { counts = λ h x. counting_more x taken; most = omega (arith, taken.most) }
+    counts_entry None none = λ h x s. forced none s x

@@ -15,8 +15,8 @@ use Rattle.cube.proofs.Bits.{zero_has}
 use Rattle.table.specs.View.{View}
 use Rattle.soundness.specs.Sound.{Sound}
 use Rattle.circuit_hops.specs.Seen.{seen_at}
-use Rattle.soundness.specs.Counting.{Earlier, ReceivedBefore, Counting, Counts}
-use Rattle.soundness.proofs.LinkCount.{links_most, links_none}
+use Rattle.soundness.specs.Counting.{Earlier, ReceivedBefore, Counting, Counted}
+use Rattle.soundness.proofs.LinkCount.{links_none}
 
 pub wider : (v : View) (i j c : ℕ) → i ≤ j → ReceivedBefore v i c → ReceivedBefore v j c
 unfolding ReceivedBefore
@@ -37,9 +37,9 @@ counting_none v =
 
 module _ {v : View} where
   -- receive channels that nobody holds are passed over
-  pub counts_skip : {i j : ℕ} {m : List ℕ} → i ≤ j → ((n k : ℕ) → k < channels → i ≤ 8 * n + k → 8 * n + k < j → v.receiver n k ≡ 0) → Counts v i j m m 0
+  pub counts_skip : {i j : ℕ} {m : List ℕ} → i ≤ j → ((n k : ℕ) → k < channels → i ≤ 8 * n + k → 8 * n + k < j → v.receiver n k ≡ 0) → Counted v i j m m 0
   counts_skip {i} {j} {m} l free =
-      record { counts = λ k h x. subst (λ (y : ℕ). Counting v j y m) (sym (add-zero h)) (on h x); sound = λ s h x. omega arith; most = omega arith }
+      record { counts = λ h x. subst (λ (y : ℕ). Counting v j y m) (sym (add-zero h)) (on h x); most = omega arith }
     where
       back : {n k : ℕ} → Earlier j n k → v.receiver n k ≢ 0 → Earlier i n k
       back {n} {k} e h = (e.0, ⊎_elim (λ b. b) (λ b. absurd (h (free n k e.0 b e.1))) (below_or i (8 * n + k)))
@@ -56,29 +56,16 @@ module _ {v : View} where
             marks_received = λ s p a b e. wider v i j _ l (x.marks_received s p a b e);
           }
 
-  -- a table that is not sound may be given up
-  pub counts_none : {i j hops : ℕ} {m after : List ℕ} → (Sound v → ⊥) → 4096 ≤ hops → hops + 8192 * i ≤ 8192 * j → Counts v i j m after hops
-  counts_none h l most = record { counts = λ k. absurd (omega arith); sound = λ s. absurd (h s); most = most }
-
-  few : {i h : ℕ} {m : List ℕ} → Counting v i h m → h ≤ 2048
-  few x = omega (arith, x.count, links_most x.on)
-
-  -- one stretch after another
-  pub counts_join : {i j k a b : ℕ} {m₀ m₁ m₂ : List ℕ} → Counts v i j m₀ m₁ a → Counts v j k m₁ m₂ b → Counts v i k m₀ m₂ (a + b)
+  -- one stretch after another, or up to one that fails
+  pub counts_join : {i j k a b : ℕ} {m₀ m₁ m₂ : List ℕ} → Counted v i j m₀ m₁ a → Counted v j k m₁ m₂ b → Counted v i k m₀ m₂ (a + b)
   counts_join {i} {j} {k} {a} {b} {m₀} {m₁} {m₂} x y =
       record {
-        counts = λ l h c. subst (λ (z : ℕ). Counting v k z m₂) (add_assoc h a b) (y.counts (omega arith) (h + a) (x.counts (omega arith) h c));
-        sound = λ s h c.
-            let l = x.sound s h c in
-            let d = x.counts l h c in
-            let r = y.sound s (h + a) d in
-            omega (arith, few (y.counts r (h + a) d));
+        counts = λ h c. subst (λ (z : ℕ). Counting v k z m₂) (add_assoc h a b) (y.counts (h + a) (x.counts h c));
         most = omega (arith, x.most, y.most);
       }
 
-  pub counts_as_lem : {i j j' a a' : ℕ} {m₀ m m' : List ℕ} → Counts v i j m₀ m a → j ≡ j' → m' ≡ m → a' ≡ a → Counts v i j' m₀ m' a'
-  counts_as_lem {i} {j} {j'} {a} {a'} {m₀} {m} {m'} x e f g =
-      subst (λ (y : ℕ). Counts v i y m₀ m' a') e (subst (λ (y : List ℕ). Counts v i j m₀ y a') (sym f) (subst (λ (y : ℕ). Counts v i j m₀ m y) (sym g) x))
+  pub counts_fail : {i j a : ℕ} {m₀ m₁ : List ℕ} → Counted v i j m₀ m₁ a → ((h : ℕ) → Counting v j h m₁ → Sound v → ⊥) → (h : ℕ) → Counting v i h m₀ → Sound v → ⊥
+  counts_fail {a = a} x fails h c = fails (h + a) (x.counts h c)
 
-  pub counts_at : {i i' j a : ℕ} {m m' : List ℕ} → Counts v i j m m' a → i ≡ i' → Counts v i' j m m' a
-  counts_at {i} {i'} {j} {a} {m} {m'} x e = subst (λ (y : ℕ). Counts v y j m m' a) e x
+  pub counts_as_lem : {i i' j j' a a' : ℕ} {m₀ m m' : List ℕ} → Counted v i j m₀ m a → i ≡ i' → j ≡ j' → m' ≡ m → a' ≡ a → Counted v i' j' m₀ m' a'
+  counts_as_lem x d e f g = rw (← d, ← e, f, g) x

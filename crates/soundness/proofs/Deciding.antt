@@ -33,7 +33,7 @@ use Rattle.layout.proofs.Entries.{enabled_has, mask_has}
 use Rattle.circuit_path.specs.CircuitSound.{end_for, CircuitSound}
 use Rattle.soundness.specs.Sound.{Nowhere, Sound}
 use Rattle.soundness.specs.SoundTest.{sound_test}
-use Rattle.soundness.specs.Counting.{Earlier, ReceivedBefore, CircuitFollowed, Counting, Counts, Frees}
+use Rattle.soundness.specs.Counting.{Earlier, ReceivedBefore, CircuitFollowed, Counting, Counted, FreeCounted}
 use Rattle.soundness.proofs.Soundness.{placed, link_stands}
 use Rattle.soundness.proofs.LinkCount.{links_same, links_more, links_parts}
 use Rattle.soundness.proofs.Passing.{off, unarmed, view_framed, decided, same_answer}
@@ -59,9 +59,9 @@ module _ (b : List ℕ) (n : ℕ) {answer : Bool} (d : Decides ((k : ℕ) → k 
   unfolding view
   armed_held e = d.holds e
 
-  pub absent_free : answer ≡ true → ArmsFit b (dimension_at b) → 2 ^ dimension_at b ≤ n → (k : ℕ) → k < channels → (view b).receiver n k ≡ 0
+  pub absent_free : answer ≡ true → ((n k : ℕ) → 2 ^ dimension_at b ≤ n → armed_at b n k ≡ false) → 2 ^ dimension_at b ≤ n → (k : ℕ) → k < channels → (view b).receiver n k ≡ 0
   unfolding view
-  absent_free e arms l k i = ⊎_elim (λ z. z) (λ z. absurd (clash (d.holds e k i z) (unarmed b (dimension_at b) n k arms l))) (same? (receiver_at b n k) 0)
+  absent_free e arms l k i = ⊎_elim (λ z. z) (λ z. absurd (clash (d.holds e k i z) (arms n k l))) (same? (receiver_at b n k) 0)
 
 -- all receive channels were looked at, and all held links are enabled and counted
 module _ (b : List ℕ) (d : dimension_at b ≤ largest_dimension) (fit : EnablesFit b (dimension_at b)) (arms : ArmsFit b (dimension_at b)) {hops free : ℕ} {m : List ℕ} (x : Counting (view b) 2048 hops m)
@@ -228,21 +228,16 @@ module _ (b : List ℕ) (d : dimension_at b ≤ largest_dimension) where
   pub refuse : (Sound (view b) → ⊥) → false ≡ sound_test (view b)
   refuse h = same_answer false _ (decided_no h) (decided b d)
 
-  pub sum_answers : EnablesFit b (dimension_at b) → ArmsFit b (dimension_at b) → {hops free : ℕ} {m : List ℕ} → Frees (view b) 0 256 free → Counts (view b) 0 2048 (replicate 256 0) m hops
-      → eqb (hops + free) 2048 ≡ sound_test (view b)
-  sum_answers fit arms {hops} {free} {m} f x = same_answer _ _ answer (decided b d)
-    where
-      core : hops < 4096 → free < 4096 → Decides (Sound (view b)) (eqb (hops + free) 2048)
-      core k l =
-          sum_decides b d fit arms (subst (λ (y : ℕ). Counting (view b) 2048 y m) (zero-add hops) (x.counts k 0 (counting_none (view b)))) (λ n p i j h. f.enabled l n p (omega arith) i j h)
-          (let e = f.counted l in let z = link_count_zero (held_by (view b) 0) in omega arith)
-        where
-          link_count_zero : (g : ℕ → ℕ → Bool) → link_count g 0 ≡ 0
-          link_count_zero g = unfold link_count from in ap length (keep_nil _)
+  pub counting_start : {before : List ℕ} → before ≡ replicate 256 0 → Counting (view b) 0 0 before
+  counting_start e = subst (Counting (view b) 0 0) (sym e) (counting_none (view b))
 
-      answer : Decides (Sound (view b)) (eqb (hops + free) 2048)
-      answer =
-          record {
-            holds = λ e. let q : hops + free ≡ 2048 = eqb-true _ 2048 e in (core (omega arith) (omega arith)).holds e;
-            fails = λ e s. (core (x.sound s 0 (counting_none (view b))) (f.sound s)).fails e s;
-          }
+  pub sum_answers : EnablesFit b (dimension_at b) → ArmsFit b (dimension_at b) → {hops free : ℕ} {before m : List ℕ} → FreeCounted (view b) 0 256 free → before ≡ replicate 256 0 → Counted (view b) 0 2048 before m hops
+      → eqb (hops + free) 2048 ≡ sound_test (view b)
+  sum_answers fit arms {hops} {free} {before} {m} f e x =
+      same_answer _ _
+      (sum_decides b d fit arms (subst (λ (y : ℕ). Counting (view b) 2048 y m) (zero-add hops) (x.counts 0 (counting_start e))) (λ n p i j h. f.enabled n p (omega arith) i j h)
+      (let e = f.counted in let z = link_count_zero (held_by (view b) 0) in omega arith))
+      (decided b d)
+    where
+      link_count_zero : (g : ℕ → ℕ → Bool) → link_count g 0 ≡ 0
+      link_count_zero g = unfold link_count from in ap length (keep_nil _)

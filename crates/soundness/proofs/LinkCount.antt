@@ -13,7 +13,7 @@ use lib.ListN.{length, length-append}
 use borrow.Author.Tests.{eqb-true, eq-eqb}
 use Rattle.cube.specs.Cube.{port_count}
 use Rattle.common.specs.Lists.{◌∈◌, keep, from, Pairwise}
-use Rattle.common.proofs.Lists.{keep_yes, keep_no, keep_append, keep_same, keep_none, length_parts, length_keep}
+use Rattle.common.proofs.Lists.{keep_yes, keep_no, keep_append, keep_same, keep_none, length_parts}
 use Rattle.common.proofs.From.{from_mem, mem_from, from_below, from_split, length_from}
 use Rattle.common.proofs.Tests.{clash, is_false, both, and, or_right}
 use Rattle.paths.specs.Network.{Link, has_link}
@@ -88,10 +88,6 @@ module _ (f g : ℕ → ℕ → Bool) where
   pub links_more : ((m q : ℕ) → f m q ≡ true → g m q ≡ true) → link_count f 2048 ≤ link_count g 2048
   unfolding link_count
   links_more h = kept_more (λ i. f (i / 8) (i % 8)) (λ i. g (i / 8) (i % 8)) (from 0 2048) (λ x k e. h (x / 8) (x % 8) e)
-
-pub links_most : (f : ℕ → ℕ → Bool) → link_count f 2048 ≤ 2048
-unfolding link_count
-links_most f = omega (arith, length_keep (λ i. f (i / 8) (i % 8)) (from 0 2048), length_from 0 2048)
 
 pub links_parts : (f : ℕ → ℕ → Bool) → link_count f 2048 + link_count (λ m q. not (f m q)) 2048 ≡ 2048
 unfolding link_count

@@ -87,21 +87,16 @@ same_answer false false d e = refl
 
 -- the answers of checking a table
 module _ (b : List ℕ) where
+  earlier : {n : ℕ} → n ≢ 0 → n ≢ 3 → n ≡ refusal (table_tests b) → TableAnswer b n
+  earlier h k e = record { tests = e; sound = λ z. absurd (h z); not_sound = λ z. absurd (k z) }
+
   pub wrong_length : length b ≢ table_length → TableAnswer b 1
-  wrong_length h =
-      record {
-        tests = unfold table_tests in sym (refused 1 _ (rw (ne_eqb (length b) table_length h)));
-        sound = λ e. absurd (omega arith);
-        not_sound = λ e. absurd (omega arith);
-      }
+  unfolding table_tests
+  wrong_length h = earlier (omega arith) (omega arith) (sym (refused 1 _ (rw (ne_eqb (length b) table_length h))))
 
   second : length b ≡ table_length → not (leb 1 (dimension_at b) && leb (dimension_at b) 8) ≡ true → TableAnswer b 2
-  second l e =
-      record {
-        tests = unfold table_tests view in sym (passed 1 _ (rw (eq-eqb (length b) table_length l)) ∙ refused 2 _ e);
-        sound = λ e. absurd (omega arith);
-        not_sound = λ e. absurd (omega arith);
-      }
+  unfolding table_tests view
+  second l e = earlier (omega arith) (omega arith) (sym (passed 1 _ (rw (eq-eqb (length b) table_length l)) ∙ refused 2 _ e))
 
   pub no_dimension : length b ≡ table_length → dimension_at b < 1 → TableAnswer b 2
   no_dimension l h = second l (rw (lt-leb 1 (dimension_at b) h))

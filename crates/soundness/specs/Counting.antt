@@ -1,7 +1,7 @@
 -- Soundness by counting: each circuit that holds a receive channel is followed once, and the hops of all of them, added up, are as many as the links that
--- are held. What the functions that count ask and answer; a number of 4,096 or more stands for a test that fails, since there are 2,048 links.
+-- are held. What the functions that count answer.
 -- Assumes nothing.
-use Rattle.std.specs.Prelude.{◌≡◌, ◌≢◌, Bool, true, ◌&&◌, List, ℕ, ◌+◌, ◌*◌, ◌≤◌, ◌<◌}
+use Rattle.std.specs.Prelude.{◌≡◌, ◌≢◌, Bool, true, ◌&&◌, List, ℕ, ◌+◌, ◌*◌, ◌≤◌, ◌<◌, Option, Some, None}
 use Rattle.cube.specs.Cube.{port_count, channels, source_of, NodeOf}
 use Rattle.paths.specs.Network.{Path, Exactly}
 use Rattle.paths.specs.Permitted.{Permitted}
@@ -41,15 +41,23 @@ pub record Counting (v : View) (i hops : ℕ) (seen : List ℕ) : Type 0 where
   pub marks : (n k : ℕ) → Earlier i n k → v.receiver n k ≢ 0 → Seen v seen (v.receiver n k)
   pub marks_received : (s p : ℕ) → s < 256 → p < port_count → seen_at seen s p ≡ true → ReceivedBefore v i (v.owner s p)
 
--- what looking at the receive channels from place i up to place j comes to
-pub record Counts (v : View) (i j : ℕ) (before after : List ℕ) (hops : ℕ) : Type 0 where
-  pub counts : hops < 4096 → (h : ℕ) → Counting v i h before → Counting v j (h + hops) after
-  pub sound : Sound v → (h : ℕ) → Counting v i h before → hops < 4096
-  pub most : hops + 8192 * i ≤ 8192 * j
+-- what looking at the receive channels from place i up to place j comes to, as hops
+pub record Counted (v : View) (i j : ℕ) (before after : List ℕ) (hops : ℕ) : Type 0 where
+  pub counts : (h : ℕ) → Counting v i h before → Counting v j (h + hops) after
+  pub most : hops + 9 * i ≤ 9 * j
+
+-- and where it comes to nothing, the table is not sound
+abbrev pub Counts : View → ℕ → ℕ → List ℕ → List ℕ → Option ℕ → Type 0
+Counts v i j before after (Some hops) = Counted v i j before after hops
+Counts v i j before after None = (h : ℕ) → Counting v i h before → Sound v → ⊥
 
 -- what counting the free links of nodes n₀ up to n₁ comes to, where a held one must be enabled
-pub record Frees (v : View) (n₀ n₁ free : ℕ) : Type 0 where
-  pub enabled : free < 4096 → (n p : ℕ) → n₀ ≤ n → n < n₁ → p < port_count → v.owner n p ≢ 0 → v.enabled n p ≡ true
-  pub counted : free < 4096 → link_count (held_by v 0) (port_count * n₀) + free ≡ link_count (held_by v 0) (port_count * n₁)
-  pub sound : Sound v → free < 4096
-  pub most : free + 4096 * n₀ ≤ 4096 * n₁
+pub record FreeCounted (v : View) (n₀ n₁ free : ℕ) : Type 0 where
+  pub enabled : (n p : ℕ) → n₀ ≤ n → n < n₁ → p < port_count → v.owner n p ≢ 0 → v.enabled n p ≡ true
+  pub counted : link_count (held_by v 0) (port_count * n₀) + free ≡ link_count (held_by v 0) (port_count * n₁)
+  pub most : free + port_count * n₀ ≤ port_count * n₁
+
+-- and where it comes to nothing, the table is not sound
+abbrev pub Frees : View → ℕ → ℕ → Option ℕ → Type 0
+Frees v n₀ n₁ (Some free) = FreeCounted v n₀ n₁ free
+Frees v n₀ n₁ None = Sound v → ⊥

@@ -1,12 +1,10 @@
 -- What the functions that test a table ask and answer.
 -- Assumes nothing.
-use Rattle.std.specs.Prelude.{◌≡◌, List, ℕ, ◌≤◌, length}
+use Rattle.std.specs.Prelude.{◌≡◌, false, List, ℕ, ◌≤◌, length}
 use Rattle.common.specs.Tests.{refusal}
 use Rattle.cube.specs.Cube.{largest_dimension, cube_nodes}
-use Rattle.layout.specs.Layout.{table_length, dimension_at}
-use Rattle.table.specs.TableContracts.{ArmsFit}
+use Rattle.layout.specs.Layout.{table_length, dimension_at, armed_at}
 use Rattle.table.specs.View.{view}
-use Rattle.circuit_hops.specs.Seen.{mark_count}
 use Rattle.soundness.specs.Sound.{Sound}
 use Rattle.soundness.specs.TableTests.{table_tests}
 
@@ -16,13 +14,9 @@ pub record Usable (b : List ℕ) (dimension : ℕ) : Type 0 where
   pub stored : dimension ≡ dimension_at b
   pub most : dimension ≤ largest_dimension
 
--- what the parts that look at receive channels ask: the bytes of a table, how many nodes its cube has, no channel armed at any other, and marks
-pub record ReceivePre (b : List ℕ) (nodes : ℕ) (m : List ℕ) : Type 0 where
-  pub bytes : length b ≡ table_length
-  pub fits : dimension_at b ≤ largest_dimension
-  pub count : nodes ≡ cube_nodes (dimension_at b)
-  pub arms : ArmsFit b (dimension_at b)
-  pub size : length m ≡ mark_count
+-- what the counting of hops asks besides: no channel is armed at a node that the cube lacks
+abbrev pub AbsentUnarmed : List ℕ → Type 0
+AbsentUnarmed b = (n k : ℕ) → cube_nodes (dimension_at b) ≤ n → armed_at b n k ≡ false
 
 -- What checking a table answers: the refusal of the first test that applies, 0 where none does. The third test is of soundness as declared.
 pub record TableAnswer (b : List ℕ) (answer : ℕ) : Type 0 where

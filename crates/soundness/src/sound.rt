@@ -1,15 +1,15 @@
 // Whether a table may be used at all: its length, its dimension, and whether it is sound.
-ghost use Rattle.std.specs.Prelude.{◌≡◌, ◌≢◌, true, ℕ, ◌+◌, ◌*◌, ◌<◌, ◌≤◌, length};
+ghost use Rattle.std.specs.Prelude.{◌≡◌, ◌+◌, ◌*◌, ◌<◌, ◌≤◌};
+ghost use Rattle.common.specs.Refusals.{answer_of};
 ghost use Rattle.cube.specs.Cube.{channels};
-ghost use Rattle.layout.specs.Layout.{table_length};
 ghost use Rattle.table.specs.View.{view};
 ghost use Rattle.soundness.specs.Counting.{Counts, Frees};
 ghost use Rattle.soundness.specs.SoundTest.{sound_test};
-ghost use Rattle.soundness.specs.TestContracts.{Usable, ReceivePre, TableAnswer};
+ghost use Rattle.soundness.specs.TestContracts.{Usable, AbsentUnarmed, TableAnswer};
 
-use circuit_hops::NONE;
-use common::refusal;
-use cube::{Circuit, Node};
+use circuit_hops::{CubeTable, Marks};
+use common::refusal::Refusal;
+use cube::Node;
 
 // Nodes are looked at in groups.
 const GROUP: u16 = 16;
@@ -19,121 +19,85 @@ const GROUPS: u16 = 16;
 // All links of a table.
 const ALL_LINKS: u32 = 2048;
 
-// The hops of the circuits that hold a node's receive channels.
-fn hops_at(t: &[u8], nodes: u16, n: Node, seen: &mut [u8]) -> u32
-    requires receive_pre { ReceivePre t.now nodes seen.old × (n.0 < nodes) }
-    requires by_index { (k : ℕ) → k < channels → (view t.now).receiver n.0 k ≢ 0 → (view t.now).armed n.0 k ≡ true }
-    ensures { Counts (view t.now) (channels * n.0) (channels * n.0 + channels) seen.old seen.new result }
+// The hops of the circuits that hold a node's receive channels. None where one is not armed, or its circuit does not lead there.
+fn hops_of(table: CubeTable, n: Node, seen: &mut Marks) -> Option<u32>
+    requires node { n.0 < 256 }
+    requires unarmed { AbsentUnarmed table.bytes.now }
+    ensures { Counts (view table.entry.bytes.now) (channels * n.0) (channels * n.0 + channels) seen.old.of_node seen.new.of_node result }
 {
-    let mut hops: u32 = 0;
-    let mut k: u16 = 0;
-    while k < cube::CHANNELS {
-        let c = table::receiver(t, n, k);
-        if c.0 != 0 {
-            hops += circuit_hops::hops_to(t, nodes, c, n, seen);
-        }
-        k += 1;
+    // Most nodes of most tables hold nothing: they are passed over, in groups or else one by one.
+    if table::receives_clear(table.bytes, n, 1) {
+        return Some(0);
     }
-    hops
-}
-
-// Most nodes of most tables hold nothing: they are passed over, in groups or else one by one.
-fn hops_of(t: &[u8], nodes: u16, n: Node, seen: &mut [u8]) -> u32
-    requires { ReceivePre t.now nodes seen.old × (n.0 < 256) }
-    ensures { Counts (view t.now) (channels * n.0) (channels * n.0 + channels) seen.old seen.new result }
-{
-    if table::receives_clear(t, n, 1) {
-        return 0;
-    }
-    if !table::held_armed(t, n) {
-        return NONE;
+    if !table::held_armed(table.bytes, n) {
+        return None;
     }
     // No channel is armed at a node that the cube lacks, so none is held there.
-    if n.0 >= nodes {
-        return 0;
+    if n.0 >= table.nodes {
+        return Some(0);
     }
-    hops_at(t, nodes, n, seen)
+    let mut hops = 0;
+    for k in 0..cube::CHANNELS {
+        let c = table::receiver(table.bytes, n, k);
+        if c.0 != 0 {
+            hops += circuit_hops::hops_to(table, c, n, seen)?;
+        }
+    }
+    Some(hops)
 }
 
-fn hops_from(t: &[u8], nodes: u16, from: Node, seen: &mut [u8]) -> u32
-    requires { ReceivePre t.now nodes seen.old × (from.0 + 16 ≤ 256) }
-    ensures { Counts (view t.now) (channels * from.0) (channels * from.0 + channels * 16) seen.old seen.new result }
+fn hops_group(table: CubeTable, from: Node, seen: &mut Marks) -> Option<u32>
+    requires group { from.0 + 16 ≤ 256 }
+    requires unarmed { AbsentUnarmed table.bytes.now }
+    ensures { Counts (view table.entry.bytes.now) (channels * from.0) (channels * from.0 + channels * 16) seen.old.of_node seen.new.of_node result }
 {
-    let first = from.0;
-    let mut hops: u32 = 0;
-    let mut i: u16 = 0;
-    while i < GROUP {
-        let n = first + i;
-        hops += hops_of(t, nodes, Node(n), seen);
-        i += 1;
+    if table::receives_clear(table.bytes, from, GROUP) {
+        return Some(0);
     }
-    hops
-}
-
-fn hops_group(t: &[u8], nodes: u16, from: Node, seen: &mut [u8]) -> u32
-    requires { ReceivePre t.now nodes seen.old × (from.0 + 16 ≤ 256) }
-    ensures { Counts (view t.now) (channels * from.0) (channels * from.0 + channels * 16) seen.old seen.new result }
-{
-    if table::receives_clear(t, from, GROUP) {
-        return 0;
+    let mut hops = 0;
+    for n in from.0..from.0 + GROUP {
+        hops += hops_of(table, Node(n), seen)?;
     }
-    hops_from(t, nodes, from, seen)
+    Some(hops)
 }
 
 // The hops of all circuits that hold a receive channel.
-fn all_hops(t: &[u8], nodes: u16, seen: &mut [u8]) -> u32
-    requires { ReceivePre t.now nodes seen.old }
-    ensures { Counts (view t.now) 0 2048 seen.old seen.new result }
+fn all_hops(table: CubeTable, seen: &mut Marks) -> Option<u32>
+    requires { AbsentUnarmed table.bytes.now }
+    ensures { Counts (view table.entry.bytes.now) 0 2048 seen.old.of_node seen.new.of_node result }
 {
-    let mut hops: u32 = 0;
-    let mut i: u16 = 0;
-    while i < GROUPS {
-        let n = GROUP * i;
-        hops += hops_group(t, nodes, Node(n), seen);
-        i += 1;
+    let mut hops = 0;
+    for i in 0..GROUPS {
+        hops += hops_group(table, Node(GROUP * i), seen)?;
     }
-    hops
+    Some(hops)
 }
 
-// How many links of a group of nodes nobody holds; NONE where one is held that is not enabled.
-fn free_from(t: &[u8], from: Node) -> u32
-    requires { (length t.now ≡ table_length) × (from.0 + 16 ≤ 256) }
-    ensures { Frees (view t.now) from.0 (from.0 + 16) result }
+// How many links of a group of nodes nobody holds. None where one is held that is not enabled.
+fn free_group(table: CubeTable, from: Node) -> Option<u32>
+    requires { from.0 + 16 ≤ 256 }
+    ensures { Frees (view table.entry.bytes.now) from.0 (from.0 + 16) result }
 {
-    let first = from.0;
-    let mut i: u16 = 0;
-    while i < GROUP {
-        let n = first + i;
-        if !table::held_enabled(t, Node(n)) {
-            return NONE;
+    if table::links_clear(table.bytes, from, GROUP) {
+        return Some(128);
+    }
+    for n in from.0..from.0 + GROUP {
+        if !table::held_enabled(table.bytes, Node(n)) {
+            return None;
         }
-        i += 1;
     }
-    table::count_free_links(t, from, GROUP)
+    Some(table::count_free_links(table.bytes, from, GROUP))
 }
 
-fn free_group(t: &[u8], from: Node) -> u32
-    requires { (length t.now ≡ table_length) × (from.0 + 16 ≤ 256) }
-    ensures { Frees (view t.now) from.0 (from.0 + 16) result }
+// The links that nobody holds. Its loop is that of `all_hops`, and a closure for the group's count would make neither plainer: the sum would be one over its calls.
+fn all_free(table: CubeTable) -> Option<u32>
+    ensures { Frees (view table.entry.bytes.now) 0 256 result }
 {
-    if table::links_clear(t, from, GROUP) {
-        return 128;
+    let mut free = 0;
+    for i in 0..GROUPS {
+        free += free_group(table, Node(GROUP * i))?;
     }
-    free_from(t, from)
-}
-
-fn all_free(t: &[u8]) -> u32
-    requires { length t.now ≡ table_length }
-    ensures { Frees (view t.now) 0 256 result }
-{
-    let mut free: u32 = 0;
-    let mut i: u16 = 0;
-    while i < GROUPS {
-        let n = GROUP * i;
-        free += free_group(t, Node(n));
-        i += 1;
-    }
-    free
+    Some(free)
 }
 
 // The test of a whole table: each circuit that holds a receive channel is followed once, and the links that it leads over, added up, are all that are held.
@@ -147,28 +111,33 @@ fn entries_sound(t: &[u8], dimension: u16) -> bool
     if !table::enables_fit(t, dimension) {
         return false;
     }
-    let free = all_free(t);
-    let mut seen = [0u8; 256];
-    all_hops(t, cube::node_count(dimension), &mut seen) + free == ALL_LINKS
+    let table = CubeTable {
+        bytes: t,
+        nodes: cube::node_count(dimension),
+    };
+    let Some(free) = all_free(table) else {
+        return false;
+    };
+    let mut seen = Marks::new();
+    let Some(hops) = all_hops(table, &mut seen) else {
+        return false;
+    };
+    hops + free == ALL_LINKS
 }
 
-// Whether a table may be used: 0, or the refusal of the first test that it fails.
-pub fn check(t: &[u8]) -> u16
-    ensures { TableAnswer t.now result }
+// Whether a table may be used, or the refusal of the first test that it fails.
+pub fn check(t: &[u8]) -> Result<(), Refusal>
+    ensures { TableAnswer t.now (answer_of result) }
 {
     if t.len() != table::BYTES {
-        return refusal::TABLE_LENGTH;
+        return Err(Refusal::TableLength);
     }
     let d = table::dimension(t);
-    if d < 1 {
-        return refusal::DIMENSION;
+    if d < 1 || d > cube::LARGEST_DIMENSION {
+        return Err(Refusal::Dimension);
     }
-    if d > cube::LARGEST_DIMENSION {
-        return refusal::DIMENSION;
+    if !entries_sound(t, d) {
+        return Err(Refusal::NotSound);
     }
-    if entries_sound(t, d) {
-        refusal::ACCEPTED
-    } else {
-        refusal::NOT_SOUND
-    }
+    Ok(())
 }

@@ -2,12 +2,14 @@
 -- Assumes nothing.
 use mathlib.Core.Path.{◌≡◌, refl, ap, ap₂, sym, ◌∙◌}
 use mathlib.Core.Bool.{Bool, true, false, cond, ◌&&◌, beq, true≢false, and-false}
-use mathlib.Core.List.{List, ◌∷◌, ◌++◌}
-use Prim.Native.Nat.{ℕ, zero, suc, ◌+◌, ◌-◌, ◌%◌, ◌^◌, ◌≤◌, ◌<◌}
+use mathlib.Core.List.{List, [], ◌∷◌, ◌++◌, append-nil}
+use Prim.Native.Nat.{ℕ, zero, suc, ◌+◌, ◌-◌, ◌^◌, ◌≤◌, ◌<◌}
 use native.Mathlib.Omega.{arith}
 use native.Mathlib.Numerals.{one-add}
 use lib.Dec.{ltb, lit≤}
-use lib.ListN.{length, get_or, set, replicate, length-append, length-replicate, get_or-replicate, get_or-append}
+use lib.ListN.{length, take, drop, get_or, set, replicate, length-append, length-replicate, get_or-replicate, get_or-append, drop_of_length-le}
+use Rattle.std.proofs.lemmas.List.{take_at, drop_at, length-drop, length-take-le}
+use borrow.Rule.Slice.PartMut.{put_mid}
 use borrow.Author.Tests.{ltb-true, ltb-false, le-ltb}
 use Rattle.cube.specs.Cube.{largest_dimension, port_count, cube_nodes}
 use Rattle.common.proofs.Every.{at₂}
@@ -15,9 +17,7 @@ use Rattle.cube.specs.Bits.{has}
 use Rattle.cube.proofs.Bits.{zero_has}
 use Rattle.cube.proofs.Ports.{most_nodes, below_256}
 use Rattle.layout.specs.Layout.{table_length, in_table, dimension_at, arm_place, mask_at, enabled_at, armed_at, entry_place, link_part, receive_part, word_at, entry_at, owner_at, receiver_at}
-use Rattle.layout.specs.LayoutContracts.{filled}
 use Rattle.layout.proofs.Entries.{within, inside}
-use Rattle.layout.proofs.Fills.{made_is}
 use Rattle.table.specs.View.{view, fresh}
 use Rattle.table.specs.Encode.{encode, Bytes}
 use Rattle.table.proofs.Encoded.{encode_shown}
@@ -51,12 +51,30 @@ pub ones : (D p : ℕ) → D ≤ largest_dimension → p < port_count → has (2
 unfolding has
 ones D p h l = same_test _ _ (at₂ 9 8 (λ D p. beq (has (2 ^ D - 1) p) (ltb p D)) refl D p (omega arith) l)
 
--- two fills and the first byte: with as many nodes as the dimension has, and all their bits
-fills_made : (b : List ℕ) (D n : ℕ) → length b ≡ table_length → n ≡ 2 ^ D → 0 < n → n ≤ 256 → set (filled (filled b (1 + n) table_length 0) 1 (1 + n) ((n - 1) % 256)) 0 D ≡ made D
+-- the first byte, and what two fills then leave: with as many nodes as the dimension has, and all their bits
+fills_made : (b : List ℕ) (D n i k : ℕ) (ys zs : List ℕ) → length b ≡ table_length → n ≡ 2 ^ D → n ≤ 256 → i ≡ 1 + n → k ≡ n
+    → ys ≡ replicate (length ys) (n - 1) → length ys ≡ length (take k (drop 1 (set b 0 D)))
+    → zs ≡ replicate (length zs) 0 → length zs ≡ length (take (length (put_mid 1 k (set b 0 D) ys) - i) (drop i (put_mid 1 k (set b 0 D) ys)))
+    → put_mid i (length (put_mid 1 k (set b 0 D) ys) - i) (put_mid 1 k (set b 0 D) ys) zs ≡ made D
 unfolding made
-fills_made b D n h e s l =
-    let x : (n - 1) % 256 ≡ n - 1 = omega arith in
-    rw x (made_is b D n (n - 1) h l ∙ rw e)
+fills_made [] D n i k ys zs h e l at count y y' z z' = absurd (omega arith)
+fills_made (x ∷ bs) D n i k ys zs h e l at count y y' z z' =
+    rw (at, one-add n, take_at ys (drop k bs) n front, drop_at ys (drop k bs) n front, drop_of_length-le (drop k bs) {i = all - suc n} (omega (arith, behind, long)), append-nil zs, z, rest, y, front, e) refl
+  where
+    all : ℕ
+    all = length (D ∷ (ys ++ drop k bs))
+
+    front : length ys ≡ n
+    front = y' ∙ length-take-le k bs (omega arith) ∙ count
+
+    behind : length (drop k bs) ≡ 8704 - n
+    behind = rw length-drop (omega arith)
+
+    long : all ≡ 8705
+    long = ap suc (length-append ys (drop k bs) ∙ ap₂ ◌+◌ front behind ∙ omega arith)
+
+    rest : length zs ≡ 8704 - n
+    rest = z' ∙ length-take-le (all - i) (drop i (D ∷ (ys ++ drop k bs))) (rw length-drop (omega arith)) ∙ omega (arith, long)
 
 module _ (D : ℕ) (h : D ≤ largest_dimension) where
   byte_of : (j : ℕ) → get_or (made D) (suc j) 0 ≡ cond (ltb j (2 ^ D)) (2 ^ D - 1) 0
@@ -137,9 +155,11 @@ made_shows D h = λ i.
 pub made_encoded : (D : ℕ) → D ≤ largest_dimension → made D ≡ encode (fresh D)
 made_encoded D m = encode_shown (made D) (fresh D) (made_bytes D m) (made_shows D m)
 
-pub made_of : (b : List ℕ) (D n : ℕ) → D ≤ largest_dimension → length b ≡ table_length → n ≡ 2 ^ D → 0 < n → n ≤ 256
-    → set (filled (filled b (1 + n) table_length 0) 1 (1 + n) ((n - 1) % 256)) 0 D ≡ encode (fresh D)
-made_of b D n m h e s l = fills_made b D n h e s l ∙ made_encoded D m
+pub made_of : (b : List ℕ) (D n i k : ℕ) (ys zs : List ℕ) → D ≤ largest_dimension → length b ≡ table_length → n ≡ 2 ^ D → n ≤ 256 → i ≡ 1 + n → k ≡ n
+    → ys ≡ replicate (length ys) (n - 1) → length ys ≡ length (take k (drop 1 (set b 0 D)))
+    → zs ≡ replicate (length zs) 0 → length zs ≡ length (take (length (put_mid 1 k (set b 0 D) ys) - i) (drop i (put_mid 1 k (set b 0 D) ys)))
+    → put_mid i (length (put_mid 1 k (set b 0 D) ys) - i) (put_mid 1 k (set b 0 D) ys) zs ≡ encode (fresh D)
+made_of b D n i k ys zs m h e l at count y y' z z' = fills_made b D n i k ys zs h e l at count y y' z z' ∙ made_encoded D m
 
 -- and such bytes are a table that shows it.
 pub fresh_bytes : (D : ℕ) → D ≤ largest_dimension → Bytes (encode (fresh D))

@@ -1,15 +1,19 @@
 -- The choice of a receive channel: what the one chosen says, and what it says that none was.
 -- Assumes nothing.
 use mathlib.Core.Path.{◌≡◌, refl, ap, sym, ◌∙◌}
+use mathlib.Core.Logic.{◌≢◌}
 use mathlib.Core.Bool.{Bool, true, false, cond}
 use Prim.Native.Nat.{ℕ, ◌<◌}
 use native.Mathlib.Omega.{arith}
 use lib.Dec.{eqb}
 use borrow.Author.Tests.{eqb-true, eqb-false}
+use Rattle.std.specs.Prelude.{Some, None}
 use Rattle.cube.specs.Cube.{channels}
-use Rattle.common.specs.Lists.{lowest}
-use Rattle.common.proofs.Lowest.{lowest_most, lowest_passes, lowest_before}
+use Rattle.common.specs.Lists.{lowest, some_below}
+use Rattle.common.proofs.Lowest.{lowest_most, lowest_passes, lowest_before, some_is, none_is}
 use Rattle.paths.specs.Send.{channel, none_available, lowest_of}
+use Rattle.table.specs.View.{View, available}
+use Rattle.table.specs.TableContracts.{lowest_channel}
 
 -- it is one of eight, passes, and none below it does
 pub chosen : (f : ℕ → Bool) (k : ℕ) → lowest_of f ≡ channel k → (k < channels) × (f k ≡ true) × ((j : ℕ) → j < k → f j ≡ false)
@@ -31,3 +35,11 @@ none_chosen f e j h = go (eqb (lowest f 8 0) 8) refl e
     go : (x : Bool) → eqb (lowest f 8 0) 8 ≡ x → cond x none_available (channel (lowest f 8 0)) ≡ none_available → f j ≡ false
     go true q z = lowest_before f 8 0 j (omega arith) (let y = eqb-true (lowest f 8 0) 8 q in omega (arith, y, h))
     go false q z = let y : ◌≡◌ {A = ℕ} 0 1 = cc in absurd (omega arith)
+
+-- what `free_channel` answers: the lowest channel, or that there is none
+pub channel_taken : (v : View) (n : ℕ) {k : ℕ} → Some k ≡ some_below channels (lowest_channel v n) → (k ≡ lowest_channel v n) × (k ≢ channels)
+channel_taken v n e = let f = some_is e in (f.0, λ z. omega arith)
+
+pub channel_missing : (v : View) (n : ℕ) → None ≡ some_below channels (lowest_channel v n) → lowest_channel v n ≡ channels
+unfolding lowest_channel
+channel_missing v n e = let f = none_is e in let g = lowest_most (available v n) channels 0 in omega arith

@@ -1,10 +1,10 @@
 -- What a table shows after one value is written: the new value at its place, and everything else as it was.
 -- Assumes nothing.
-use mathlib.Core.Path.{◌≡◌, refl, ap}
+use mathlib.Core.Path.{◌≡◌, refl, ap, ap₂}
 use mathlib.Core.Logic.{◌⊎◌, inl, inr, ⊎_elim, ◌≢◌}
 use mathlib.Core.Bool.{Bool, true, false, cond, ◌&&◌}
 use mathlib.Core.List.{List}
-use Prim.Native.Nat.{ℕ, ◌+◌, ◌≤◌, ◌<◌}
+use Prim.Native.Nat.{ℕ, ◌+◌, ◌*◌, ◌≤◌, ◌<◌}
 use native.Mathlib.Omega.{arith}
 use lib.Dec.{eqb, ltb, lit<, lit≤}
 use lib.ListN.{length, get_or}
@@ -14,16 +14,33 @@ use Rattle.cube.specs.Cube.{port_count, channels}
 use Rattle.cube.specs.Bits.{has, with_bit}
 use Rattle.cube.proofs.Bits.{with_bit_same, with_bit_other}
 use Rattle.layout.specs.Layout.{in_table, dimension_at, mask_place, mask_at, enable_part, arm_part, enabled_at, armed_at, entry_place, entry_at, link_part, receive_part, owner_at, receiver_at, word_at}
-use Rattle.layout.specs.LayoutContracts.{put_word}
 use Rattle.layout.proofs.Entries.{within, inside, byte_apart, word_same, word_apart, place_one}
 use Rattle.entries.specs.EntryContracts.{put_mask, put_enabled, put_armed, put_entry, put_owner, put_receiver, Within}
 use Rattle.table.specs.View.{view, set_at, set_owner, set_receiver, set_enabled, set_armed}
 
+-- two lists of bytes show the same at a node and a port or channel where their words, or their bits, there agree
+entry_same : (b b' : List ℕ) (part m q : ℕ) → (m < 256 → q < 8 → word_at b (entry_place part m q) ≡ word_at b' (entry_place part m q)) → entry_at part b m q ≡ entry_at part b' m q
+unfolding entry_at
+entry_same b b' part m q h = go (in_table m q) refl
+  where
+    go : (x : Bool) → in_table m q ≡ x → cond x (word_at b (entry_place part m q)) 0 ≡ cond x (word_at b' (entry_place part m q)) 0
+    go true e = let r = inside m q e in h r.0 r.1
+    go false e = refl
+
+mask_same : (b b' : List ℕ) (part m q : ℕ) → (m < 256 → get_or b (mask_place part m) 0 ≡ get_or b' (mask_place part m) 0) → mask_at part b m q ≡ mask_at part b' m q
+unfolding mask_at
+mask_same b b' part m q h = go (in_table m q) refl
+  where
+    go : (x : Bool) → in_table m q ≡ x → x && has (get_or b (mask_place part m) 0) q ≡ x && has (get_or b' (mask_place part m) 0) q
+    go true e = ap (λ y. has y q) (h (inside m q e).0)
+    go false e = refl
+
 -- an entry written: that entry, and every other of the same part and of the other
 module _ (part : ℕ) (b : List ℕ) (n k c : ℕ) (i : n < 256) (l : k < channels) where
   off_entry : (m q : ℕ) → (m ≡ n → q ≡ k → ⊥) → entry_at part (put_entry part b n k c) m q ≡ entry_at part b m q
-  unfolding entry_at put_entry
-  off_entry m q ne = go (in_table m q) refl
+  unfolding put_entry
+  off_entry m q ne =
+      entry_same (put_entry part b n k c) b part m q (λ g h. word_apart b (entry_place part n k) c (entry_place part m q) (apart h (ltb (entry_place part m q) (entry_place part n k)) refl))
     where
       apart : q < port_count → (x : Bool) → ltb (entry_place part m q) (entry_place part n k) ≡ x → (entry_place part m q + 1 < entry_place part n k) ⊎ (entry_place part n k + 1 < entry_place part m q)
       apart h true e = let g = ltb-true (entry_place part m q) (entry_place part n k) e in inl (omega arith)
@@ -31,10 +48,6 @@ module _ (part : ℕ) (b : List ℕ) (n k c : ℕ) (i : n < 256) (l : k < channe
           let g = ltb-false (entry_place part m q) (entry_place part n k) e in
           let d : entry_place part m q ≢ entry_place part n k = λ z. let one = place_one part m q n k h l z in ne one.0 one.1 in
           inr (omega arith)
-
-      go : (x : Bool) → in_table m q ≡ x → cond x (word_at (put_word b (entry_place part n k) c) (entry_place part m q)) 0 ≡ cond x (word_at b (entry_place part m q)) 0
-      go true e = word_apart b (entry_place part n k) c (entry_place part m q) (apart (inside m q e).1 _ refl)
-      go false e = refl
 
   on_entry : part + 4096 ≤ length b → c < 65536 → entry_at part (put_entry part b n k c) n k ≡ c
   unfolding entry_at put_entry
@@ -50,14 +63,10 @@ module _ (part : ℕ) (b : List ℕ) (n k c : ℕ) (i : n < 256) (l : k < channe
       go false y e f = off_entry m q (λ a z. eqb-false m n e a)
 
   pub entry_other : (part' : ℕ) → (part + 4096 ≤ part') ⊎ (part' + 4096 ≤ part) → (m q : ℕ) → entry_at part' (put_entry part b n k c) m q ≡ entry_at part' b m q
-  unfolding entry_at put_entry
-  entry_other part' h m q = go (in_table m q) refl
-    where
-      go : (x : Bool) → in_table m q ≡ x → cond x (word_at (put_word b (entry_place part n k) c) (entry_place part' m q)) 0 ≡ cond x (word_at b (entry_place part' m q)) 0
-      go true e =
-          let r = inside m q e in
-          word_apart b (entry_place part n k) c (entry_place part' m q) (⊎_elim (λ g. inr (omega arith)) (λ g. inl (omega arith)) h)
-      go false e = refl
+  unfolding put_entry
+  entry_other part' h m q =
+      entry_same (put_entry part b n k c) b part' m q
+      (λ g r. word_apart b (entry_place part n k) c (entry_place part' m q) (⊎_elim (λ z. inr (omega arith)) (λ z. inl (omega arith)) h))
 
   -- the bytes before the part stand as they were
   pub entry_before : (j : ℕ) → j < part → get_or (put_entry part b n k c) j 0 ≡ get_or b j 0
@@ -66,16 +75,11 @@ module _ (part : ℕ) (b : List ℕ) (n k c : ℕ) (i : n < 256) (l : k < channe
 
   -- and so do the masks
   pub entry_mask : (part' : ℕ) → (part' + 256 ≤ part) ⊎ (part + 4096 ≤ part') → (m q : ℕ) → mask_at part' (put_entry part b n k c) m q ≡ mask_at part' b m q
-  unfolding mask_at put_entry
-  entry_mask part' h m q = go (in_table m q) refl
-    where
-      go : (x : Bool) → in_table m q ≡ x → x && has (get_or (put_word b (entry_place part n k) c) (mask_place part' m) 0) q ≡ x && has (get_or b (mask_place part' m) 0) q
-      go true e =
-          let r = inside m q e in
-          ap (λ y. has y q)
-          (byte_apart b (entry_place part n k) c (mask_place part' m) (λ z. ⊎_elim (λ g. omega arith) (λ g. omega arith) h)
-          (λ z. ⊎_elim (λ g. omega arith) (λ g. omega arith) h))
-      go false e = refl
+  unfolding put_entry
+  entry_mask part' h m q =
+      mask_same (put_entry part b n k c) b part' m q
+      (λ g. byte_apart b (entry_place part n k) c (mask_place part' m)
+      (λ z. ⊎_elim (λ f. omega arith) (λ f. omega arith) h) (λ z. ⊎_elim (λ f. omega arith) (λ f. omega arith) h))
 
 -- What the table shows after a link or a receive channel is given to a circuit.
 pub view_put_owner : (b : List ℕ) (n p c : ℕ) → Within b n p → c < 65536 → view (put_owner b n p c) ≡ set_owner (view b) n p c
@@ -121,24 +125,14 @@ module _ (part : ℕ) (b : List ℕ) (n p : ℕ) (on : Bool) (i : n < 256) (l : 
       go false e y f = rw (byte_off (mask_place part m) (λ z. eqb-false m n e (omega arith)))
 
   pub mask_other : (part' : ℕ) → (part + 256 ≤ part') ⊎ (part' + 256 ≤ part) → (m q : ℕ) → mask_at part' (put_mask part b n p on) m q ≡ mask_at part' b m q
-  unfolding mask_at
-  mask_other part' h m q = go (in_table m q) refl
-    where
-      go : (x : Bool) → in_table m q ≡ x → x && has (get_or (put_mask part b n p on) (mask_place part' m) 0) q ≡ x && has (get_or b (mask_place part' m) 0) q
-      go true e = let r = inside m q e in ap (λ y. has y q) (byte_off (mask_place part' m) (λ z. ⊎_elim (λ g. omega arith) (λ g. omega arith) h))
-      go false e = refl
+  mask_other part' h m q =
+      mask_same (put_mask part b n p on) b part' m q (λ g. byte_off (mask_place part' m) (λ z. ⊎_elim (λ f. omega arith) (λ f. omega arith) h))
 
   pub mask_entry : (part' : ℕ) → (part + 256 ≤ part') ⊎ (part' + 4096 ≤ part) → (m q : ℕ) → entry_at part' (put_mask part b n p on) m q ≡ entry_at part' b m q
-  unfolding entry_at
-  mask_entry part' h m q = go (in_table m q) refl
-    where
-      go : (x : Bool) → in_table m q ≡ x → cond x (word_at (put_mask part b n p on) (entry_place part' m q)) 0 ≡ cond x (word_at b (entry_place part' m q)) 0
-      go true e =
-          let r = inside m q e in
-          let low = byte_off (entry_place part' m q) (λ z. ⊎_elim (λ g. omega arith) (λ g. omega arith) h) in
-          let high = byte_off (entry_place part' m q + 1) (λ z. ⊎_elim (λ g. omega arith) (λ g. omega arith) h) in
-          rw (low, high)
-      go false e = refl
+  mask_entry part' h m q =
+      entry_same (put_mask part b n p on) b part' m q (λ g r.
+      ap₂ (λ x y. x + 256 * y) (byte_off (entry_place part' m q) (λ z. ⊎_elim (λ f. omega arith) (λ f. omega arith) h))
+      (byte_off (entry_place part' m q + 1) (λ z. ⊎_elim (λ f. omega arith) (λ f. omega arith) h)))
 
 -- What the table shows after a link is enabled or not, or a channel armed or not.
 pub view_put_enabled : (b : List ℕ) (n p : ℕ) (on : Bool) → Within b n p → view (put_enabled b n p on) ≡ set_enabled (view b) n p on

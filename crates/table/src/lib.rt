@@ -3,7 +3,7 @@
 
 ghost use Rattle.std.specs.Prelude.{◌≡◌, ◌≢◌, true, ℕ, ◌+◌, ◌*◌, ◌<◌, ◌≤◌, eqb, length};
 ghost use Rattle.common.specs.Decides.{Decides};
-ghost use Rattle.common.specs.Lists.{lowest};
+ghost use Rattle.common.specs.Lists.{lowest, some_below};
 ghost use Rattle.cube.specs.Cube.{largest_dimension, port_count, channels};
 ghost use Rattle.layout.specs.Layout.{table_length, enabled_at, owner_at, receiver_at, armed_at};
 ghost use Rattle.entries.specs.EntryContracts.{Within};
@@ -13,10 +13,10 @@ ghost use Rattle.table.specs.TableContracts.{HeldBy, links_held, EnablesFit, Arm
 
 use cube::{Circuit, Node, Port};
 pub use entries::{
-    arm, dimension, disable, disarm, enable, enable_bits, enabled, is_armed, owner, receiver,
-    set_owner, set_receiver,
+    dimension, enable_bits, enabled, is_armed, owner, receiver, set_armed, set_enabled, set_owner,
+    set_receiver,
 };
-pub use layout::{BYTES, wide};
+pub use layout::BYTES;
 
 // Whether every node has the enable bits of links of its cube alone, and the nodes that the cube lacks have none.
 pub fn enables_fit(t: &[u8], dimension: u16) -> bool
@@ -24,29 +24,27 @@ pub fn enables_fit(t: &[u8], dimension: u16) -> bool
     ensures { Decides (EnablesFit t.now dimension) result }
 {
     let nodes = cube::node_count(dimension);
-    let count = nodes as usize;
-    if layout::wide(layout::or_bytes(t, layout::ENABLE, count)) < nodes {
-        layout::or_bytes(t, layout::ENABLE + count, layout::NODES - count) == 0
-    } else {
-        false
-    }
+    let absent = layout::ENABLE + usize::from(nodes);
+    u16::from(layout::or_bytes(&t[layout::ENABLE..absent])) < nodes
+        && layout::or_bytes(&t[absent..layout::ENABLE + layout::NODES]) == 0
 }
 
-// Whether the links, or the receive channels, of so many nodes from one on are all held by nobody. Where it says no, look at each.
+// Whether the links, or the receive channels, of so many nodes from one on are all held by nobody. Where it says no, look at each. Links and receive channels stand apart
+// here and below, as in `entries`: each function is one line over the same function of `layout`.
+#[tactic(auto, using(layout::proofs::Entries::rows_zero), unfolding(layout::specs::Layout::owner_at))]
 pub fn links_clear(t: &[u8], n: Node, nodes: u16) -> bool
     requires { (length t.now ≡ table_length) × (n.0 + nodes ≤ 256) × (0 < nodes) }
     ensures { result ≡ true → (m p : ℕ) → n.0 ≤ m → m < n.0 + nodes → p < port_count → owner_at t.now m p ≡ 0 }
 {
-    let from = layout::link_place(n, Port(0));
-    layout::or_bytes(t, from, layout::ROW * (nodes as usize)) == 0
+    layout::or_bytes(layout::link_rows(t, n, nodes)) == 0
 }
 
+#[tactic(auto, using(layout::proofs::Entries::rows_zero), unfolding(layout::specs::Layout::receiver_at))]
 pub fn receives_clear(t: &[u8], n: Node, nodes: u16) -> bool
     requires { (length t.now ≡ table_length) × (n.0 + nodes ≤ 256) × (0 < nodes) }
     ensures { result ≡ true → (m k : ℕ) → n.0 ≤ m → m < n.0 + nodes → k < channels → receiver_at t.now m k ≡ 0 }
 {
-    let from = layout::receive_place(n, 0);
-    layout::or_bytes(t, from, layout::ROW * (nodes as usize)) == 0
+    layout::or_bytes(layout::receive_rows(t, n, nodes)) == 0
 }
 
 // Whether no receive channel is armed at the nodes that the cube lacks.
@@ -54,8 +52,8 @@ pub fn arms_fit(t: &[u8], dimension: u16) -> bool
     requires { (length t.now ≡ table_length) × (dimension ≤ largest_dimension) }
     ensures { Decides (ArmsFit t.now dimension) result }
 {
-    let count = cube::node_count(dimension) as usize;
-    layout::or_bytes(t, layout::ARMS + count, layout::NODES - count) == 0
+    let absent = layout::ARMS + usize::from(cube::node_count(dimension));
+    layout::or_bytes(&t[absent..layout::ARMS + layout::NODES]) == 0
 }
 
 // The ports of a node whose links a circuit holds, as a vector; of circuit 0, those whose links nobody holds.
@@ -63,30 +61,33 @@ pub fn held_by(t: &[u8], c: Circuit, n: Node) -> u16
     requires { Within t.now n.0 0 }
     ensures { HeldBy t.now c.0 n.0 result }
 {
-    layout::row_vector(t, layout::link_place(n, Port(0)), c)
+    layout::row_vector(layout::link_rows(t, n, 1), c)
 }
 
 // How many links of a node a circuit holds.
+#[tactic(auto, using(crate::proofs::Rows::links_count))]
 pub fn links_held(t: &[u8], c: Circuit, n: Node) -> u16
     requires { Within t.now n.0 0 }
     ensures { result ≡ links_held (view t.now) c.0 n.0 }
 {
-    layout::row_count(t, layout::link_place(n, Port(0)), c)
+    layout::row_count(layout::link_rows(t, n, 1), c)
 }
 
 // Whether the links of a node that are held are enabled, and whether its receive channels that are held are armed.
+#[tactic(auto, using(crate::proofs::Rows::covers_node), unfolding(layout::specs::Layout::owner_at, layout::specs::Layout::enabled_at))]
 pub fn held_enabled(t: &[u8], n: Node) -> bool
     requires { Within t.now n.0 0 }
     ensures { Decides ((p : ℕ) → p < port_count → owner_at t.now n.0 p ≢ 0 → enabled_at t.now n.0 p ≡ true) result }
 {
-    layout::mask_covers(t, layout::link_place(n, Port(0)), layout::enable_place(n))
+    layout::mask_covers(layout::link_rows(t, n, 1), t[layout::enable_place(n)])
 }
 
+#[tactic(auto, using(crate::proofs::Rows::covers_node), unfolding(layout::specs::Layout::receiver_at, layout::specs::Layout::armed_at))]
 pub fn held_armed(t: &[u8], n: Node) -> bool
     requires { Within t.now n.0 0 }
     ensures { Decides ((k : ℕ) → k < channels → receiver_at t.now n.0 k ≢ 0 → armed_at t.now n.0 k ≡ true) result }
 {
-    layout::mask_covers(t, layout::receive_place(n, 0), layout::arm_place(n))
+    layout::mask_covers(layout::receive_rows(t, n, 1), t[layout::arm_place(n)])
 }
 
 // How many links of so many nodes from one on nobody holds.
@@ -94,33 +95,31 @@ pub fn count_free_links(t: &[u8], n: Node, nodes: u16) -> u32
     requires { (length t.now ≡ table_length) × (n.0 + nodes ≤ 256) × (0 < nodes) }
     ensures { (result ≤ port_count * nodes) × (free_count t.now (port_count * n.0) + result ≡ free_count t.now (port_count * (n.0 + nodes))) }
 {
-    let from = layout::link_place(n, Port(0));
-    let count = 8 * (nodes as usize);
+    let rows = layout::link_rows(t, n, nodes);
+    // of two bytes, as an entry is, so that several are counted at a time
     let mut free: u16 = 0;
-    let mut i: usize = 0;
-    while i < count {
-        if layout::word(t, from + layout::ENTRY * i) == 0 {
+    for i in 0..8 * usize::from(nodes) {
+        if layout::word(rows, layout::ENTRY * i) == 0 {
             free += 1;
         }
-        i += 1;
     }
-    free as u32
+    u32::from(free)
 }
 
-// The lowest receive channel of a node that a circuit holds, and the lowest that is armed and that nobody holds: 8 where there is none.
-pub fn held_channel(t: &[u8], c: Circuit, n: Node) -> u16
+// The lowest receive channel of a node that a circuit holds, and the lowest that is armed and that nobody holds.
+pub fn held_channel(t: &[u8], c: Circuit, n: Node) -> Option<u16>
     requires { Within t.now n.0 0 }
-    ensures { result ≡ lowest (λ k. eqb (receiver_at t.now n.0 k) c.0) channels 0 }
+    ensures { result ≡ some_below channels (lowest (λ k. eqb (receiver_at t.now n.0 k) c.0) channels 0) }
 {
-    cube::lowest_bit(layout::row_vector(t, layout::receive_place(n, 0), c))
+    cube::lowest_of(layout::row_vector(layout::receive_rows(t, n, 1), c))
 }
 
-pub fn free_channel(t: &[u8], n: Node) -> u16
+pub fn free_channel(t: &[u8], n: Node) -> Option<u16>
     requires { Within t.now n.0 0 }
-    ensures { result ≡ lowest_channel (view t.now) n.0 }
+    ensures { result ≡ some_below channels (lowest_channel (view t.now) n.0) }
 {
-    let free = layout::row_vector(t, layout::receive_place(n, 0), Circuit(0));
-    cube::lowest_bit(free & layout::wide(t[layout::arm_place(n)]))
+    let free = layout::row_vector(layout::receive_rows(t, n, 1), Circuit(0));
+    cube::lowest_of(free & u16::from(t[layout::arm_place(n)]))
 }
 
 // Writes a table of a dimension: all its links enabled, nothing held, no channel armed.
@@ -128,9 +127,9 @@ pub fn make(t: &mut [u8], dimension: u8)
     requires { (length t.old ≡ table_length) × (dimension ≤ largest_dimension) }
     ensures { t.new ≡ encode (fresh dimension) }
 {
-    let nodes = cube::node_count(layout::wide(dimension));
-    let end = layout::ENABLE + nodes as usize;
-    layout::fill(t, end, layout::BYTES, 0);
-    layout::fill(t, layout::ENABLE, end, ((nodes - 1) % 256) as u8);
+    let nodes = cube::node_count(u16::from(dimension));
+    let absent = layout::ENABLE + usize::from(nodes);
     t[layout::DIMENSION] = dimension;
+    t[layout::ENABLE..absent].fill((nodes - 1) as u8);
+    t[absent..].fill(0);
 }

@@ -1,130 +1,79 @@
 -- The book of a table, circuit number by circuit number.
 -- Assumes nothing.
-use mathlib.Core.Path.{◌≡◌, refl, ap, ap₂, sym, ◌∙◌}
-use mathlib.Core.Bool.{Bool, true, false, cond}
-use mathlib.Core.List.{List, [], ◌∷◌, ◌++◌, append_assoc, append-nil}
+use mathlib.Core.Path.{◌≡◌, ap, ◌∙◌}
+use mathlib.Core.Bool.{true, false}
+use mathlib.Core.List.{List, [], ◌∷◌}
 use Prim.Native.Nat.{ℕ, suc, ◌+◌, ◌-◌, ◌*◌, ◌≤◌, ◌<◌}
-use native.Mathlib.Nat.{add-zero}
+use native.Mathlib.Nat.{zero-add}
 use native.Mathlib.Numerals.{add-one}
 use native.Mathlib.Omega.{arith}
-use lib.Dec.{ltb}
-use borrow.Author.Tests.{lt-ltb, ltb-false}
-use lib.ListN.{length, take, drop, length-append}
-use lib.Seq.{take-append_seam}
+use lib.ListN.{length, length-append}
 use Rattle.common.specs.Lists.{keep, from}
-use Rattle.cube.specs.Cube.{channels, cube_nodes}
-use Rattle.layout.specs.Layout.{dimension_at}
 use Rattle.table.specs.View.{View, view}
 use Rattle.circuit_path.specs.PathOf.{path_of}
 use Rattle.circuit_path.specs.OpenCircuit.{is_open_in}
-use Rattle.circuit_path.specs.Traced.{traced_into}
-use Rattle.book.specs.Book.{BookCircuit, port_bytes, word_bytes, index_from, hop_count}
+use Rattle.circuit_path.specs.Follow.{HasSource}
+use Rattle.book.specs.Book.{BookCircuit, port_bytes, hop_count}
 use Rattle.book.specs.BookOf.{open_numbers, book_of}
-use Rattle.book.proofs.BookOfSound.{open_hops}
-use Rattle.table_book.specs.Writing.{book_from, circuit_if}
+use Rattle.table_book.specs.Writing.{last_of, book_from, BookPre}
 
--- parts of a book one behind the other
-pub ports_append : (xs ys : List BookCircuit) → port_bytes (xs ++ ys) ≡ port_bytes xs ++ port_bytes ys
-unfolding port_bytes
-ports_append [] ys = refl
-ports_append (x ∷ xs) ys = ap (x.ports ++◌) (ports_append xs ys) ∙ sym (append_assoc x.ports (port_bytes xs) (port_bytes ys))
-
-pub index_append : (at : ℕ) (xs ys : List BookCircuit) → index_from at (xs ++ ys) ≡ index_from at xs ++ index_from (at + hop_count xs) ys
-unfolding index_from port_bytes word_bytes
-index_append at [] ys = ap (λ (n : ℕ). index_from n ys) (sym (add-zero at))
-index_append at (x ∷ xs) ys =
-    let place : at + length x.ports + hop_count xs ≡ at + length (x.ports ++ port_bytes xs) = omega (arith, length-append x.ports (port_bytes xs)) in
-    ap (λ (r : List ℕ). word_bytes x.number ++ word_bytes at ++ word_bytes (length x.ports) ++ r) (index_append (at + length x.ports) xs ys)
-    ∙ ap (λ (n : ℕ). word_bytes x.number ++ word_bytes at ++ word_bytes (length x.ports) ++ (index_from (at + length x.ports) xs ++ index_from n ys)) place
+-- a number of a table has its source in it
+pub numbered : {b : List ℕ} {c : ℕ} → BookPre b → 1 ≤ c → c ≤ last_of b → HasSource b c
+numbered p low high = record { bytes = p.bytes; fits = p.fits; circuit = low; source = omega arith }
 
 -- the circuit of a number, if it is open, and the part of the book behind it
-module _ (v : View) (c : ℕ) where
-  pub one_open : is_open_in v c ≡ true → circuit_if v c ≡ record { number = c; ports = path_of v c } ∷ []
+module _ (v : View) (c last : ℕ) (h : c ≤ last) where
+  abbrev pub behind : List BookCircuit
+  behind = book_from v (c + 1) (last + 1 - (c + 1))
+
+  pub next_open : is_open_in v c ≡ true → book_from v c (last + 1 - c) ≡ record { number = c; ports = path_of v c } ∷ behind
   unfolding book_from from keep
-  one_open e = rw e
+  next_open e = let k : last + 1 - c ≡ suc (last + 1 - (c + 1)) = omega arith in rw (k, e, add-one c)
 
-  pub one_closed : is_open_in v c ≡ false → circuit_if v c ≡ []
+  pub next_closed : is_open_in v c ≡ false → book_from v c (last + 1 - c) ≡ behind
   unfolding book_from from keep
-  one_closed e = rw e
-
-  pub book_on_lem : (k : ℕ) → book_from v c (suc k) ≡ circuit_if v c ++ book_from v (suc c) k
-  unfolding book_from from keep
-  book_on_lem k = go (is_open_in v c) refl
-    where
-      go : (b : Bool) → is_open_in v c ≡ b → book_from v c (suc k) ≡ circuit_if v c ++ book_from v (suc c) k
-      go true e = rw e
-      go false e = rw e
-
-  pub book_next : (last : ℕ) → c ≤ last → book_from v c (last + 1 - c) ≡ circuit_if v c ++ book_from v (c + 1) (last + 1 - (c + 1))
-  book_next last h =
-      let e : last + 1 - c ≡ suc (last + 1 - (c + 1)) = omega arith in
-      ap (book_from v c) e ∙ book_on_lem (last + 1 - (c + 1)) ∙ ap (λ (n : ℕ). circuit_if v c ++ book_from v n (last + 1 - (c + 1))) (sym (add-one c))
-
-  -- so the numbers left have the circuits and hops of this one and of those behind it
-  pub length_next : (last : ℕ) → c ≤ last → length (book_from v c (last + 1 - c)) ≡ length (circuit_if v c) + length (book_from v (c + 1) (last + 1 - (c + 1)))
-  length_next last h = ap length (book_next last h) ∙ length-append (circuit_if v c) _
-
-  pub hops_next : (last : ℕ) → c ≤ last → hop_count (book_from v c (last + 1 - c)) ≡ hop_count (circuit_if v c) + hop_count (book_from v (c + 1) (last + 1 - (c + 1)))
-  hops_next last h = ap hop_count (book_next last h) ∙ ap length (ports_append (circuit_if v c) _) ∙ length-append (port_bytes (circuit_if v c)) _
+  next_closed e = let k : last + 1 - c ≡ suc (last + 1 - (c + 1)) = omega arith in rw (k, e, add-one c)
 
 -- all numbers of a table, and none behind the last
-pub book_whole : (b : List ℕ) (last : ℕ) → last ≡ channels * cube_nodes (dimension_at b) → book_from (view b) 1 (last + 1 - 1) ≡ book_of (view b)
+pub book_whole : (b : List ℕ) → book_from (view b) 1 (last_of b + 1 - 1) ≡ book_of (view b)
 unfolding book_of open_numbers book_from view
-book_whole b last e = let k : last + 1 - 1 ≡ channels * cube_nodes (dimension_at b) = omega (arith, e) in ap (book_from (view b) 1) k
+book_whole b = let k : last_of b + 1 - 1 ≡ last_of b = omega arith in ap (book_from (view b) 1) k
 
 pub book_end : (v : View) (c last : ℕ) → last < c → book_from v c (last + 1 - c) ≡ []
 unfolding book_from from keep
 book_end v c last h = let k : last + 1 - c ≡ 0 = omega arith in ap (book_from v c) k
 
--- the hops of one number
-pub hops_open : (v : View) (c : ℕ) → is_open_in v c ≡ true → hop_count (circuit_if v c) ≡ length (path_of v c)
-unfolding port_bytes
-hops_open v c e = ap hop_count (one_open v c e) ∙ ap length (append-nil (path_of v c))
+-- A book while it is counted: the circuits of the numbers from c on are left.
+pub record Counting (v : View) (last circuits hops c : ℕ) : Type 0 where
+  pub few : circuits < c
+  pub short : hops ≤ 9 * circuits
+  pub count : circuits + length (book_from v c (last + 1 - c)) ≡ length (book_of v)
+  pub sum : hops + hop_count (book_from v c (last + 1 - c)) ≡ hop_count (book_of v)
 
-pub hops_closed : (v : View) (c : ℕ) → is_open_in v c ≡ false → hop_count (circuit_if v c) ≡ 0
-unfolding port_bytes
-hops_closed v c e = ap hop_count (one_closed v c e)
+-- before the first number
+pub nothing_counted : (b : List ℕ) → Counting (view b) (last_of b) 0 0 1
+nothing_counted b =
+    let whole = book_whole b in record { few = omega arith; short = omega arith; count = zero-add _ ∙ ap length whole; sum = zero-add _ ∙ ap hop_count whole }
 
--- its ports and its line
-pub ports_open : (v : View) (c : ℕ) → is_open_in v c ≡ true → port_bytes (circuit_if v c) ≡ path_of v c
-unfolding port_bytes
-ports_open v c e = ap port_bytes (one_open v c e) ∙ append-nil (path_of v c)
+module _ {v : View} {last circuits hops c : ℕ} (f : Counting v last circuits hops c) where
+  -- an open circuit more, and none
+  pub count_open : c ≤ last → is_open_in v c ≡ true → {more n m : ℕ} → n ≡ length (path_of v c) → n ≤ 9 → more ≡ circuits + 1 → m ≡ hops + n → Counting v last more m (c + 1)
+  unfolding port_bytes
+  count_open h o e l q r =
+      let next = next_open v c last h o in
+      record {
+        few = omega (arith, f.few);
+        short = omega (arith, f.short);
+        count = omega (arith, f.count, ap length next);
+        sum = omega (arith, f.sum, ap hop_count next, length-append (path_of v c) (port_bytes (behind v c last h)));
+      }
 
-pub ports_closed : (v : View) (c : ℕ) → is_open_in v c ≡ false → port_bytes (circuit_if v c) ≡ []
-unfolding port_bytes
-ports_closed v c e = ap port_bytes (one_closed v c e)
+  pub count_closed : c ≤ last → is_open_in v c ≡ false → Counting v last circuits hops (c + 1)
+  count_closed h o =
+      let next = next_closed v c last h o in
+      record { few = omega (arith, f.few); short = f.short; count = rw next at f.count; sum = rw next at f.sum }
 
-pub line_open : (v : View) (c at : ℕ) → is_open_in v c ≡ true → index_from at (circuit_if v c) ≡ word_bytes c ++ word_bytes at ++ word_bytes (length (path_of v c))
-unfolding index_from
-line_open v c at e = ap (index_from at) (one_open v c e) ∙ append-nil (word_bytes c ++ word_bytes at ++ word_bytes (length (path_of v c)))
-
-pub line_closed : (v : View) (c at : ℕ) → is_open_in v c ≡ false → index_from at (circuit_if v c) ≡ []
-unfolding index_from
-line_closed v c at e = ap (index_from at) (one_closed v c e)
-
--- the front of a buffer that a path was written to is the path
-pub path_part : (w buffer after : List ℕ) (n : ℕ) → n ≡ length w → after ≡ traced_into w buffer → take (n - 0) (drop 0 after) ≡ w
-unfolding traced_into
-path_part w buffer after n e f =
-    let k : n - 0 ≡ length w = omega (arith, e) in
-    ap₂ (λ (m : ℕ) (l : List ℕ). take m l) k f ∙ take-append_seam w (drop (length w) buffer)
-
--- there is a circuit exactly where there is a hop
-pub one_if : (v : View) (c : ℕ) → cond (ltb 0 (hop_count (circuit_if v c))) 1 0 ≡ length (circuit_if v c)
-one_if v c = go (is_open_in v c) refl
-  where
-    go : (b : Bool) → is_open_in v c ≡ b → cond (ltb 0 (hop_count (circuit_if v c))) 1 0 ≡ length (circuit_if v c)
-    go true e = ap (λ (x : Bool). cond x 1 0) (lt-ltb 0 (hop_count (circuit_if v c)) (omega (arith, hops_open v c e, open_hops v c e))) ∙ sym (ap length (one_open v c e))
-    go false e = ap (λ (n : ℕ). cond (ltb 0 n) 1 0) (hops_closed v c e) ∙ sym (ap length (one_closed v c e))
-
-pub one_most : (n : ℕ) → (cond (ltb 0 n) 1 0 ≤ 1) × (n ≤ 9 → n ≤ 9 * cond (ltb 0 n) 1 0)
-one_most n = go (ltb 0 n) refl
-  where
-    go : (b : Bool) → ltb 0 n ≡ b → (cond b 1 0 ≤ 1) × (n ≤ 9 → n ≤ 9 * cond b 1 0)
-    go true e = (omega arith, λ h. omega arith)
-    go false e = let z = ltb-false 0 n e in (omega arith, λ h. omega arith)
-
--- what was written to nine bytes has nine at most
-pub traced_short : (w buffer : List ℕ) → length (traced_into w buffer) ≡ 9 → length w ≤ 9
-unfolding traced_into
-traced_short w buffer e = omega (arith, length-append w (drop (length w) buffer), e)
+  -- none is left
+  pub all_counted : last < c → (circuits ≡ length (book_of v)) × (hops ≡ hop_count (book_of v))
+  unfolding port_bytes
+  all_counted h = let none = book_end v c last h in (omega (arith, ap length none, f.count), omega (arith, ap hop_count none, f.sum))

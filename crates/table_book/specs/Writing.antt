@@ -1,21 +1,31 @@
 -- What the functions that write the book of a table ask and answer. Nobody has to believe these: what a book is, book/Book and BookOf say.
 -- Assumes nothing.
-use Rattle.std.specs.Prelude.{◌≡◌, List, map, ℕ, ◌≤◌, length}
-use Rattle.cube.specs.Cube.{largest_dimension}
+use Rattle.std.specs.Prelude.{◌≡◌, ◌*◌, true, false, Option, None, Some, List, map, ◌++◌, ℕ, ◌≤◌, length}
+use Rattle.std.specs.Borrow.{Bor}
+use Rattle.cube.specs.Cube.{largest_dimension, channels, cube_nodes}
 use Rattle.common.specs.Lists.{keep, from}
 use Rattle.layout.specs.Layout.{table_length, dimension_at}
 use Rattle.table.specs.View.{View}
 use Rattle.circuit_path.specs.PathOf.{path_of}
 use Rattle.circuit_path.specs.OpenCircuit.{is_open_in}
-use Rattle.book.specs.Book.{BookCircuit}
+use Rattle.book.specs.Book.{BookCircuit, word_bytes}
+
+-- the largest circuit number of a table
+abbrev pub last_of : List ℕ → ℕ
+last_of b = channels * cube_nodes (dimension_at b)
 
 -- the part of a table's book that has k numbers from c on
 unfoldable pub book_from : View → ℕ → ℕ → List BookCircuit
 book_from v c k = map (λ (n : ℕ). record { number = n; ports = path_of v n }) (keep (is_open_in v) (from c k))
 
--- the circuit of one number, if it is open
-abbrev pub circuit_if : View → ℕ → List BookCircuit
-circuit_if v c = book_from v c 1
+-- the path of a circuit where it is open, as a slice of nine bytes at most
+abbrev pub path_if : View → ℕ → Option (Bor (List ℕ)) → Type 0
+path_if v c None = is_open_in v c ≡ false
+path_if v c (Some path) = (is_open_in v c ≡ true) × (path.now ≡ path_of v c) × (length path.now ≤ 9)
+
+-- the bytes of a line of the index
+abbrev pub line_bytes : (number offset hops : ℕ) → List ℕ
+line_bytes number offset hops = word_bytes number ++ word_bytes offset ++ word_bytes hops
 
 -- a table of a cube that a table has room for
 pub record BookPre (b : List ℕ) : Type 0 where

@@ -5,11 +5,10 @@
 
 use std::io;
 
-mod print;
 mod sweep;
 mod tables;
 
-fn every_dimension(rt: &impl Print, t: &mut [u8]) -> io::Result<()> {
+fn every_dimension(rt: &impl Print, t: &mut [u8; table::BYTES]) -> io::Result<()> {
     for dimension in 1u8..9 {
         tables::two_ways(t, dimension);
         sweep::changes(rt, t, dimension, 1)?;
@@ -19,18 +18,19 @@ fn every_dimension(rt: &impl Print, t: &mut [u8]) -> io::Result<()> {
     Ok(())
 }
 
-fn every_single(rt: &impl Print, t: &mut [u8]) -> io::Result<()> {
-    for which in 0u16..11 {
-        tables::single(t, which);
-        sweep::answer(rt, t, which)?;
-    }
-    Ok(())
-}
-
-fn every_sum(rt: &impl Print, t: &mut [u8]) -> io::Result<()> {
-    for which in 0u16..8 {
-        tables::sums(t, which);
-        sweep::sum_answer(rt, t, which)?;
+// So many tables of a kind, each laid by its number.
+fn every<F: Fn(&mut [u8; table::BYTES], u16)>(
+    rt: &impl Print,
+    t: &mut [u8; table::BYTES],
+    kind: &str,
+    count: u16,
+    lay: F,
+) -> io::Result<()>
+    requires { F.IsAlwaysCallable lay }
+{
+    for which in 0..count {
+        lay(t, which);
+        println!(rt; "{kind} {which}: {}", sweep::number(t))?;
     }
     Ok(())
 }
@@ -38,7 +38,7 @@ fn every_sum(rt: &impl Print, t: &mut [u8]) -> io::Result<()> {
 fn main(rt: HostRuntime) -> io::Result<()> {
     let mut t = [0u8; table::BYTES];
     every_dimension(&rt, &mut t)?;
-    every_single(&rt, &mut t)?;
-    every_sum(&rt, &mut t)?;
+    every(&rt, &mut t, "single", 11, tables::single)?;
+    every(&rt, &mut t, "sums", 8, tables::sums)?;
     sweep::lengths(&rt, &t)
 }

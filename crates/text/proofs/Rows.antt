@@ -2,27 +2,42 @@
 -- Assumes nothing.
 use mathlib.Core.Path.{◌≡◌, refl, ap, sym, ◌∙◌}
 use mathlib.Core.Logic.{◌≢◌, ⊎_elim}
-use mathlib.Core.List.{List, [], ◌∷◌, ◌++◌, append_assoc}
-use Prim.Native.Nat.{ℕ, ◌-◌, ◌<◌, min}
+use mathlib.Core.List.{List, [], ◌∷◌, ◌++◌, map, append-nil}
+use Prim.Native.Nat.{ℕ, ◌+◌, ◌≤◌, ◌<◌, min}
+use native.Mathlib.Numerals.{add-one}
 use native.Mathlib.Omega.{arith}
-use lib.ListN.{length, take, length-append, length-take}
-use lib.Seq.{take_all}
+use lib.ListN.{length, get_or, take, drop, length-append, drop_of_length-le}
+use lib.Seq.{take_all, drop-cons}
 use Rattle.common.proofs.Tests.{below_or}
 use Rattle.text.specs.Text.{newline, space, dash, decimal}
 use Rattle.text.specs.Row.{Field, shows, path, in_turn, field_bytes, Row, in_order, spaced, ended, row_text}
 use Rattle.text.specs.Written.{width, row_width}
 
--- lists one behind the other, from the left and from the right
-regroup : (l a s b c d e f g h : List ℕ) → ((((((((l ++ a) ++ s) ++ b) ++ c) ++ d) ++ e) ++ f) ++ g) ++ h ≡ (l ++ (a ++ (s ++ (b ++ (c ++ (d ++ (e ++ (f ++ g)))))))) ++ h
-regroup l a s b c d e f g h = simp append_assoc
+-- fields, each behind a space
+unfoldable pub behind_spaces : List Field → List ℕ
+behind_spaces [] = []
+behind_spaces (f ∷ fs) = (space ∷ field_bytes f) ++ behind_spaces fs
+
+pub behind_more : {A : Type 0} (shown : A → Field) (fs : List A) (i : ℕ) (d : A) → i < length fs
+    → behind_spaces (map shown (drop i fs)) ≡ (space ∷ field_bytes (shown (get_or fs i d))) ++ behind_spaces (map shown (drop (i + 1) fs))
+unfolding behind_spaces
+behind_more shown fs i d h = rw (add-one i, drop-cons fs i d h)
+
+pub behind_none : {A : Type 0} (shown : A → Field) (fs : List A) (i : ℕ) → length fs ≤ i → behind_spaces (map shown (drop i fs)) ≡ []
+unfolding behind_spaces
+behind_none shown fs i h = rw (drop_of_length-le fs {i = i} h)
+
+-- lists one behind the other, with nothing at the end
+no_end : (l a b c d e f g h : List ℕ) → (l ++ (a ++ (b ++ (c ++ (d ++ (e ++ (f ++ (g ++ [])))))))) ++ h ≡ (l ++ (a ++ (b ++ (c ++ (d ++ (e ++ (f ++ g))))))) ++ h
+no_end l a b c d e f g h = rw (append-nil g)
 
 -- a printed line is its number, the other seven fields behind a space each, and a newline
 pub row_text_lem : (n : ℕ) (c : Field) (a : ℕ) (d e f g h : Field)
-    → ((((((((decimal n ++ space ∷ field_bytes c) ++ space ∷ []) ++ decimal a) ++ space ∷ field_bytes d) ++ space ∷ field_bytes e) ++ space ∷ field_bytes f) ++ space ∷ field_bytes g) ++ space ∷ field_bytes h) ++ newline ∷ []
+    → (decimal n ++ behind_spaces (c ∷ shows a ∷ d ∷ e ∷ f ∷ g ∷ h ∷ [])) ++ newline ∷ []
     ≡ row_text (record { line = shows n; call = c; answer = shows a; node = d; channel = e; receive = f; scouts = g; ports = h })
-unfolding row_text ended spaced in_order field_bytes
+unfolding row_text ended spaced in_order field_bytes behind_spaces
 row_text_lem n c a d e f g h =
-    regroup (decimal n) (space ∷ field_bytes c) (space ∷ []) (decimal a) (space ∷ field_bytes d) (space ∷ field_bytes e) (space ∷ field_bytes f) (space ∷ field_bytes g) (space ∷ field_bytes h) (newline ∷ [])
+    no_end (decimal n) (space ∷ field_bytes c) (space ∷ decimal a) (space ∷ field_bytes d) (space ∷ field_bytes e) (space ∷ field_bytes f) (space ∷ field_bytes g) (space ∷ field_bytes h) (newline ∷ [])
 
 -- how many bytes a number takes
 pub number_width : (n : ℕ) → width (shows n) ≡ length (decimal n)
@@ -34,28 +49,30 @@ pub row_length : (r : Row) → length (row_text r) ≡ row_width r
 unfolding row_text ended spaced in_order
 row_length r = simp length-append (omega arith)
 
+-- the same by the parts in which it is written
+pub row_parts : (n : ℕ) (c : Field) (a : ℕ) (d e f g h : Field)
+    → length (decimal n) + length (behind_spaces (c ∷ shows a ∷ d ∷ e ∷ f ∷ g ∷ h ∷ [])) + 1
+    ≡ row_width (record { line = shows n; call = c; answer = shows a; node = d; channel = e; receive = f; scouts = g; ports = h })
+row_parts n c a d e f g h =
+    let fs = c ∷ shows a ∷ d ∷ e ∷ f ∷ g ∷ h ∷ [] in
+    let parts = length-append (decimal n) (behind_spaces fs) in
+    let all = length-append (decimal n ++ behind_spaces fs) (newline ∷ []) in
+    let text = ap length (row_text_lem n c a d e f g h) in
+    omega (arith, row_length (record { line = shows n; call = c; answer = shows a; node = d; channel = e; receive = f; scouts = g; ports = h }))
+
 -- the first ports of a buffer; a count above its length takes no more of it
-first_ports : (n : ℕ) (xs : List ℕ) → take (min n (length xs)) xs ≡ take n xs
-first_ports n xs =
-    ⊎_elim (λ g. let m : min n (length xs) ≡ n = omega arith in ap (λ i. take i xs) m)
-    (λ g. let m : min n (length xs) ≡ length xs = omega arith in ap (λ i. take i xs) m ∙ take_all (length xs) xs (omega arith) ∙ sym (take_all n xs (omega arith))) (below_or (length xs) n)
+pub first_ports : (n : ℕ) (xs : List ℕ) {k : ℕ} → k ≡ min n (length xs) → take k xs ≡ take n xs
+first_ports n xs {k = k} e =
+    ⊎_elim (λ g. let m : k ≡ n = omega arith in ap (λ i. take i xs) m)
+    (λ g. take_all k xs (omega arith) ∙ sym (take_all n xs (omega arith))) (below_or (length xs) n)
 
 -- a path with no port, and one with some
-path_none : (w : List ℕ) → length w ≡ 0 → dash ∷ [] ≡ field_bytes (path w)
+pub path_none : (w : List ℕ) → length w ≡ 0 → dash ∷ [] ≡ field_bytes (path w)
 unfolding field_bytes
 path_none [] h = refl
 path_none (p ∷ ps) h = absurd (omega arith)
 
-path_some : (w : List ℕ) → 0 < length w → in_turn w ≡ field_bytes (path w)
+pub path_some : (w : List ℕ) → length w ≢ 0 → in_turn w ≡ field_bytes (path w)
 unfolding field_bytes
-path_some [] h = absurd (omega arith)
+path_some [] h = absurd (h refl)
 path_some (p ∷ ps) h = refl
-
-module _ (n : ℕ) (xs : List ℕ) {k : ℕ} (hops : k ≡ min n (length xs)) where
-  pub no_ports : k ≡ 0 → dash ∷ [] ≡ field_bytes (path (take n xs))
-  no_ports z = path_none (take n xs) (let l = length-take n xs in omega arith)
-
-  pub some_ports : k ≢ 0 → in_turn (take (k - 0) xs) ≡ field_bytes (path (take n xs))
-  some_ports z =
-      let e : k - 0 ≡ min n (length xs) = omega arith in
-      ap (λ i. in_turn (take i xs)) e ∙ ap in_turn (first_ports n xs) ∙ path_some (take n xs) (let l = length-take n xs in omega (arith, z))

@@ -1,13 +1,13 @@
 -- Texts written one behind the other.
 -- Assumes nothing.
 use mathlib.Core.Path.{◌≡◌, refl, ap, sym, ◌∙◌}
-use mathlib.Core.List.{List, [], ◌∷◌, ◌++◌}
-use Prim.Native.Nat.{ℕ, suc, ◌+◌, ◌≤◌, ◌<◌}
+use mathlib.Core.List.{List, [], ◌∷◌, ◌++◌, append_assoc}
+use Prim.Native.Nat.{ℕ, suc, ◌+◌, ◌≤◌}
 use native.Mathlib.Nat.{add-zero}
-use native.Mathlib.Numerals.{add-one}
 use native.Mathlib.Omega.{arith}
-use lib.ListN.{length, get_or, set, drop, length-append, drop_of_length-le}
-use lib.Seq.{sets, set_comm, drop-cons}
+use lib.ListN.{length, take, drop, set, length-append}
+use lib.Seq.{sets, sets-eq, set_comm, drop-drop}
+use borrow.Rule.Slice.PartMut.{put_mid}
 use Rattle.text.specs.Written.{Wrote}
 
 -- two texts, the second behind the first, are one
@@ -38,12 +38,35 @@ pub ◌then◌ : {i j n : ℕ} {b c d xs ys : List ℕ} → Wrote b i xs c j →
 pub retext : {i j : ℕ} {b c xs ys : List ℕ} → xs ≡ ys → Wrote b i xs c j → Wrote b i ys c j
 retext e w = rw e at w
 
--- one byte of a text, and all of them
-module _ (b text : List ℕ) (at i : ℕ) where
-  pub text_step : i < length text → sets (set b (at + i) (get_or text i 0)) (at + (i + 1)) (drop (i + 1) text) ≡ sets b (at + i) (drop i text)
-  text_step h =
-      let e : at + (i + 1) ≡ suc (at + i) = omega arith in
-      rw (e, add-one i, drop-cons text i 0 h)
+-- a part of an output that a text was copied into: k is how long the part is
+pub wrote_part : (b text : List ℕ) {at k j : ℕ} {new : List ℕ} → at + length text ≤ length b → k ≡ length text → new ≡ text → j ≡ at + length text
+    → Wrote b at text (put_mid at k b new) j
+wrote_part b text {at = at} fits long same place =
+    record {
+      bytes = rw (long, same, drop-drop (length text) at b) (sym (append_assoc (take at b) text (drop (at + length text) b)) ∙ sym (sets-eq text b at fits));
+      place = place;
+    }
 
-  pub text_end : length text ≤ i → sets b (at + i) (drop i text) ≡ b
-  text_end h = ap (λ (xs : List ℕ). sets b (at + i) xs) (drop_of_length-le text h)
+-- What holds while a text is written one part behind the other: writing what is left, from place j on, leaves what writing all of it would.
+pub record Left (b : List ℕ) (i : ℕ) (text now : List ℕ) (j : ℕ) (rest : List ℕ) : Type 0 where
+  pub bytes : sets now j rest ≡ sets b i text
+  pub place : j + length rest ≡ i + length text
+  pub long : length now ≡ length b
+
+-- nothing was written yet; a part was; and all was
+pub left_all : (b : List ℕ) (i : ℕ) (text : List ℕ) → Left b i text b i text
+left_all b i text = record { bytes = refl; place = refl; long = refl }
+
+pub left_more : {b text now now' rest part : List ℕ} {i j j' : ℕ} (more : List ℕ) → Left b i text now j rest → rest ≡ part ++ more → length now' ≡ length now
+    → Wrote now j part now' j' → Left b i text now' j' more
+left_more {now = now} {j = j} more l e same w =
+    record {
+      bytes = carries more w ∙ ap (sets now j) (sym e) ∙ l.bytes;
+      place = carries_place more w ∙ ap (λ (xs : List ℕ). j + length xs) (sym e) ∙ l.place;
+      long = same ∙ l.long;
+    }
+
+pub left_none : {b text now rest : List ℕ} {i j : ℕ} → Left b i text now j rest → rest ≡ [] → Wrote b i text now j
+left_none {now = now} {j = j} l e =
+    let n = ap length e in
+    record { bytes = sym (ap (sets now j) e) ∙ l.bytes; place = omega (arith, l.place) }

@@ -1,10 +1,11 @@
 -- What the functions of this crate write and read.
 -- Assumes nothing.
-use Rattle.std.specs.Prelude.{◌≡◌, cond, ◌&&◌, List, [], ◌∷◌, ℕ, ◌+◌, eqb, leb, length, take}
+use Rattle.std.specs.Prelude.{◌≡◌, cond, ◌&&◌, List, ℕ, ◌+◌, leb, length, take, Some, None}
+use Rattle.std.specs.declared.option.Option.{Option as Answer}
 use Rattle.std.proofs.Math.Option.{Option, none, some}
 use Rattle.std.proofs.lemmas.List.Edits.{sets}
 use Rattle.text.specs.declared.row.Field.{Field as GivenField}
-use Rattle.text.specs.declared.row.Field.TheVariants.{Nothing, Number, Letter, Path}
+use Rattle.text.specs.declared.row.Field.TheVariants.{Number, Letter, Path}
 use Rattle.text.specs.declared.row.Row.{Row as GivenRow}
 use Rattle.text.specs.Text.{all_digits, value, largest}
 use Rattle.text.specs.Row.{Field, nothing, shows, letter, path, field_bytes, Row}
@@ -14,26 +15,25 @@ pub record Wrote (b : List ℕ) (i : ℕ) (text : List ℕ) (after : List ℕ) (
   pub bytes : after ≡ sets b i text
   pub place : j ≡ i + length text
 
--- the part of a text before the first place of a byte
-unfoldable pub before : ℕ → List ℕ → List ℕ
-before d [] = []
-before d (x ∷ xs) = cond (eqb x d) [] (x ∷ before d xs)
+-- a number that was read; None where there is none
+unfoldable pub or_none : Option ℕ → Answer ℕ
+or_none none = None
+or_none (some n) = Some n
 
--- a number that was read; 65,536 where there is none
-unfoldable pub or_none : Option ℕ → ℕ
-or_none none = 65536
-or_none (some n) = n
-
--- what digits say behind others that say n, up to 65,535; 65,536 where they are no digits or say more
-unfoldable pub said : ℕ → List ℕ → ℕ
-said n xs = cond (all_digits xs && leb (value n xs) largest) (value n xs) 65536
+-- what digits say behind others that say n, up to 65,535; None where they are no digits or say more
+unfoldable pub said : ℕ → List ℕ → Answer ℕ
+said n xs = cond (all_digits xs && leb (value n xs) largest) (Some (value n xs)) None
 
 -- what a field shows that was given beside a buffer of ports: a path is as many of them as it says
-abbrev pub field_of : List ℕ → GivenField → Field
-field_of ports Nothing = nothing
-field_of ports (Number n) = shows n
-field_of ports (Letter x) = letter x
-field_of ports (Path n) = path (take n ports)
+abbrev pub shown_of : List ℕ → GivenField → Field
+shown_of ports (Number n) = shows n
+shown_of ports (Letter x) = letter x
+shown_of ports (Path n) = path (take n ports)
+
+-- the same of a field that may show nothing
+abbrev pub field_of : List ℕ → Answer GivenField → Field
+field_of ports None = nothing
+field_of ports (Some f) = shown_of ports f
 
 -- the printed line of eight such fields
 abbrev pub row_of : List ℕ → GivenRow → Row

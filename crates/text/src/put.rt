@@ -1,7 +1,8 @@
 // Writing into a lent output, from a place on. Each function answers the place behind what it wrote.
-ghost use Rattle.std.specs.Prelude.{[], ◌∷◌, ◌+◌, ◌≤◌, ◌<◌, min, ◌≡◌, length, take};
+// An output and its place are two parameters: a struct that holds the lent slice would need a clause of each function, and of each loop, that it stays the same slice.
+ghost use Rattle.std.specs.Prelude.{[], ◌∷◌, ◌+◌, ◌≤◌, ◌<◌, ◌≡◌, length};
 ghost use Rattle.text.specs.Text.{decimal};
-ghost use Rattle.text.specs.Row.{field_bytes, in_turn, path as showsPath};
+ghost use Rattle.text.specs.Row.{field_bytes, in_turn, path as shows_path};
 ghost use Rattle.text.specs.Written.{Wrote};
 
 pub fn byte(out: &mut [u8], at: usize, x: u8) -> usize
@@ -16,56 +17,37 @@ pub fn text(out: &mut [u8], at: usize, bytes: &[u8]) -> usize
     requires { at + length bytes.now ≤ length out.old }
     ensures { Wrote out.old at bytes.now out.new result }
 {
-    let mut i: usize = 0;
-    while i < bytes.len() {
-        out[at + i] = bytes[i];
-        i += 1;
-    }
-    at + i
+    let end = at + bytes.len();
+    out[at..end].copy_from_slice(bytes);
+    end
 }
 
 fn digit(d: u32) -> u8
     requires { d < 10 }
     ensures { result ≡ 48 + d }
 {
-    48 + d as u8
+    b'0' + d as u8
 }
 
-// How many digits a number has: comparing is quicker than dividing.
+// How many digits a number has. Compared, since a division for each digit is slower.
 fn digit_count(n: u32) -> usize
     ensures { result ≡ length (decimal n) }
 {
-    if n < 10 {
-        return 1;
+    match n {
+        0..=9 => 1,
+        10..=99 => 2,
+        100..=999 => 3,
+        1000..=9999 => 4,
+        10000..=99999 => 5,
+        100000..=999999 => 6,
+        1000000..=9999999 => 7,
+        10000000..=99999999 => 8,
+        100000000..=999999999 => 9,
+        _ => 10,
     }
-    if n < 100 {
-        return 2;
-    }
-    if n < 1000 {
-        return 3;
-    }
-    if n < 10000 {
-        return 4;
-    }
-    if n < 100000 {
-        return 5;
-    }
-    if n < 1000000 {
-        return 6;
-    }
-    if n < 10000000 {
-        return 7;
-    }
-    if n < 100000000 {
-        return 8;
-    }
-    if n < 1000000000 {
-        return 9;
-    }
-    10
 }
 
-// A number in decimal: its last digit first, from the back.
+// A number in decimal: its last digit first, from the back. By index, since std's contracts say nothing of what is written through `iter_mut().rev()`.
 pub fn decimal(out: &mut [u8], at: usize, n: u32) -> usize
     requires { at + length (decimal n) ≤ length out.old }
     ensures { Wrote out.old at (decimal n) out.new result }
@@ -88,28 +70,19 @@ fn ports(out: &mut [u8], at: usize, path: &[u8]) -> usize
     ensures { Wrote out.old at (in_turn path.now) out.new result }
 {
     let mut end = at;
-    let mut i: usize = 0;
-    while i < path.len() {
-        end = decimal(out, end, path[i] as u32);
-        i += 1;
+    for port in path {
+        end = decimal(out, end, u32::from(*port));
     }
     end
 }
 
-fn least(m: usize, n: usize) -> usize
-    ensures { result ≡ min m n }
+// A path by its ports; `-` where it has none.
+pub fn path(out: &mut [u8], at: usize, path: &[u8]) -> usize
+    requires { at + length (field_bytes (shows_path path.now)) ≤ length out.old }
+    ensures { Wrote out.old at (field_bytes (shows_path path.now)) out.new result }
 {
-    if m < n { m } else { n }
-}
-
-// The path that the first ports of a buffer are; `-` where it has none.
-pub fn path(out: &mut [u8], at: usize, buffer: &[u8], count: u16) -> usize
-    requires { at + length (field_bytes (showsPath (take count buffer.now))) ≤ length out.old }
-    ensures { Wrote out.old at (field_bytes (showsPath (take count buffer.now))) out.new result }
-{
-    let hops = least(count as usize, buffer.len());
-    if hops == 0 {
+    if path.is_empty() {
         return byte(out, at, b'-');
     }
-    ports(out, at, &buffer[0..hops])
+    ports(out, at, path)
 }

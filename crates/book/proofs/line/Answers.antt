@@ -10,5 +10,5 @@ pub returns : goal.returns
 returns c =
     let b = c.args.index.now in
     let i = c.args.i in
-    let first : c.word-number.result ≡ word_at b (6 * i + 0) = c.word-number.ensures ∙ ap (word_at b) (sym (add-zero (6 * i))) in
-    λ k. record { number = (first ∙ line_word b i 0) k; offset = (c.word-offset.ensures ∙ line_word b i 2) k; hops = (c.word-hops.ensures ∙ line_word b i 4) k }
+    let first : c.word.result ≡ word_at b (6 * i + 0) = c.word.ensures ∙ ap (word_at b) (sym (add-zero (6 * i))) in
+    λ k. record { number = (first ∙ line_word b i 0) k; offset = (c.word-2.ensures ∙ line_word b i 2) k; hops = (c.word-3.ensures ∙ line_word b i 4) k }

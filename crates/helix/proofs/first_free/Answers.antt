@@ -1,4 +1,5 @@
 -- `helix::first_free` meets its contract: what is left to try gives the whole.
+use mathlib.Core.Path.{refl}
 use native.Mathlib.Omega.{arith}
 use lib.Dec.{lit<}
 use lib.Pow.{pow_pos}
@@ -11,23 +12,24 @@ loop-left-init c = first_path_turn c.requires.may_try_paths
 
 pub first_port-p-requires : goal.first_port-p-requires
 first_port-p-requires c =
-    (byte_vector c.requires.may_try_paths.fits c.loop-left.invariant.ports, lit< tt, c.requires.first_ports)
+    (byte_vector c.requires.may_try_paths.fits c.loop-left.invariant.ports, lit< tt)
 
-pub free_front-front-requires : goal.free_front-front-requires
-free_front-front-requires c =
-    record { first_ports = c.requires.first_ports; may_follow = turn_follows c.requires.may_try_paths c.loop-left.invariant c.loop-left-test.true c.first_port-p.ensures }
+pub free_front-requires : goal.free_front-requires
+free_front-requires c =
+    record { may_follow = turn_follows c.requires.may_try_paths c.loop-left.invariant c.loop-left-test.true c.first_port-p.ensures }
 
-pub overflow_cast-scouts : goal.overflow_cast-scouts
-overflow_cast-scouts c =
-    omega (arith, turn_room c.requires.may_try_paths c.loop-left.invariant c.loop-left-test.true c.first_port-p.ensures c.free_front-front.ensures)
+pub overflow_add-result : goal.overflow_add-result
+overflow_add-result c =
+    omega (arith, turn_room c.requires.may_try_paths c.loop-left.invariant c.loop-left-test.true c.first_port-p.ensures c.in-Ok.ensures)
 
 pub overflow_add-scouts : goal.overflow_add-scouts
 overflow_add-scouts c =
-    omega (arith, turn_room c.requires.may_try_paths c.loop-left.invariant c.loop-left-test.true c.first_port-p.ensures c.free_front-front.ensures)
+    omega (arith, turn_room c.requires.may_try_paths c.loop-left.invariant c.loop-left-test.true c.first_port-p.ensures c.in-Err.ensures)
 
-pub returns-then-front : goal.returns-then-front
-returns-then-front c =
-    turn_found c.requires.may_try_paths c.loop-left.invariant c.loop-left-test.true c.first_port-p.ensures c.free_front-front.ensures c.if-front.true
+pub returns-in-Ok : goal.returns-in-Ok
+returns-in-Ok c =
+    rw c.from.ensures
+    (turn_found c.requires.may_try_paths c.loop-left.invariant c.loop-left-test.true c.first_port-p.ensures c.in-Ok.ensures refl)
 
 pub without-left-requires : goal.without-left-requires
 without-left-requires c =
@@ -40,7 +42,8 @@ loop-left-smaller c =
 
 pub loop-left-preserved : goal.loop-left-preserved
 loop-left-preserved c =
-    turn_more c.requires.may_try_paths c.loop-left.invariant c.loop-left-test.true c.first_port-p.ensures c.free_front-front.ensures c.if-front.false c.without-left.ensures
+    rw c.from-scouts.ensures
+    (turn_more c.requires.may_try_paths c.loop-left.invariant c.loop-left-test.true c.first_port-p.ensures c.in-Err.ensures refl c.without-left.ensures)
 
 pub returns : goal.returns
-returns c = path_turns_over c.loop-left.invariant c.loop-left-test.false
+returns c = (refl, path_turns_over c.loop-left.invariant c.loop-left-test.false)

@@ -1,36 +1,42 @@
 -- `helix::try_each` meets its contract: the first free path, and the receive channel that the target has for it.
-use mathlib.Core.Path.{◌∙◌}
+use mathlib.Core.Path.{refl, ◌∙◌}
 use lib.Dec.{lit<}
+use Rattle.std.proofs.lemmas.Result.{err_from_is_err_and}
 use Rattle.cube.proofs.Order.{byte_vector}
+use Rattle.table.specs.View.{view}
+use Rattle.table.proofs.Receives.{channel_taken, channel_missing}
 use Rattle.helix.proofs.HelixSends.{helix_none, path_follows, helix_full, channel_small, helix_taken}
 use Rattle.helix.proofs.try_each.Goals as goal
 
-pub returns-then-port-eq-NO_PORT : goal.returns-then-port-eq-NO_PORT
-returns-then-port-eq-NO_PORT c =
-    helix_none c.requires.may_send c.first_free-found.ensures c.if-port-eq-NO_PORT.true
+pub returns-in_err-path : goal.returns-in_err-path
+returns-in_err-path c =
+    let p = err_from_is_err_and c.from_residual.result c.from_residual.ensures.1 in
+    rw (p.1, p.2, c.in_err-path.ensures.0) (helix_none c.requires.may_send c.in_err-path.ensures.1)
 
-pub free_channel-receive-requires : goal.free_channel-receive-requires
-free_channel-receive-requires c =
+pub free_channel-requires : goal.free_channel-requires
+free_channel-requires c =
     let may = c.requires.may_send in
     record { bytes = may.bytes; node = byte_vector may.fits may.target; port = lit< tt }
 
-pub returns-then-receive-eq-NO_CHANNEL : goal.returns-then-receive-eq-NO_CHANNEL
-returns-then-receive-eq-NO_CHANNEL c =
-    helix_full c.requires.may_send c.first_free-found.ensures c.if-port-eq-NO_PORT.false c.free_channel-receive.ensures c.if-receive-eq-NO_CHANNEL.true
+pub returns-in_default : goal.returns-in_default
+returns-in_default c =
+    helix_full c.requires.may_send c.in_ok-path.ensures refl (channel_missing (view c.args.t.now) c.args.request.target.0 c.in_default.ensures)
 
 pub hold_helix-requires : goal.hold_helix-requires
 hold_helix-requires c =
-    record { first_ports = c.requires.first_ports; may_follow = path_follows c.requires.may_send c.first_free-found.ensures c.if-port-eq-NO_PORT.false c.free_channel-receive.ensures }
+    record { may_follow = path_follows c.requires.may_send c.in_ok-path.ensures refl }
 
 pub set_receiver-requires : goal.set_receiver-requires
 set_receiver-requires c =
     let may = c.requires.may_send in
+    let taken = channel_taken (view c.args.t.now) c.args.request.target.0 c.in-Some.ensures in
     record {
       bytes = c.hold_helix.auto.t ∙ may.bytes;
       node = byte_vector may.fits may.target;
-      port = channel_small may c.first_free-found.ensures c.if-port-eq-NO_PORT.false c.free_channel-receive.ensures c.if-receive-eq-NO_CHANNEL.false;
+      port = channel_small may c.in_ok-path.ensures taken.0 taken.1;
     }
 
 pub returns : goal.returns
 returns c =
-    helix_taken c.requires.may_send c.first_free-found.ensures c.if-port-eq-NO_PORT.false c.free_channel-receive.ensures c.if-receive-eq-NO_CHANNEL.false c.hold_helix.ensures c.set_receiver.ensures
+    let taken = channel_taken (view c.args.t.now) c.args.request.target.0 c.in-Some.ensures in
+    helix_taken c.requires.may_send c.in_ok-path.ensures taken.0 taken.1 c.hold_helix.ensures c.set_receiver.ensures

@@ -7,7 +7,7 @@ use Rattle.helix.proofs.HelixSends.{may_lowest, lowest_sent}
 use Rattle.helix.proofs.try_lowest.Goals as goal
 
 pub first_port-lowest-requires : goal.first_port-lowest-requires
-first_port-lowest-requires c = (byte_vector c.requires.may_send.fits c.requires.may_send.ports, lit< tt, c.requires.first_ports)
+first_port-lowest-requires c = (byte_vector c.requires.may_send.fits c.requires.may_send.ports, lit< tt)
 
 pub without-others-requires : goal.without-others-requires
 without-others-requires c =
@@ -20,7 +20,7 @@ overflow_sub-vector c = omega (arith, c.without-others.ensures.value)
 
 pub try_each-requires : goal.try_each-requires
 try_each-requires c =
-    record { first_ports = c.requires.first_ports; may_send = may_lowest c.requires.may_send c.requires.vector_nonzero c.first_port-lowest.ensures c.without-others.ensures }
+    record { may_send = may_lowest c.requires.may_send c.requires.vector_nonzero c.first_port-lowest.ensures c.without-others.ensures }
 
 pub returns : goal.returns
 returns c =

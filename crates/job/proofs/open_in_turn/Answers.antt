@@ -1,38 +1,25 @@
--- `job::open_in_turn` meets its contract: what the list comes to is what the sends from i on come to, behind i that were acknowledged.
-use mathlib.Core.Path.{refl, ◌∙◌}
-use native.Mathlib.Omega.{arith}
+-- `job::open_in_turn` meets its contract: what the list comes to is what the sends from a place on come to, behind those before it, which were acknowledged.
+use Rattle.std.proofs.Common.{refl, arith}
+use Rattle.common.proofs.Refusals.{refused}
 use Rattle.job.proofs.SendsInTurn.{at_first, stopped_at_lem, went_on, ended, still_passes}
 use Rattle.job.proofs.open_in_turn.Goals as goal
 
-pub loop-i-init : goal.loop-i-init
-loop-i-init c =
-    (omega arith, refl, refl, c.requires.t_value, (λ k. omega (arith, c.slice_known-1.given k)), at_first c.args.sends.now c.args.t.now)
+pub loop-place-init : goal.loop-place-init
+loop-place-init c = record { passes = c.requires.t_value; small = λ k. omega (arith, c.slice_known-1.given k); left = at_first c.args.sends.now c.args.t.now }
 
-pub open_at-number-requires : goal.open_at-number-requires
-open_at-number-requires c = record { may_open = record { tests = c.loop-i.invariant.3; room = omega arith }; first_ports = c.first_ports-first.ensures }
+pub returns-in-Err : goal.returns-in-Err
+returns-in-Err c =
+    stopped_at_lem c.args.t.now c.loop-place.t c.args.sends.now c.loop-place.place c.loop-place.invariant.left c.loop-place-test.true c.in-Err.ensures (refused _)
 
-pub shape_of-t-then-number-ne-ACCEPTED : goal.shape_of-t-then-number-ne-ACCEPTED
-shape_of-t-then-number-ne-ACCEPTED c = c.open_at-number.auto.t ∙ c.loop-i.invariant.2
-
-pub returns-then-number-ne-ACCEPTED : goal.returns-then-number-ne-ACCEPTED
-returns-then-number-ne-ACCEPTED c =
-    stopped_at_lem c.args.t.now c.loop-i.t c.args.sends.now c.loop-i.i c.loop-i.invariant.5 (omega arith) c.open_at-number.ensures c.if-number-ne-ACCEPTED.true
-
-pub loop-i-preserved : goal.loop-i-preserved
-loop-i-preserved c =
-    let v = c.loop-i.invariant in (
-      omega arith,
-      v.1,
-      c.open_at-number.auto.t ∙ v.2,
-      still_passes c.open_at-number.ensures v.4 v.3,
-      (λ k. omega (arith, c.slice_known-in-loop-i-1.given k)),
-      went_on c.args.t.now c.loop-i.t c.args.sends.now c.loop-i.i v.5 (omega arith) c.open_at-number.ensures c.if-number-ne-ACCEPTED.false,
-    )
-
-pub shape_of-t : goal.shape_of-t
-shape_of-t c = c.loop-i.invariant.2
+pub loop-place-preserved : goal.loop-place-preserved
+loop-place-preserved c =
+    let v = c.loop-place.invariant in
+    record {
+      passes = still_passes c.in_default.ensures v.small v.passes;
+      small = λ k. omega (arith, c.slice_known-in-loop-place-1.given k);
+      left = went_on c.args.t.now c.loop-place.t c.args.sends.now c.loop-place.place v.left c.loop-place-test.true c.in_default.ensures refl;
+    }
 
 pub returns : goal.returns
 returns c =
-    let v = c.loop-i.invariant in
-    ended c.args.t.now c.loop-i.t c.args.sends.now c.loop-i.i v.5 v.1 v.0 c.loop-i-test.false
+    ended c.args.t.now c.loop-place.t c.args.sends.now c.loop-place.place c.loop-place.invariant.left refl (omega arith) c.loop-place-test.false

@@ -4,8 +4,7 @@ use Rattle.layout.proofs.put_bit.Goals as goal
 
 pub returns-then-bit-on : goal.returns-then-bit-on
 returns-then-bit-on c =
-    bit_changed c.args.t.now c.args.at c.args.k c.args.on
-    c.bit.ensures c.requires.1 c.wide.ensures.0 c.wide.ensures.1 c.if-bit-on.true
+    bit_changed c.args.t.now c.args.at c.args.k c.args.on c.bit.ensures c.requires.1 c.if-bit-on.true
 
 pub returns-else-bit-on : goal.returns-else-bit-on
 returns-else-bit-on c =

@@ -7,17 +7,15 @@ use Rattle.layout.proofs.row_vector.Goals as goal
 use Rattle.layout.proofs.row_vector.Goals.{then-word-c, else-word-c}
 
 pub loop-k-init : goal.loop-k-init
-loop-k-init c = (omega arith, found_none _ _ _)
+loop-k-init c = found_none _ _
 
 pub loop-k-preserved : goal.loop-k-preserved
 loop-k-preserved c =
-    let found = Found c.args.t.now c.args.from c.args.c.0 (c.loop-k.k + 1) in (
-      omega arith,
-      elim c.if-word-c.branch [
-        | then-word-c w ↦ subst found (sym w.vector-is) (found_yes _ _ _ c.loop-k.k c.loop-k.vector c.word.result c.loop-k.invariant.1 c.loop-k-test.true c.word.ensures w.if-word-c.true)
-        | else-word-c w ↦ subst found (sym w.vector-is) (found_no _ _ _ c.loop-k.k c.loop-k.vector c.word.result c.loop-k.invariant.1 c.loop-k-test.true c.word.ensures w.if-word-c.false)
-      ],
-    )
+    let found = Found c.args.row.now c.args.c.0 (c.loop-k.k + 1) in
+    elim c.if-word-c.branch [
+      | then-word-c w ↦ subst found (sym w.vector-is) (found_yes _ _ c.loop-k.k c.loop-k.vector c.word.result c.loop-k.invariant c.loop-k-test.true c.word.ensures w.if-word-c.true)
+      | else-word-c w ↦ subst found (sym w.vector-is) (found_no _ _ c.loop-k.k c.loop-k.vector c.word.result c.loop-k.invariant c.loop-k-test.true c.word.ensures w.if-word-c.false)
+    ]
 
 pub returns : goal.returns
-returns c = found_all _ _ _ c.loop-k.k c.loop-k.vector (omega arith) c.loop-k.invariant.1
+returns c = found_all _ _ c.loop-k.k c.loop-k.vector (omega arith) c.loop-k.invariant

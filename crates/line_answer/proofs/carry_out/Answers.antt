@@ -1,48 +1,49 @@
 -- `line_answer::carry_out` meets its contract.
+use mathlib.Core.Path.{refl}
 use Rattle.printed_line.specs.PrintedLine.{call_row, unreadable}
 use Rattle.printed_line.proofs.Answers.{answered, unread_line}
 use Rattle.line_answer.proofs.carry_out.Goals as goal
 
+pub returns-in_default : goal.returns-in_default
+unfolding unreadable
+returns-in_default c = rw (c.in_default.is, c.answer_alone.ensures, c.number.ensures) (unread_line refl)
+
 pub returns-in-Make : goal.returns-in-Make
 unfolding call_row
 returns-in-Make c =
-    rw c.in-Make.is
-    (answered c.make-answer.ensures (c.of_call.ensures _))
+    rw (c.in-Some.is, c.in-Make.is, c.answer_alone-in-Make.ensures)
+    (answered (rw (← c.answer-answer.ensures) at c.make.ensures) refl)
 
 pub returns-in-Block : goal.returns-in-Block
 unfolding call_row
 returns-in-Block c =
-    rw c.in-Block.is
-    (answered c.block-answer.ensures (c.of_call-in-Block.ensures _))
+    rw (c.in-Some.is, c.in-Block.is)
+    (answered (rw (← c.answer-answer-in-Block.ensures) at c.block.ensures) (c.of_port.ensures _))
 
 pub returns-in-Unblock : goal.returns-in-Unblock
 unfolding call_row
 returns-in-Unblock c =
-    rw c.in-Unblock.is
-    (answered c.unblock-answer.ensures (c.of_call-in-Unblock.ensures _))
+    rw (c.in-Some.is, c.in-Unblock.is)
+    (answered (rw (← c.answer-answer-in-Unblock.ensures) at c.unblock.ensures) (c.of_port-in-Unblock.ensures _))
 
 pub returns-in-Open : goal.returns-in-Open
 returns-in-Open c =
-    rw c.in-Open.is c.open.ensures
+    rw (c.in-Some.is, c.in-Open.is) c.open.ensures
 
 pub returns-in-Close : goal.returns-in-Close
 unfolding call_row
 returns-in-Close c =
-    rw c.in-Close.is
-    (answered c.close-answer.ensures (c.of_call-in-Close.ensures _))
+    rw (c.in-Some.is, c.in-Close.is, c.of_channel.ensures)
+    (answered (rw (← c.answer-answer-in-Close.ensures) at c.close.ensures) refl)
 
 pub returns-in-Arm : goal.returns-in-Arm
 unfolding call_row
 returns-in-Arm c =
-    rw c.in-Arm.is
-    (answered c.arm-answer.ensures (c.of_call-in-Arm.ensures _))
+    rw (c.in-Some.is, c.in-Arm.is, c.of_channel-in-Arm.ensures)
+    (answered (rw (← c.answer-answer-in-Arm.ensures) at c.arm.ensures) refl)
 
 pub returns-in-Disarm : goal.returns-in-Disarm
 unfolding call_row
 returns-in-Disarm c =
-    rw c.in-Disarm.is
-    (answered c.disarm-answer.ensures (c.of_call-in-Disarm.ensures _))
-
-pub returns-in-Unreadable : goal.returns-in-Unreadable
-unfolding unreadable
-returns-in-Unreadable c = rw c.in-Unreadable.is (unread_line (c.answer_alone.ensures _))
+    rw (c.in-Some.is, c.in-Disarm.is, c.of_channel-in-Disarm.ensures)
+    (answered (rw (← c.answer-answer-in-Disarm.ensures) at c.disarm.ensures) refl)

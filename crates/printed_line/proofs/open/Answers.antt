@@ -1,14 +1,18 @@
 -- `printed_line::open` meets its contract.
-use mathlib.Core.Path.{◌∙◌}
+use mathlib.Core.Path.{ap, ◌∙◌, refl}
+use Rattle.std.proofs.Common.{take}
+use Rattle.common.proofs.Refusals.{refused}
+use Rattle.ownership.specs.Calls.{carries_scouts}
 use Rattle.printed_line.proofs.Answers.{answered, refused_row, acknowledged_row, ports_are}
 use Rattle.printed_line.proofs.open.Goals as goal
 
-pub returns-then-number-ne-ACCEPTED : goal.returns-then-number-ne-ACCEPTED
-returns-then-number-ne-ACCEPTED c =
+pub returns-in-Err : goal.returns-in-Err
+returns-in-Err c =
     let w = c.args.ports.now in
-    answered c.open-got.ensures (c.of_call.ensures w ∙ refused_row _ _ _ _ _ _ _ _ (c.scouts_of-scouts.ensures w) c.if-number-ne-ACCEPTED.true)
+    answered c.in-Err.ensures (rw (c.of_channel.ensures, c.number.ensures) (refused_row _ _ _ _ _ _ _ _ (c.scouts_of.ensures w) (refused c.in-Err.rejected.refusal)))
 
-pub returns : goal.returns
-returns c =
+pub returns-in-Ok : goal.returns-in-Ok
+unfolding carries_scouts
+returns-in-Ok c =
     let w = c.trace.new.buffer in
-    answered c.open-got.ensures (c.of_call-2.ensures w ∙ acknowledged_row _ _ _ _ _ _ _ _ (c.scouts_of-scouts.ensures w) c.if-number-ne-ACCEPTED.false (ports_are _ _ c.requires c.trace.ensures))
+    answered c.in-Ok.ensures (rw (c.of_channel-in-Ok.ensures, c.into.ensures) (acknowledged_row _ _ _ _ _ _ _ _ refl refl (ap (λ h. take h w) c.unwrap_or-hops.ensures ∙ ports_are _ _ c.requires c.trace.ensures)))

@@ -1,5 +1,6 @@
 -- `reach::helix_enabled` meets its contract: what is left of the path is the helix path of port p from the node reached, and the links before it are enabled.
 use mathlib.Core.Path.{refl, sym, ◌∙◌}
+use borrow.Author.Tests.{eqb-true, eqb-false}
 use native.Mathlib.Omega.{arith}
 use Rattle.cube.proofs.Ports.{below_256}
 use Rattle.table.specs.View.{view}
@@ -18,32 +19,29 @@ pub neighbour-at-requires : goal.neighbour-at-requires
 neighbour-at-requires c =
     omega (arith, c.loop-target.invariant.1, c.requires.may_walk.sweep.fits)
 
-pub returns-then-at-target : goal.returns-then-at-target
+pub returns-then-eq : goal.returns-then-eq
 unfolding view
-returns-then-at-target c =
+returns-then-eq c =
     let hop = a_hop c.loop-target.at.0 c.loop-target.p.0 c.requires.may_walk.sweep c.loop-target.invariant.0 c.loop-target.invariant.1 c.neighbour-at.ensures in
-    sym (sym c.loop-target.invariant.2 ∙ walk_ends hop (sym c.enabled.ensures ∙ c.loop-target-test.true) c.if-at-target.true)
-
-pub uphill_vector-requires : goal.uphill_vector-requires
-uphill_vector-requires c = tt
+    sym (sym c.loop-target.invariant.2 ∙ walk_ends hop (sym c.enabled.ensures ∙ c.loop-target-test.true) (eqb-true _ _ (sym c.if-eq.ensures)))
 
 pub first_port-p-requires : goal.first_port-p-requires
 first_port-p-requires c =
     let hop = a_hop c.loop-target.at.0 c.loop-target.p.0 c.requires.may_walk.sweep c.loop-target.invariant.0 c.loop-target.invariant.1 c.neighbour-at.ensures in
-    (uphill_small hop c.uphill_vector.ensures.value c.if-at-target.false, omega (arith, c.loop-target.invariant.1, hop.may.fits), c.requires.first_ports)
+    (uphill_small hop c.uphill_vector.ensures.value (eqb-false _ _ (sym c.if-eq.ensures)), omega (arith, c.loop-target.invariant.1, hop.may.fits))
 
 pub loop-target-smaller : goal.loop-target-smaller
 loop-target-smaller c =
     let hop = a_hop c.loop-target.at.0 c.loop-target.p.0 c.requires.may_walk.sweep c.loop-target.invariant.0 c.loop-target.invariant.1 c.neighbour-at.ensures in
-    walk_nearer hop c.uphill_vector.ensures.value c.if-at-target.false c.first_port-p.ensures
+    walk_nearer hop c.uphill_vector.ensures.value (eqb-false _ _ (sym c.if-eq.ensures)) c.first_port-p.ensures
 
 pub loop-target-preserved : goal.loop-target-preserved
 unfolding view
 loop-target-preserved c =
     let hop = a_hop c.loop-target.at.0 c.loop-target.p.0 c.requires.may_walk.sweep c.loop-target.invariant.0 c.loop-target.invariant.1 c.neighbour-at.ensures in (
       node_there hop,
-      port_there hop c.uphill_vector.ensures.value c.if-at-target.false c.first_port-p.ensures,
-      walk_on hop c.uphill_vector.ensures.value c.if-at-target.false c.first_port-p.ensures (sym c.enabled.ensures ∙ c.loop-target-test.true) ∙ c.loop-target.invariant.2,
+      port_there hop c.uphill_vector.ensures.value (eqb-false _ _ (sym c.if-eq.ensures)) c.first_port-p.ensures,
+      walk_on hop c.uphill_vector.ensures.value (eqb-false _ _ (sym c.if-eq.ensures)) c.first_port-p.ensures (sym c.enabled.ensures ∙ c.loop-target-test.true) ∙ c.loop-target.invariant.2,
     )
 
 pub returns : goal.returns

@@ -13,12 +13,11 @@ returns-then-vector-eq0 c =
 pub first_port-requires : goal.first_port-requires
 first_port-requires c =
     let p = c.requires.may_ask in
-    (below_256 p.sweep.fits p.ports, lit< tt, c.requires.first_ports)
+    (below_256 p.sweep.fits p.ports, lit< tt)
 
 pub helix_enabled-requires : goal.helix_enabled-requires
 helix_enabled-requires c =
     let p = c.requires.may_ask in record {
-      first_ports = c.requires.first_ports;
       may_walk = record {
         sweep = p.sweep;
         source = p.source;

@@ -6,25 +6,22 @@ use Rattle.cube.proofs.Ports.{count_of}
 use Rattle.reach.proofs.Asks.{fixed_finds, helix_finds, alternate_finds, maze_finds}
 use Rattle.reach.proofs.some_path_enabled.Goals as goal
 
-pub returns-then-routing-eq3 : goal.returns-then-routing-eq3
-returns-then-routing-eq3 c =
-    fixed_finds c.requires.may_ask c.if-routing-eq3.true c.lowest_helix.ensures
+pub returns-in-Maze : goal.returns-in-Maze
+returns-in-Maze c = maze_finds c.requires.may_ask c.in-Maze.ensures c.any_path.ensures
 
-pub returns-then-routing-eq1 : goal.returns-then-routing-eq1
-returns-then-routing-eq1 c =
-    helix_finds c.requires.may_ask c.if-routing-eq3.false c.if-routing-eq1.true c.any_helix.ensures
+pub returns-in-Helix : goal.returns-in-Helix
+returns-in-Helix c = helix_finds c.requires.may_ask c.in-Helix.ensures c.any_helix.ensures
 
-pub any_path-requires : goal.any_path-requires
-any_path-requires c =
+pub returns-in-Fixed : goal.returns-in-Fixed
+returns-in-Fixed c = fixed_finds c.requires.may_ask c.in-Fixed.ensures c.lowest_helix.ensures
+
+pub any_path-requires-in-AlternateMaze : goal.any_path-requires-in-AlternateMaze
+any_path-requires-in-AlternateMaze c =
     let p = c.requires.may_ask in
     let count = count_of c.dimension.ensures c.node_count-all.ensures.value in
     record { sweep = p.sweep; source = p.source; ports = omega (arith, c.node_count-all.ensures.some) }
 
-pub returns-then-routing-eq4 : goal.returns-then-routing-eq4
-returns-then-routing-eq4 c =
+pub returns-in-AlternateMaze : goal.returns-in-AlternateMaze
+returns-in-AlternateMaze c =
     let count = count_of c.dimension.ensures c.node_count-all.ensures.value in
-    alternate_finds c.requires.may_ask c.if-routing-eq3.false c.if-routing-eq1.false c.if-routing-eq4.true (ap (◌- 1) count) c.any_path.ensures
-
-pub returns : goal.returns
-returns c =
-    maze_finds c.requires.may_ask c.if-routing-eq3.false c.if-routing-eq1.false c.if-routing-eq4.false c.any_path-2.ensures
+    alternate_finds c.requires.may_ask c.in-AlternateMaze.ensures (ap (◌- 1) count) c.any_path-in-AlternateMaze.ensures

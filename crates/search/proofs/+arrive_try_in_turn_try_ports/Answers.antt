@@ -5,16 +5,18 @@ use Rattle.search.proofs.Arrivals.{arrive_receives, arrive_full, arrive_tries, a
 use Rattle.search.proofs.PortsTried.{first_turn, here_tried, now_within, now_enabled, here_room, here_arrives, here_falls, turn_busy, turn_acknowledged, turn_full, turn_next, turn_over}
 use Rattle.search.proofs.PortsTried.{first_turn, turn_over}
 use Rattle.table.specs.View.{view}
+use Rattle.table.proofs.Receives.{channel_taken, channel_missing}
 use lib.Dec.{lit<}
 use lib.ListN.{length}
 use lib.Pow.{pow_pos}
 use mathlib.Core.Path.{refl, sym, ◌∙◌, ap}
 use mathlib.Core.Path.{◌∙◌}
+use borrow.Author.Tests.{eqb-true, eqb-false}
 use native.Mathlib.Omega.{arith}
 use Rattle.search.proofs.+arrive_try_in_turn_try_ports.Goals as goal
 
-pub arrive-free_channel-receive-requires : goal.arrive-free_channel-receive-requires
-arrive-free_channel-receive-requires t c =
+pub arrive-free_channel-requires : goal.arrive-free_channel-requires
+arrive-free_channel-requires t c =
     record { bytes = c.requires.may_arrive.here.bytes; node = byte_vector c.requires.may_arrive.here.fits c.requires.may_arrive.here.node; port = lit< tt }
 
 pub arrive-enabled_ports-vector-requires : goal.arrive-enabled_ports-vector-requires
@@ -23,21 +25,22 @@ arrive-enabled_ports-vector-requires t c =
 
 pub arrive-try_ports-requires : goal.arrive-try_ports-requires
 arrive-try_ports-requires t c = (
-  omega (arith, arrive_falls c.requires.may_arrive c.if-at-target.false c.uphill_vector.ensures c.enabled_ports-vector.ensures.0),
-  (c.requires.first_ports, (arrive_may c.requires.may_arrive c.if-at-target.false c.uphill_vector.ensures c.enabled_ports-vector.ensures.0, c.enabled_ports-vector.ensures.1)),
+  omega (arith, arrive_falls c.requires.may_arrive (eqb-false _ _ (sym c.if-eq.ensures)) c.uphill_vector.ensures c.enabled_ports-vector.ensures.0),
+  (arrive_may c.requires.may_arrive (eqb-false _ _ (sym c.if-eq.ensures)) c.uphill_vector.ensures c.enabled_ports-vector.ensures.0, c.enabled_ports-vector.ensures.1),
 )
 
-pub arrive-returns-then-receive-eq-NO_CHANNEL : goal.arrive-returns-then-receive-eq-NO_CHANNEL
-arrive-returns-then-receive-eq-NO_CHANNEL t c =
-    arrive_full c.requires.may_arrive c.if-at-target.true c.free_channel-receive.ensures c.if-receive-eq-NO_CHANNEL.true
+pub arrive-returns-in-None : goal.arrive-returns-in-None
+arrive-returns-in-None t c =
+    rw c.from.ensures (arrive_full c.requires.may_arrive (eqb-true _ _ (sym c.if-eq.ensures)) refl (channel_missing (view c.args.t.now) c.args.at.0 c.in-None.ensures))
 
-pub arrive-returns-else-receive-eq-NO_CHANNEL : goal.arrive-returns-else-receive-eq-NO_CHANNEL
-arrive-returns-else-receive-eq-NO_CHANNEL t c =
-    rw c.acknowledged.ensures (arrive_receives c.requires.may_arrive c.if-at-target.true c.free_channel-receive.ensures c.if-receive-eq-NO_CHANNEL.false)
+pub arrive-returns-in-Some : goal.arrive-returns-in-Some
+arrive-returns-in-Some t c =
+    let taken = channel_taken (view c.args.t.now) c.args.at.0 c.in-Some.ensures in
+    rw c.acknowledged.ensures (arrive_receives c.requires.may_arrive (eqb-true _ _ (sym c.if-eq.ensures)) taken.0 taken.1)
 
-pub arrive-returns-else-at-target : goal.arrive-returns-else-at-target
-arrive-returns-else-at-target t c =
-    record { same = c.try_ports.ensures.same ∙ arrive_tries c.requires.may_arrive c.if-at-target.false c.uphill_vector.ensures c.enabled_ports-vector.ensures.0 }
+pub arrive-returns-else-eq : goal.arrive-returns-else-eq
+arrive-returns-else-eq t c =
+    record { same = c.try_ports.ensures.same ∙ arrive_tries c.requires.may_arrive (eqb-false _ _ (sym c.if-eq.ensures)) c.uphill_vector.ensures c.enabled_ports-vector.ensures.0 }
 
 pub try_in_turn-loop-left-init : goal.try_in_turn-loop-left-init
 try_in_turn-loop-left-init t c =
@@ -45,7 +48,7 @@ try_in_turn-loop-left-init t c =
 
 pub try_in_turn-first_port-p-requires : goal.try_in_turn-first_port-p-requires
 try_in_turn-first_port-p-requires t c =
-    (byte_vector c.requires.may_try.here.fits c.loop-left.invariant.ports, c.requires.may_try.here.port, c.requires.first_ports)
+    (byte_vector c.requires.may_try.here.fits c.loop-left.invariant.ports, c.requires.may_try.here.port)
 
 pub try_in_turn-without-left-requires : goal.try_in_turn-without-left-requires
 try_in_turn-without-left-requires t c =
@@ -71,7 +74,7 @@ try_in_turn-neighbour-requires t c =
 pub try_in_turn-arrive-got-requires : goal.try_in_turn-arrive-got-requires
 try_in_turn-arrive-got-requires t c = (
   omega (arith, here_falls c.requires.may_try c.loop-left.invariant c.loop-left-test.true c.first_port-p.ensures c.set_owner.ensures c.neighbour.ensures),
-  (c.requires.first_ports, here_arrives c.requires.may_try c.loop-left.invariant c.loop-left-test.true c.first_port-p.ensures c.set_owner.ensures c.neighbour.ensures),
+  here_arrives c.requires.may_try c.loop-left.invariant c.loop-left-test.true c.first_port-p.ensures c.set_owner.ensures c.neighbour.ensures,
 )
 
 pub try_in_turn-shape_of-t-then-got-ge-ACKNOWLEDGED : goal.try_in_turn-shape_of-t-then-got-ge-ACKNOWLEDGED
@@ -122,15 +125,15 @@ try_in_turn-loop-left-preserved t c =
     (told_blocked (view c.loop-left.t) c.args.at.0 c.first_port-p.result.0 c.link_state-state.ensures c.in-Blocked.is) c.without-left.ensures
 
 pub try_in_turn-returns : goal.try_in_turn-returns
-try_in_turn-returns t c = turn_over c.loop-left.invariant c.loop-left-test.false
+try_in_turn-returns t c = rw c.from.ensures (turn_over c.loop-left.invariant c.loop-left-test.false)
 
 pub try_ports-returns-then-vector-eq0 : goal.try_ports-returns-then-vector-eq0
 try_ports-returns-then-vector-eq0 t c =
-    turn_over (first_turn c.requires.may_try) c.if-vector-eq0.true
+    rw c.from.ensures (turn_over (first_turn c.requires.may_try) c.if-vector-eq0.true)
 
 pub try_ports-try_in_turn-requires : goal.try_ports-try_in_turn-requires
 try_ports-try_in_turn-requires t c =
-    (omega arith, (c.requires.first_ports, (c.requires.may_try, c.requires.enabled)))
+    (omega arith, (c.requires.may_try, c.requires.enabled))
 
 pub try_ports-returns : goal.try_ports-returns
 try_ports-returns t c =

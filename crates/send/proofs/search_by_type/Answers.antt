@@ -1,22 +1,16 @@
 -- `send::search_by_type` meets its contract: the attempts of its routing type.
-use mathlib.Core.Path.{◌∙◌, ap, sym}
-use Rattle.answers.specs.SendAnswer.{searched}
-use Rattle.send.proofs.ByWaiting.{send_maze}
+use mathlib.Core.Path.{◌∙◌}
+use Rattle.send.proofs.ByWaiting.{searched_as}
 use Rattle.send.proofs.search_by_type.Goals as goal
 
-pub returns-then-routing-eq4 : goal.returns-then-routing-eq4
-returns-then-routing-eq4 c =
-    c.alternate_maze.ensures ∙ ap (λ y. searched c.args.t.now c.args.source.0 c.args.target.0 c.args.c.0 y c.args.vector) (sym c.if-routing-eq4.true)
+pub returns-in-Maze : goal.returns-in-Maze
+returns-in-Maze c = c.maze.ensures ∙ searched_as _ _ _ _ _ _ _ c.in-Maze.ensures
 
-pub returns-then-routing-eq3 : goal.returns-then-routing-eq3
-returns-then-routing-eq3 c =
-    c.try_lowest.ensures ∙ ap (λ y. searched c.args.t.now c.args.source.0 c.args.target.0 c.args.c.0 y c.args.vector) (sym c.if-routing-eq3.true)
+pub returns-in-Helix : goal.returns-in-Helix
+returns-in-Helix c = c.try_each.ensures ∙ searched_as _ _ _ _ _ _ _ c.in-Helix.ensures
 
-pub returns-then-routing-eq1 : goal.returns-then-routing-eq1
-returns-then-routing-eq1 c =
-    c.try_each.ensures ∙ ap (λ y. searched c.args.t.now c.args.source.0 c.args.target.0 c.args.c.0 y c.args.vector) (sym c.if-routing-eq1.true)
+pub returns-in-Fixed : goal.returns-in-Fixed
+returns-in-Fixed c = c.try_lowest.ensures ∙ searched_as _ _ _ _ _ _ _ c.in-Fixed.ensures
 
-pub returns : goal.returns
-returns c =
-    c.maze.ensures ∙ send_maze c.args.t.now c.args.source.0 c.args.target.0 c.args.c.0 c.args.routing c.args.vector
-    c.if-routing-eq4.false c.if-routing-eq3.false c.if-routing-eq1.false
+pub returns-in-AlternateMaze : goal.returns-in-AlternateMaze
+returns-in-AlternateMaze c = c.alternate_maze.ensures ∙ searched_as _ _ _ _ _ _ _ c.in-AlternateMaze.ensures

@@ -9,21 +9,25 @@ use Rattle.table.proofs.count_free_links.Goals as goal
 use Rattle.table.proofs.count_free_links.Goals.{else-word-eq0, then-word-eq0}
 
 pub loop-i-init : goal.loop-i-init
-loop-i-init c = (omega arith, omega arith, λ n e l. simp add-zero)
+loop-i-init c = (omega arith, simp add-zero)
 
 pub loop-i-preserved : goal.loop-i-preserved
 loop-i-preserved c =
     let b = c.args.t.now in
-    let i = c.loop-i.i in (
-      omega arith,
-      elim c.if-word-eq0.branch [ then-word-eq0 w ↦ omega (arith, w.free-is) | else-word-eq0 w ↦ omega (arith, w.free-is) ],
-      λ n e h.
-          let on : 8 * n + i + 1 ≡ 8 * n + (i + 1) = omega arith in
-          elim c.if-word-eq0.branch [ then-word-eq0 w ↦ let more = free_yes b n i _ _ _ (omega arith) e c.word.ensures (c.loop-i.invariant.2 n e h) w.if-word-eq0.true in omega (arith, w.free-is, more, ap (free_count b) on) | else-word-eq0 w ↦ let same = free_no b n i _ _ _ (omega arith) e c.word.ensures (c.loop-i.invariant.2 n e h) w.if-word-eq0.false in omega (arith, w.free-is, same, ap (free_count b) on) ],
-    )
+    let n = c.args.n.0 in
+    let i = c.loop-i.i in
+    let on : 8 * n + i + 1 ≡ 8 * n + (i + 1) = omega arith in
+    elim c.if-word-eq0.branch [
+      | then-word-eq0 w ↦
+          let more = free_yes b n c.args.nodes i _ _ c.requires.1 (omega arith) c.link_rows-rows.ensures c.word.ensures c.loop-i.invariant.1 w.if-word-eq0.true in
+          (omega (arith, w.free-is), omega (arith, w.free-is, more, ap (free_count b) on))
+      | else-word-eq0 w ↦
+          let same = free_no b n c.args.nodes i _ _ c.requires.1 (omega arith) c.link_rows-rows.ensures c.word.ensures c.loop-i.invariant.1 w.if-word-eq0.false in
+          (omega (arith, w.free-is), omega (arith, w.free-is, same, ap (free_count b) on))
+    ]
 
 pub returns : goal.returns
 returns c =
     let b = c.args.t.now in
     let all : 8 * c.args.n.0 + c.loop-i.i ≡ 8 * (c.args.n.0 + c.args.nodes) = omega arith in
-    (omega arith, c.loop-i.invariant.2 c.args.n.0 c.link_place-from.ensures.0 (omega arith) ∙ ap (free_count b) all)
+    (omega arith, ap (free_count b (8 * c.args.n.0) +◌) c.from.ensures ∙ c.loop-i.invariant.1 ∙ ap (free_count b) all)

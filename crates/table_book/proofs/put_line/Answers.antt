@@ -1,31 +1,23 @@
 -- `table_book::put_line` meets its contract: three words, each behind the one before.
-use mathlib.Core.Path.{ap}
+use mathlib.Core.Path.{◌≡◌}
+use mathlib.Core.List.{List}
+use Prim.Native.Nat.{ℕ, suc, ◌+◌}
 use native.Mathlib.Omega.{arith}
-use lib.ListN.{length}
-use lib.Seq.{length-sets}
+use lib.Seq.{sets}
+use Rattle.layout.specs.LayoutContracts.{put_word}
 use Rattle.book.specs.Book.{word_bytes}
-use Rattle.text.proofs.Writing.{◌then◌}
+use Rattle.table_book.specs.Writing.{line_bytes}
 use Rattle.table_book.proofs.put_line.Goals as goal
 
-pub word-third-requires : goal.word-third-requires
+three_words : (b : List ℕ) (at x y z : ℕ) → put_word (put_word (put_word b at x) (at + 2) y) (at + 4) z ≡ sets b at (line_bytes x y z)
 unfolding word_bytes
-word-third-requires c =
-    omega (arith, c.word-second.ensures.place, ap length c.word-second.ensures.bytes, length-sets c.args.index.now c.args.at (word_bytes c.args.number))
-
-pub word-requires : goal.word-requires
-unfolding word_bytes
-word-requires c =
-    let a = c.args in
-    omega (
-      arith,
-      c.word-third.ensures.place,
-      c.word-second.ensures.place,
-      ap length c.word-third.ensures.bytes,
-      ap length c.word-second.ensures.bytes,
-      length-sets a.index.now a.at (word_bytes a.number),
-      length-sets c.word-second.new.index c.word-second.result (word_bytes a.offset),
-    )
+three_words b at x y z =
+    let e₁ : at + 1 ≡ suc at = omega arith in
+    let e₂ : at + 2 ≡ suc (suc at) = omega arith in
+    let e₃ : at + 2 + 1 ≡ suc (suc (suc at)) = omega arith in
+    let e₄ : at + 4 ≡ suc (suc (suc (suc at))) = omega arith in
+    let e₅ : at + 4 + 1 ≡ suc (suc (suc (suc (suc at)))) = omega arith in
+    cc
 
 pub returns : goal.returns
-returns c =
-    (c.word-second.ensures then c.word-third.ensures then c.word.ensures).bytes
+returns c = rw (c.put_word-3.ensures, c.put_word-2.ensures, c.put_word.ensures) (three_words _ _ _ _ _)

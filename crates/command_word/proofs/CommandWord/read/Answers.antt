@@ -1,31 +1,41 @@
 -- `command_word::CommandWord::read` meets its contract: each return has decided the tests up to its own.
-use mathlib.Core.Path.{refl, ◌∙◌, sym, ap, ap₂}
-use Prim.Native.Nat.{◌%◌}
+use mathlib.Core.Path.{◌≡◌, refl, ◌∙◌, sym, ap, ap₂}
+use Prim.Native.Nat.{◌%◌, ◌<◌, ◌≤◌}
 use native.Mathlib.Omega.{arith}
-use Rattle.command_word.specs.Commands.{type_for, values}
+use denote.Enum.Bare.{differs_true, differs_false}
+use Rattle.std.proofs.Common.{rules, Err}
+use Rattle.common.specs.declared.refusal.Refusal.TheVariants.{ReservedCommand}
+use Rattle.command_word.specs.contracts.kinds.PacketType.{the_type}
+use Rattle.command_word.specs.Commands.{type_of, type_for, values}
+use Rattle.command_word.specs.Kinds.{type_number}
 use Rattle.command_word.specs.Reasons.{too_large, no_command, wrong_type, reserved_command, readable}
 use Rattle.command_word.proofs.Answers.{read_refused, read_accepted}
+use Rattle.command_word.proofs.Named.{same_number}
 use Rattle.command_word.proofs.CommandWord.read.Goals as goal
 
 pub returns-then-word-gt-LARGEST : goal.returns-then-word-gt-LARGEST
-returns-then-word-gt-LARGEST c = c.unread.ensures ∙ read_refused _ 15 (too_large (omega arith)) refl
+returns-then-word-gt-LARGEST c = read_refused _ 15 (too_large (omega arith)) refl
 
-pub returns-then-packet_type-le-DATA : goal.returns-then-packet_type-le-DATA
-returns-then-packet_type-le-DATA c = c.unread-then-packet_type-le-DATA.ensures ∙ read_refused _ 16 (no_command (omega arith) (omega arith)) refl
+pub returns-then-not-carries_commands : goal.returns-then-not-carries_commands
+returns-then-not-carries_commands c = let small : type_of c.args.word ≤ 1 = search rules in read_refused _ 16 (no_command (omega arith) small) refl
 
-pub returns-then-packet_type-type_for : goal.returns-then-packet_type-type_for
-returns-then-packet_type-type_for c =
-    c.unread-then-packet_type-type_for.ensures
-    ∙ read_refused _ 17 (wrong_type (omega arith) (omega arith) (λ e. c.if-packet_type-type_for.true (c.packet_type-packet_type.ensures ∙ e ∙ sym (c.type_for.ensures.0 ∙ ap type_for c.command-command.ensures.0)))) refl
+pub returns-then-ne : goal.returns-then-ne
+returns-then-ne c =
+    let large : 1 < type_of c.args.word = search rules in
+    read_refused _ 17 (wrong_type (omega arith) large (λ e. differs_true the_type _ _ (sym c.if-ne.ensures) (same_number (c.packet_type-packet_type.ensures ∙ e ∙ sym (c.of_command.ensures ∙ ap type_for c.command.ensures))))) refl
 
-pub returns-then-values-eq0 : goal.returns-then-values-eq0
-returns-then-values-eq0 c =
-    let goes = sym c.packet_type-packet_type.ensures ∙ c.if-packet_type-type_for.false ∙ c.type_for.ensures.0 ∙ ap type_for c.command-command.ensures.0 in
-    let none = sym (c.values-values.ensures ∙ ap values c.command-command.ensures.0) ∙ c.if-values-eq0.true in
-    c.unread-then-values-eq0.ensures ∙ read_refused _ 18 (reserved_command (omega arith) (omega arith) goes none) refl
+pub returns-in_err-command : goal.returns-in_err-command
+returns-in_err-command c =
+    let large : 1 < type_of c.args.word = search rules in
+    let goes = sym c.packet_type-packet_type.ensures ∙ ap type_number (differs_false the_type (search rules) _ _ (sym c.if-ne.ensures)) ∙ c.of_command.ensures ∙ ap type_for c.command.ensures in
+    let none = sym (ap values c.command-2.ensures) ∙ c.in_err-command.ensures.1 in
+    let e : c.from_residual.result ≡ Err ReservedCommand = search rules in
+    rw e (read_refused _ 18 (reserved_command (omega arith) large goes none) refl)
 
 pub returns : goal.returns
 returns c =
-    let goes = sym c.packet_type-packet_type.ensures ∙ c.if-packet_type-type_for.false ∙ c.type_for.ensures.0 ∙ ap type_for c.command-command.ensures.0 in
-    let count = c.values-values.ensures ∙ ap values c.command-command.ensures.0 in
-    read_accepted _ _ _ (readable (omega arith) (omega arith) goes (λ e. c.if-values-eq0.false (count ∙ e))) c.command-command.ensures.0 (ap₂ ◌%◌ c.status.ensures.0 count)
+    let large : 1 < type_of c.args.word = search rules in
+    let goes = sym c.packet_type-packet_type.ensures ∙ ap type_number (differs_false the_type (search rules) _ _ (sym c.if-ne.ensures)) ∙ c.of_command.ensures ∙ ap type_for c.command.ensures in
+    let same = c.in_ok-command.ensures ∙ c.command-2.ensures in
+    let count = c.values.ensures.0 ∙ ap values same in
+    read_accepted _ _ _ (readable (omega arith) large goes (λ e. omega (arith, count, e))) same (ap₂ ◌%◌ c.status.ensures count)

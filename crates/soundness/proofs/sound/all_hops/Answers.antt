@@ -1,27 +1,17 @@
 -- `soundness::sound::all_hops` meets its contract: the groups so far are counted.
-use mathlib.Core.Path.{refl, sym, ◌∙◌}
+use mathlib.Core.Path.{refl}
 use native.Mathlib.Omega.{arith}
-use Rattle.soundness.proofs.Counting.{counts_skip, counts_join, counts_as_lem, counts_at}
+use Rattle.soundness.proofs.Counting.{counts_skip, counts_join, counts_fail, counts_as_lem}
 use Rattle.soundness.proofs.sound.all_hops.Goals as goal
 
 pub loop-i-init : goal.loop-i-init
-loop-i-init c = (omega arith, c.requires.size, counts_skip (omega arith) (λ n k l g h. absurd (omega arith)))
+loop-i-init c = counts_skip (omega arith) (λ n k l g h. absurd (omega arith))
 
-pub hops_group-hops-requires : goal.hops_group-hops-requires
-hops_group-hops-requires c =
-    let pre = c.requires in
-    (record { bytes = pre.bytes; fits = pre.fits; count = pre.count; arms = pre.arms; size = c.loop-i.invariant.1 }, omega (arith, c.loop-i-test.true))
-
-pub overflow_add-hops : goal.overflow_add-hops
-overflow_add-hops c =
-    omega (arith, c.loop-i.invariant.2.most, c.hops_group-hops.ensures.most)
+pub returns-in_err-hops : goal.returns-in_err-hops
+returns-in_err-hops c = rw c.from_residual.ensures (counts_fail (counts_as_lem c.loop-i.invariant refl (omega arith) refl refl) c.in_err-hops.ensures)
 
 pub loop-i-preserved : goal.loop-i-preserved
-loop-i-preserved c =
-    (omega arith, c.hops_group-hops.auto.seen ∙ c.loop-i.invariant.1, counts_as_lem (counts_join c.loop-i.invariant.2 (counts_at c.hops_group-hops.ensures (omega arith))) (omega arith) refl refl)
-
-pub shape_of-seen : goal.shape_of-seen
-shape_of-seen c = c.loop-i.invariant.1 ∙ sym c.requires.size
+loop-i-preserved c = counts_join c.loop-i.invariant (counts_as_lem c.in_ok-hops.ensures (omega arith) (omega arith) refl refl)
 
 pub returns : goal.returns
-returns c = counts_as_lem c.loop-i.invariant.2 (omega arith) refl refl
+returns c = counts_as_lem c.loop-i.invariant refl (omega arith) refl refl

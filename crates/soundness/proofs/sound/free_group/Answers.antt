@@ -1,6 +1,27 @@
 -- `soundness::sound::free_group` meets its contract: nothing is held there, or the nodes are looked at.
-use Rattle.soundness.proofs.Free.{frees_clear}
+use mathlib.Core.Path.{◌≡◌, subst}
+use mathlib.Core.Logic.{⊎_elim, ◌≢◌}
+use mathlib.Core.Bool.{true}
+use Prim.Native.Nat.{ℕ}
+use native.Mathlib.Omega.{arith}
+use Rattle.common.proofs.Tests.{below_or}
+use Rattle.table.specs.View.{view}
+use Rattle.soundness.proofs.Free.{frees_all, frees_clear}
 use Rattle.soundness.proofs.sound.free_group.Goals as goal
 
 pub returns-then-links_clear : goal.returns-then-links_clear
-returns-then-links_clear c = frees_clear c.args.t.now c.args.from.0 (c.links_clear.ensures c.if-links_clear.true)
+returns-then-links_clear c = frees_clear c.args.table.bytes.now c.args.from.0 (c.links_clear.ensures c.if-links_clear.true)
+
+pub returns-then-not-held_enabled : goal.returns-then-not-held_enabled
+returns-then-not-held_enabled c s = c.held_enabled.ensures.fails c.if-not-held_enabled.true (λ p i z. unfold view in s.held_enabled c.loop-n.n p z)
+
+pub loop-n-preserved : goal.loop-n-preserved
+loop-n-preserved c m p g h k z =
+    ⊎_elim (λ y. c.loop-n.invariant m p g y k z)
+    (λ y. let q : c.loop-n.n ≡ m = omega arith in
+    subst (λ (x : ℕ). (view c.args.table.bytes.now).owner x p ≢ 0 → (view c.args.table.bytes.now).enabled x p ≡ true) q (unfold view in c.held_enabled.ensures.holds c.if-not-held_enabled.false p k) z)
+    (below_or c.loop-n.n m)
+
+pub returns : goal.returns
+returns c =
+    frees_all c.args.table.bytes.now (omega (arith, c.count_free_links.ensures.0)) (λ m p g h. c.loop-n.invariant m p g (omega arith)) c.count_free_links.ensures.1

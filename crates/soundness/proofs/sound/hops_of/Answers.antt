@@ -1,26 +1,59 @@
--- `soundness::sound::hops_of` meets its contract: nothing is held there, or what is held must be armed, and is looked at.
-use mathlib.Core.Path.{◌≡◌, sym, ap, ◌∙◌}
+-- `soundness::sound::hops_of` meets its contract: nothing is held there, or what is held must be armed, and its circuits are followed.
+use mathlib.Core.Path.{◌≡◌, refl, sym, ap, ap₂, ◌∙◌}
+use Prim.Native.Nat.{◌^◌}
 use native.Mathlib.Omega.{arith}
+use native.Mathlib.Nat.{add-zero}
+use Rattle.std.proofs.Common.{Some, None}
 use Rattle.table.specs.View.{view}
-use Rattle.soundness.proofs.Counting.{counts_skip, counts_none}
+use Rattle.circuit_hops.proofs.Ways.{shown}
+use Rattle.soundness.proofs.Counting.{counts_skip, counts_join, counts_fail, counts_as_lem}
+use Rattle.soundness.proofs.CountedChannel.{counts_entry}
 use Rattle.soundness.proofs.Deciding.{unarmed_fails, armed_held, absent_free}
 use Rattle.soundness.proofs.sound.hops_of.Goals as goal
+use Rattle.soundness.proofs.sound.hops_of.Goals.{then-c-ne0+in_ok-hops, else-c-ne0}
 
 pub returns-then-receives_clear : goal.returns-then-receives_clear
 unfolding view
 returns-then-receives_clear c = counts_skip (omega arith) (λ n k l g h. c.receives_clear.ensures c.if-receives_clear.true n k (omega arith) (omega arith) l)
 
 pub returns-then-not-held_armed : goal.returns-then-not-held_armed
-returns-then-not-held_armed c =
-    counts_none (unarmed_fails c.args.t.now c.args.n.0 c.held_armed.ensures (c.if-not-held_armed.true)) (omega arith) (omega arith)
+returns-then-not-held_armed c h x s = unarmed_fails c.args.table.bytes.now c.args.n.0 c.held_armed.ensures c.if-not-held_armed.true s
 
-pub returns-then-n-nodes : goal.returns-then-n-nodes
-returns-then-n-nodes c =
-    let b = c.args.t.now in
+pub returns-then-n-table : goal.returns-then-n-table
+returns-then-n-table c =
+    let b = c.args.table.bytes.now in
     let n = c.args.n.0 in
-    let none = absent_free b n c.held_armed.ensures (c.if-not-held_armed.false) c.requires.0.arms (omega (arith, c.if-n-nodes.true, c.requires.0.count)) in
+    let none = absent_free b n c.held_armed.ensures c.if-not-held_armed.false c.requires.unarmed (omega (arith, c.if-n-table.true, c.args.table.count)) in
     counts_skip (omega arith) (λ m k l g h. let e : n ≡ m = omega arith in ap (λ y. (view b).receiver y k) (sym e) ∙ none k l)
 
-pub hops_at-requires : goal.hops_at-requires
-hops_at-requires c =
-    record { receive_pre = (c.requires.0, omega (arith, c.if-n-nodes.false)); by_index = armed_held c.args.t.now c.args.n.0 c.held_armed.ensures (c.if-not-held_armed.false) }
+pub returns-in_err-hops : goal.returns-in_err-hops
+returns-in_err-hops c =
+    let b = c.args.table.bytes.now in
+    let k = c.loop-k.k in
+    let held : c.receiver-c.result.0 ≡ (view b).receiver c.args.n.0 k = unfold view in c.receiver-c.ensures in
+    rw c.from_residual.ensures
+    (counts_fail c.loop-k.invariant (counts_entry (view b) c.loop-k.seen.of_node c.hops_to.new.seen.of_node (omega (arith, shown b, c.args.table.fits)) held c.if-c-ne0.true c.loop-k-test.true
+    (omega (arith, c.if-n-table.false, c.args.table.count, ap (2 ^◌) (shown b))) (armed_held b c.args.n.0 c.held_armed.ensures c.if-not-held_armed.false k c.loop-k-test.true (λ z. c.if-c-ne0.true (held ∙ z)))
+    None c.in_err-hops.ensures))
+
+pub loop-k-init : goal.loop-k-init
+loop-k-init c = counts_skip (omega arith) (λ n k l g h. absurd (omega arith))
+
+pub loop-k-preserved : goal.loop-k-preserved
+loop-k-preserved c =
+    let b = c.args.table.bytes.now in
+    let n = c.args.n.0 in
+    let k = c.loop-k.k in
+    let held : c.receiver-c.result.0 ≡ (view b).receiver n k = unfold view in c.receiver-c.ensures in
+    elim c.if-c-ne0.branch [
+      | then-c-ne0+in_ok-hops w ↦
+          counts_as_lem (counts_join c.loop-k.invariant (counts_entry (view b) c.loop-k.seen.of_node w.hops_to.new.seen.of_node (omega (arith, shown b, c.args.table.fits)) held w.if-c-ne0.true c.loop-k-test.true
+          (omega (arith, c.if-n-table.false, c.args.table.count, ap (2 ^◌) (shown b))) (armed_held b n c.held_armed.ensures c.if-not-held_armed.false k c.loop-k-test.true (λ z. w.if-c-ne0.true (held ∙ z)))
+          (Some w.in_ok-hops.field-0) w.in_ok-hops.ensures)) refl (omega arith) (ap (λ s. s.of_node) w.seen-is) w.hops-is
+      | else-c-ne0 w ↦
+          counts_as_lem (counts_join c.loop-k.invariant (counts_skip (omega arith) (λ a j z g h. let p : n ≡ a = omega arith in let q : k ≡ j = omega arith in ap₂ (view b).receiver (sym p) (sym q) ∙ sym held ∙ w.if-c-ne0.false)))
+          refl refl (ap (λ s. s.of_node) w.seen-is) (w.hops-is ∙ sym (add-zero _))
+    ]
+
+pub returns : goal.returns
+returns c = counts_as_lem c.loop-k.invariant refl (omega arith) refl refl

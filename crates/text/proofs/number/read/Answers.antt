@@ -1,18 +1,30 @@
 -- `text::number::read` meets its contract.
-use mathlib.Core.Path.{◌∙◌}
-use native.Mathlib.Omega.{arith}
-use Rattle.text.proofs.Reading.{read_empty, read_one, read_zero, read_more}
+use mathlib.Core.Path.{◌≡◌, ◌∙◌}
+use mathlib.Core.Logic.{◌≢◌}
+use Rattle.std.proofs.Common.{rules, tests, ◌≤◌, length}
+use lib.ListN.{get_or}
+use Rattle.text.proofs.Reading.{read_empty, read_zero, read_alone, read_more}
 use Rattle.text.proofs.number.read.Goals as goal
+use Rattle.text.proofs.number.read.Goals.{in_default-via-then-field-lt2+in_default-1, in_default-via-else-field-lt2+in_default-1}
 
-pub returns-then-field-eq0 : goal.returns-then-field-eq0
-returns-then-field-eq0 c = read_empty c.args.field.now c.if-field-eq0.true
+pub returns-in-48 : goal.returns-in-48
+returns-in-48 c =
+    let zero : get_or c.args.field.now 0 0 ≡ 48 = search rules in
+    read_alone c.args.field.now c.in-48.len_at_least c.in-48.len_below zero
 
-pub returns-then-field-eq1 : goal.returns-then-field-eq1
-returns-then-field-eq1 c = c.digits.ensures ∙ read_one c.args.field.now c.if-field-eq1.true
+pub returns-in-empty : goal.returns-in-empty
+returns-in-empty c = read_empty c.args.field.now c.in-empty.len_below
 
-pub returns-then-field-eq48 : goal.returns-then-field-eq48
-returns-then-field-eq48 c = read_zero c.args.field.now (omega (arith, c.if-field-eq1.false, c.if-field-eq0.false)) c.if-field-eq48.true
+pub returns-in-empty-2 : goal.returns-in-empty-2
+returns-in-empty-2 c =
+    let zero : get_or c.args.field.now 0 0 ≡ 48 = search rules in
+    read_zero c.args.field.now c.in-empty.len_at_least zero
 
-pub returns : goal.returns
-returns c =
-    c.digits-2.ensures ∙ read_more c.args.field.now (omega (arith, c.if-field-eq1.false, c.if-field-eq0.false)) c.if-field-eq48.false
+pub returns-in_default : goal.returns-in_default
+returns-in_default c =
+    let other : get_or c.args.field.now 0 0 ≢ 48 = elim c.in_default.branch [
+      | in_default-via-then-field-lt2+in_default-1 w ↦ search rules
+      | in_default-via-else-field-lt2+in_default-1 w ↦ search rules
+    ] in
+    let some : 1 ≤ length c.args.field.now = search (rules, tests) in
+    c.digits.ensures ∙ read_more c.args.field.now some other

@@ -1,23 +1,29 @@
 -- `text::put::path` meets its contract.
-use mathlib.Core.Path.{ap}
+use mathlib.Core.Path.{◌≡◌, ap}
+use mathlib.Core.Logic.{◌≢◌}
+use Rattle.std.proofs.Common.{rules, tests}
 use native.Mathlib.Omega.{arith}
 use lib.ListN.{length}
 use Rattle.text.proofs.Writing.{retext}
-use Rattle.text.proofs.Rows.{no_ports, some_ports}
+use Rattle.text.proofs.Rows.{path_none, path_some}
 use Rattle.text.proofs.put.path.Goals as goal
 
 pub byte-requires : goal.byte-requires
 byte-requires c =
-    omega (arith, ap length (no_ports c.args.count c.args.buffer.now c.least-hops.ensures c.if-hops-eq0.true), c.requires)
+    let none : length c.args.path.now ≡ 0 = search (rules, tests) in
+    omega (arith, ap length (path_none c.args.path.now none), c.requires)
 
-pub returns-then-hops-eq0 : goal.returns-then-hops-eq0
-returns-then-hops-eq0 c =
-    retext (no_ports c.args.count c.args.buffer.now c.least-hops.ensures c.if-hops-eq0.true) c.byte.ensures
+pub returns-then-is_empty : goal.returns-then-is_empty
+returns-then-is_empty c =
+    let none : length c.args.path.now ≡ 0 = search (rules, tests) in
+    retext (path_none c.args.path.now none) c.byte.ensures
 
 pub ports-requires : goal.ports-requires
 ports-requires c =
-    omega (arith, ap length (some_ports c.args.count c.args.buffer.now c.least-hops.ensures c.if-hops-eq0.false), c.requires)
+    let some : length c.args.path.now ≢ 0 = search (rules, tests) in
+    omega (arith, ap length (path_some c.args.path.now some), c.requires)
 
 pub returns : goal.returns
 returns c =
-    retext (some_ports c.args.count c.args.buffer.now c.least-hops.ensures c.if-hops-eq0.false) c.ports.ensures
+    let some : length c.args.path.now ≢ 0 = search (rules, tests) in
+    retext (path_some c.args.path.now some) c.ports.ensures

@@ -1,54 +1,62 @@
--- `text::row::write` meets its contract: the eight fields one behind the other.
-use mathlib.Core.Path.{◌∙◌}
+-- `text::row::write` meets its contract: what is left to write behind what was written are the fields, each behind a space.
+use mathlib.Core.Path.{◌≡◌, ap, ◌∙◌}
+use mathlib.Core.List.{[], ◌∷◌, map}
 use native.Mathlib.Omega.{arith}
-use Rattle.text.proofs.Writing.{◌then◌, retext}
-use Rattle.text.proofs.Rows.{row_text_lem, number_width}
+use lib.ListN.{length, length-append, drop, get_or}
+use Prim.Native.Nat.{◌+◌}
+use Rattle.std.proofs.Common.{rules, Some, None}
+use Rattle.text.specs.declared.row.Field.TheVariants.{Number}
+use Rattle.text.specs.Text.{space}
+use Rattle.text.specs.Row.{shows, field_bytes}
+use Rattle.text.specs.Written.{field_of, width}
+use Rattle.text.proofs.Writing.{◌then◌, retext, left_all, left_more, left_none}
+use Rattle.text.proofs.Rows.{behind_spaces, behind_more, behind_none, row_text_lem, row_parts}
 use Rattle.text.proofs.row.write.Goals as goal
 
 pub decimal-end-requires : goal.decimal-end-requires
 decimal-end-requires c =
-    omega (arith, c.requires, number_width c.args.row.line)
+    let r = c.args.row in
+    let w = c.args.ports.now in
+    let n : c.from-2.result ≡ r.line = search rules in
+    rw n (omega (arith, c.requires, row_parts r.line (field_of w r.call) r.answer (field_of w r.node) (field_of w r.channel) (field_of w r.receive) (field_of w r.scouts) (field_of w r.ports)))
+
+pub loop-field-init : goal.loop-field-init
+loop-field-init c = left_all _ _ _
 
 pub write_next-end-requires : goal.write_next-end-requires
 write_next-end-requires c =
-    omega (arith, c.requires, number_width c.args.row.line, number_width c.args.row.answer, c.decimal-end.ensures.place, c.decimal-end.auto.out)
+    let r = c.args.row in
+    let w = c.args.ports.now in
+    let i = c.loop-field.field-index in
+    let line : c.from-2.result ≡ r.line = search rules in
+    let answer : c.from.result ≡ r.answer = search rules in
+    let n = ap (λ m. width (shows m)) line in
+    let a = ap (λ m. width (shows m)) answer in
+    let fs = r.call ∷ Some (Number c.from.result) ∷ r.node ∷ r.channel ∷ r.receive ∷ r.scouts ∷ r.ports ∷ [] in
+    let step = ap length (behind_more (field_of w) fs i None c.loop-field-test.true) in
+    let two = length-append (space ∷ field_bytes (field_of w (get_or fs i None))) (behind_spaces (map (field_of w) (drop (i + 1) fs))) in
+    let all = row_parts c.from-2.result (field_of w r.call) c.from.result (field_of w r.node) (field_of w r.channel) (field_of w r.receive) (field_of w r.scouts) (field_of w r.ports) in
+    omega (arith, n, a, step, two, all, c.loop-field.invariant.place, c.loop-field.invariant.long, c.decimal-end.ensures.place, c.decimal-end.auto.out, c.requires)
 
-pub byte-end-requires : goal.byte-end-requires
-byte-end-requires c =
-    omega (arith, c.requires, number_width c.args.row.line, number_width c.args.row.answer, c.decimal-end.ensures.place, c.decimal-end.auto.out, c.write_next-end.ensures.place, c.write_next-end.auto.out)
-
-pub decimal-end-requires-2 : goal.decimal-end-requires-2
-decimal-end-requires-2 c =
-    omega (arith, c.requires, number_width c.args.row.line, number_width c.args.row.answer, c.decimal-end.ensures.place, c.decimal-end.auto.out, c.write_next-end.ensures.place, c.write_next-end.auto.out, c.byte-end.ensures.place, c.byte-end.auto.out)
-
-pub write_next-end-requires-2 : goal.write_next-end-requires-2
-write_next-end-requires-2 c =
-    omega (arith, c.requires, number_width c.args.row.line, number_width c.args.row.answer, c.decimal-end.ensures.place, c.decimal-end.auto.out, c.write_next-end.ensures.place, c.write_next-end.auto.out, c.byte-end.ensures.place, c.byte-end.auto.out, c.decimal-end-2.ensures.place, c.decimal-end-2.auto.out)
-
-pub write_next-end-requires-3 : goal.write_next-end-requires-3
-write_next-end-requires-3 c =
-    omega (arith, c.requires, number_width c.args.row.line, number_width c.args.row.answer, c.decimal-end.ensures.place, c.decimal-end.auto.out, c.write_next-end.ensures.place, c.write_next-end.auto.out, c.byte-end.ensures.place, c.byte-end.auto.out, c.decimal-end-2.ensures.place, c.decimal-end-2.auto.out, c.write_next-end-2.ensures.place, c.write_next-end-2.auto.out)
-
-pub write_next-end-requires-4 : goal.write_next-end-requires-4
-write_next-end-requires-4 c =
-    omega (arith, c.requires, number_width c.args.row.line, number_width c.args.row.answer, c.decimal-end.ensures.place, c.decimal-end.auto.out, c.write_next-end.ensures.place, c.write_next-end.auto.out, c.byte-end.ensures.place, c.byte-end.auto.out, c.decimal-end-2.ensures.place, c.decimal-end-2.auto.out, c.write_next-end-2.ensures.place, c.write_next-end-2.auto.out, c.write_next-end-3.ensures.place, c.write_next-end-3.auto.out)
-
-pub write_next-end-requires-5 : goal.write_next-end-requires-5
-write_next-end-requires-5 c =
-    omega (arith, c.requires, number_width c.args.row.line, number_width c.args.row.answer, c.decimal-end.ensures.place, c.decimal-end.auto.out, c.write_next-end.ensures.place, c.write_next-end.auto.out, c.byte-end.ensures.place, c.byte-end.auto.out, c.decimal-end-2.ensures.place, c.decimal-end-2.auto.out, c.write_next-end-2.ensures.place, c.write_next-end-2.auto.out, c.write_next-end-3.ensures.place, c.write_next-end-3.auto.out, c.write_next-end-4.ensures.place, c.write_next-end-4.auto.out)
-
-pub write_next-end-requires-6 : goal.write_next-end-requires-6
-write_next-end-requires-6 c =
-    omega (arith, c.requires, number_width c.args.row.line, number_width c.args.row.answer, c.decimal-end.ensures.place, c.decimal-end.auto.out, c.write_next-end.ensures.place, c.write_next-end.auto.out, c.byte-end.ensures.place, c.byte-end.auto.out, c.decimal-end-2.ensures.place, c.decimal-end-2.auto.out, c.write_next-end-2.ensures.place, c.write_next-end-2.auto.out, c.write_next-end-3.ensures.place, c.write_next-end-3.auto.out, c.write_next-end-4.ensures.place, c.write_next-end-4.auto.out, c.write_next-end-5.ensures.place, c.write_next-end-5.auto.out)
+pub loop-field-preserved : goal.loop-field-preserved
+loop-field-preserved c = left_more _ c.loop-field.invariant (behind_more _ _ c.loop-field.field-index None c.loop-field-test.true) c.write_next-end.auto.out c.write_next-end.ensures
 
 pub byte-requires : goal.byte-requires
 byte-requires c =
-    omega (arith, c.requires, number_width c.args.row.line, number_width c.args.row.answer, c.decimal-end.ensures.place, c.decimal-end.auto.out, c.write_next-end.ensures.place, c.write_next-end.auto.out, c.byte-end.ensures.place, c.byte-end.auto.out, c.decimal-end-2.ensures.place, c.decimal-end-2.auto.out, c.write_next-end-2.ensures.place, c.write_next-end-2.auto.out, c.write_next-end-3.ensures.place, c.write_next-end-3.auto.out, c.write_next-end-4.ensures.place, c.write_next-end-4.auto.out, c.write_next-end-5.ensures.place, c.write_next-end-5.auto.out, c.write_next-end-6.ensures.place, c.write_next-end-6.auto.out)
+    let r = c.args.row in
+    let w = c.args.ports.now in
+    let line : c.from-2.result ≡ r.line = search rules in
+    let answer : c.from.result ≡ r.answer = search rules in
+    let n = ap (λ m. width (shows m)) line in
+    let a = ap (λ m. width (shows m)) answer in
+    let all = row_parts c.from-2.result (field_of w r.call) c.from.result (field_of w r.node) (field_of w r.channel) (field_of w r.receive) (field_of w r.scouts) (field_of w r.ports) in
+    omega (arith, n, a, all, c.loop-field.invariant.place, c.loop-field.invariant.long, c.decimal-end.ensures.place, c.decimal-end.auto.out, c.requires)
 
 pub shape_of-out : goal.shape_of-out
-shape_of-out c =
-    c.byte.auto.out ∙ c.write_next-end-6.auto.out ∙ c.write_next-end-5.auto.out ∙ c.write_next-end-4.auto.out ∙ c.write_next-end-3.auto.out ∙ c.write_next-end-2.auto.out ∙ c.decimal-end-2.auto.out ∙ c.byte-end.auto.out ∙ c.write_next-end.auto.out ∙ c.decimal-end.auto.out
+shape_of-out c = c.byte.auto.out ∙ c.loop-field.invariant.long ∙ c.decimal-end.auto.out
 
 pub returns : goal.returns
 returns c =
-    retext (row_text_lem _ _ _ _ _ _ _ _) (c.decimal-end.ensures then c.write_next-end.ensures then c.byte-end.ensures then c.decimal-end-2.ensures then c.write_next-end-2.ensures then c.write_next-end-3.ensures then c.write_next-end-4.ensures then c.write_next-end-5.ensures then c.write_next-end-6.ensures then c.byte.ensures)
+    let n : c.from-2.result ≡ c.args.row.line = search rules in
+    let a : c.from.result ≡ c.args.row.answer = search rules in
+    rw (← n, ← a) (retext (row_text_lem _ _ _ _ _ _ _ _) (c.decimal-end.ensures then left_none c.loop-field.invariant (behind_none _ _ c.loop-field.field-index (omega (arith, c.loop-field-test.false))) then c.byte.ensures))

@@ -7,11 +7,11 @@ use Rattle.text.proofs.row.write_next.Goals as goal
 pub text-requires : goal.text-requires
 unfolding field_bytes
 text-requires c =
-    omega (arith, rw c.in-Nothing.is at c.requires)
+    omega (arith, rw c.in-None.is at c.requires)
 
-pub returns-in-Nothing : goal.returns-in-Nothing
+pub returns-in-None : goal.returns-in-None
 unfolding field_bytes
-returns-in-Nothing c = rw c.in-Nothing.is c.text.ensures
+returns-in-None c = rw c.in-None.is c.text.ensures
 
-pub returns-in_default : goal.returns-in_default
-returns-in_default c = c.byte-behind.ensures then c.write_field.ensures
+pub returns-in-Some : goal.returns-in-Some
+returns-in-Some c = rw c.in-Some.is (c.byte-behind.ensures then c.write_shown.ensures)

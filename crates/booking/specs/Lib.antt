@@ -1,0 +1,2 @@
+-- The values that writing a book answers.
+pub mod BookedValues

@@ -1,0 +1,25 @@
+-- The routing types of a send, and their numbers.
+-- Assumes nothing.
+use Rattle.std.specs.Prelude.{◌≡◌, ◌≢◌, ℕ, eqb, Result, Ok, Err}
+use Rattle.common.specs.declared.refusal.Refusal.{Refusal}
+use Rattle.common.specs.declared.refusal.Refusal.TheVariants as Refused
+use Rattle.cube.specs.declared.routing_type.RoutingType.{RoutingType}
+use Rattle.cube.specs.declared.routing_type.RoutingType.TheVariants.{Maze, Helix, Fixed, AlternateMaze}
+
+-- documents 01 and 02: the number of each type
+abbrev pub type_number : RoutingType → ℕ
+type_number Maze = 0
+type_number Helix = 1
+type_number Fixed = 3
+type_number AlternateMaze = 4
+
+-- a number read as a type: "routing type neither 0 nor 4", and since document 02, (b), neither 1 nor 3, is refused
+abbrev pub ReadsType : ℕ → Result RoutingType Refusal → Type 0
+ReadsType n (Ok type) = n ≡ type_number type
+ReadsType n (Err e) = (e ≡ Refused.RoutingType) × (n ≢ 0) × (n ≢ 1) × (n ≢ 3) × (n ≢ 4)
+
+-- the type as which a number is sent: a number that is none of 1, 3 and 4 is sent as type 0
+pub record SentAs (n : ℕ) (type : RoutingType) : Type 0 where
+  pub fixed : eqb n 3 ≡ eqb (type_number type) 3
+  pub helix : eqb n 1 ≡ eqb (type_number type) 1
+  pub alternate : eqb n 4 ≡ eqb (type_number type) 4
