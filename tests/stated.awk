@@ -41,7 +41,7 @@ function ended(    i, name, text, at, signature) {
         # a list of rules may go on for some lines
         if (line[1] ~ /^(pub )?ruleset [^=]*= \($/) { lines = 0; return }
         for (i = 1; i <= lines; i++)
-            if (line[i] ~ /^use /) { if (WHOLE > 1 || (NAMES != "" && line[i] ~ /^use Rattle\.[a-z_]+\.proofs\.|[{ ,][^ ,{]+ as [^ ,}]+[,}]/)) print KEY ": " line[i] }
+            if (line[i] ~ /^((unfoldable )?pub )?use /) { if (WHOLE > 1 || (NAMES != "" && line[i] ~ /^use Rattle\.[a-z_]+\.proofs\.|[{ ,][^ ,{]+ as [^ ,}]+[,}]/)) print KEY ": " line[i] }
             else if (line[i] !~ /^(pub )?(mod|ruleset) / && at <= outer) print "== " KEY ": not understood: " line[i]
         lines = 0
         return

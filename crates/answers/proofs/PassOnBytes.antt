@@ -17,7 +17,7 @@ use Rattle.cube.specs.Helical.{helical}
 use Rattle.cube.proofs.Order.{helical_mem}
 use Rattle.paths.specs.Network.{Network, Path, offered, Nearing, link_free, link_held, link_blocked, is_free, link_state}
 use Rattle.paths.specs.Pass.{PassResult, none, found, scouts}
-use Rattle.paths.specs.Send.{Receive, channel, none_available, lowest_of}
+use Rattle.paths.specs.Send.{Receive, channel, none_available}
 use Rattle.paths.specs.Search.{hop_or, trying, arriving, holding}
 use Rattle.paths.proofs.Words.{free_link}
 use Rattle.paths.proofs.Depth.{trying_cons}
@@ -26,7 +26,6 @@ use Rattle.layout.specs.Layout.{entry_place, link_part, word_at, owner_at, entry
 use Rattle.layout.specs.LayoutContracts.{put_word}
 use Rattle.entries.specs.EntryContracts.{put_entry, put_owner, Within}
 use Rattle.table.specs.View.{View, view, held_in, set_at, set_owner, receive, available}
-use Rattle.table.specs.TableContracts.{lowest_channel}
 use Rattle.table.proofs.Receives.{chosen}
 use Rattle.layout.proofs.Entries.{within}
 use Rattle.table.proofs.Views.{view_put_owner}
@@ -100,6 +99,13 @@ module _ (v : View) (n p : ℕ) where
   unfolding is_free
   told_blocked e q = answers e Blocked q
 
+  -- and it is not free where the code answers anything else
+  pub told_busy : (r : State.LinkState) → state_of r ≡ state_in v n p → (r ≡ Free → ⊥) → free_in v n p ≡ false
+  unfolding is_free
+  told_busy Free e f = absurd (f refl)
+  told_busy Held e f = answers e Held refl
+  told_busy Blocked e f = answers e Blocked refl
+
 pub free_off : (v : View) (n p : ℕ) → v.enabled n p ≡ false → free_in v n p ≡ false
 unfolding free_in state_in is_free link_state
 free_off v n p e = rw e
@@ -115,9 +121,6 @@ module _ (N : Network) (t : ℕ) (near : Nearing N t) (b : List ℕ) (n p c : �
   arrival_after_lem k s =
       ap (λ f. arriving k N f t (N.next n p) p s) (ap free_in (view_put_owner b n p c w small) ∙ free_held (view b) n p c h)
       ∙ holding_after near (free_in (view b)) k n p s
-
-  pub receive_same : (m : ℕ) → receive (view (put_owner b n p c)) m ≡ receive (view b) m
-  receive_same m = ap (λ v. receive v m) (view_put_owner b n p c w small) ∙ (unfold receive set_owner available in refl)
 
 -- the parts of an answer
 refused_of : PassAnswer → ℕ
@@ -232,13 +235,3 @@ module _ (N : Network) (free : ℕ → ℕ → Bool) (t n a s : ℕ) where
 pub receive_small : (v : View) (t k : ℕ) → receive v t ≡ channel k → k < channels
 unfolding receive
 receive_small v t k e = (chosen (available v t) k e).0
-
-pub lowest_small : (v : View) (n : ℕ) {k : ℕ} → k ≡ lowest_channel v n → k ≢ 8 → k < channels
-lowest_small v n {k} low g = receive_small v n k (unfold receive lowest_of lowest_channel in rw (← low, ne_eqb k 8 g))
-
-module _ (v : View) (b : List ℕ) (c n h s : ℕ) {k : ℕ} (low : k ≡ lowest_channel v n) where
-  pub target_receives : k ≢ 8 → pass_answer 0 h k s b ≡ answer_of_pass b c n h (receive v n) (found [] s)
-  target_receives g = unfold receive lowest_of lowest_channel in rw (← low, ne_eqb k 8 g) (unfold answer_of_pass hold_path in ap (λ x. pass_answer 0 x k s b) (no_longer h))
-
-  pub target_full : k ≡ 8 → pass_answer 11 0 0 s b ≡ answer_of_pass b c n h (receive v n) (found [] s)
-  target_full g = unfold receive lowest_of lowest_channel in rw (← low, eq-eqb k 8 g) (unfold answer_of_pass in refl)

@@ -1,15 +1,17 @@
 // What the searches of all routing types share: the state of a link, and the shape of an answer.
 #![tactic(auto)]
 
-ghost use Rattle.std.specs.Prelude.{◌≡◌};
+ghost use Rattle.std.specs.Prelude.{◌≡◌, ◌<◌};
+ghost use Rattle.cube.specs.Cube.{channels, circuit_of};
 ghost use Rattle.entries.specs.EntryContracts.{Within};
 ghost use Rattle.table.specs.View.{view};
 ghost use Rattle.answers.specs.SendOnTable.{state_in, state_of};
 
 use common::refusal::Refusal;
 use cube::{Circuit, Node, Port};
+use table::Links;
 
-// A link: free, held by a circuit, or blocked.
+// A link: free, held by a circuit, or blocked: document 02 asks that the smallest question answers one of these three.
 #[derive(Clone, Copy)]
 pub enum LinkState {
     Free,
@@ -17,14 +19,14 @@ pub enum LinkState {
     Blocked,
 }
 
-// The state of a link, where it is known whether it is enabled. Every hop of every search asks this.
+// The state of a link, where it is known whether it is enabled. Every hop of every search asks this; the search has dropped blocked ports before, and to look twice is slower (docs/PERFORMANCE.md).
 pub fn link_state(t: &[u8], n: Node, p: Port, enabled: bool) -> LinkState
     requires within { Within t.now n.0 p.0 }
     requires enabled_value { enabled ≡ (view t.now).enabled n.0 p.0 }
     ensures { state_of result ≡ state_in (view t.now) n.0 p.0 }
 {
     if enabled {
-        if table::owner(t, n, p).0 == 0 {
+        if table::owner::<Links>(t, n, p).0 == 0 {
             LinkState::Free
         } else {
             LinkState::Held
@@ -34,13 +36,40 @@ pub fn link_state(t: &[u8], n: Node, p: Port, enabled: bool) -> LinkState
     }
 }
 
-// What a send is asked for: a circuit from a source to a target, over the ports of a vector.
+// What a send is asked for: a circuit from a source to a target, over the ports of a vector. That its nodes and ports are those of a table (`MaySend`) stands in the contracts:
+// it is a fact of the table's bytes too, and a struct that lends these to be written needs one more clause in each, that its slice is the caller's. Nor is `vector ≢ 0` a
+// fact of each request: the second pass of routing type 4 may have no port.
 #[derive(Clone, Copy, Debug, PartialEq, Eq)]
 pub struct SendRequest {
     pub source: Node,
     pub target: Node,
     pub circuit: Circuit,
     pub vector: u16,
+}
+
+// What an open asks for: a circuit from a send channel of a node to a target, with a routing type and a send vector.
+#[derive(Clone, Copy, Debug, PartialEq, Eq)]
+pub struct Opening {
+    pub source: Node,
+    pub channel: u16,
+    pub target: Node,
+    pub routing: u16,
+    pub vector: u16,
+}
+
+impl Opening {
+    // The send that it comes to, once its source and its channel are tested.
+    pub fn request(self) -> SendRequest
+        requires { (self.source.0 < 256) × (self.channel < channels) }
+        ensures { result ≡ record { source = self.source; target = self.target; circuit = record { 0 = circuit_of self.source.0 self.channel }; vector = self.vector } }
+    {
+        SendRequest {
+            source: self.source,
+            target: self.target,
+            circuit: cube::circuit_of(self.source, self.channel),
+            vector: self.vector,
+        }
+    }
 }
 
 // An open that was acknowledged: the hops of its path, the receive channel taken, and the scouts sent.

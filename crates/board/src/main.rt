@@ -6,6 +6,7 @@
 ghost use Rattle.board.specs.Meets.{Meets};
 ghost use Rattle.ownership.specs.Calls.{opening};
 
+use answers::Opening;
 use command_word::{Command, CommandWord};
 use common::refusal::{self, Refusal};
 use cube::Node;
@@ -17,7 +18,14 @@ use std::io;
 fn open(t: &mut [u8], channel: u16) -> Result<Followed, Refusal>
     ensures { Meets t.old t.new (opening 0 channel 7 0 7) 4294967280 2 1 result }
 {
-    let opened = router::open(t, Node(0), channel, Node(7), 0, 7);
+    let x = Opening {
+        source: Node(0),
+        channel,
+        target: Node(7),
+        routing: 0,
+        vector: 7,
+    };
+    let opened = router::open(t, x);
     receiver::follow(opened, 4294967280, 2, 1)
 }
 

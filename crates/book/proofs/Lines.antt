@@ -1,19 +1,23 @@
 -- The lines of an index, one behind the other; when a line fits, and that the line of a circuit fits where all do.
 -- Assumes nothing.
-use mathlib.Core.Path.{◌≡◌, refl, ap, ap₂, sym, ◌∙◌}
-use mathlib.Core.Logic.{◌≢◌}
-use mathlib.Core.Bool.{Bool, true, false, cond, ◌&&◌}
+use mathlib.Core.Path.{◌≡◌, refl, ap, sym, subst, ◌∙◌}
+use mathlib.Core.Bool.{Bool, true, false, cond}
 use mathlib.Core.List.{List, [], ◌∷◌}
-use Prim.Native.Nat.{ℕ, suc, ◌+◌, ◌-◌, ◌*◌, ◌≤◌, ◌<◌}
-use native.Mathlib.Nat.{sub-zero}
+use Prim.Native.Nat.{ℕ, suc, ◌+◌, zero, ◌*◌, ◌/◌, ◌≤◌, ◌<◌}
+use native.Mathlib.Nat.{div-eq-sub-div, div-eq_of_lt, mul-div_cancel_left}
+use native.Mathlib.Numerals.{add-one}
 use native.Mathlib.Omega.{arith}
 use lib.Dec.{eqb, leb, ltb}
-use lib.ListN.{length, drop}
-use lib.Seq.{get_or-drop, drop-drop}
-use borrow.Author.Tests.{eqb-true, eq-eqb, ne_eqb, ltb-true, leb-true, le-leb}
+use lib.ListN.{length, take, drop, length-drop}
+use Rattle.std.proofs.lemmas.List.{length-take-le, get_or-take, drop-take}
+use borrow.Author.Tests.{eqb-true, ltb-true, leb-true, le-leb}
 use Rattle.common.specs.Lists.{any}
 use Rattle.common.proofs.Tests.{both, clash}
-use Rattle.layout.specs.Layout.{word_at}
+use Rattle.std.proofs.Common.{Option, None, Some}
+use Rattle.std.specs.Prelude.{option_map}
+use Rattle.std.specs.List.{find}
+use Rattle.book.specs.declared.BookLine.{BookLine}
+use Rattle.book.specs.BookContracts.{lines_in, line_is, line_if}
 use Rattle.book.specs.Lookup.{IndexLine, first_line, lines, line_fits, lines_fit, is_listed, line_of, well_formed}
 
 module _ (above at : ℕ) (x : IndexLine) where
@@ -40,28 +44,41 @@ module _ (above at : ℕ) (x : IndexLine) where
         few = leb-true x.hops 9 d.1;
       }
 
--- the lines from line i on: the first, and those behind it
-module _ (b : List ℕ) (n i : ℕ) where
-  abbrev pub lines_from : List IndexLine
-  lines_from = lines (n - i) (drop (6 * i) b)
+-- a line is its first six bytes
+pub line_taken : (n : ℕ) (b : List ℕ) → 6 ≤ n → first_line (take n b) ≡ first_line b
+line_taken n b h =
+    rw (
+      get_or-take n b 0 0 (omega arith),
+      get_or-take n b 1 0 (omega arith),
+      get_or-take n b 2 0 (omega arith),
+      get_or-take n b 3 0 (omega arith),
+      get_or-take n b 4 0 (omega arith),
+      get_or-take n b 5 0 (omega arith),
+    ) refl
 
-pub lines_on : (b : List ℕ) (n i : ℕ) → i < n → lines_from b n i ≡ first_line (drop (6 * i) b) ∷ lines_from b n (i + 1)
+-- n lines are those of their bytes
+pub lines_taken : (n : ℕ) (b : List ℕ) → lines n (take (6 * n) b) ≡ lines n b
 unfolding lines
-lines_on b n i h =
-    let e : n - i ≡ suc (n - (i + 1)) = omega arith in
-    let k : 6 * i + 6 ≡ 6 * (i + 1) = omega arith in
-    ap (λ (m : ℕ). lines m (drop (6 * i) b)) e
-    ∙ ap (λ (r : List ℕ). first_line (drop (6 * i) b) ∷ lines (n - (i + 1)) r) (drop-drop 6 (6 * i) b ∙ ap (λ (m : ℕ). drop m b) k)
+lines_taken zero b = refl
+lines_taken (suc n) b =
+    let e : 6 * suc n ≡ 6 + 6 * n = omega arith in
+    rw (e, line_taken (6 + 6 * n) b (omega arith), drop-take 6 (6 * n) b, lines_taken n (drop 6 b)) refl
 
-pub lines_end : (b : List ℕ) (n i : ℕ) → n ≤ i → lines_from b n i ≡ []
-unfolding lines
-lines_end b n i h = let e : n - i ≡ 0 = omega arith in ap (λ (m : ℕ). lines m (drop (6 * i) b)) e
+-- the lines of as many bytes as there are
+pub lines_cut : (n : ℕ) (b : List ℕ) → 6 * n ≤ length b → lines_in (take (6 * n) b) ≡ lines n b
+unfolding lines_in
+lines_cut n b h =
+    ap (λ (m : ℕ). lines (m / 6) (take (6 * n) b)) (length-take-le (6 * n) b h) ∙ ap (λ (m : ℕ). lines m (take (6 * n) b)) (mul-div_cancel_left n (omega arith)) ∙ lines_taken n b
 
--- the words of line i
-pub line_word : (b : List ℕ) (i k : ℕ) → word_at b (6 * i + k) ≡ word_at (drop (6 * i) b) k
-line_word b i k =
-    let e : 6 * i + k + 1 ≡ 6 * i + (k + 1) = omega arith in
-    sym (ap₂ (λ (x y : ℕ). x + 256 * y) (get_or-drop (6 * i) b k 0) (get_or-drop (6 * i) b (k + 1) 0 ∙ ap (λ (m : ℕ). lib.ListN.get_or b m 0) (sym e)))
+pub lines_end : (b : List ℕ) → length b < 6 → lines_in b ≡ []
+unfolding lines_in lines
+lines_end b h = ap (λ (m : ℕ). lines m b) (div-eq_of_lt h)
+
+pub lines_next : (b : List ℕ) → 6 ≤ length b → lines_in b ≡ first_line (take 6 b) ∷ lines_in (drop 6 b)
+unfolding lines_in lines
+lines_next b h =
+    let e : length b / 6 ≡ suc (length (drop 6 b) / 6) = div-eq-sub-div (omega arith) h ∙ add-one _ ∙ ap (λ (m : ℕ). suc (m / 6)) (sym (length-drop 6 b)) in
+    ap (λ (m : ℕ). lines m b) e ∙ ap (λ (x : IndexLine). x ∷ lines_in (drop 6 b)) (sym (line_taken 6 b (omega arith)))
 
 -- The line of a circuit that is listed where all lines fit: it has 1 to 9 hops, and they end before the count.
 pub record LineFound (x : IndexLine) (total : ℕ) : Type 0 where
@@ -84,41 +101,38 @@ line_found c above at (x ∷ xs) total e l =
     go true q f m ih = record { some = f.some; few = f.few; inside = omega (arith, m, f.begins) }
     go false q f m ih = ih (rw q at l)
 
-pub lines_all : (b : List ℕ) (n : ℕ) → lines_from b n 0 ≡ lines n b
-lines_all b n = ap (λ (m : ℕ). lines m b) (sub-zero n)
+-- and where it is not listed, its line is zeros
+pub line_none : (c : ℕ) (xs : List IndexLine) → is_listed c xs ≡ false → (line_of c xs).hops ≡ 0
+unfolding is_listed any line_of
+line_none c [] l = refl
+line_none c (x ∷ xs) l = go (eqb x.number c) refl (line_none c xs)
+  where
+    go : (b : Bool) → eqb x.number c ≡ b → (is_listed c xs ≡ false → (line_of c xs).hops ≡ 0) → (cond b x (line_of c xs)).hops ≡ 0
+    go true q ih = absurd (clash (rw q) l)
+    go false q ih = ih (rw q at l)
 
--- The lines from line i on, by line i, which is x.
-module _ (b : List ℕ) (n i : ℕ) (x : IndexLine) (is : x ≡ first_line (drop (6 * i) b)) (h : i < n) where
-  begins_with : lines_from b n i ≡ x ∷ lines_from b n (i + 1)
-  begins_with = lines_on b n i h ∙ ap (λ (y : IndexLine). y ∷ lines_from b n (i + 1)) (sym is)
+-- the line of a circuit is the first with its number
+module _ (c : ℕ) where
+  abbrev found : List IndexLine → Option IndexLine → Type 0
+  found xs None = is_listed c xs ≡ false
+  found xs (Some x) = (is_listed c xs ≡ true) × (x ≡ line_of c xs)
 
-  -- the line of a circuit is x, or it is behind it
-  pub line_here : (c : ℕ) → x.number ≡ c → (is_listed c (lines_from b n i) ≡ true) × (line_of c (lines_from b n i) ≡ x)
+  first_found : (xs : List IndexLine) → found xs (find (λ x. eqb x.number c) xs)
   unfolding is_listed any line_of
-  line_here c e = rw (begins_with, eq-eqb x.number c e) (refl, refl)
+  first_found [] = refl
+  first_found (x ∷ xs) = go (eqb x.number c) refl (first_found xs)
+    where
+      go : (b : Bool) → eqb x.number c ≡ b → found xs (find (λ y. eqb y.number c) xs) → found (x ∷ xs) (cond b (Some x) (find (λ y. eqb y.number c) xs))
+      go true q _ = rw q (refl, refl)
+      go false q h = behind (find (λ y. eqb y.number c) xs) h
+        where
+          behind : (o : Option IndexLine) → found xs o → found (x ∷ xs) o
+          behind None h = rw q h
+          behind (Some y) h = rw q h
 
-  pub line_on : (c : ℕ) → x.number ≢ c → (is_listed c (lines_from b n i) ≡ is_listed c (lines_from b n (i + 1))) × (line_of c (lines_from b n i) ≡ line_of c (lines_from b n (i + 1)))
-  unfolding is_listed any line_of
-  line_on c e = rw (begins_with, ne_eqb x.number c e) (refl, refl)
-
-  -- they fit where x does and those behind it do
-  pub fits_on : (above at total : ℕ) → line_fits above at x ≡ true → lines_fit above at (lines_from b n i) total ≡ lines_fit x.number (at + x.hops) (lines_from b n (i + 1)) total
-  unfolding lines_fit
-  fits_on above at total e = ap (λ (xs : List IndexLine). lines_fit above at xs total) begins_with ∙ ap (λ (y : Bool). y && lines_fit x.number (at + x.hops) (lines_from b n (i + 1)) total) e
-
-  pub fits_not : (above at total : ℕ) → line_fits above at x ≡ false → lines_fit above at (lines_from b n i) total ≡ false
-  unfolding lines_fit
-  fits_not above at total e = ap (λ (xs : List IndexLine). lines_fit above at xs total) begins_with ∙ ap (λ (y : Bool). y && lines_fit x.number (at + x.hops) (lines_from b n (i + 1)) total) e
-
--- behind the last line
-module _ (b : List ℕ) (n i : ℕ) (h : n ≤ i) where
-  pub line_past : (c : ℕ) → is_listed c (lines_from b n i) ≡ false
-  unfolding is_listed any
-  line_past c = ap (is_listed c) (lines_end b n i h)
-
-  pub fits_past : (above at total : ℕ) → lines_fit above at (lines_from b n i) total ≡ eqb at total
-  unfolding lines_fit
-  fits_past above at total = ap (λ (xs : List IndexLine). lines_fit above at xs total) (lines_end b n i h)
+  pub line_if_first : (xs : List IndexLine) (r : Option BookLine) → option_map line_is r ≡ find (λ x. eqb x.number c) xs → line_if c xs r
+  line_if_first xs None e = subst (found xs) (sym e) (first_found xs)
+  line_if_first xs (Some x) e = subst (found xs) (sym e) (first_found xs)
 
 -- A book whose counts do not fit their buffers is not well formed; where they fit, its lines decide.
 module _ (ports index : List ℕ) (circuits hops : ℕ) where

@@ -2,10 +2,11 @@
 // come from anywhere.
 #![tactic(auto)]
 
-ghost use Rattle.std.specs.Prelude.{◌≡◌, ◌+◌, ◌*◌, ◌≤◌, ◌<◌, length, drop};
+ghost use Rattle.std.specs.Prelude.{◌≡◌, ◌+◌, ◌*◌, ◌^◌, ◌≤◌, ◌<◌, length};
 ghost use Rattle.std.proofs.lemmas.List.Edits.{sets};
-ghost use Rattle.book.specs.Lookup.{first_line, lines, line_fits, lines_fit, well_formed, looked_up};
-ghost use Rattle.book.specs.BookContracts.{line_is, line_if, lookup_result};
+ghost use Rattle.std.specs.Iterator.{YieldsFirstBy, item_count};
+ghost use Rattle.book.specs.Lookup.{first_line, lines, line_fits, lines_fit, ports_of_line, well_formed, looked_up};
+ghost use Rattle.book.specs.BookContracts.{line_is, lines_left, line_if, lookup_result};
 
 use common::refusal::Refusal;
 use cube::Circuit;
@@ -26,74 +27,110 @@ pub struct BookLine {
     pub hops: u16,
 }
 
-// Line i of an index.
-fn line(index: &[u8], i: u16) -> BookLine
-    requires { 6 * i + 6 ≤ length index.now }
-    ensures { line_is result ≡ first_line (drop (6 * i) index.now) }
-{
-    let at = LINE * i as usize;
-    BookLine {
-        number: layout::word(index, at),
-        offset: layout::word(index, at + 2),
-        hops: layout::word(index, at + 4),
+// What the first line stands behind: number 0, and no ports before it.
+const BEFORE_FIRST: BookLine = BookLine {
+    number: 0,
+    offset: 0,
+    hops: 0,
+};
+
+impl BookLine {
+    // Read from the six bytes of a line.
+    fn read(line: &[u8]) -> BookLine
+        requires { 6 ≤ length line.now }
+        ensures { line_is result ≡ first_line line.now }
+    {
+        BookLine {
+            number: layout::word(line, 0),
+            offset: layout::word(line, 2),
+            hops: layout::word(line, 4),
+        }
+    }
+
+    // Where its ports end.
+    fn end(self) -> u16
+        requires { self.offset + self.hops < 2 ^ 16 }
+        ensures { result ≡ self.offset + self.hops }
+    {
+        self.offset + self.hops
+    }
+
+    // Its part of the ports of all circuits.
+    fn path(self, ports: &[u8]) -> &[u8]
+        requires { self.offset + self.hops ≤ length ports.now }
+        ensures { result.now ≡ ports_of_line ports.now (line_is self) }
+    {
+        &ports[usize::from(self.offset)..][..usize::from(self.hops)]
+    }
+
+    // Whether a line may stand behind another.
+    #[tactic(auto, unfolding(crate::specs::Lookup::line_fits))]
+    fn follows(self, last: BookLine) -> bool
+        requires { last.offset + last.hops < 2 ^ 16 }
+        ensures { result ≡ line_fits last.number (last.offset + last.hops) (line_is self) }
+    {
+        self.number > last.number
+            && self.number <= LARGEST_CIRCUIT
+            && self.offset == last.end()
+            && self.hops >= 1
+            && self.hops <= LONGEST_PATH
     }
 }
 
-// Whether a line may follow one with the number `above`, where its ports should begin at `at`.
-#[tactic(auto, unfolding(crate::specs::Lookup::line_fits))]
-fn line_fits(x: BookLine, above: u16, at: u16) -> bool
-    ensures { result ≡ line_fits above at (line_is x) }
-{
-    x.number > above
-        && x.number <= LARGEST_CIRCUIT
-        && x.offset == at
-        && x.hops >= 1
-        && x.hops <= LONGEST_PATH
+// The lines of an index that are left to read.
+#[derive(Drop)]
+struct IndexLines<'a> {
+    index: &'a [u8],
 }
 
-// Whether the lines of an index may follow each other, from number 0 and port 0 on, up to the count of hops.
-fn lines_fit(index: &[u8], circuits: u16, hops: u16) -> bool
-    requires { 6 * circuits ≤ length index.now }
-    ensures { result ≡ lines_fit 0 0 (lines circuits index.now) hops }
+impl Iterator for IndexLines<'_> {
+    type Item = BookLine;
+
+    ghost next_gives = { YieldsFirstBy line_is lines_left };
+
+    ghost remaining = { item_count lines_left };
+
+    #[tactic(auto, using(crate::proofs::Lines::lines_end, crate::proofs::Lines::lines_next))]
+    fn next(&mut self) -> Option<BookLine> {
+        let (line, rest) = self.index.split_at_checked(LINE)?;
+        self.index = rest;
+        Some(BookLine::read(line))
+    }
+}
+
+// Whether the lines of an index may stand behind each other, from number 0 and port 0 on, up to the count of hops.
+#[tactic(auto, unfolding(crate::specs::Lookup::lines_fit), using(crate::proofs::Lines::line_fits_lem))]
+fn lines_fit(lines: IndexLines, hops: u16) -> bool
+    ensures { result ≡ lines_fit 0 0 (lines_left lines.entry) hops }
 {
-    let mut above: u16 = 0;
-    let mut at: u16 = 0;
-    for i in 0..circuits {
-        let x = line(index, i);
-        if !line_fits(x, above, at) {
+    let mut last = BEFORE_FIRST;
+    for line in lines {
+        if !line.follows(last) {
             return false;
         }
-        above = x.number;
-        at += x.hops;
+        last = line;
     }
-    at == hops
+    last.end() == hops
 }
 
-// The line of a circuit, where an index has one.
-fn line_of(index: &[u8], circuits: u16, c: Circuit) -> Option<BookLine>
-    requires { 6 * circuits ≤ length index.now }
-    ensures { line_if c.0 (lines circuits index.now) result }
+// The line of a circuit, where an index has one. It is looked for from the front: the lines are bytes, and the library's binary search wants a slice of them read.
+fn line_of(mut lines: IndexLines, c: Circuit) -> Option<BookLine>
+    ensures { line_if c.0 (lines_left lines.entry) result }
 {
-    for i in 0..circuits {
-        let x = line(index, i);
-        if x.number == c.0 {
-            return Some(x);
-        }
-    }
-    None
+    lines.find(|x| x.number == c.0)
 }
 
-// Copies a path to the start of a buffer: by a loop, since the library's copy would ask the caller's C for memmove.
+// Copies a path to the start of a buffer: port by port, since the library's copy would ask the caller's C for memmove.
 fn put_path(buffer: &mut [u8], path: &[u8])
     requires { length path.now ≤ length buffer.old }
     ensures { buffer.new ≡ sets buffer.old 0 path.now }
 {
-    for i in 0..path.len() {
-        buffer[i] = path[i];
+    for (i, port) in path.iter().enumerate() {
+        buffer[i] = *port;
     }
 }
 
-// A book as it is lent: its two buffers, how many circuits it has, and how many hops in all.
+// A book as it is lent: its two buffers, how many circuits it has, and how many hops in all. The counts come from C beside the buffers, which may be longer.
 #[derive(Clone, Copy)]
 pub struct Book<'a> {
     pub ports: &'a [u8],
@@ -103,14 +140,25 @@ pub struct Book<'a> {
 }
 
 impl Book<'_> {
+    // The lines of its index.
+    #[tactic(auto, using(crate::proofs::Lines::lines_cut))]
+    fn lines(&self) -> IndexLines<'_>
+        requires { 6 * self.now.circuits ≤ length self.now.index.now }
+        ensures { lines_left result ≡ lines self.now.circuits self.now.index.now }
+    {
+        IndexLines {
+            index: &self.index[..LINE * usize::from(self.circuits)],
+        }
+    }
+
     // Whether a book is well formed.
     #[tactic(auto, unfolding(crate::specs::Lookup::well_formed))]
     pub fn well_formed(&self) -> bool
         ensures { result ≡ well_formed self.now.ports.now self.now.index.now self.now.circuits self.now.hops }
     {
-        self.index.len() >= LINE * self.circuits as usize
-            && self.ports.len() >= self.hops as usize
-            && lines_fit(self.index, self.circuits, self.hops)
+        self.index.len() >= LINE * usize::from(self.circuits)
+            && self.ports.len() >= usize::from(self.hops)
+            && lines_fit(self.lines(), self.hops)
     }
 
     // Writes the ports of a circuit of a book to the start of a buffer, and answers how many they are. A refused lookup writes nothing.
@@ -120,13 +168,11 @@ impl Book<'_> {
         if !self.well_formed() {
             return Err(Refusal::Book);
         }
-        let x = line_of(self.index, self.circuits, c).ok_or(Refusal::NoCircuit)?;
-        if buffer.len() < LONGEST_PATH as usize {
+        let x = line_of(self.lines(), c).ok_or(Refusal::NoCircuit)?;
+        if buffer.len() < usize::from(LONGEST_PATH) {
             return Err(Refusal::BufferShort);
         }
-        let at = x.offset as usize;
-        let path = &self.ports[at..at + x.hops as usize];
-        put_path(buffer, path);
+        put_path(buffer, x.path(self.ports));
         Ok(x.hops)
     }
 }

@@ -1,6 +1,7 @@
 -- What the call that writes a book gives: where a test of the table stops it, where a buffer is short, and where the book is written.
 -- Assumes nothing.
 use mathlib.Core.Path.{◌≡◌, refl, ap₂, sym, ◌∙◌}
+use mathlib.Core.Logic.{◌≢◌, ◌⊎◌, inl, inr, ⊎_elim}
 use mathlib.Core.Bool.{◌||◌}
 use mathlib.Core.List.{List, [], ◌∷◌}
 use Prim.Native.Nat.{ℕ, ◌*◌, ◌≤◌, ◌<◌}
@@ -8,12 +9,10 @@ use native.Mathlib.Omega.{arith}
 use lib.Dec.{ltb}
 use lib.ListN.{length}
 use borrow.Author.Tests.{lt-ltb, le-ltb}
-use mathlib.Core.Logic.{◌⊎◌, inl, inr, ⊎_elim}
-use Rattle.common.specs.declared.refusal.Refusal.{Refusal}
-use Rattle.common.specs.Refusals.{number_of}
 use Rattle.common.specs.Tests.{refusal}
-use Rattle.common.proofs.Refusals.{refused as refused_lem}
 use Rattle.common.proofs.Tests.{or_left, or_right, refused, passed, accepted}
+use Rattle.cube.specs.Cube.{largest_dimension}
+use Rattle.layout.specs.Layout.{table_length, dimension_at}
 use Rattle.table.specs.View.{view}
 use Rattle.table.specs.Encode.{AllBytes}
 use Rattle.soundness.specs.TableTests.{table_tests}
@@ -24,20 +23,20 @@ use Rattle.ownership.specs.Calls.{booking, call_tests, result_of}
 use Rattle.ownership.specs.OnTable.{facts_of, lent_tests, stopped_at, table_step, done}
 use Rattle.ownership.proofs.BytesAfter.{written_by}
 use Rattle.ownership.proofs.Stops.{pass_tests}
-use Rattle.table_book.specs.Writing.{BookPre}
-use Rattle.call_tests.proofs.Stopping.{by_table, by_call}
+use Rattle.call_tests.proofs.Stopping.{table_stops as lent_stops, table_passes}
 use Rattle.router.proofs.TableStep.{call_stopped, call_passed}
+
+-- a table that passes them is one of a cube that it has room for
+pub book_table : (b : List ℕ) → 0 ≡ refusal (table_tests b) → (length b ≡ table_length) × (dimension_at b ≤ largest_dimension)
+book_table b z = let r = pass_tests b (sym z) in (r.0, r.2)
 
 module _ (b ports index : List ℕ) where
   -- a test of the table stops it
-  pub table_stops : (e : Refusal) → number_of e ≡ refusal (table_tests b) → done b (number_of e) (0 ∷ 0 ∷ []) (ports ∷ index ∷ []) ≡ table_step b (booking ports index)
+  pub table_stops : {n : ℕ} → n ≡ refusal (table_tests b) → n ≢ 0 → done b n (0 ∷ 0 ∷ []) (ports ∷ index ∷ []) ≡ table_step b (booking ports index)
   unfolding stopped_at lent_tests
-  table_stops e q = call_stopped b (booking ports index) (by_table b _ q refl (refused_lem e)) (refused_lem e)
+  table_stops q f = call_stopped b (booking ports index) (sym (lent_stops b _ q f)) f
 
   module _ (z : 0 ≡ refusal (table_tests b)) where
-    pub book_pre : BookPre b
-    book_pre = let r = pass_tests b (sym z) in record { bytes = r.0; fits = r.2 }
-
     -- a buffer is short
     pub book_short : (length ports < hop_count (book_of (view b))) ⊎ (length index < 6 * length (book_of (view b)))
         → done b 23 (0 ∷ 0 ∷ []) (ports ∷ index ∷ []) ≡ table_step b (booking ports index)
@@ -45,7 +44,7 @@ module _ (b ports index : List ℕ) where
     book_short h =
         let short = ⊎_elim (λ p. or_left (ltb (length index) (6 * length (book_of (view b)))) (lt-ltb (length ports) (hop_count (book_of (view b))) p))
         (λ i. or_right (ltb (length ports) (hop_count (book_of (view b)))) (lt-ltb (length index) (6 * length (book_of (view b))) i)) h in
-        call_stopped b (booking ports index) (by_call b _ z refl refl (sym (refused 23 [] short))) (λ q. omega arith)
+        call_stopped b (booking ports index) (sym (table_passes b _ (sym z) ∙ refused 23 [] short)) (λ q. omega arith)
 
     -- each of the two by itself
     pub ports_short : length ports < hop_count (book_of (view b)) → done b 23 (0 ∷ 0 ∷ []) (ports ∷ index ∷ []) ≡ table_step b (booking ports index)
@@ -61,5 +60,5 @@ module _ (b ports index : List ℕ) where
     unfolding stopped_at lent_tests call_tests facts_of result_of written_by
     book_written small h k c d q r =
         call_passed b (booking ports index)
-        (by_call b _ z refl refl (sym (passed 23 [] (ap₂ ◌||◌ (le-ltb (length ports) (hop_count (book_of (view b))) h) (le-ltb (length index) (6 * length (book_of (view b))) k)) ∙ accepted)))
+        (sym (table_passes b _ (sym z) ∙ passed 23 [] (ap₂ ◌||◌ (le-ltb (length ports) (hop_count (book_of (view b))) h) (le-ltb (length index) (6 * length (book_of (view b))) k)) ∙ accepted))
         small refl (rw (c, d, q, r))

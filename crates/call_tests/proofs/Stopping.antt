@@ -2,7 +2,7 @@
 -- Assumes nothing.
 use mathlib.Core.Path.{◌≡◌, refl, ap, sym, ◌∙◌, subst}
 use mathlib.Core.Logic.{◌≢◌}
-use mathlib.Core.Bool.{true, false}
+use mathlib.Core.Bool.{Bool, true, false}
 use mathlib.Core.List.{List, [], ◌∷◌, ◌++◌}
 use Prim.Native.Nat.{ℕ, ◌^◌, ◌%◌, ◌≤◌, ◌<◌}
 use native.Mathlib.Omega.{arith}
@@ -37,18 +37,6 @@ table_stops b ts e f = refusal_before (table_tests b) ts (λ z. f (e ∙ z)) ∙
 
 pub table_passes : (b : List ℕ) (ts : List Test) → refusal (table_tests b) ≡ 0 → refusal (table_tests b ++ ts) ≡ refusal ts
 table_passes b ts e = refusal_after (table_tests b) ts (table_numbered b) e
-
--- The same of an answer n that is kept in a variable.
-pub by_table : (b : List ℕ) (ts : List Test) {n k : ℕ} → k ≡ refusal (table_tests b) → n ≡ k → n ≢ 0 → n ≡ refusal (table_tests b ++ ts)
-by_table b ts e d f = sym (table_stops b ts (d ∙ e) f)
-
-pub by_call : (b : List ℕ) (ts : List Test) {n k m : ℕ} → k ≡ refusal (table_tests b) → n ≡ k → n ≡ 0 → m ≡ refusal ts → m ≡ refusal (table_tests b ++ ts)
-by_call b ts e d z q = q ∙ sym (table_passes b ts (sym e ∙ sym d ∙ z))
-
--- With these the check proves what each return of a call's tests answers, and what a test asks of the table.
-pub ruleset of_table = (pass_tests, count_of)
-
-pub ruleset calls = (table_stops, table_passes, refusals.refused)
 
 -- What is known of a table and the nodes of a call that no test stops.
 pub record Inside (b : List ℕ) (s t : ℕ) : Type 0 where
@@ -120,9 +108,9 @@ pub receive_within : {b : List ℕ} {m k : ℕ} → Inside b m m × (k < channel
 receive_within h = record { bytes = h.0.long; node = below_256 h.0.most h.0.source; port = h.1 }
 
 -- The same of a node, and of a port or channel, that the code found not to be refused.
-module _ {b : List ℕ} (n : ℕ) (e : 0 ≡ refusal (table_tests b)) (f : 0 ≡ refusal (node (facts_of (view b)) n ∷ [])) where
+module _ {b : List ℕ} (n : ℕ) (pass : refusal (table_tests b) ≡ 0) (f : 0 ≡ refusal (node (facts_of (view b)) n ∷ [])) where
   node_is : Inside b n n
-  node_is = node_passed b n (sym e) (first_passed (absent (facts_of (view b)) n) 4 [] (λ z. omega arith) (sym f)).0
+  node_is = node_passed b n pass (first_passed (absent (facts_of (view b)) n) 4 [] (λ z. omega arith) (sym f)).0
 
   pub link_found : {p : ℕ} → 0 ≡ refusal (port (facts_of (view b)) p ∷ []) → Within b n p
   unfolding facts_of view
@@ -138,6 +126,23 @@ module _ {b : List ℕ} {s t c : ℕ} (h : Inside b s t) (l : c < channels) wher
 
   pub has_source : {k : ℕ} → k ≡ circuit_of s c → HasSource b k
   has_source e = rw e record { bytes = h.long; fits = h.most; circuit = omega arith; source = rw (source_of_circuit s c l) h.source }
+
+-- The same of a node that the code found not to be absent.
+module _ (b : List ℕ) (s : ℕ) {c : ℕ} (pass : refusal (table_tests b) ≡ 0) (e : absent (facts_of (view b)) s ≡ false) (l : c < channels) where
+  pub found_small : (s < 256) × (c < channels)
+  found_small = small_source (node_passed b s pass e) l
+
+  pub found_source : {k : ℕ} → k ≡ circuit_of s c → HasSource b k
+  found_source = has_source (node_passed b s pass e) l
+
+  pub found_open : {k : ℕ} {r : Bool} → k ≡ circuit_of s c → r ≡ is_open_in (view b) k → r ≡ open_in (view b) s c
+  unfolding open_in
+  found_open q o = o ∙ ap (is_open_in (view b)) q
+
+-- With these the check proves what each return of a call's tests answers, and what a test asks of the table.
+pub ruleset of_table = (pass_tests, count_of, found_small, found_source, found_open)
+
+pub ruleset calls = (table_stops, table_passes, refusals.refused, link_found, receive_found)
 
 -- So the link or channel of a call that no test stops lies in the table.
 module _ {b : List ℕ} {n p : ℕ} where

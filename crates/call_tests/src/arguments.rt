@@ -1,8 +1,7 @@
-// The tests of a call's arguments, each a function that answers its refusal where it applies. One that reads the table asks that the table passed its own tests, and
-// where it reads an entry, that the entry is there.
+// The tests of a call's arguments, each a function that answers its refusal where it applies. Those that read the table are methods of one that passed its own tests.
 #![tactic(auto, using(crate::proofs::Stopping::of_table, std::proofs::lemmas::Bool::Decides::nat_tests), unfolding(common::specs::Tests::refusal, ownership::specs::OnTable::facts_of, table::specs::View::view))]
 
-ghost use Rattle.std.specs.Prelude.{◌≡◌, false, ◌<◌, [], ◌∷◌};
+ghost use Rattle.std.specs.Prelude.{◌≡◌, false, ◌<◌, [], ◌∷◌, IfOk};
 ghost use Rattle.common.specs.Refusals.{answer_of};
 ghost use Rattle.common.specs.Tests.{refusal};
 ghost use Rattle.cube.specs.Cube.{channels};
@@ -13,30 +12,10 @@ ghost use Rattle.ownership.specs.TableFacts.{open_in};
 ghost use Rattle.ownership.specs.OnTable.{facts_of};
 
 use common::refusal::Refusal;
-use cube::{Node, Port};
+use cube::{Node, Port, RoutingType};
 
 // A node has send channels 0 to 7, and as many receive channels.
 const LAST_CHANNEL: u16 = 7;
-
-pub(crate) fn node_exists(t: &[u8], n: Node) -> Result<(), Refusal>
-    requires { refusal (table_tests t.now) ≡ 0 }
-    ensures { answer_of result ≡ refusal (node (facts_of (view t.now)) n.0 ∷ []) }
-{
-    if n.0 >= cube::node_count(table::dimension(t)) {
-        return Err(Refusal::Node);
-    }
-    Ok(())
-}
-
-pub(crate) fn port_exists(t: &[u8], p: Port) -> Result<(), Refusal>
-    requires { refusal (table_tests t.now) ≡ 0 }
-    ensures { answer_of result ≡ refusal (port (facts_of (view t.now)) p.0 ∷ []) }
-{
-    if p.0 >= table::dimension(t) {
-        return Err(Refusal::Port);
-    }
-    Ok(())
-}
 
 pub(crate) fn channel_exists(c: u16) -> Result<(), Refusal>
     ensures { answer_of result ≡ refusal (channel_number c ∷ []) }
@@ -50,28 +29,60 @@ pub(crate) fn channel_exists(c: u16) -> Result<(), Refusal>
 pub(crate) fn type_exists(routing: u16) -> Result<(), Refusal>
     ensures { answer_of result ≡ refusal (routing_type routing ∷ []) }
 {
-    match routing {
-        0 | 1 | 3 | 4 => Ok(()),
-        _ => Err(Refusal::RoutingType),
-    }
-}
-
-pub(crate) fn vector_fits(t: &[u8], vector: u16) -> Result<(), Refusal>
-    requires { refusal (table_tests t.now) ≡ 0 }
-    ensures { answer_of result ≡ refusal (send_vector (facts_of (view t.now)) vector ∷ []) }
-{
-    if vector == 0 || vector >= cube::node_count(table::dimension(t)) {
-        return Err(Refusal::SendVector);
-    }
+    RoutingType::try_from(routing)?;
     Ok(())
 }
 
-// Whether a send channel of a node has an open circuit.
-pub(crate) fn has_circuit(t: &[u8], s: Node, c: u16) -> bool
-    requires t_value { refusal (table_tests t.now) ≡ 0 }
-    requires s_value { absent (facts_of (view t.now)) s.0 ≡ false }
-    requires c_lt_channels { c < channels }
-    ensures { result ≡ open_in (view t.now) s.0 c }
-{
-    circuit_path::is_open(t, cube::circuit_of(s, c))
+// A table that passed its tests.
+#[derive(Clone, Copy)]
+pub struct SoundTable<'a> {
+    pub bytes: &'a [u8],
+    pub ghost passed: { refusal (table_tests bytes.now) ≡ 0 },
+}
+
+impl SoundTable<'_> {
+    // The lent table, or the refusal of the first of its tests that it fails.
+    pub(crate) fn of(t: &[u8]) -> Result<SoundTable, Refusal>
+        ensures answers { answer_of result ≡ refusal (table_tests t.now) }
+        ensures lent { IfOk result (λ table. table.bytes.now ≡ t.now) }
+    {
+        soundness::check(t)?;
+        Ok(SoundTable { bytes: t })
+    }
+
+    pub(crate) fn node_exists(self, n: Node) -> Result<(), Refusal>
+        ensures { answer_of result ≡ refusal (node (facts_of (view self.entry.bytes.now)) n.0 ∷ []) }
+    {
+        if n.0 >= cube::node_count(table::dimension(self.bytes)) {
+            return Err(Refusal::Node);
+        }
+        Ok(())
+    }
+
+    pub(crate) fn port_exists(self, p: Port) -> Result<(), Refusal>
+        ensures { answer_of result ≡ refusal (port (facts_of (view self.entry.bytes.now)) p.0 ∷ []) }
+    {
+        if p.0 >= table::dimension(self.bytes) {
+            return Err(Refusal::Port);
+        }
+        Ok(())
+    }
+
+    pub(crate) fn vector_fits(self, vector: u16) -> Result<(), Refusal>
+        ensures { answer_of result ≡ refusal (send_vector (facts_of (view self.entry.bytes.now)) vector ∷ []) }
+    {
+        if vector == 0 || vector >= cube::node_count(table::dimension(self.bytes)) {
+            return Err(Refusal::SendVector);
+        }
+        Ok(())
+    }
+
+    // Whether a send channel of a node has an open circuit.
+    pub(crate) fn has_circuit(self, s: Node, c: u16) -> bool
+        requires node { absent (facts_of (view self.bytes.now)) s.0 ≡ false }
+        requires channel { c < channels }
+        ensures { result ≡ open_in (view self.entry.bytes.now) s.0 c }
+    {
+        circuit_path::is_open(self.bytes, cube::circuit_of(s, c))
+    }
 }

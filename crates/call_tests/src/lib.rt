@@ -1,5 +1,5 @@
 // Which test stops a call: the refusal of the first that applies. A function for each call has its tests in the order of its list. A test that only one or two of
-// them make, by one comparison, stands there; the others are functions of their own, which answer their refusal where they apply.
+// them make, by one comparison, stands there; the others are functions or methods of their own, which answer their refusal where they apply.
 #![tactic(auto, using(crate::proofs::Stopping::calls), unfolding(common::specs::Tests::refusal, table::specs::View::view, table::specs::View::held_in, ownership::specs::TableFacts::taken_in, ownership::specs::Calls::call_tests, ownership::specs::OnTable::stopped_at, ownership::specs::OnTable::lent_tests, ownership::specs::OnTable::facts_of))]
 
 mod arguments;
@@ -8,27 +8,29 @@ ghost use Rattle.std.specs.Prelude.{◌≡◌};
 ghost use Rattle.common.specs.Refusals.{answer_of};
 ghost use Rattle.common.specs.Tests.{refusal};
 ghost use Rattle.table.specs.View.{view};
-ghost use Rattle.soundness.specs.TableTests.{table_tests};
 ghost use Rattle.ownership.specs.Calls.{blocking, unblocking, opening, closing, tracing, arming, disarming, opening_all, call_tests};
 ghost use Rattle.ownership.specs.OnTable.{facts_of, stopped_at};
 
-use arguments::{channel_exists, has_circuit, node_exists, port_exists, type_exists, vector_fits};
+use answers::Opening;
+pub use arguments::SoundTable;
+use arguments::{channel_exists, type_exists};
 use common::refusal::Refusal;
 use cube::{Node, Port};
+use table::{Channels, Links};
 
 // A list of sends has ten bytes for each, and 64 at most.
 pub const SEND_BYTES: usize = 10;
 
 const LONGEST_LIST: usize = 640;
 
-// The tests of each call.
+// Of each call the tests of its list, in their order. Those of its arguments are methods of a table that passed its own, in `arguments`.
 pub fn block(t: &[u8], node: Node, port: Port) -> Result<(), Refusal>
     ensures { answer_of result ≡ stopped_at t.now (blocking node.0 port.0) }
 {
-    soundness::check(t)?;
-    node_exists(t, node)?;
-    port_exists(t, port)?;
-    if table::owner(t, node, port).0 != 0 {
+    let table = SoundTable::of(t)?;
+    table.node_exists(node)?;
+    table.port_exists(port)?;
+    if table::owner::<Links>(table.bytes, node, port).0 != 0 {
         return Err(Refusal::LinkHeld);
     }
     Ok(())
@@ -37,55 +39,41 @@ pub fn block(t: &[u8], node: Node, port: Port) -> Result<(), Refusal>
 pub fn unblock(t: &[u8], node: Node, port: Port) -> Result<(), Refusal>
     ensures { answer_of result ≡ stopped_at t.now (unblocking node.0 port.0) }
 {
-    soundness::check(t)?;
-    node_exists(t, node)?;
-    port_exists(t, port)
+    let table = SoundTable::of(t)?;
+    table.node_exists(node)?;
+    table.port_exists(port)
 }
 
-// Those of an open behind the tests of the lent table, which a job makes once for all its sends.
-pub fn open_arguments(
-    t: &[u8],
-    source: Node,
-    channel: u16,
-    target: Node,
-    routing: u16,
-    vector: u16,
-) -> Result<(), Refusal>
-    requires { refusal (table_tests t.now) ≡ 0 }
-    ensures { answer_of result ≡ refusal (call_tests (facts_of (view t.now)) (opening source.0 channel target.0 routing vector)) }
-{
-    node_exists(t, source)?;
-    node_exists(t, target)?;
-    channel_exists(channel)?;
-    type_exists(routing)?;
-    vector_fits(t, vector)?;
-    if has_circuit(t, source, channel) {
-        return Err(Refusal::ChannelInUse);
+impl SoundTable<'_> {
+    // The tests of an open behind those of the table, which a job makes once for all its sends.
+    pub fn open_arguments(self, x: Opening) -> Result<(), Refusal>
+        ensures { answer_of result ≡ refusal (call_tests (facts_of (view self.entry.bytes.now)) (opening x.source.0 x.channel x.target.0 x.routing x.vector)) }
+    {
+        self.node_exists(x.source)?;
+        self.node_exists(x.target)?;
+        channel_exists(x.channel)?;
+        type_exists(x.routing)?;
+        self.vector_fits(x.vector)?;
+        if self.has_circuit(x.source, x.channel) {
+            return Err(Refusal::ChannelInUse);
+        }
+        Ok(())
     }
-    Ok(())
 }
 
-pub fn open(
-    t: &[u8],
-    source: Node,
-    channel: u16,
-    target: Node,
-    routing: u16,
-    vector: u16,
-) -> Result<(), Refusal>
-    ensures { answer_of result ≡ stopped_at t.now (opening source.0 channel target.0 routing vector) }
+pub fn open(t: &[u8], x: Opening) -> Result<(), Refusal>
+    ensures { answer_of result ≡ stopped_at t.now (opening x.source.0 x.channel x.target.0 x.routing x.vector) }
 {
-    soundness::check(t)?;
-    open_arguments(t, source, channel, target, routing, vector)
+    SoundTable::of(t)?.open_arguments(x)
 }
 
 pub fn close(t: &[u8], source: Node, channel: u16) -> Result<(), Refusal>
     ensures { answer_of result ≡ stopped_at t.now (closing source.0 channel) }
 {
-    soundness::check(t)?;
-    node_exists(t, source)?;
+    let table = SoundTable::of(t)?;
+    table.node_exists(source)?;
     channel_exists(channel)?;
-    if !has_circuit(t, source, channel) {
+    if !table.has_circuit(source, channel) {
         return Err(Refusal::NoCircuit); // nothing to close
     }
     Ok(())
@@ -94,10 +82,10 @@ pub fn close(t: &[u8], source: Node, channel: u16) -> Result<(), Refusal>
 pub fn trace(t: &[u8], source: Node, channel: u16, buffer: &[u8]) -> Result<(), Refusal>
     ensures { answer_of result ≡ stopped_at t.now (tracing source.0 channel buffer.now) }
 {
-    soundness::check(t)?;
-    node_exists(t, source)?;
+    let table = SoundTable::of(t)?;
+    table.node_exists(source)?;
     channel_exists(channel)?;
-    if !has_circuit(t, source, channel) {
+    if !table.has_circuit(source, channel) {
         return Err(Refusal::NoCircuit);
     }
     if buffer.len() < 9 {
@@ -109,18 +97,18 @@ pub fn trace(t: &[u8], source: Node, channel: u16, buffer: &[u8]) -> Result<(), 
 pub fn arm(t: &[u8], node: Node, channel: u16) -> Result<(), Refusal>
     ensures { answer_of result ≡ stopped_at t.now (arming node.0 channel) }
 {
-    soundness::check(t)?;
-    node_exists(t, node)?;
+    let table = SoundTable::of(t)?;
+    table.node_exists(node)?;
     channel_exists(channel) // an armed one may be armed again
 }
 
 pub fn disarm(t: &[u8], node: Node, channel: u16) -> Result<(), Refusal>
     ensures { answer_of result ≡ stopped_at t.now (disarming node.0 channel) }
 {
-    soundness::check(t)?;
-    node_exists(t, node)?;
+    let table = SoundTable::of(t)?;
+    table.node_exists(node)?;
     channel_exists(channel)?;
-    if table::receiver(t, node, channel).0 != 0 {
+    if table::owner::<Channels>(table.bytes, node, channel).0 != 0 {
         return Err(Refusal::ChannelHeld);
     }
     Ok(())

@@ -1,10 +1,9 @@
 // The hops of one circuit from its source to a node, each circuit counted once.
 #![tactic(auto)]
 
-mod cube_table;
 mod marks;
 
-ghost use Rattle.std.specs.Prelude.{◌≡◌, ◌≢◌, ◌<◌, ◌≤◌, length};
+ghost use Rattle.std.specs.Prelude.{◌≢◌, ◌<◌};
 ghost use Rattle.common.specs.Decides.{Decides};
 ghost use Rattle.cube.specs.Cube.{source_of, NodeOf};
 ghost use Rattle.layout.specs.Layout.{dimension_at};
@@ -13,10 +12,11 @@ ghost use Rattle.table.specs.View.{view};
 ghost use Rattle.circuit_hops.specs.CountHops.{OnePort, Walks, Leaves, Taken};
 
 use cube::{Circuit, Node};
-pub use cube_table::CubeTable;
 pub use marks::Marks;
+use table::CubeTable;
 
 // Whether a vector has one port at most.
+#[tactic(auto, using(crate::proofs::OneBit::few_ones))]
 fn one_at_most(vector: u16) -> bool
     requires { vector < 256 }
     ensures { Decides (vector ≢ 0 → OnePort vector) result }
@@ -24,15 +24,16 @@ fn one_at_most(vector: u16) -> bool
     vector.count_ones() <= 1
 }
 
-// The hops of a circuit that has made one, to a node: at each node the link that it holds there and that is uphill, if that is one. None where it does not lead there.
+// The hops of a circuit that has made one, to a node: at each node the link that it holds there and that is uphill, if it is the only one. None where it does not lead there.
 fn walk(table: CubeTable, c: Circuit, from: Node, end: Node) -> Option<u32>
     requires { (from.0 < table.nodes) × (end.0 < table.nodes) }
     ensures { Walks (view table.entry.bytes.now) c.0 end.0 from.0 1 result }
 {
     let mut at = from;
     let mut hops = 1;
+    // No iterator of nodes: each step may fail, and the order of its tests decides the speed.
     while at != end {
-        // The count beside the vector, and the vector behind both ends of the test: so the compiler reads the row in one go, as it does not where a function answers the link.
+        // The row is read for the vector and for the count here, and `on` is tested after both: the compiler then reads it in one go, as it does not where a function answers the link.
         let held = table::held_by(table.bytes, c, at);
         let on = held & cube::uphill_vector(at, end);
         if table::links_held(table.bytes, c, at) > 1 {
@@ -56,7 +57,7 @@ fn first_link(table: CubeTable, c: Circuit, held: u16, end: Node) -> Option<u16>
     ensures { Leaves (view table.entry.bytes.now) c.0 end.0 result }
 {
     let source = cube::source_of(c);
-    // Whether the links are the cube's is asked in both branches, and whether there is one behind them: in any other order the compiler reads the row entry by entry.
+    // Whether the links are the cube's is asked in both branches, and only after them whether there is a link: in any other order the compiler reads the row entry by entry.
     let first = if table::links_held(table.bytes, c, source) > 1 {
         // Its path comes through its source again, so it went out over a port that is not uphill, and the others are uphill.
         let out = held ^ (held & cube::uphill_vector(source, end));

@@ -28,6 +28,7 @@ impl Marks {
         if old & held != 0 {
             return false;
         }
+        // Both are below 256, so the cast cuts nothing off; u8::try_from would answer a failure that cannot come.
         self.of_node[at] = (old | held) as u8;
         true
     }

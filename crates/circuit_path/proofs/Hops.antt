@@ -7,11 +7,11 @@ use mathlib.Core.List.{List, [], ◌∷◌, ◌++◌}
 use Prim.Native.Nat.{ℕ, zero, suc, ◌+◌, ◌-◌, ◌≤◌, ◌<◌}
 use native.Mathlib.Omega.{arith}
 use native.Mathlib.Numerals.{add-one}
+use Rattle.std.specs.Option.{option_or, MatchOption, IsSomeAnd}
 use Rattle.std.specs.Prelude.{Option, None, Some}
-use Rattle.std.specs.Option.{option_or}
 use Rattle.cube.specs.declared.kinds.Port.{Port}
 use Rattle.common.proofs.Tests.{below_or, both}
-use Rattle.common.proofs.Lowest.{lowest_here, lowest_on, lowest_end, lowest_most, lowest_passes, lowest_found}
+use Rattle.common.proofs.Lowest.{lowest_here, lowest_on, lowest_end, lowest_skip, lowest_most, lowest_passes, lowest_found}
 use mathlib.Core.Logic.{⊎_elim}
 use Rattle.common.specs.Lists.{◌∈◌, keep, from, lowest}
 use Rattle.common.proofs.Lists.{keep_yes, keep_no, keep_nil, keep_mem, keep_keep, keep_same}
@@ -155,3 +155,17 @@ module _ (v : View) (c n vector : ℕ) where
 
 pub hop_port : (v : View) (c n vector p : ℕ) → p ∈ first_hop_choices (net v) (ports_of port_count vector) (held_by v c) n → p < port_count
 hop_port v c n vector p m = (ports_mem 8 vector (first_choice (net v) (ports_of port_count vector) (held_by v c) n p m).0).0
+
+-- what a search among the ports from a number on finds, where none below it passes, is the lowest of all
+module _ (f : ℕ → Bool) (first : ℕ) (none : (k : ℕ) → k < first → f k ≡ false) where
+  before : (n : ℕ) → ((k : ℕ) → first ≤ k → k < n → f k ≡ false) → (k : ℕ) → k < n → f k ≡ false
+  before n d k l = ⊎_elim (none k) (λ a. d k a l) (below_or first k)
+
+  pub port_found : (r : Option ℕ) (q : Option Port)
+      → MatchOption r ((k : ℕ) → first ≤ k → k < 8 → f k ≡ false) (λ i. (first ≤ i) × (i < 8) × (f i ≡ true) × ((k : ℕ) → first ≤ k → k < i → f k ≡ false))
+      → MatchOption r (q ≡ None) (λ i. IsSomeAnd q (λ p. p.0 ≡ i)) → port_is (lowest f 8 0) q
+  port_found None q d m = let all = sym (lowest_end f 8 8 refl) ∙ lowest_skip f 8 8 (omega arith) (before 8 d) in rw m (omega arith)
+  port_found (Some i) None d m = absurd m
+  port_found (Some i) (Some p) d m =
+      let here = sym (lowest_here f 8 i d.1 d.2) ∙ lowest_skip f 8 i (omega (arith, d.1)) (before i d.3) in
+      (m ∙ here, omega (arith, d.1, m))

@@ -38,7 +38,7 @@ impl PacketType {
     pub fn number(self) -> u16
         ensures { result ≡ type_number self }
     {
-        self as u16
+        self as u16 // only a cast reads the number of a variant
     }
 }
 
@@ -63,7 +63,7 @@ impl Command {
     pub fn number(self) -> u16
         ensures { result ≡ command_number self }
     {
-        self as u16
+        self as u16 // as above
     }
 
     // How many numbers, from 0 upward, the command carries.

@@ -24,7 +24,7 @@ pub struct Reading {
 }
 
 impl CommandWord {
-    // The fields: what one of each is worth in a word, and how many there are.
+    // The fields: what one of each is worth in a word, and how many there are. Numbers, since a word is stored as one, and C's header shows them so.
     pub const TYPE_PLACE: u16 = 1024;
 
     pub const COMMAND_PLACE: u16 = 64;
@@ -39,7 +39,8 @@ impl CommandWord {
 
     pub const LARGEST: u16 = CommandWord::TYPES * CommandWord::TYPE_PLACE - 1;
 
-    // What a command carries is a number, whose meaning depends on the command: these are the numbers that have names.
+    // What a command carries is a number, whose meaning depends on the command: these are the numbers that have names, as C's header shows them. No enum, since
+    // one number means something else with each command.
     // What ReceiveRejected carries.
     pub const STATUS_RECEIVE_REJECTED: u16 = 0;
 
@@ -73,7 +74,7 @@ impl CommandWord {
         )
     }
 
-    // The fields of a word. Document 01's list of forms asks for readers without self.
+    // The fields of a word. Document 01's list of forms asks for readers without self. No `TryFrom`: a word up to 4,095 has one of four types, and none can fail.
     fn packet_type(word: CommandWord) -> PacketType
         requires { word.0 ≤ 4095 }
         ensures { type_number result ≡ type_of word.0 }

@@ -6,3 +6,4 @@ pub mod From
 pub mod Lowest
 pub mod LowestBit
 pub mod Refusals
+pub mod Runs

@@ -6,7 +6,7 @@ use mathlib.Core.Bool.{Bool, true, false, cond}
 use Prim.Native.Nat.{ℕ, zero, suc, ◌+◌, ◌-◌, ◌≤◌, ◌<◌}
 use native.Mathlib.Omega.{arith}
 use lib.Dec.{ltb}
-use borrow.Author.Tests.{lt-ltb, le-ltb, ltb-true, ltb-false}
+use borrow.Author.Tests.{ltb-true, ltb-false}
 use Rattle.std.specs.Prelude.{Some, None}
 use Rattle.common.specs.Lists.{lowest, some_below}
 use Rattle.common.proofs.Tests.{same?, clash, below_or}
@@ -30,37 +30,6 @@ lowest_skip f n zero h e = let z : n - 0 ≡ n = omega arith in rw z
 lowest_skip f n (suc k) h e =
     let next : k + 1 ≡ suc k = omega arith in
     subst (λ m. lowest f (n - m) m ≡ lowest f n 0) next (sym (lowest_on f n k (omega arith) (e k (omega arith))) ∙ lowest_skip f n k (omega arith) (λ j l. e j (omega arith)))
-
--- the lowest of all is what was found below k, or else the lowest from k on
-pub found_on : (f : ℕ → Bool) (n k found next : ℕ) → k < n → next ≡ cond (ltb found n) found (cond (f k) k n) → cond (ltb found n) found (lowest f (n - k) k) ≡ cond (ltb next n) next (lowest f (n - (k + 1)) (k + 1))
-found_on f n k found next h e = go (ltb found n) refl (f k) refl e
-  where
-    go : (x : Bool) → ltb found n ≡ x → (y : Bool) → f k ≡ y → next ≡ cond x found (cond y k n) → cond x found (lowest f (n - k) k) ≡ cond (ltb next n) next (lowest f (n - (k + 1)) (k + 1))
-    go true l y m q = rw (q, l)
-    go false l true m q = rw (q, lt-ltb k n h) (lowest_here f n k h m)
-    go false l false m q = rw (q, le-ltb n n (omega arith)) (lowest_on f n k h m)
-
-pub found_end : (f : ℕ → Bool) (n k found : ℕ) → k ≡ n → found ≤ n → cond (ltb found n) found (lowest f (n - k) k) ≡ found
-found_end f n k found e h = go (ltb found n) refl
-  where
-    go : (x : Bool) → ltb found n ≡ x → cond x found (lowest f (n - k) k) ≡ found
-    go true l = refl
-    go false l = lowest_end f n k e ∙ (let g = ltb-false found n l in omega arith)
-
-pub found_same : (n found : ℕ) → found ≤ n → found ≡ cond (ltb found n) found n
-found_same n found h = go (ltb found n) refl
-  where
-    go : (x : Bool) → ltb found n ≡ x → found ≡ cond x found n
-    go true l = refl
-    go false l = let g = ltb-false found n l in omega arith
-
-pub found_most : (n k found next : ℕ) (taken : Bool) → k < n → next ≡ cond (ltb found n) found (cond taken k n) → next ≤ n
-found_most n k found next taken h e = go (ltb found n) refl taken e
-  where
-    go : (x : Bool) → ltb found n ≡ x → (y : Bool) → next ≡ cond x found (cond y k n) → next ≤ n
-    go true l y q = let g = ltb-true found n l in omega arith
-    go false l true q = omega arith
-    go false l false q = omega arith
 
 -- of k numbers from i on: it is at most i + k, passes where it is below that, and none from i on before it passes
 pub lowest_most : (f : ℕ → Bool) (k i : ℕ) → lowest f k i ≤ i + k

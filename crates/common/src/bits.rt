@@ -7,6 +7,7 @@ pub fn first_after(bits: u32, place: u16) -> Option<u16>
     requires { place < 31 }
     ensures { MatchOption result (bits ≡ 0) (FirstAfter bits place) }
 {
+    // A count of zeros is at most 32, so the casts below lose nothing; a conversion that can fail would say less.
     let past = place + 1;
     let above = bits >> past;
     if above != 0 {

@@ -51,6 +51,7 @@ impl Refusal {
     pub fn number(self) -> u16
         ensures { result ≡ number_of self }
     {
+        // Only a cast reads the number of a variant.
         self as u16
     }
 }

@@ -5,13 +5,15 @@ use mathlib.Core.Logic.{◌≢◌, ⊎_elim}
 use mathlib.Core.Bool.{true}
 use mathlib.Core.List.Memᴰ
 use mathlib.Core.List.{List, [], ◌∷◌, ◌++◌, append-nil}
-use Prim.Native.Nat.{ℕ, ◌^◌, ◌≤◌, ◌<◌}
+use Prim.Native.Nat.{ℕ, ◌+◌, ◌/◌, ◌^◌, ◌≤◌, ◌<◌}
 use native.Mathlib.Omega.{arith}
+use lib.Count.{count_trailing_zeros}
 use lib.Dec.{ltb, leb}
 use borrow.Author.Tests.{lt-ltb, ltb-true}
 use Rattle.common.specs.Lists.{◌∈◌, keep, Pairwise}
 use Rattle.common.specs.FirstAfter.{FirstAfter, above, round}
 use Rattle.common.proofs.Lists.{keep_mem, mem_keep, keep_pairwise}
+use Rattle.common.proofs.LowestBit.{found_above, found_round}
 use Rattle.common.proofs.Tests.{below_or, clash}
 use Rattle.cube.specs.Bits.{bit_at, has}
 use Rattle.cube.specs.Helical.{ports_of, helical, first_or}
@@ -50,3 +52,11 @@ pub by_rule : (v a p : ℕ) → v ≢ 0 → FirstAfter v a p → FirstByRule v a
 unfolding has bit_at
 by_rule v a p some (above on past least) = record { tried = λ w h. tried w v a p h on (first_above w v a p h on past least) some }
 by_rule v a p some (round on low least) = record { tried = λ w h. tried w v a p h on (first_round w v a p h on low least) some }
+
+-- As it is counted in 32 bits without the table.
+module _ (v a : ℕ) (room : v < 2 ^ 32) (some : v ≢ 0) where
+  pub rule_above : v / 2 ^ (a + 1) ≢ 0 → FirstByRule v a (count_trailing_zeros 32 (v / 2 ^ (a + 1)) + (a + 1))
+  rule_above z = by_rule v a _ some (found_above 32 v a room z)
+
+  pub rule_round : v / 2 ^ (a + 1) ≡ 0 → FirstByRule v a (count_trailing_zeros 32 v)
+  rule_round z = by_rule v a _ some (found_round 32 v a room some z)

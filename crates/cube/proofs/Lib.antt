@@ -6,3 +6,4 @@ pub mod Order
 pub mod FirstPort
 pub mod Axes
 pub mod Examples
+pub mod PortsLeft

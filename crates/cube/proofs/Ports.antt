@@ -10,14 +10,14 @@ use native.Mathlib.Nat.{one-mul, lt_of_lt_of_le}
 use lib.Count.{count_trailing_zeros}
 use lib.Dec.{eqb, lit<}
 use lib.Bits.{bit_xor}
-use lib.Pow.{shl_exact, pow_pos, pow_mono}
+use lib.Pow.{shl_exact, pow_mono}
 use borrow.Author.Tests.{eqb-true, eqb-false, lt-ltb}
 use Rattle.common.specs.Lists.{lowest, some_below}
 use Rattle.common.proofs.Lowest.{lowest_here, lowest_skip}
 use Rattle.common.proofs.LowestBit.{lowest_set, lowest_least}
 use Rattle.common.proofs.Tests.{below_or, clash, is_false}
 use Rattle.cube.specs.Bits.{bit_at, has, flip}
-use Rattle.cube.specs.CubeContracts.{NodeCount, UphillVector, Without}
+use Rattle.cube.specs.CubeContracts.{UphillVector, Without}
 use Rattle.cube.specs.Cube.{NodeOf, largest_dimension, uphill}
 use Rattle.cube.proofs.Bits.{bit_lt, bit_xor_lem, bit_flipped, bit_kept, has_bit, flip_drops, high_has}
 
@@ -35,9 +35,6 @@ below_256 h l = lt_of_lt_of_le l (most_nodes h)
 -- their count, where the dimension has another name
 pub count_of : {d e k : ℕ} → d ≡ e → k ≡ 2 ^ d → k ≡ 2 ^ e
 count_of q c = c ∙ ap (2 ^◌) q
-
-pub node_count : (D : ℕ) → D ≤ largest_dimension → NodeCount D (1 * 2 ^ D % 65536)
-node_count D h = rw (port_bit 16 D (omega arith)) (record { value = refl; some = pow_pos D; most = most_nodes (omega arith) })
 
 -- the ports in which two nodes differ are the uphill ones
 digits : (x y : ℕ) → x < 2 → y < 2 → eqb (bit_xor x y) 1 ≡ not (eqb x y)

@@ -5,3 +5,4 @@ pub mod Cube
 pub mod Helical
 pub mod CubeContracts
 pub mod RoutingTypes
+pub mod PortsLeft

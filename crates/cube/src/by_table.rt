@@ -20,13 +20,14 @@ impl FirstPortTable {
         }
     }
 
-    // The port of a vector that is tried first after an arrival, or 8 for vector zero. A send uses arrival port 7.
+    // The port of a vector that is tried first after an arrival. A send uses arrival port 7. For vector zero, which no caller passes, it is 8 and not a `None`: the
+    // papers fix the table's entries.
     pub fn first_port(&self, vector: u16, arrival: Port) -> Port
         requires { (vector < 256) × (arrival.0 < port_count) }
         ensures { result.0 ≡ first_port vector arrival.0 }
     {
         let a = arrival.0;
-        let at = (8 * vector + a) as usize;
+        let at = usize::from(8 * vector + a);
         Port(u16::from(self.entries[at]))
     }
 }

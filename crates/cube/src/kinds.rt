@@ -10,11 +10,6 @@ pub const PORTS: u16 = 8;
 
 pub const CHANNELS: u16 = 8;
 
-// What is answered where there is no port, or no channel.
-pub const NO_PORT: u16 = PORTS;
-
-pub const NO_CHANNEL: u16 = CHANNELS;
-
 // "Sends use arrival port 7": behind it the order begins with port 0.
 pub const SEND_ARRIVAL: u16 = 7;
 

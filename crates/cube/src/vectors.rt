@@ -1,4 +1,5 @@
-// Where a port leads, and vectors of ports: bit p of a vector stands for port p.
+// Where a port leads, and vectors of ports: bit p of a vector stands for port p. A vector, as a dimension, is a plain number whose bound stands in the contracts: the papers name three kinds,
+// nodes, ports and circuits.
 ghost use Rattle.std.specs.Prelude.{◌≡◌, true, ◌≤◌, ◌<◌};
 ghost use Rattle.common.specs.Lists.{lowest, some_below};
 ghost use Rattle.cube.specs.Bits.{has};
@@ -52,6 +53,7 @@ pub fn lowest_of(vector: u16) -> Option<u16>
     if vector == 0 {
         None
     } else {
+        // At most 16: a conversion that can fail would say less than the cast.
         Some(u16::trailing_zeros(vector) as u16)
     }
 }

@@ -1,10 +1,11 @@
 -- Sends of routing types 1 and 3 as the code makes them: helix paths looked at in turn, and what becomes of the first that is free.
 -- Assumes nothing.
-use mathlib.Core.Path.{◌≡◌, refl, ap, sym, ◌∙◌}
+use mathlib.Core.Path.{◌≡◌, refl, ap, sym, subst, ◌∙◌}
 use mathlib.Core.Logic.{⊎_elim, ◌≢◌}
 use mathlib.Core.Bool.{Bool, true, false}
+use mathlib.Core.List.Memᴰ
 use mathlib.Core.List.{List, [], ◌∷◌, map}
-use Prim.Native.Nat.{ℕ, suc, ◌+◌, ◌-◌, ◌*◌, ◌^◌, ◌≤◌, ◌<◌}
+use Prim.Native.Nat.{ℕ, ◌+◌, ◌-◌, ◌*◌, ◌^◌, ◌≤◌, ◌<◌}
 use native.Mathlib.Omega.{arith}
 use native.Mathlib.Nat.{le_refl}
 use lib.Dec.{eqb}
@@ -12,18 +13,18 @@ use lib.ListN.{length, take}
 use lib.Pow.{pow_pos, pow-lt}
 use borrow.Author.Tests.{eq-eqb, ne_eqb}
 use Rattle.common.proofs.Tests.{clash, same?}
+use Rattle.common.specs.Lists.{◌∈◌}
 use Rattle.cube.specs.Bits.{has}
 use Rattle.cube.specs.CubeContracts.{Without, FirstTried}
 use Rattle.cube.specs.Cube.{largest_dimension, port_count, channels, VectorOf}
 use Rattle.cube.specs.Helical.{helical, ports_of, first_port}
 use Rattle.cube.proofs.Bits.{bit_power_other}
-use Rattle.cube.proofs.Order.{length_helical, length_ports, helical_zero, port_tried, low_port}
+use Rattle.cube.proofs.Order.{length_ports, helical_zero, ports_mem, ports_wider, port_tried, low_port}
 use Rattle.paths.specs.Pass.{PassResult, none, found, scouts}
 use Rattle.paths.specs.Helix.{try_paths}
 use Rattle.paths.specs.Send.{Receive, channel, none_available, one_result, outcome, received, lowest_of}
 use Rattle.paths.specs.CubeNetwork.{send_ports}
-use Rattle.paths.proofs.CubeNetwork.{distance_within}
-use Rattle.paths.proofs.Helix.{helix_short}
+use Rattle.paths.proofs.CubeNetwork.{unfolded_send_ports}
 use Rattle.paths.proofs.Tried.{try_free, try_on, front_free, front_most}
 use Rattle.paths.proofs.Send.{helix_answers_lem, fixed_answers}
 use Rattle.layout.specs.Layout.{dimension_at}
@@ -33,87 +34,93 @@ use Rattle.table.specs.TableContracts.{lowest_channel}
 use Rattle.answers.specs.SendOnTable.{free_in, pass_answer, answer_of_outcome}
 use Rattle.answers.specs.PassOnBytes.{hold_path}
 use Rattle.answers.specs.SendAnswer.{bytes_after_send, send_answer, searched, MaySend}
-use Rattle.helix.specs.HelixContracts.{MayFollow, free_all, helix_in, FrontOf, tried_in, MayTryPaths, FirstPath}
+use Rattle.helix.specs.HelixContracts.{MayFollow, front_in, free_all, helix_in, link_free, hold_link, FreeFrontOf, tried_in, MayTryPaths, FreePathFound}
 use Rattle.answers.proofs.PassOnBytes.{receive_small}
 use Rattle.answers.proofs.SendAnswer.{ports_in_turn}
+use Rattle.helix.proofs.Following.{few_links, few_path, front, whole, held}
+use Rattle.std.specs.List.{list_all, prefix_len, fold}
+use Rattle.paths.specs.Network.{Link}
+use Rattle.paths.specs.HelixLinks.{helix_links}
 
 -- what trying the helix paths of some ports comes to, after some scouts
 abbrev tried_after : List ℕ → ℕ → ℕ → ℕ → List ℕ → PassResult
 tried_after b s t sent ps = try_paths (net (view b)) (free_in (view b)) s sent (map (helix_in b s t) ps)
 
--- What holds at each turn of the trying of helix paths: the ports left are ports of the cube, no path so far sent more than nine scouts, and what is
+-- the ports of a send vector are those of the cube that it has
+send_ports_of : (b : List ℕ) (vector : ℕ) → dimension_at b ≤ largest_dimension → VectorOf (dimension_at b) vector → send_ports (shape_of (view b)) vector ≡ ports_of port_count vector
+unfolding view
+send_ports_of b vector h l = unfolded_send_ports (shape_of (view b)) h refl vector ∙ sym (ports_wider (dimension_at b) 8 vector h l)
+
+-- What holds at each turn of the trying of helix paths: the ports that are still to come are ports of the cube, no path so far sent more than nine scouts, and what is
 -- left to do gives the whole.
-pub record PathTurn (b : List ℕ) (s t vector left sent : ℕ) : Type 0 where
-  pub ports : VectorOf (dimension_at b) left
-  pub few : sent + 9 * length (ports_of port_count left) ≤ 72
-  pub rest : tried_after b s t sent (helical 7 (ports_of port_count left)) ≡ tried_in b s t vector
+pub record PathTurn (b : List ℕ) (s t vector sent : ℕ) (left : List ℕ) : Type 0 where
+  pub ports : (p : ℕ) → p ∈ left → p < dimension_at b
+  pub few : sent + 9 * length left ≤ 72
+  pub rest : tried_after b s t sent left ≡ tried_in b s t vector
 
-pub first_path_turn : {b : List ℕ} {s t vector : ℕ} → MayTryPaths b s t vector → PathTurn b s t vector vector 0
+pub first_path_turn : {b : List ℕ} {s t vector : ℕ} → MayTryPaths b s t vector → {left : List ℕ} → left ≡ ports_of port_count vector → PathTurn b s t vector 0 left
 unfolding tried_in
-first_path_turn {b} {s} {t} {vector} may =
-    record {
-      ports = may.ports;
+first_path_turn {b} {s} {t} {vector} may e =
+    rw e
+    (record {
+      ports = λ p m. low_port (dimension_at b) vector p may.ports (ports_mem 8 vector m).1;
       few = omega (arith, length_ports 8 vector);
-      rest = ap (tried_after b s t 0) (ports_in_turn b vector may.fits may.ports);
-    }
+      rest = ap (tried_after b s t 0) (sym (send_ports_of b vector may.fits may.ports));
+    })
 
--- no port is left
-pub path_turns_over : {b : List ℕ} {s t vector left sent : ℕ} → PathTurn b s t vector left sent → left ≡ 0 → tried_in b s t vector ≡ none sent
-path_turns_over {b} {s} {t} {vector} {left} {sent} inv z = sym inv.rest ∙ rw z nothing_left
-  where
-    nothing_left : tried_after b s t sent (helical 7 (ports_of port_count 0)) ≡ none sent
-    nothing_left = unfold try_paths in rw (helical_zero 8 7)
+module _ {b : List ℕ} {s t vector sent : ℕ} {left : List ℕ} (inv : PathTurn b s t vector sent left) where
+  -- no port is left
+  pub path_turns_over : left ≡ [] → tried_in b s t vector ≡ none sent
+  path_turns_over e = sym inv.rest ∙ rw e (unfold try_paths in refl)
 
-module _ {b : List ℕ} {s t vector left sent p : ℕ} (may : MayTryPaths b s t vector) (inv : PathTurn b s t vector left sent) (some : left ≢ 0) (first : p ≡ first_port left 7) where
-  pub turn_port : FirstTried port_count left 7 p
-  turn_port = port_tried (dimension_at b) left 7 p may.fits inv.ports some first
-
-  pub turn_follows : MayFollow b s t p
-  turn_follows =
-      record {
-        bytes = may.bytes;
-        fits = may.fits;
-        node = may.source;
-        target = may.target;
-        port = low_port (dimension_at b) left p inv.ports turn_port.offered;
-      }
-
-  fewer : length (ports_of port_count left) ≡ suc (length (ports_of port_count (left - 2 ^ p)))
-  fewer = sym (length_helical 7 (ports_of port_count left)) ∙ ap length turn_port.rest ∙ ap suc (length_helical 7 (ports_of port_count (left - 2 ^ p)))
-
-  -- the front of its helix path
-  module _ {hops : ℕ} {whole : Bool} (front : FrontOf b s t p hops whole) where
-    short : hops ≤ 9
-    short =
-        let fits : (shape_of (view b)).dimension ≤ largest_dimension = unfold view in may.fits in
-        let most = front_most (net (view b)) (free_in (view b)) s (helix_in b s t p) in
-        omega (arith, front.count, most, helix_short (net (view b)) s t p, distance_within (shape_of (view b)) t ((net (view b)).next s p), fits)
-
-    pub turn_room : sent + hops + 9 * length (ports_of port_count (left - 2 ^ p)) ≤ 72
-    turn_room = omega (arith, short, fewer, inv.few)
-
-    whole_order : tried_after b s t sent (p ∷ helical 7 (ports_of port_count (left - 2 ^ p))) ≡ tried_in b s t vector
-    whole_order = ap (tried_after b s t sent) (sym turn_port.rest) ∙ inv.rest
-
-    pub turn_found : whole ≡ true → FirstPath b s t vector p hops (sent + hops)
-    turn_found e =
-        let free : free_all b s (helix_in b s t p) ≡ true = sym front.all ∙ e in
+  -- the next port
+  module _ (may : MayTryPaths b s t vector) {p : ℕ} {ps : List ℕ} (e : left ≡ p ∷ ps) where
+    pub turn_follows : MayFollow b s t p
+    turn_follows =
         record {
-          path = sym whole_order ∙ try_free (net (view b)) (free_in (view b)) s sent _ _ free ∙ ap (λ n. found (helix_in b s t p) (sent + n)) (sym front.count);
-          there = turn_follows.port;
-          long = front.count ∙ front_free (net (view b)) (free_in (view b)) s (helix_in b s t p) free;
+          bytes = may.bytes;
+          fits = may.fits;
+          node = may.source;
+          target = may.target;
+          port = inv.ports p (rw e (Memᴰ.head refl));
         }
 
-    pub turn_more : whole ≡ false → {r : ℕ} → Without left p r → PathTurn b s t vector r (sent + hops)
-    turn_more e {r} less =
-        let busy : free_all b s (helix_in b s t p) ≡ false = sym front.all ∙ e in
-        let same : r ≡ left - 2 ^ p = omega (arith, less.value) in
-        rw same
-        record {
-          ports = (let l = inv.ports in omega arith);
-          few = turn_room;
-          rest = ap (λ n. tried_after b s t (sent + n) (helical 7 (ports_of port_count (left - 2 ^ p)))) front.count ∙ sym (try_on (net (view b)) (free_in (view b)) s sent _ _ busy) ∙ whole_order;
-        }
+    -- the front of its helix path
+    module _ {links : List Link} (path : links ≡ helix_links s t p) where
+      pub turn_short : length links ≤ 9
+      turn_short = rw path (few_links turn_follows)
+
+      module _ {hops : ℕ} {free : Bool} (looked : FreeFrontOf b links hops free) where
+        hops_are : hops ≡ front_in b s (helix_in b s t p)
+        hops_are = looked.count ∙ ap (prefix_len (link_free b)) path ∙ sym (front turn_follows)
+
+        all_are : free_all b s (helix_in b s t p) ≡ free
+        all_are = whole turn_follows ∙ ap (list_all (link_free b)) (sym path) ∙ sym looked.all
+
+        whole_order : tried_after b s t sent (p ∷ ps) ≡ tried_in b s t vector
+        whole_order = ap (tried_after b s t sent) (sym e) ∙ inv.rest
+
+        pub turn_found : free ≡ true → FreePathFound b s t vector links hops (sent + hops)
+        turn_found on =
+            record {
+              port = p;
+              path = sym whole_order ∙ try_free (net (view b)) (free_in (view b)) s sent _ _ (all_are ∙ on) ∙ ap (λ n. found (helix_in b s t p) (sent + n)) (sym hops_are);
+              there = turn_follows.port;
+              links_of = path;
+              long = hops_are ∙ front_free (net (view b)) (free_in (view b)) s (helix_in b s t p) (all_are ∙ on);
+            }
+
+        pub turn_more : free ≡ false → PathTurn b s t vector (sent + hops) ps
+        turn_more off =
+            record {
+              ports = λ q m. inv.ports q (rw e (Memᴰ.tail m));
+              few =
+                  (let most = front_most (net (view b)) (free_in (view b)) s (helix_in b s t p) in
+                  let long = few_path turn_follows in
+                  let few = subst (λ x. sent + 9 * length x ≤ 72) e inv.few in
+                  omega (arith, hops_are));
+              rest = ap (λ n. tried_after b s t (sent + n) ps) hops_are ∙ sym (try_on (net (view b)) (free_in (view b)) s sent _ _ (all_are ∙ off)) ∙ whole_order;
+            }
 
 -- What becomes of them.
 module _ {b : List ℕ} {s t c vector : ℕ} (may : MaySend b s t c vector) where
@@ -130,11 +137,11 @@ module _ {b : List ℕ} {s t c vector : ℕ} (may : MaySend b s t c vector) wher
   helix_none {sent} e = sym (helix_send (none sent) e)
 
   -- the first that is
-  module _ {port hops sent : ℕ} (got : FirstPath b s t vector port hops sent) {k : ℕ} (low : k ≡ lowest_channel (view b) t) where
-    pub path_follows : MayFollow b s t port
+  module _ {links : List Link} {hops sent : ℕ} (got : FreePathFound b s t vector links hops sent) {k : ℕ} (low : k ≡ lowest_channel (view b) t) where
+    path_follows : MayFollow b s t got.port
     path_follows = record { bytes = may.bytes; fits = may.fits; node = may.source; target = may.target; port = got.there }
 
-    path_sent : searched b s t c 1 vector ≡ send_answer true b c s t (one_result r (found (helix_in b s t port) sent))
+    path_sent : searched b s t c 1 vector ≡ send_answer true b c s t (one_result r (found (helix_in b s t got.port) sent))
     path_sent = helix_send _ got.path
 
     none_there : k ≡ 8 → r ≡ none_available
@@ -153,9 +160,11 @@ module _ {b : List ℕ} {s t c vector : ℕ} (may : MaySend b s t c vector) wher
       pub channel_small : k < channels
       channel_small = receive_small (view b) t k (unfold r in channel_is)
 
-      pub helix_taken : {b₁ b₂ : List ℕ} → b₁ ≡ hold_path b c s (helix_in b s t port) → b₂ ≡ put_receiver b₁ t k c → pass_answer 0 hops k sent b₂ ≡ searched b s t c 1 vector
+      pub helix_taken : {b₁ b₂ : List ℕ} → b₁ ≡ fold (hold_link c) b links → b₂ ≡ put_receiver b₁ t k c → pass_answer 0 hops k sent b₂ ≡ searched b s t c 1 vector
       unfolding send_answer bytes_after_send answer_of_outcome outcome received scouts
-      helix_taken held taken = rw (taken, held, got.long) (sym (path_sent ∙ rw channel_is))
+      helix_taken {b₁} now taken =
+          let path : b₁ ≡ hold_path b c s (helix_in b s t got.port) = now ∙ ap (fold (hold_link c) b) got.links_of ∙ sym (held path_follows c) in
+          rw (taken, path, got.long) (sym (path_sent ∙ rw channel_is))
 
 -- A vector of one port lists that port alone.
 power_off : (p q : ℕ) → q ≢ p → has (2 ^ p) q ≡ false

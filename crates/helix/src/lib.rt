@@ -2,107 +2,77 @@
 // nothing to give back.
 #![tactic(auto)]
 
-ghost use Rattle.std.specs.Prelude.{◌≡◌, ◌≢◌};
-ghost use Rattle.table.specs.View.{view, net};
-ghost use Rattle.paths.specs.Helix.{helix_path};
-ghost use Rattle.answers.specs.PassOnBytes.{hold_path};
+ghost use Rattle.std.specs.Prelude.{◌≡◌, ◌≢◌, ◌≤◌, length};
+ghost use Rattle.std.specs.List.{fold};
+ghost use Rattle.layout.specs.Layout.{table_length};
+ghost use Rattle.paths.specs.LinksLeft.{links_left};
 ghost use Rattle.answers.specs.Opens.{opened_answer};
 ghost use Rattle.answers.specs.SendAnswer.{MaySend, searched};
-ghost use Rattle.helix.specs.HelixContracts.{MayFollow, FreeFront, MayTryPaths, FirstFree};
+ghost use Rattle.helix.specs.HelixContracts.{hold_link, FrontLooked, MayTryPaths, FirstFree};
 
 use answers::{Acknowledged, LinkState, Rejected, SendRequest};
 use common::refusal::Refusal;
-use cube::{Circuit, FirstPortTable, Node, Port};
+use cube::{Circuit, FirstPortTable, Port, VectorPorts};
+use paths::HelixPath;
+use table::{Channels, Links};
 
-// Follows the helix path of a port from its source until a link is not free or the target is reached: the hops of a path that is free, or the free hops at the front
-// of one that is not.
-fn free_front(
-    t: &[u8],
-    source: Node,
-    target: Node,
-    port: Port,
-    first: &FirstPortTable,
-) -> Result<u16, u16>
-    requires may_follow { MayFollow t.now source.0 target.0 port.0 }
-    ensures { FreeFront t.now source.0 target.0 port.0 result }
+// Goes along a path until a link is not free or the target is reached: the hops of a path that is free, or the free hops at the front of one that is not.
+fn free_front(t: &[u8], path: HelixPath) -> Result<u16, u16>
+    requires bytes { length t.now ≡ table_length }
+    requires few { length (links_left path) ≤ 9 }
+    ensures { FrontLooked t.now (links_left path.entry) result }
 {
-    let mut at = source;
-    let mut p = port;
     let mut hops: u16 = 0;
-    loop {
-        let enabled = table::enabled(t, at, p);
-        match answers::link_state(t, at, p, enabled) {
-            LinkState::Free => {}
-            LinkState::Held => return Err(hops),
-            LinkState::Blocked => return Err(hops),
-        }
-        at = cube::neighbour(at, p);
+    for (node, port) in path {
+        let enabled = table::enabled::<Links>(t, node, port);
+        let LinkState::Free = answers::link_state(t, node, port, enabled) else {
+            return Err(hops);
+        };
         hops += 1;
-        if at == target {
-            return Ok(hops);
-        }
-        p = first.first_port(cube::uphill_vector(at, target), p);
     }
+    Ok(hops)
 }
 
-// Gives the links of the helix path of a port to a circuit.
-fn hold_helix(
-    t: &mut [u8],
-    source: Node,
-    target: Node,
-    port: Port,
-    c: Circuit,
-    first: &FirstPortTable,
-)
-    requires may_follow { MayFollow t.old source.0 target.0 port.0 }
-    ensures { t.new ≡ hold_path t.old c.0 source.0 (helix_path (net (view t.old)) source.0 target.0 port.0) }
+// Gives the links of a path to a circuit.
+fn hold_helix(t: &mut [u8], path: HelixPath, c: Circuit)
+    requires bytes { length t.old ≡ table_length }
+    ensures { t.new ≡ fold (hold_link c.0) t.old (links_left path.entry) }
 {
-    let mut node = source;
-    let mut p = port;
-    loop {
-        table::set_owner(t, node, p, c);
-        node = cube::neighbour(node, p);
-        if node == target {
-            return;
-        }
-        p = first.first_port(cube::uphill_vector(node, target), p);
+    for (node, port) in path {
+        table::set_owner::<Links>(t, node, port, c);
     }
 }
 
-// A helix path that was found free: its first port, its hops, and the scouts sent until then.
+// A helix path that was found free, its hops, and the scouts sent until then.
 #[derive(Clone, Copy)]
-struct FreePath {
-    port: Port,
+struct FreePath<'a> {
+    path: HelixPath<'a>,
     hops: u16,
     scouts: u32,
 }
 
-// Tries the helix path of each port of a vector, from the lowest port upward, until one is free.
-fn first_free(
+// Tries the helix path of each port of the vector, from the lowest port upward, until one is free.
+fn first_free<'a>(
     t: &[u8],
-    source: Node,
-    target: Node,
-    vector: u16,
-    first: &FirstPortTable,
-) -> Result<FreePath, Rejected>
-    requires may_try_paths { MayTryPaths t.now source.0 target.0 vector }
-    ensures { FirstFree t.now source.0 target.0 vector result }
+    request: SendRequest,
+    first: &'a FirstPortTable,
+) -> Result<FreePath<'a>, Rejected>
+    requires may_try_paths { MayTryPaths t.now request.source.0 request.target.0 request.vector }
+    ensures { FirstFree t.now request.source.0 request.target.0 request.vector result }
 {
-    let mut left = vector;
     let mut scouts: u32 = 0;
-    while left != 0 {
-        let p = first.first_port(left, Port(cube::SEND_ARRIVAL));
-        match free_front(t, source, target, p, first) {
+    for port in VectorPorts::new(request.vector) {
+        let path = HelixPath::new(request.source, request.target, port, first);
+        match free_front(t, path) {
             Ok(hops) => {
                 return Ok(FreePath {
-                    port: p,
+                    path,
                     hops,
                     scouts: scouts + u32::from(hops),
                 });
             }
             Err(hops) => scouts += u32::from(hops),
         }
-        left = cube::without(left, p);
     }
     Err(Rejected {
         refusal: Refusal::RouteRejected,
@@ -119,26 +89,17 @@ pub fn try_each(
     requires may_send { MaySend t.old request.source.0 request.target.0 request.circuit.0 request.vector }
     ensures { opened_answer result t.new ≡ searched t.old request.source.0 request.target.0 request.circuit.0 1 request.vector }
 {
-    let path = first_free(t, request.source, request.target, request.vector, first)?;
-    let Some(receive) = table::free_channel(t, request.target) else {
-        return Err(Rejected {
-            refusal: Refusal::ReceiveRejected,
-            scouts: path.scouts,
-        });
-    };
-    hold_helix(
-        t,
-        request.source,
-        request.target,
-        path.port,
-        request.circuit,
-        first,
-    );
-    table::set_receiver(t, request.target, receive, request.circuit);
+    let free = first_free(t, request, first)?;
+    let receive = table::free_channel(t, request.target).ok_or(Rejected {
+        refusal: Refusal::ReceiveRejected,
+        scouts: free.scouts,
+    })?;
+    hold_helix(t, free.path, request.circuit);
+    table::set_owner::<Channels>(t, request.target, receive, request.circuit);
     Ok(Acknowledged {
-        hops: path.hops,
+        hops: free.hops,
         receive,
-        scouts: path.scouts,
+        scouts: free.scouts,
     })
 }
 

@@ -106,6 +106,23 @@ many fs h x = go (numbers fs) (numbers_hold (λ fs ns. length ns ≡ length fs) 
     go none e = refl
     go (some ns) e = over_five x ns (omega arith)
 
+-- A letter with the first of five numbers, as many as it has, asks for its call with these five.
+pub own_count_lem : (x k : ℕ) (vs : List ℕ) → length vs ≡ 5 → k ≡ numbers_of x
+    → by_letter x (take k vs) ≡ asked x (get_or vs 0 0) (get_or vs 1 0) (get_or vs 2 0) (get_or vs 3 0) (get_or vs 4 0)
+unfolding by_letter
+own_count_lem x k [] l e = absurd (omega arith)
+own_count_lem x k (a ∷ []) l e = absurd (omega arith)
+own_count_lem x k (a ∷ b ∷ []) l e = absurd (omega arith)
+own_count_lem x k (a ∷ b ∷ c ∷ []) l e = absurd (omega arith)
+own_count_lem x k (a ∷ b ∷ c ∷ d ∷ []) l e = absurd (omega arith)
+own_count_lem x k (a ∷ b ∷ c ∷ d ∷ f ∷ []) l e = rw e (each_letter Own refl refl refl refl refl refl refl refl x)
+  where
+    Own : ℕ → (ℕ → ℕ → ℕ → ℕ → ℕ → Option Call) → Type 0
+    Own n g =
+        let ns = take n (a ∷ b ∷ c ∷ d ∷ f ∷ []) in
+        cond (eqb (length ns) n) (g (get_or ns 0 0) (get_or ns 1 0) (get_or ns 2 0) (get_or ns 3 0) (get_or ns 4 0)) none ≡ g a b c d f
+own_count_lem x k (a ∷ b ∷ c ∷ d ∷ f ∷ g ∷ vs) l e = absurd (omega arith)
+
 -- the lines that a first look refuses
 pub too_long_line : (l : List ℕ) → longest < length l → asks l ≡ none
 unfolding asks

@@ -13,7 +13,7 @@ abbrev pub call_of : Answer Asked → Option Call
 call_of (Some (Make D)) = some (making D)
 call_of (Some (Block n p)) = some (blocking n.0 p.0)
 call_of (Some (Unblock n p)) = some (unblocking n.0 p.0)
-call_of (Some (Open s c t y v)) = some (opening s.0 c t.0 y v)
+call_of (Some (Open x)) = some (opening x.source.0 x.channel x.target.0 x.routing x.vector)
 call_of (Some (Close s c)) = some (closing s.0 c)
 call_of (Some (Arm n k)) = some (arming n.0 k)
 call_of (Some (Disarm n k)) = some (disarming n.0 k)

@@ -6,6 +6,7 @@ ghost use Rattle.text.specs.Lines.{fields};
 ghost use Rattle.input_line.specs.Line.{by_letter, asks};
 ghost use Rattle.input_line.specs.ReadLine.{call_of, ReadNumbers};
 
+use answers::Opening;
 use cube::{Node, Port};
 use std::marker::Model;
 use text::number;
@@ -15,7 +16,7 @@ const LONGEST: usize = 40;
 // The most numbers that a call letter has.
 const MOST: usize = 5;
 
-// The numbers behind a call letter, as far as they were read.
+// The numbers behind a call letter, as far as they were read: an array and a count, as there is no heap.
 #[derive(Drop)]
 struct Numbers {
     values: [u16; 5],
@@ -76,13 +77,13 @@ pub enum Asked {
     Make(u16),
     Block(Node, Port),
     Unblock(Node, Port),
-    Open(Node, u16, Node, u16, u16),
+    Open(Opening),
     Close(Node, u16),
     Arm(Node, u16),
     Disarm(Node, u16),
 }
 
-// What a letter and the numbers behind it ask, where they are as many as it has.
+// What a letter and the numbers behind it ask, where they are as many as it has. The letters stand here as they are read, and in `line_answer` as they are printed.
 #[tactic(auto, using(std::proofs::lemmas::Bool::Decides::nat_tests), unfolding(crate::specs::Line::by_letter, crate::specs::Line::numbers_of, crate::specs::Line::asked))]
 fn by_letter(letter: u8, numbers: &[u16]) -> Option<Asked>
     ensures { call_of result ≡ by_letter letter numbers.now }
@@ -91,13 +92,13 @@ fn by_letter(letter: u8, numbers: &[u16]) -> Option<Asked>
         (b'F', [dimension]) => Some(Asked::Make(*dimension)),
         (b'B', [node, port]) => Some(Asked::Block(Node(*node), Port(*port))),
         (b'E', [node, port]) => Some(Asked::Unblock(Node(*node), Port(*port))),
-        (b'S', [source, channel, target, routing, vector]) => Some(Asked::Open(
-            Node(*source),
-            *channel,
-            Node(*target),
-            *routing,
-            *vector,
-        )),
+        (b'S', [source, channel, target, routing, vector]) => Some(Asked::Open(Opening {
+            source: Node(*source),
+            channel: *channel,
+            target: Node(*target),
+            routing: *routing,
+            vector: *vector,
+        })),
         (b'C', [source, channel]) => Some(Asked::Close(Node(*source), *channel)),
         (b'R', [node, channel]) => Some(Asked::Arm(Node(*node), *channel)),
         (b'D', [node, channel]) => Some(Asked::Disarm(Node(*node), *channel)),

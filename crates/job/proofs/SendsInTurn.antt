@@ -15,29 +15,31 @@ use Rattle.layout.specs.Layout.{word_at}
 use Rattle.table.specs.View.{view}
 use Rattle.table.specs.Encode.{AllBytes}
 use Rattle.soundness.specs.TableTests.{table_tests}
-use Rattle.cube.specs.Cube.{circuit_of}
+use Rattle.cube.specs.Cube.{channels, circuit_of}
 use Rattle.answers.specs.declared.Acknowledged.{Acknowledged}
 use Rattle.answers.specs.declared.Rejected.{Rejected}
-use Rattle.answers.specs.Opens.{opened_number, opened_answer}
+use Rattle.answers.specs.declared.Opening.{Opening}
+use Rattle.common.specs.declared.refusal.Refusal.{Refusal}
+use Rattle.answers.specs.Opens.{opened_answer}
 use Rattle.std.proofs.Common.{Result, Ok, Err}
-use Rattle.answers.specs.SendAnswer.{sent_on_bytes}
+use Rattle.answers.specs.SendAnswer.{MaySend, sent_on_bytes}
 use Rattle.ownership.specs.Sends.{Send, send_at, sends_in}
-use Rattle.ownership.specs.Calls.{opening, opening_all, opening_of, call_tests, Job, After, one_more, ends_with, in_turn, after_job}
+use Rattle.ownership.specs.Calls.{Call, opening, opening_all, opening_of, call_tests, Job, After, one_more, ends_with, in_turn, after_job}
 use Rattle.ownership.specs.OnTable.{facts_of, stopped_at, table_step, opens_on, done}
 use Rattle.ownership.proofs.InTurn.{turn_accepted, turn_refused}
 use Rattle.ownership.proofs.Steps.{table_step_lem}
 use Rattle.ownership.proofs.FromTable.{keeps_sound}
 use Rattle.ownership.proofs.JobSays.{job_step}
 use Rattle.ownership.proofs.Stops.{pass_tests, stopped_is}
-use Rattle.router.proofs.TableStep.{call_stopped, call_refused, call_opens}
-use Rattle.call_tests.proofs.Stopping.{job_passed}
+use Rattle.router.proofs.TableStep.{call_refused, call_opens}
+use Rattle.call_tests.proofs.Stopping.{job_passed, open_small, open_vector, open_sends}
 use Rattle.common.specs.Refusals.{number_of}
 use Rattle.common.proofs.Refusals.{refused}
 use Rattle.common.proofs.Tests.{clash}
 use Rattle.layout.specs.Layout.{table_length}
 use Rattle.std.specs.Result.{is_err}
 use Rattle.job.specs.declared.JobRefused.{JobRefused}
-use Rattle.job.specs.JobContracts.{OpenedAt, job_number, job_sends, job_of}
+use Rattle.job.specs.JobContracts.{OpenedAt, job_number, job_sends, job_of, read_as}
 
 -- the sends from a place on
 abbrev pub sends_from : List ℕ → ℕ → List Send
@@ -103,15 +105,15 @@ module _ (sends : List ℕ) where
 
 -- The loop, at the sends from i on: what is known there of the table, and of the bytes before the job.
 module _ (b₀ b sends : List ℕ) (i : ℕ) (left : in_turn opens_on b₀ (sends_in sends) ≡ further i (in_turn opens_on b (sends_from sends i))) where
-  module _ (h : i < length sends / 10) {n : ℕ} {after : List ℕ} (o : OpenedAt b sends i n after) where
-    pub stopped_at_lem : n ≢ 0 → job_of after n i ≡ in_turn opens_on b₀ (sends_in sends)
-    stopped_at_lem f =
-        let g : (opens_on b (send_at sends i)).result.number ≢ 0 = λ z. f (o.number_is ∙ z) in
+  module _ (h : i < length sends / 10) {after : List ℕ} where
+    pub stopped_at_lem : (e : Refusal) → OpenedAt b sends i (number_of e) after → job_of after (number_of e) i ≡ in_turn opens_on b₀ (sends_in sends)
+    stopped_at_lem e o =
+        let g : (opens_on b (send_at sends i)).result.number ≢ 0 = λ z. refused e (o.number_is ∙ z) in
         let same = o.bytes_are ∙ (table_step_lem b (opening_of (send_at sends i))).refused g in
         (λ k. job_of (same k) (o.number_is k) i) ∙ sym (left ∙ stops_here sends b i h g)
 
-    pub went_on : n ≡ 0 → in_turn opens_on b₀ (sends_in sends) ≡ further (i + 1) (in_turn opens_on after (sends_from sends (i + 1)))
-    went_on z = left ∙ goes_on sends b i h (sym o.number_is ∙ z) ∙ ap (λ u. further (i + 1) (in_turn opens_on u (sends_from sends (i + 1)))) (sym o.bytes_are)
+    pub went_on : OpenedAt b sends i 0 after → in_turn opens_on b₀ (sends_in sends) ≡ further (i + 1) (in_turn opens_on after (sends_from sends (i + 1)))
+    went_on o = left ∙ goes_on sends b i h (sym o.number_is) ∙ ap (λ u. further (i + 1) (in_turn opens_on u (sends_from sends (i + 1)))) (sym o.bytes_are)
 
   pub ended : {count : ℕ} → count ≡ length sends / 10 → i ≤ count → count ≤ i → job_of b 0 count ≡ in_turn opens_on b₀ (sends_in sends)
   ended {count} e l m = ap (job_of b 0) same ∙ sym (left ∙ all_opened sends b i (omega (arith, e, m)))
@@ -142,38 +144,52 @@ module _ (b sends : List ℕ) (e : 0 ≡ stopped_at b (opening_all sends)) (smal
       ∙ ap (λ (x : Job (List ℕ)). done (after_job b x) x.result.number (x.result.sends ∷ []) (sends ∷ [])) j
       ∙ sym (job_step b sends small (sym e))
 
-  pub none_opened : (r : Result ℕ JobRefused) {after left : List ℕ} → job_of after (job_number r) (job_sends r) ≡ in_turn opens_on b (sends_in sends) → is_err r ≡ true → left ≡ b
+  pub none_opened : (r : Result ℕ JobRefused) → is_err r ≡ true → {after left : List ℕ} → job_of after (job_number r) (job_sends r) ≡ in_turn opens_on b (sends_in sends) → left ≡ b
       → done left (job_number r) (job_sends r ∷ []) (sends ∷ []) ≡ table_step b (opening_all sends)
   unfolding after_job
-  none_opened (Ok k) j f q = absurd (clash f refl)
-  none_opened (Err x) j f q = came_to j (q ∙ rw (ne_eqb (number_of x.refusal) 0 (refused x.refusal)))
+  none_opened (Ok k) f j q = absurd (clash f refl)
+  none_opened (Err x) f j q = came_to j (q ∙ rw (ne_eqb (number_of x.refusal) 0 (refused x.refusal)))
 
-  pub each_opened : (r : Result ℕ JobRefused) {after : List ℕ} → job_of after (job_number r) (job_sends r) ≡ in_turn opens_on b (sends_in sends) → is_err r ≡ false
+  pub each_opened : (r : Result ℕ JobRefused) → is_err r ≡ false → {after : List ℕ} → job_of after (job_number r) (job_sends r) ≡ in_turn opens_on b (sends_in sends)
       → done after (job_number r) (job_sends r ∷ []) (sends ∷ []) ≡ table_step b (opening_all sends)
   unfolding after_job
-  each_opened (Ok k) j f = came_to j refl
-  each_opened (Err x) j f = absurd (clash refl f)
+  each_opened (Ok k) f j = came_to j refl
+  each_opened (Err x) f j = absurd (clash refl f)
 
--- One send: its numbers, as the code reads them,
-module _ (b sends : List ℕ) (i : ℕ) {s c t y v : ℕ} (q : record { source = s; channel = c; target = t; type = y; vector = v } ≡ send_at sends i) where
-  -- the number and the bytes of the single call,
-  pub open_done : {after : List ℕ} {n h r k : ℕ} → done after n (h ∷ r ∷ k ∷ []) [] ≡ table_step b (opening s c t y v) → OpenedAt b sends i n after
-  open_done e =
-      let x = e ∙ ap (opens_on b) q in
-      record { number_is = ap (λ (a : After (List ℕ)). a.result.number) x; bytes_are = ap (λ (a : After (List ℕ)). a.state) x }
+-- One send, as the code reads it, on a table that passes its tests: those of its arguments are all that can stop it.
+module _ (b sends : List ℕ) (i : ℕ) (x : Opening) (pass : refusal (table_tests b) ≡ 0) where
+  abbrev call : Call
+  call = opening x.source.0 x.channel x.target.0 x.routing x.vector
 
-  -- where the tests of its arguments answer n, on a table that passes its own
-  module _ (pass : refusal (table_tests b) ≡ 0) {n : ℕ} (e : n ≡ refusal (call_tests (facts_of (view b)) (opening s c t y v))) where
-    pub stopped : n ≡ stopped_at b (opening s c t y v)
-    stopped = let p = pass_tests b pass in e ∙ sym (stopped_is b p.0 p.1 p.2 p.3 (opening s c t y v))
+  stops : {n : ℕ} → n ≡ refusal (call_tests (facts_of (view b)) call) → n ≡ stopped_at b call
+  stops e = let p = pass_tests b pass in e ∙ sym (stopped_is b p.0 p.1 p.2 p.3 call)
 
-    pub open_refused : n ≢ 0 → OpenedAt b sends i n b
-    open_refused f = open_done (call_stopped b (opening s c t y v) stopped f)
+  module _ (e : 0 ≡ refusal (call_tests (facts_of (view b)) call)) where
+    pub send_small : (x.source.0 < 256) × (x.channel < channels)
+    send_small = open_small b x.source.0 x.channel x.target.0 x.routing x.vector (stops e)
 
-  pub open_sent : 0 ≡ stopped_at b (opening s c t y v) → AllBytes b → {d : ℕ} → d ≡ circuit_of s c → (r : Result Acknowledged Rejected) {after : List ℕ} → opened_answer r after ≡ sent_on_bytes b s t d y v
-      → OpenedAt b sends i (opened_number r) after
-  open_sent e small p (Ok a) g = open_done (call_opens b s c t y v e small p (Ok a) g)
-  open_sent e small p (Err a) g = open_done (call_opens b s c t y v e small p (Err a) g)
+    pub send_vector : x.vector ≢ 0
+    send_vector = open_vector b x.source.0 x.channel x.target.0 x.routing x.vector (stops e)
+
+    pub send_may : MaySend b x.source.0 x.target.0 (circuit_of x.source.0 x.channel) x.vector
+    send_may = open_sends b x.source.0 x.channel x.target.0 x.routing x.vector (stops e) refl
+
+  module _ (q : read_as x ≡ send_at sends i) where
+    -- the number and the bytes of the single call
+    open_done : {after : List ℕ} {n h r k : ℕ} → done after n (h ∷ r ∷ k ∷ []) [] ≡ table_step b call → OpenedAt b sends i n after
+    open_done e =
+        let y = e ∙ ap (opens_on b) q in
+        record { number_is = ap (λ (a : After (List ℕ)). a.result.number) y; bytes_are = ap (λ (a : After (List ℕ)). a.state) y }
+
+    pub open_refused : (e : Refusal) → number_of e ≡ refusal (call_tests (facts_of (view b)) call) → OpenedAt b sends i (number_of e) b
+    open_refused e f = open_done (call_refused b call e (stops f))
+
+    module _ (e : 0 ≡ refusal (call_tests (facts_of (view b)) call)) (small : AllBytes b) {after : List ℕ} where
+      pub open_accepted : (a : Acknowledged) → opened_answer (Ok a) after ≡ sent_on_bytes b x.source.0 x.target.0 (circuit_of x.source.0 x.channel) x.routing x.vector → OpenedAt b sends i 0 after
+      open_accepted a g = open_done (call_opens b x.source.0 x.channel x.target.0 x.routing x.vector (stops e) small refl (Ok a) g)
+
+      pub open_rejected : (r : Rejected) → opened_answer (Err r) after ≡ sent_on_bytes b x.source.0 x.target.0 (circuit_of x.source.0 x.channel) x.routing x.vector → OpenedAt b sends i (number_of r.refusal) after
+      open_rejected r g = open_done (call_opens b x.source.0 x.channel x.target.0 x.routing x.vector (stops e) small refl (Err r) g)
 
 -- which stand in ten bytes of the list.
 pub send_is : (sends : List ℕ) (i : ℕ) {s c t y v : ℕ} → s ≡ word_at sends (10 * i) → c ≡ word_at sends (10 * i + 2) → t ≡ word_at sends (10 * i + 4) → y ≡ word_at sends (10 * i + 6) → v ≡ word_at sends (10 * i + 8)
@@ -186,3 +202,9 @@ send_is sends i es ec et ey ev = λ k. record { source = (es ∙ ap (word_at sen
 
 -- With these the check proves what a whole job answers, and what it asks.
 pub ruleset whole_job = (call_refused, all_passes, all_long, all_short)
+
+-- what the loop over its sends comes to,
+pub ruleset sends_in_turn = (at_first, went_on, ended, still_passes)
+
+-- and what one send answers, and what it asks.
+pub ruleset one_send = (open_refused, open_accepted, open_rejected, send_small, send_vector, send_may)

@@ -3,8 +3,8 @@
 use Rattle.std.specs.Prelude.{◌≡◌, List, ℕ, ◌+◌, ◌*◌, ◌≤◌, length, Result, Ok, Err}
 use Rattle.common.specs.Refusals.{number_of}
 use Rattle.common.specs.Tests.{refusal}
+use Rattle.answers.specs.declared.Opening.{Opening}
 use Rattle.job.specs.declared.JobRefused.{JobRefused}
-use Rattle.job.specs.declared.Send as code
 use Rattle.soundness.specs.TableTests.{table_tests}
 use Rattle.ownership.specs.Sends.{Send, send_at}
 use Rattle.ownership.specs.Calls.{Job}
@@ -35,5 +35,5 @@ job_sends (Ok sends) = sends
 job_sends (Err refused) = refused.place
 
 -- a send as the code reads it
-abbrev pub read_as : code.Send → Send
+abbrev pub read_as : Opening → Send
 read_as x = record { source = x.source.0; channel = x.channel; target = x.target.0; type = x.routing; vector = x.vector }

@@ -10,8 +10,8 @@ ghost use Rattle.ownership.specs.Calls.{opening_all, in_turn};
 ghost use Rattle.ownership.specs.OnTable.{table_step, opens_on, done};
 ghost use Rattle.job.specs.JobContracts.{MayOpen, OpenedAt, job_number, job_sends, job_of, read_as};
 
-use answers::SendRequest;
-use call_tests::SEND_BYTES;
+use answers::Opening;
+use call_tests::{SEND_BYTES, SoundTable};
 use common::refusal::Refusal;
 use cube::{FirstPortTable, Node};
 
@@ -31,60 +31,47 @@ impl From<Refusal> for JobRefused {
     }
 }
 
-// A send of a list.
-#[derive(Clone, Copy)]
-struct Send {
-    source: Node,
-    channel: u16,
-    target: Node,
-    routing: u16,
-    vector: u16,
-}
-
-impl Send {
-    // The send at a place of a list, from 0. Its five numbers take two bytes each, low byte first.
-    fn read(sends: &[u8], place: usize) -> Send
-        requires { 10 * place + 10 ≤ length sends.now }
-        ensures { read_as result ≡ send_at sends.now place }
-    {
-        let at = SEND_BYTES * place;
-        Send {
-            source: Node(layout::word(sends, at)),
-            channel: layout::word(sends, at + 2),
-            target: Node(layout::word(sends, at + 4)),
-            routing: layout::word(sends, at + 6),
-            vector: layout::word(sends, at + 8),
-        }
+// The send at a place of a list, from 0. Its five numbers take two bytes each, low byte first.
+#[tactic(auto, using(crate::proofs::SendsInTurn::send_is))]
+fn read_send(sends: &[u8], place: usize) -> Opening
+    requires { 10 * place + 10 ≤ length sends.now }
+    ensures { read_as result ≡ send_at sends.now place }
+{
+    let at = SEND_BYTES * place;
+    Opening {
+        source: Node(layout::word(sends, at)),
+        channel: layout::word(sends, at + 2),
+        target: Node(layout::word(sends, at + 4)),
+        routing: layout::word(sends, at + 6),
+        vector: layout::word(sends, at + 8),
     }
 }
 
 // Opens the send at a place of a list, from 0, on a table that passed its tests.
+#[tactic(auto, using(crate::proofs::SendsInTurn::one_send))]
 fn open_at(t: &mut [u8], sends: &[u8], place: usize, first: &FirstPortTable) -> Result<(), Refusal>
     requires may_open { MayOpen t.old sends.now place }
     ensures { OpenedAt t.old sends.now place (answer_of result) t.new }
 {
-    let x = Send::read(sends, place);
-    call_tests::open_arguments(t, x.source, x.channel, x.target, x.routing, x.vector)?;
-    let request = SendRequest {
-        source: x.source,
-        target: x.target,
-        circuit: cube::circuit_of(x.source, x.channel),
-        vector: x.vector,
-    };
-    match send::send_by(t, request, x.routing, first) {
+    let x = read_send(sends, place);
+    SoundTable { bytes: t }.open_arguments(x)?;
+    match send::send_by(t, x.request(), x.routing, first) {
         Ok(_) => Ok(()),
         Err(rejected) => Err(rejected.refusal),
     }
 }
 
 // Opens the sends of a list one after another, up to the first that is refused. The table of first ports is taken once for all of them.
+#[tactic(auto, using(crate::proofs::SendsInTurn::sends_in_turn))]
 fn open_in_turn(t: &mut [u8], sends: &[u8]) -> Result<u16, JobRefused>
     requires t_value { refusal (table_tests t.old) ≡ 0 }
     requires sends_len_bound { length sends.now ≤ 640 }
     ensures { job_of t.new (job_number result) (job_sends result) ≡ in_turn opens_on t.old (sends_in sends.now) }
 {
     let first = FirstPortTable::new();
+    // 64 at most, so no cast cuts a place or the count off; u16::try_from would answer a failure that cannot come.
     let count = sends.len() / SEND_BYTES;
+    // By place, since a refusal names it. Tried over `chunks_exact` with `enumerate`: the check finds no proof of a turn, nor of either return.
     for place in 0..count {
         if let Err(refusal) = open_at(t, sends, place, &first) {
             return Err(JobRefused {

@@ -48,12 +48,6 @@ link_part = 257
 abbrev pub receive_part : ℕ
 receive_part = 4353
 
-abbrev pub link_place : ℕ → ℕ → ℕ
-link_place n p = entry_place link_part n p
-
-abbrev pub receive_place : ℕ → ℕ → ℕ
-receive_place n k = entry_place receive_part n k
-
 -- "Circuit numbers take two bytes, low byte first."
 abbrev pub word_at : List ℕ → ℕ → ℕ
 word_at b i = get_or b i 0 + 256 * get_or b (i + 1) 0

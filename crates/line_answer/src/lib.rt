@@ -53,9 +53,7 @@ fn carry_out(t: &mut [u8], line: u16, asked: Option<Asked>, ports: &mut [u8]) ->
             let answer = refusal::answer(router::unblock(t, node, port));
             of_port(line, b'E', answer, node, port)
         }
-        Asked::Open(source, channel, target, routing, vector) => printed_line::open(
-            t, line, source, channel, target, routing, vector, ports,
-        ),
+        Asked::Open(x) => printed_line::open(t, line, x, ports),
         Asked::Close(source, channel) => {
             let answer = refusal::answer(router::close(t, source, channel));
             printed_line::of_channel(line, b'C', answer, source, channel)

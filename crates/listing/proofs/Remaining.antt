@@ -1,19 +1,21 @@
 -- The lines of an input one by one, and the list as it is written.
 -- Assumes nothing.
 use mathlib.Core.Path.{◌≡◌, refl, ap, sym, ◌∙◌}
+use mathlib.Core.Logic.{◌≢◌}
 use mathlib.Core.Bool.{Bool, true, false, cond}
 use mathlib.Core.List.{List, [], ◌∷◌, ◌++◌}
-use Prim.Native.Nat.{ℕ, ◌+◌, ◌≤◌, ◌<◌}
+use Prim.Native.Nat.{ℕ, zero, suc, ◌+◌, ◌-◌, ◌≤◌, ◌<◌}
 use native.Mathlib.Nat.{zero-add}
 use native.Mathlib.Numerals.{add-one}
 use native.Mathlib.Omega.{arith}
 use lib.Dec.{ltb}
-use lib.ListN.{length, get_or, drop, length-append, drop_of_length-le}
-use lib.Seq.{sets-eq, drop-cons}
-use borrow.Author.Tests.{lt-ltb, le-ltb}
+use lib.ListN.{length, get_or, take, drop, length-drop, length-append, drop_of_length-le}
+use lib.Seq.{sets-eq, drop-cons, get_or-drop}
+use borrow.Author.Tests.{lt-ltb, le-ltb, eq-eqb, ne_eqb}
 use Rattle.table.specs.View.{fresh}
 use Rattle.table.specs.Encode.{encode}
-use Rattle.text.specs.Lines.{cut, lines}
+use Rattle.text.specs.Text.{newline}
+use Rattle.text.specs.Lines.{on_first, cut, lines}
 use Rattle.input_line.specs.Line.{asks}
 use Rattle.text.specs.Row.{row_text, rows_text}
 use Rattle.printed_line.specs.PrintedLine.{row_for, state_after}
@@ -32,6 +34,36 @@ pub rows_step : (b : List ℕ) (n : ℕ) (ls : List (List ℕ)) (k : ℕ) → k 
     ≡ row_text (row_for table_step b n (asks (get_or ls k []))) ++ rows_text (rows table_step (state_after table_step b (asks (get_or ls k []))) (n + 1) (drop (k + 1) ls))
 unfolding rows_text rows
 rows_step b n ls k h = rw (add-one k, add-one n, drop-cons ls k [] h)
+
+-- The first line of a text is what stands before its first newline, or all of it where it has none: the first m bytes, where m is the place of that newline,
+-- or the text's length.
+first_line : (xs : List ℕ) (m : ℕ) → 0 < length xs → m ≤ length xs → ((p : ℕ) → p < m → get_or xs p 0 ≢ newline) → (m < length xs → get_or xs m 0 ≡ newline)
+    → (0 < length (lines xs)) × (get_or (lines xs) 0 [] ≡ take m xs)
+unfolding lines cut on_first
+first_line [] m s h none ends = absurd (omega arith)
+first_line (x ∷ xs) zero s h none ends = rw (eq-eqb x newline (ends (omega arith))) (omega arith, refl)
+first_line (x ∷ []) (suc zero) s h none ends = rw (ne_eqb x newline (none 0 (omega arith))) (omega arith, refl)
+first_line (x ∷ []) (suc (suc m)) s h none ends = absurd (omega arith)
+first_line (x ∷ y ∷ xs) (suc m) s h none ends =
+    rw (ne_eqb x newline (none 0 (omega arith)))
+    (go (cut newline [] (y ∷ xs)) (first_line (y ∷ xs) m (omega arith) (omega arith) (λ p l. none (suc p) (omega arith)) (λ l. ends (omega arith))))
+  where
+    go : (ls : List (List ℕ)) → (0 < length ls) × (get_or ls 0 [] ≡ take m (y ∷ xs)) → (0 < length (on_first x ls)) × (get_or (on_first x ls) 0 [] ≡ x ∷ take m (y ∷ xs))
+    go [] e = absurd (omega (arith, e.0))
+    go (l ∷ ls) e = (omega arith, ap (x ∷◌) e.1)
+
+-- The printed line of the first line of an input from place i on is no longer than the printed lines of all that follows from there. That line ends at place j,
+-- that of the first newline from i on, or the input's end.
+pub line_fits_lem : (input : List ℕ) (i j : ℕ) → i < length input → i ≤ j → j ≤ length input → ((p : ℕ) → i ≤ p → p < j → get_or input p 0 ≢ newline)
+    → (j < length input → get_or input j 0 ≡ newline) → (b : List ℕ) (n : ℕ)
+    → length (row_text (row_for table_step b n (asks (take (j - i) (drop i input))))) ≤ length (rows_text (rows table_step b n (lines (drop i input))))
+line_fits_lem input i j inside after within none ends b n =
+    let l = length-drop i input in
+    let f : (0 < length (lines (drop i input))) × (get_or (lines (drop i input)) 0 [] ≡ take (j - i) (drop i input)) =
+    first_line (drop i input) (j - i) (omega arith) (omega arith) (λ p q e. none (i + p) (omega arith) (omega arith) (sym (get_or-drop i input p 0) ∙ e))
+    (λ q. get_or-drop i input (j - i) 0 ∙ ap (λ m. get_or input m 0) (omega arith) ∙ ends (omega arith)) in
+    let e = ap length (rows_step b n (lines (drop i input)) 0 f.0) in
+    rw (← f.1) (omega (arith, e, length-append (row_text (row_for table_step b n (asks (get_or (lines (drop i input)) 0 []))))))
 
 -- behind the last line nothing is left
 pub rows_end : (b : List ℕ) (n : ℕ) (ls : List (List ℕ)) (k : ℕ) → length ls ≤ k → rows_text (rows table_step b n (drop k ls)) ≡ []

@@ -27,7 +27,7 @@ fn without_end(input: &[u8]) -> &[u8]
     }
 }
 
-// The printed lines of an input, from a place on. Each line of input is carried out on the table and printed.
+// The printed lines of an input, from a place on. Each line of input is carried out on the table and printed, with its number, from 1 on; there are fewer than 65,535.
 fn rows(input: &[u8], t: &mut [u8], out: &mut [u8], at: usize) -> usize
     requires { (length input.now ≤ 60000) × (at + length (rows_text (rows table_step t.old 1 (lines input.now))) ≤ length out.old) }
     ensures { Wrote out.old at (rows_text (rows table_step t.old 1 (lines input.now))) out.new result }
@@ -36,10 +36,8 @@ fn rows(input: &[u8], t: &mut [u8], out: &mut [u8], at: usize) -> usize
         return at;
     }
     let mut end = at;
-    let mut line: u16 = 1;
-    for text in without_end(input).split(|x| *x == b'\n') {
+    for (line, text) in (1..u16::MAX).zip(without_end(input).split(|x| *x == b'\n')) {
         end = line_answer::answer(t, out, end, line, text);
-        line += 1;
     }
     end
 }

@@ -11,6 +11,7 @@ ghost use Rattle.book.specs.Lookup.{looked_up};
 ghost use Rattle.ownership.specs.OnTable.{table_step, done};
 ghost use Rattle.receiver.specs.Receive.{data_packet, command_word, started, received, overshoot};
 
+use answers::Opening;
 use arbiter::Arbiter;
 use book::Book;
 use command_word::CommandWord;
@@ -65,7 +66,14 @@ pub extern "C" fn maze_open(
 ) -> Opened
     ensures { done table.new result.number (result.hops ∷ result.receive ∷ result.scouts ∷ []) [] ≡ table_step table.old (opening node channel target routing vector) }
 {
-    Opened::from(router::open(table, Node(node), channel, Node(target), routing, vector))
+    let x = Opening {
+        source: Node(node),
+        channel,
+        target: Node(target),
+        routing,
+        vector,
+    };
+    Opened::from(router::open(table, x))
 }
 
 #[unsafe(no_mangle)]

@@ -1,4 +1,4 @@
-// The structs that C gets of what the calls answer: 0 beside the values, or the refusal's number beside zeros.
+// The structs that C gets of what the calls answer: 0 beside the values, or the refusal's number beside zeros. C knows no generic struct, so each has fields of its own, and its `From` names them.
 ghost use Rattle.std.specs.Prelude.{◌≡◌, [], ◌∷◌};
 ghost use Rattle.std.specs.Result.{result_unwrap_or};
 ghost use Rattle.answers.specs.Opens.{opened_number, opened_values};
@@ -125,7 +125,7 @@ impl From<Result<BookSize, Refusal>> for Booked {
     }
 }
 
-// What C is told of a requester where nobody was served.
+// What C is told of a requester where nobody was served: its struct has a number there, and no Option.
 const NOBODY: u16 = arbiter::REQUESTERS;
 
 // A reading of a command word: a refusal has zeros beside its number.

@@ -1,5 +1,6 @@
 // Document 01's examples 1 to 7 and 9, with every receive channel armed first, and document 02's arming through the router's calls: each line is
-// a call with its numbers, a colon, and what it answered.
+// a call with its numbers, a colon, and what it answered. The functions print to one place and change one table: both are lent to each, and no struct would hold them longer than a call.
+use answers::Opening;
 use common::refusal::{Refusal, answer};
 use cube::{Node, Port};
 use std::io;
@@ -11,13 +12,12 @@ enum Call {
     Make(u16),
     // How many nodes have all their receive channels armed.
     ArmAll(u8),
-    // Node and port.
-    Block(u16, u16),
+    Block(Node, Port),
     // Node and receive channel.
-    Arm(u16, u16),
-    Disarm(u16, u16),
+    Arm(Node, u16),
+    Disarm(Node, u16),
     // Send channel, target, routing type, send vector.
-    Open(u16, u16, u16, u16),
+    Open(u16, Node, u16, u16),
     // Send channel.
     Close(u16),
     Trace(u16),
@@ -31,16 +31,12 @@ fn arm_all(t: &mut [u8], nodes: u8) -> Result<(), Refusal> {
     Ok(())
 }
 
-fn open(
-    rt: &impl Print,
-    t: &mut [u8],
-    channel: u16,
-    target: u16,
-    routing: u16,
-    vector: u16,
-) -> io::Result<()> {
-    print!(rt; "open 0 {channel} {target} {routing} {vector}: ")?;
-    match router::open(t, Node(0), channel, Node(target), routing, vector) {
+fn open(rt: &impl Print, t: &mut [u8], x: Opening) -> io::Result<()> {
+    print!(rt;
+        "open {} {} {} {} {}: ",
+        x.source.0, x.channel, x.target.0, x.routing, x.vector
+    )?;
+    match router::open(t, x) {
         Ok(found) => println!(rt; "0 {} {} {}", found.hops, found.receive, found.scouts),
         Err(rejected) => println!(rt; "{} 0 0 {}", rejected.refusal.number(), rejected.scouts),
     }
@@ -65,16 +61,23 @@ fn carry_out(rt: &impl Print, t: &mut [u8], call: Call) -> io::Result<()> {
         Call::Make(d) => println!(rt; "make {d}: {}", answer(router::make(t, d))),
         Call::ArmAll(nodes) => println!(rt; "arm all of {nodes}: {}", answer(arm_all(t, nodes))),
         Call::Block(n, p) => {
-            println!(rt;
-                "block {n} {p}: {}",
-                answer(router::block(t, Node(n), Port(p)))
-            )
+            println!(rt; "block {} {}: {}", n.0, p.0, answer(router::block(t, n, p)))
         }
-        Call::Arm(n, c) => println!(rt; "arm {n} {c}: {}", answer(router::arm(t, Node(n), c))),
+        Call::Arm(n, c) => println!(rt; "arm {} {c}: {}", n.0, answer(router::arm(t, n, c))),
         Call::Disarm(n, c) => {
-            println!(rt; "disarm {n} {c}: {}", answer(router::disarm(t, Node(n), c)))
+            println!(rt; "disarm {} {c}: {}", n.0, answer(router::disarm(t, n, c)))
         }
-        Call::Open(c, target, routing, vector) => open(rt, t, c, target, routing, vector),
+        Call::Open(channel, target, routing, vector) => open(
+            rt,
+            t,
+            Opening {
+                source: Node(0),
+                channel,
+                target,
+                routing,
+                vector,
+            },
+        ),
         Call::Close(c) => println!(rt; "close 0 {c}: {}", answer(router::close(t, Node(0), c))),
         Call::Trace(c) => trace(rt, t, c),
     }
@@ -91,13 +94,13 @@ fn run(rt: &impl Print, t: &mut [u8], calls: &[Call]) -> io::Result<()> {
 const FIGURES: [Call; 10] = [
     Call::Make(3),
     Call::ArmAll(8),
-    Call::Open(0, 7, 0, 7),
+    Call::Open(0, Node(7), 0, 7),
     Call::Trace(0),
     Call::Make(3),
     Call::ArmAll(8),
-    Call::Block(1, 2),
-    Call::Block(3, 2),
-    Call::Open(0, 7, 0, 7),
+    Call::Block(Node(1), Port(2)),
+    Call::Block(Node(3), Port(2)),
+    Call::Open(0, Node(7), 0, 7),
     Call::Trace(0),
 ];
 
@@ -105,16 +108,16 @@ const FIGURES: [Call; 10] = [
 const DETOURS: [Call; 13] = [
     Call::Make(1),
     Call::ArmAll(2),
-    Call::Open(0, 0, 0, 1),
+    Call::Open(0, Node(0), 0, 1),
     Call::Trace(0),
     Call::Make(2),
     Call::ArmAll(4),
-    Call::Open(0, 1, 0, 2),
+    Call::Open(0, Node(1), 0, 2),
     Call::Trace(0),
     Call::Make(2),
     Call::ArmAll(4),
-    Call::Block(2, 0),
-    Call::Open(0, 1, 0, 2),
+    Call::Block(Node(2), Port(0)),
+    Call::Open(0, Node(1), 0, 2),
     Call::Trace(0),
 ];
 
@@ -122,12 +125,12 @@ const DETOURS: [Call; 13] = [
 const SECOND_PASS: [Call; 9] = [
     Call::Make(2),
     Call::ArmAll(4),
-    Call::Block(0, 0),
-    Call::Open(0, 1, 0, 1),
+    Call::Block(Node(0), Port(0)),
+    Call::Open(0, Node(1), 0, 1),
     Call::Make(2),
     Call::ArmAll(4),
-    Call::Block(0, 0),
-    Call::Open(0, 1, 4, 1),
+    Call::Block(Node(0), Port(0)),
+    Call::Open(0, Node(1), 4, 1),
     Call::Trace(0),
 ];
 
@@ -135,10 +138,10 @@ const SECOND_PASS: [Call; 9] = [
 const LINK_FREED: [Call; 6] = [
     Call::Make(1),
     Call::ArmAll(2),
-    Call::Open(0, 1, 0, 1),
-    Call::Open(1, 1, 0, 1),
+    Call::Open(0, Node(1), 0, 1),
+    Call::Open(1, Node(1), 0, 1),
     Call::Close(0),
-    Call::Open(1, 1, 0, 1),
+    Call::Open(1, Node(1), 0, 1),
 ];
 
 // 9: the edges of dimension, node, vector and length.
@@ -147,29 +150,29 @@ const EDGES: [Call; 9] = [
     Call::Make(9),
     Call::Make(3),
     Call::ArmAll(8),
-    Call::Open(0, 7, 0, 7),
+    Call::Open(0, Node(7), 0, 7),
     Call::Make(3),
     Call::ArmAll(8),
-    Call::Open(0, 8, 0, 7),
-    Call::Open(0, 7, 0, 8),
+    Call::Open(0, Node(8), 0, 7),
+    Call::Open(0, Node(7), 0, 8),
 ];
 
-const WRONG_LENGTH: [Call; 2] = [Call::Make(3), Call::Open(0, 7, 0, 7)];
+const WRONG_LENGTH: [Call; 2] = [Call::Make(3), Call::Open(0, Node(7), 0, 7)];
 
 // Document 02, (a): a receive channel is taken only where it is armed, is not disarmed while it is held, and is disarmed by the close.
 const ARMING: [Call; 12] = [
     Call::Make(3),
-    Call::Open(0, 7, 0, 7),
-    Call::Arm(8, 0),
-    Call::Arm(7, 8),
-    Call::Arm(7, 0),
-    Call::Open(0, 7, 0, 7),
-    Call::Disarm(8, 0),
-    Call::Disarm(7, 8),
-    Call::Disarm(7, 0),
-    Call::Disarm(7, 1),
+    Call::Open(0, Node(7), 0, 7),
+    Call::Arm(Node(8), 0),
+    Call::Arm(Node(7), 8),
+    Call::Arm(Node(7), 0),
+    Call::Open(0, Node(7), 0, 7),
+    Call::Disarm(Node(8), 0),
+    Call::Disarm(Node(7), 8),
+    Call::Disarm(Node(7), 0),
+    Call::Disarm(Node(7), 1),
     Call::Close(0),
-    Call::Open(0, 7, 0, 7),
+    Call::Open(0, Node(7), 0, 7),
 ];
 
 pub fn examples(rt: &impl Print) -> io::Result<()> {

@@ -94,7 +94,7 @@ fn write(rt: &impl Print, command: u16, carried: u16) -> io::Result<()> {
     println!(rt; "write {command} {carried} {number} {word}")
 }
 
-// Example 8 of "Examples at the edges", then a word for each refusal from 15 to 18,
+// Example 8 of "Examples at the edges", then a word for each refusal from 15 to 18.
 pub fn examples(rt: &impl Print) -> io::Result<()> {
     read(rt, 2175)?;
     write(rt, Command::RouteAcknowledge.number(), 0)?;
@@ -113,7 +113,7 @@ pub fn examples(rt: &impl Print) -> io::Result<()> {
     Ok(())
 }
 
-// and a command for 18 and 19.
+// A command for each of the refusals 18 and 19.
 pub fn written(rt: &impl Print) -> io::Result<()> {
     for (command, carried) in [
         (15, 0),

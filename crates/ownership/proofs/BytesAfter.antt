@@ -43,7 +43,7 @@ module _ (b : List ℕ) (bytes : Bytes b) where
   armed_encoded n k on w =
       encode_shown (put_armed b n k on) _ (unfold put_armed in mask_bytes_lem _ b n k on bytes w.port) (view_put_armed b n k on w)
 
--- What the functions below leave of the bytes: `table::make`, `set_enabled`, `send::send`, `release::release`, `table::set_armed`.
+-- What the functions below leave of the bytes: `table::make`, `table::set_enabled` of both halves, `send::send`, `release::release`.
 unfoldable pub written_by : List ℕ → Call → List ℕ
 written_by b (making D) = encode (fresh D)
 written_by b (blocking n p) = put_enabled b n p false

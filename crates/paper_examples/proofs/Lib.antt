@@ -1,3 +1,2 @@
 -- Document 01's examples on tables.
 pub mod OnTables
-pub mod FirstPort

@@ -27,3 +27,4 @@ pub mod Examples
 pub mod FoldExamples
 pub mod TypeExamples
 pub mod SentAs
+pub mod HelixLinks

@@ -13,3 +13,5 @@ pub mod Reach
 pub mod Between
 pub mod Bound
 pub mod Recover
+pub mod HelixLinks
+pub mod LinksLeft

@@ -9,7 +9,7 @@ use lib.ListN.{take}
 use borrow.Author.Tests.{ne_eqb}
 use Rattle.ownership.specs.Calls.{Call, opening, tracing, CallResult, hops_of, receive_of, scouts_of, buffer_of, carries_scouts, After}
 use Rattle.ownership.specs.OnTable.{done, table_step}
-use Rattle.text.specs.Row.{Field, nothing, shows, path, row}
+use Rattle.text.specs.Row.{Field, nothing, shows, path, Row as PrintedRow, row}
 use Rattle.text.specs.Written.{row_of}
 use Rattle.text.specs.declared.row.Row.{Row}
 use Rattle.input_line.specs.Line.{letter_s}
@@ -30,6 +30,16 @@ answered {a = a} {n = n} e same =
 pub unread_line : {b w : List ℕ} {n : ℕ} {r : Row} → row_of w r ≡ unreadable n → Answered b n none w r b
 unfolding row_for state_after
 unread_line e = record { row = e; table = refl }
+
+-- a printed line that shows a call letter, scouts, or a receive channel, scouts and ports, in the place of what it showed there
+abbrev pub with_call : Field → PrintedRow → PrintedRow
+with_call x q = record { line = q.line; call = x; answer = q.answer; node = q.node; channel = q.channel; receive = q.receive; scouts = q.scouts; ports = q.ports }
+
+abbrev pub with_scouts : Field → PrintedRow → PrintedRow
+with_scouts g q = record { line = q.line; call = q.call; answer = q.answer; node = q.node; channel = q.channel; receive = q.receive; scouts = g; ports = q.ports }
+
+abbrev pub with_path : Field → Field → Field → PrintedRow → PrintedRow
+with_path f g h q = record { line = q.line; call = q.call; answer = q.answer; node = q.node; channel = q.channel; receive = f; scouts = g; ports = h }
 
 -- the line of an open, by its answer
 module _ (n : ℕ) (way : ℕ → ℕ → List ℕ) (s c t y v : ℕ) (x : CallResult) {scouts : Field} (shown : scouts ≡ shows_if (carries_scouts x.number) (shows (scouts_of x))) where

@@ -1,17 +1,16 @@
 // The printed line of an open.
 #![tactic(auto)]
 
-ghost use Rattle.std.specs.Prelude.{List, ◌≡◌, ℕ, Some, None};
+ghost use Rattle.std.specs.Prelude.{List, ◌≡◌, ℕ};
 ghost use Rattle.common.specs.Refusals.{number_of};
 ghost use Rattle.std.proofs.Math.Option.{some};
 ghost use Rattle.ownership.specs.Calls.{opening, carries_scouts};
-ghost use Rattle.text.specs.Row.{shows};
-ghost use Rattle.text.specs.Written.{field_of};
-ghost use Rattle.text.specs.declared.row.Field.TheVariants.{Number, Letter};
+ghost use Rattle.text.specs.Row.{nothing, shows, row};
+ghost use Rattle.text.specs.Written.{field_of, row_of};
 ghost use Rattle.printed_line.specs.PrintedLine.{shows_if, zero_buffer};
 ghost use Rattle.printed_line.specs.LineContracts.{Answered};
 
-use answers::Rejected;
+use answers::{Opening, Rejected};
 use common::refusal;
 use common::refusal::Refusal;
 use cube::Node;
@@ -20,7 +19,7 @@ use text::row::{Field, Row};
 
 // The line of a call that shows a node and a channel.
 pub fn of_channel(line: u16, letter: u8, answer: u16, node: Node, channel: u16) -> Row
-    ensures { result ≡ record { line = line; call = Some (Letter letter); answer = answer; node = Some (Number node.0); channel = Some (Number channel); receive = None; scouts = None; ports = None } }
+    ensures { (w : List ℕ) → row_of w result ≡ row line letter answer (shows node.0) (shows channel) nothing nothing nothing }
 {
     Row {
         call: Some(Field::Letter(letter)),
@@ -44,31 +43,22 @@ fn scouts_of(rejected: Rejected) -> Option<Field>
 }
 
 // An open. A trace tells the ports of one that was acknowledged.
-pub fn open(
-    t: &mut [u8],
-    line: u16,
-    source: Node,
-    channel: u16,
-    target: Node,
-    routing: u16,
-    vector: u16,
-    ports: &mut [u8],
-) -> Row
+pub fn open(t: &mut [u8], line: u16, x: Opening, ports: &mut [u8]) -> Row
     requires { ports.old ≡ zero_buffer }
-    ensures { Answered t.old line (some (opening source.0 channel target.0 routing vector)) ports.new result t.new }
+    ensures { Answered t.old line (some (opening x.source.0 x.channel x.target.0 x.routing x.vector)) ports.new result t.new }
 {
-    match router::open(t, source, channel, target, routing, vector) {
+    match router::open(t, x) {
         Err(rejected) => Row {
             scouts: scouts_of(rejected),
-            ..of_channel(line, b'S', rejected.refusal.number(), source, channel)
+            ..of_channel(line, b'S', rejected.refusal.number(), x.source, x.channel)
         },
         Ok(acknowledged) => {
-            let hops = router::trace(t, source, channel, ports).unwrap_or(0);
+            let hops = router::trace(t, x.source, x.channel, ports).unwrap_or(0);
             Row {
                 receive: Some(acknowledged.receive.into()),
                 scouts: Some(Field::Number(acknowledged.scouts)),
                 ports: Some(Field::Path(hops)),
-                ..of_channel(line, b'S', refusal::ACCEPTED, source, channel)
+                ..of_channel(line, b'S', refusal::ACCEPTED, x.source, x.channel)
             }
         }
     }

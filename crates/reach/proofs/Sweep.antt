@@ -19,7 +19,7 @@ use Rattle.cube.specs.Cube.{port_count, NodeOf, VectorOf, next}
 use Rattle.cube.specs.Helical.{ports_of}
 use Rattle.cube.proofs.Bits.{bit_lt, two_bits, bit_xor_lem, bit_flipped, bit_kept, same_bits, flip_inside, flip_drops, has_and}
 use Rattle.cube.proofs.Axes.{axis_low}
-use Rattle.cube.proofs.Order.{ports_mem, mem_ports, ports_wider}
+use Rattle.cube.proofs.Order.{ports_mem, mem_ports, ports_wider, low_port}
 use Rattle.cube.proofs.Ports.{below_256}
 use Rattle.paths.specs.Network.{Network, offered}
 use Rattle.paths.specs.Pass.{pass}
@@ -32,7 +32,6 @@ use Rattle.entries.specs.EntryContracts.{enable_bits}
 use Rattle.table.specs.View.{view, net, shape_of}
 use Rattle.layout.proofs.Entries.{enabled_has}
 use Rattle.reach.specs.Marks.{marked, leads, reaches_on, Marks, MaySweep}
-use Rattle.reach.proofs.Marks.{bit_below}
 
 -- `^` with a number twice changes nothing, and a bit changed before or behind it is the same
 pub xor_back : (w x t : ℕ) → x < 2 ^ w → t < 2 ^ w → bit_xor (bit_xor x t) t ≡ x
@@ -84,7 +83,7 @@ module _ (b : List ℕ) (t : ℕ) (may : MaySweep b t) where
 
   -- a port of a vector of the cube is a port of the cube, and leads to a node of it
   port_of : (v p : ℕ) → v < 2 ^ D → p ∈ ports_of port_count v → (p < D) × (has v p ≡ true)
-  port_of v p h m = let k = ports_mem 8 v m in (bit_below D v p h k.1, k.1)
+  port_of v p h m = let k = ports_mem 8 v m in (low_port D v p h k.1, k.1)
 
   pub leads_to : (n p : ℕ) → p < D → next n p ≡ flip n p
   leads_to n p l = ap (flip n) (axis_low p (omega (arith, may.fits)))

@@ -1,21 +1,20 @@
--- The walk along a helix path, hop by hop.
+-- What the links of a helix path say of it, hop by hop: the laws by which its walk may be understood, whatever goes along it.
 -- Assumes nothing.
 use mathlib.Core.Path.{◌≡◌, refl, ap, sym, ◌∙◌}
 use mathlib.Core.Logic.{◌≢◌}
 use mathlib.Core.Bool.{Bool, true, false, or-false}
 use mathlib.Core.List.Memᴰ
 use mathlib.Core.List.{List, ◌∷◌}
-use Prim.Native.Nat.{ℕ, ◌-◌, ◌^◌, ◌≤◌, ◌<◌}
+use Prim.Native.Nat.{ℕ, ◌-◌, ◌^◌, ◌<◌}
 use native.Mathlib.Omega.{arith}
 use lib.ListN.{take}
 use lib.Bits.{bit_xor, xor_lt, xor_zero_l}
-use Rattle.common.specs.Lists.{◌∈◌, any, keep, from}
-use Rattle.cube.specs.Bits.{has}
-use Rattle.cube.specs.Cube.{largest_dimension, port_count, NodeOf, next}
+use Rattle.common.specs.Lists.{◌∈◌, any}
+use Rattle.cube.specs.Cube.{port_count, NodeOf, next}
 use Rattle.cube.specs.CubeContracts.{FirstTried}
 use Rattle.cube.specs.Helical.{helical, ports_of, first_port}
 use Rattle.cube.proofs.Bits.{flip_inside}
-use Rattle.cube.proofs.Order.{helical_mem, helical_last, ports_mem, first_tried}
+use Rattle.cube.proofs.Order.{helical_mem, helical_last, ports_mem, first_tried, low_port}
 use Rattle.cube.proofs.Ports.{below_256}
 use Rattle.paths.specs.Network.{Network, offered, free_path}
 use Rattle.paths.specs.Helix.{helix_path}
@@ -25,16 +24,12 @@ use Rattle.paths.proofs.ByType.{helix_ends, helix_goes_on}
 use Rattle.layout.specs.Layout.{dimension_at}
 use Rattle.table.specs.View.{view, net, shape_of}
 use Rattle.reach.specs.Marks.{helix_enabled, MaySweep}
-use Rattle.reach.proofs.Marks.{bit_below}
 use Rattle.reach.proofs.Sweep.{xor_back, leads_to, offered_there}
 
 -- the port that is tried first of a vector that is not 0
 first_of : (v a : ℕ) → v < 256 → v ≢ 0 → FirstTried port_count v a (first_port v a)
 unfolding first_port
 first_of v a h z = first_tried 8 8 v a h z
-
-pub first_below : (D v a : ℕ) → D ≤ largest_dimension → v < 2 ^ D → v ≢ 0 → first_port v a < D
-first_below D v a d h z = bit_below D v (first_port v a) h (first_of v a (below_256 d h) z).offered
 
 -- the lowest port of a vector is the one that is tried first after an arrival on port 7
 module _ (f : ℕ → Bool) (v : ℕ) where
@@ -43,10 +38,6 @@ module _ (f : ℕ → Bool) (v : ℕ) where
   lowest_port_passes h z =
       let order = sym (helical_last 7 (ports_of port_count v) (λ p m. omega (arith, (ports_mem 8 v m).0))) ∙ (first_of v 7 h z).rest in
       rw order (or-false (f (first_port v 7)))
-
-  pub no_port_passes : v ≡ 0 → any f (take 1 (ports_of port_count v)) ≡ false
-  unfolding any ports_of keep from has
-  no_port_passes e = rw e
 
 -- how far a target is behind a port of a node of a table's cube
 unfoldable pub hops_after : List ℕ → ℕ → ℕ → ℕ → ℕ
@@ -59,9 +50,6 @@ pub record Hop (b : List ℕ) (t n p m : ℕ) : Type 0 where
   pub port : p < dimension_at b
   pub leads : m ≡ next n p
 
-pub a_hop : {b : List ℕ} {t m : ℕ} (n p : ℕ) → MaySweep b t → NodeOf (dimension_at b) n → p < dimension_at b → m ≡ next n p → Hop b t n p m
-a_hop n p may i l e = record { may = may; node = i; port = l; leads = e }
-
 module _ {b : List ℕ} {t n p m : ℕ} (hop : Hop b t n p m) where
   abbrev D : ℕ
   D = dimension_at b
@@ -70,7 +58,7 @@ module _ {b : List ℕ} {t n p m : ℕ} (hop : Hop b t n p m) where
   N = net (view b)
 
   -- it stays in the cube
-  pub node_there : NodeOf D m
+  node_there : NodeOf D m
   node_there = rw (hop.leads, leads_to b t hop.may n p hop.port) (flip_inside D n p hop.node hop.port)
 
   -- A walk stops at a blocked link, and ends with the hop that comes to the target;
@@ -90,15 +78,15 @@ module _ {b : List ℕ} {t n p m : ℕ} (hop : Hop b t n p m) where
     vector_some : v ≢ 0
     vector_some z = off (sym (xor_back D m t node_there hop.may.target) ∙ ap (λ x. bit_xor x t) (sym uphill ∙ z) ∙ xor_zero_l t)
 
-    pub uphill_small : v < 256
+    uphill_small : v < 256
     uphill_small = below_256 hop.may.fits vector_small
 
     module _ {q : ℕ} (chosen : q ≡ first_port v p) where
       tried : FirstTried port_count v p q
       tried = rw chosen (first_of v p uphill_small vector_some)
 
-      pub port_there : q < D
-      port_there = bit_below D v q vector_small tried.offered
+      port_there : q < D
+      port_there = low_port D v q vector_small tried.offered
 
       order : helical p (offered N t m) ≡ q ∷ helical p (ports_of port_count (v - 2 ^ q))
       order = rw (offered_there b t hop.may m node_there, ← uphill) tried.rest

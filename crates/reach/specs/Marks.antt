@@ -1,7 +1,7 @@
 -- Marks of nodes: what the sweep over a table's cube leaves in its array, and what its functions ask. Nobody has to believe these: the contract of the public
 -- function speaks of the attempts alone.
 -- Assumes nothing.
-use Rattle.std.specs.Prelude.{◌≡◌, Bool, List, ℕ, ◌≤◌, ◌<◌, false, length, get_or}
+use Rattle.std.specs.Prelude.{◌≡◌, Bool, List, ℕ, ◌≤◌, false, length, get_or}
 use Rattle.common.specs.Lists.{any}
 use Rattle.cube.specs.Cube.{largest_dimension, port_count, next, NodeOf, VectorOf}
 use Rattle.cube.specs.Helical.{ports_of}
@@ -36,12 +36,6 @@ pub record MaySweep (b : List ℕ) (t : ℕ) : Type 0 where
   pub bytes : length b ≡ table_length
   pub fits : dimension_at b ≤ largest_dimension
   pub target : NodeOf (dimension_at b) t
-
--- what the walk along a helix path asks: a node of it too, and a port
-pub record MayWalk (b : List ℕ) (s t p : ℕ) : Type 0 where
-  pub sweep : MaySweep b t
-  pub source : NodeOf (dimension_at b) s
-  pub port : p < dimension_at b
 
 -- what a question asks: a source of it too, and a vector of its ports
 pub record MayAsk (b : List ℕ) (s t vector : ℕ) : Type 0 where

@@ -1,10 +1,10 @@
 -- One packet: its number and the channel after it, by what the code's branches have decided.
 -- Assumes nothing.
-use Rattle.std.proofs.Common.{◌≡◌, ℕ, false, not, ◌≢◌, refl, ap, ◌∙◌, arith, eq-eqb, ne_eqb}
+use Rattle.std.proofs.Common.{◌≡◌, ℕ, ◌+◌, ◌%◌, ◌^◌, ◌<◌, false, not, ◌≢◌, refl, ap, ◌∙◌, arith, eq-eqb, ne_eqb}
 use Rattle.common.proofs.Tests.{refused, passed, accepted}
 use Rattle.command_word.specs.Word.{read_word}
 use Rattle.receiver.specs.declared.Channel.{Channel}
-use Rattle.receiver.specs.Receive.{Packet, data_packet, command_word, packet_tests, unread, numbered, taken, received, after_data, stops, after_command}
+use Rattle.receiver.specs.Receive.{Packet, data_packet, command_word, packet_tests, unread, numbered, taken, received, one_less, after_data, stops, after_command}
 
 -- the number of a packet, by which of its tests applies
 pub unread_number : (c : Channel) (p : Packet) (n : ℕ) → n ≡ unread p → n ≢ 0 → numbered c p ≡ n
@@ -32,6 +32,10 @@ accepted_as c p e = rw e
 pub refused_leaves : (c : Channel) (p : Packet) → (received c p).number ≢ 0 → (received c p).channel ≡ c
 unfolding received
 refused_leaves c p h = rw (ne_eqb (numbered c p) 0 h)
+
+-- A number to which one is added, modulo 2^32, is the sum with one taken from it.
+pub one_less_lem : (k r : ℕ) → r < 2 ^ 32 → k < 2 ^ 32 → (r + 1) % 2 ^ 32 ≡ k → r ≡ one_less k
+one_less_lem k r h l e = omega arith
 
 -- data
 pub data_stopped : (c : Channel) → c.running ≡ 0 → record { channel = c; number = 30 } ≡ received c data_packet

@@ -30,7 +30,7 @@ pub struct Followed {
 }
 
 impl Channel {
-    // A channel at its start, running and its mark clear. Any `ignores` but 0 has it ignore ends of message.
+    // A channel at its start, running and its mark clear. Any `ignores` but 0 has it ignore ends of message: a number, as C has it, since a `bool` would ask more.
     #[tactic(auto, unfolding(crate::specs::Receive::started))]
     pub fn start(address: u32, count: u32, ignores: u16) -> Channel
         ensures { result ≡ started address count ignores }
@@ -48,8 +48,7 @@ impl Channel {
     pub fn take_data(self) -> Result<Channel, Refusal>
         ensures { received_as self result ≡ received self data_packet }
     {
-        self.not_stopped()?;
-        Ok(self.doubleword())
+        Ok(self.not_stopped()?.doubleword())
     }
 
     // A command word, any number: what cannot be read gets its refusal, and then what comes to a stopped channel.
@@ -57,18 +56,17 @@ impl Channel {
         ensures { received_as self result ≡ received self (command_word word) }
     {
         let read = CommandWord::read(word)?;
-        self.not_stopped()?;
-        Ok(self.obey(read.command))
+        Ok(self.not_stopped()?.obey(read.command))
     }
 
-    // A channel that is stopped takes no packet.
-    fn not_stopped(self) -> Result<(), Refusal>
-        ensures { MatchResult result (λ _. self.running ≢ 0) (λ e. (e ≡ ChannelStopped) × (self.running ≡ 0)) }
+    // The channel, where it is not stopped: one that is takes no packet.
+    fn not_stopped(self) -> Result<Channel, Refusal>
+        ensures { MatchResult result (λ c. (c ≡ self) × (self.running ≢ 0)) (λ e. (e ≡ ChannelStopped) × (self.running ≡ 0)) }
     {
         if self.running == 0 {
             return Err(Refusal::ChannelStopped);
         }
-        Ok(())
+        Ok(self)
     }
 
     // Counts a doubleword. The mark decides whether the address moves: once the count has wrapped below zero it is not zero any more.

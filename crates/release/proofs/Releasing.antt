@@ -10,8 +10,8 @@ use Prim.Native.Nat.{ℕ, zero, suc, ◌+◌, ◌/◌, ◌%◌, ◌^◌, ◌≤�
 use native.Mathlib.Omega.{arith}
 use native.Mathlib.Numerals.{add-one}
 use lib.Dec.{eqb, lit<}
-use lib.ListN.{length, get_or, take, drop, set, length-set, drop_of_length-le}
-use lib.Seq.{drop-cons, take-append_seam}
+use lib.ListN.{length, get_or, drop, set, length-set, drop_of_length-le}
+use lib.Seq.{drop-cons}
 use borrow.Author.Tests.{eqb-true, eqb-false, eq-eqb}
 use Rattle.common.specs.Lists.{◌∈◌, lowest}
 use Rattle.common.proofs.Tests.{below_or, clash, is_false, both, and}
@@ -31,7 +31,6 @@ use Rattle.circuit_path.specs.CircuitSound.{end_for, CircuitSound}
 use Rattle.soundness.specs.Sound.{Sound}
 use Rattle.circuit_path.specs.PathOf.{path_of}
 use Rattle.circuit_path.specs.OpenCircuit.{is_open_in}
-use Rattle.circuit_path.specs.Traced.{traced_into}
 use Rattle.circuit_path.specs.Follow.{HasSource}
 use Rattle.circuit_path.proofs.CircuitSound.{path_is}
 use Rattle.answers.specs.PassOnBytes.{hold_path}
@@ -150,24 +149,20 @@ module _ {b : List ℕ} {c : ℕ} (known : HasSource b c) (some : is_open_in (vi
       record { bytes = freed.long; node = below_256 known.fits target_inside; port = stands.small }
       ∙ ap encode (ap (λ (v : View). set_armed v target stands.receive false) shown ∙ shown_freed)
 
-  -- Of what the code has: the ports of the path in a buffer, how many they are, and the source.
-  module _ (buffer : List ℕ) {ports : List ℕ} {hops s : ℕ} (count : hops ≡ length path) (e : ports ≡ traced_into path buffer) (q : s ≡ source_of c) where
-    taken : take hops ports ≡ path
-    unfolding traced_into
-    taken = rw (count, e) (take-append_seam path (drop (length path) buffer))
-
-    pub may_free : MayFree b s (take hops ports)
+  -- Of what the code has: the ports of the path, and the source.
+  module _ {w : List ℕ} {s : ℕ} (is : w ≡ path) (q : s ≡ source_of c) where
+    pub may_free : MayFree b s w
     unfolding PortsBelow
     may_free =
-        rw taken (record {
+        rw is (record {
           bytes = known.bytes;
           node = rw q (below_256 known.fits known.source);
           below = λ i h. let p = ports_below (get_or path i 0) (at_member path i h) in omega (arith, p, known.fits);
         })
 
-    module _ {t : ℕ} {b₁ : List ℕ} (at_Target : t ≡ target) (holds : b₁ ≡ hold_path b 0 s (take hops ports)) where
+    module _ {t : ℕ} {b₁ : List ℕ} (at_Target : t ≡ target) (holds : b₁ ≡ hold_path b 0 s w) where
       held : b₁ ≡ hold_path b 0 (source_of c) path
-      held = holds ∙ rw (taken, q)
+      held = holds ∙ rw (is, q)
 
       pub target_within : Within b₁ t 0
       target_within = record { bytes = ap length held ∙ hold_length b 0 (source_of c) path ∙ known.bytes; node = rw at_Target (below_256 known.fits target_inside); port = lit< tt }

@@ -11,6 +11,7 @@ ghost use Rattle.answers.specs.PassOnBytes.{hold_path};
 ghost use Rattle.release.specs.Release.{MayFree};
 
 use cube::{Circuit, Node, Port};
+use table::{Channels, Links};
 
 // Frees the link out of the first port of a path at a node, then that out of the next port at the node behind it, and so on.
 fn free_links(t: &mut [u8], source: Node, path: &[u8])
@@ -20,7 +21,7 @@ fn free_links(t: &mut [u8], source: Node, path: &[u8])
     let mut at = source;
     for port in path {
         let p = Port(u16::from(*port));
-        table::set_owner(t, at, p, Circuit(0));
+        table::set_owner::<Links>(t, at, p, Circuit(0));
         at = cube::neighbour(at, p);
     }
 }
@@ -33,11 +34,11 @@ pub fn release(t: &mut [u8], c: Circuit)
     ensures { t.new ≡ encode (without_circuit (view t.old) c.0) }
 {
     let mut ports = [0u8; 9];
-    let path = circuit_path::write_path(t, c, &mut ports);
-    free_links(t, cube::source_of(c), &ports[..path.hops as usize]);
+    let path = circuit_path::path(t, c, &mut ports);
+    free_links(t, cube::source_of(c), path.ports);
     let target = path.end;
     if let Some(channel) = table::held_channel(t, c, target) {
-        table::set_receiver(t, target, channel, Circuit(0));
-        table::set_armed(t, target, channel, false);
+        table::set_owner::<Channels>(t, target, channel, Circuit(0));
+        table::set_enabled::<Channels>(t, target, channel, false);
     }
 }

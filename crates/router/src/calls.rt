@@ -1,4 +1,4 @@
-// The calls: the tests in rising order of their numbers, and then what the call does. A refused call changes no byte.
+// The calls: the tests in rising order of their numbers, and then what the call does. A refused call changes no byte. Two numbers are parameters by the papers' names; the five of an open are a struct.
 #![tactic(auto, using(crate::proofs::TableStep::steps))]
 
 ghost use Rattle.std.specs.Prelude.{◌≡◌, [], ◌∷◌};
@@ -8,9 +8,10 @@ ghost use Rattle.common.specs.Refusals.{answer_of};
 ghost use Rattle.ownership.specs.Calls.{making, blocking, unblocking, opening, closing, tracing, arming, disarming};
 ghost use Rattle.ownership.specs.OnTable.{table_step, done};
 
-use answers::{Acknowledged, Rejected, SendRequest};
+use answers::{Acknowledged, Opening, Rejected};
 use common::refusal::Refusal;
 use cube::{Node, Port};
+use table::{Channels, Links};
 
 // Makes a table of a dimension: all its links enabled, nothing held, no receive channel armed. What the bytes were before does not matter.
 pub fn make(t: &mut [u8], dimension: u16) -> Result<(), Refusal>
@@ -22,16 +23,19 @@ pub fn make(t: &mut [u8], dimension: u16) -> Result<(), Refusal>
     if dimension == 0 || dimension > cube::LARGEST_DIMENSION {
         return Err(Refusal::Dimension);
     }
+    // 8 at most here, so the cast cuts nothing off; u8::try_from would answer a failure that cannot come.
     table::make(t, dimension as u8);
     Ok(())
 }
+
+// Four calls from here on set one bit: each has its own tests, number and meaning in the papers, and stands by itself.
 
 // Blocks a link that nobody holds. Blocking a blocked link changes nothing.
 pub fn block(t: &mut [u8], node: Node, port: Port) -> Result<(), Refusal>
     ensures { done t.new (answer_of result) [] [] ≡ table_step t.old (blocking node.0 port.0) }
 {
     call_tests::block(t, node, port)?;
-    table::set_enabled(t, node, port, false);
+    table::set_enabled::<Links>(t, node, port, false);
     Ok(())
 }
 
@@ -40,30 +44,17 @@ pub fn unblock(t: &mut [u8], node: Node, port: Port) -> Result<(), Refusal>
     ensures { done t.new (answer_of result) [] [] ≡ table_step t.old (unblocking node.0 port.0) }
 {
     call_tests::unblock(t, node, port)?;
-    table::set_enabled(t, node, port, true);
+    table::set_enabled::<Links>(t, node, port, true);
     Ok(())
 }
 
 // Opens a circuit from a send channel of a node to a target.
 #[tactic(auto, using(crate::proofs::TableStep::opens))]
-pub fn open(
-    t: &mut [u8],
-    source: Node,
-    channel: u16,
-    target: Node,
-    routing: u16,
-    vector: u16,
-) -> Result<Acknowledged, Rejected>
-    ensures { done t.new (opened_number result) (opened_values result) [] ≡ table_step t.old (opening source.0 channel target.0 routing vector) }
+pub fn open(t: &mut [u8], x: Opening) -> Result<Acknowledged, Rejected>
+    ensures { done t.new (opened_number result) (opened_values result) [] ≡ table_step t.old (opening x.source.0 x.channel x.target.0 x.routing x.vector) }
 {
-    call_tests::open(t, source, channel, target, routing, vector)?;
-    let request = SendRequest {
-        source,
-        target,
-        circuit: cube::circuit_of(source, channel),
-        vector,
-    };
-    send::send(t, request, routing)
+    call_tests::open(t, x)?;
+    send::send(t, x.request(), x.routing)
 }
 
 // Closes the circuit of a send channel: it frees its links, frees and disarms its receive channel, and changes nothing else.
@@ -80,7 +71,7 @@ pub fn arm(t: &mut [u8], node: Node, channel: u16) -> Result<(), Refusal>
     ensures { done t.new (answer_of result) [] [] ≡ table_step t.old (arming node.0 channel) }
 {
     call_tests::arm(t, node, channel)?;
-    table::set_armed(t, node, channel, true);
+    table::set_enabled::<Channels>(t, node, channel, true);
     Ok(())
 }
 
@@ -89,7 +80,7 @@ pub fn disarm(t: &mut [u8], node: Node, channel: u16) -> Result<(), Refusal>
     ensures { done t.new (answer_of result) [] [] ≡ table_step t.old (disarming node.0 channel) }
 {
     call_tests::disarm(t, node, channel)?;
-    table::set_armed(t, node, channel, false);
+    table::set_enabled::<Channels>(t, node, channel, false);
     Ok(())
 }
 

@@ -3,5 +3,5 @@
 
 mod calls;
 
-pub use answers::{Acknowledged, Rejected};
+pub use answers::{Acknowledged, Opening, Rejected};
 pub use calls::{arm, block, close, disarm, make, open, trace, unblock};

@@ -1,6 +1,6 @@
 -- An arrival at a node: the answer at the target, and elsewhere what it asks of the trying of the uphill ports.
 -- Assumes nothing.
-use mathlib.Core.Path.{◌≡◌, refl, ap, ap₂, sym, ◌∙◌}
+use mathlib.Core.Path.{◌≡◌, refl, ap, sym, ◌∙◌}
 use mathlib.Core.Logic.{◌≢◌}
 use mathlib.Core.List.{List, []}
 use Prim.Native.Nat.{ℕ, zero, suc, ◌+◌, ◌*◌, ◌≤◌, ◌<◌}
@@ -8,6 +8,7 @@ use native.Mathlib.Omega.{arith}
 use native.Mathlib.Nat.{mul-le-mul}
 use lib.ListN.{length}
 use lib.Bits.{xor_lt}
+use Rattle.std.specs.Prelude.{Option, Some, None}
 use Rattle.common.specs.Lists.{◌∈◌}
 use Rattle.cube.specs.CubeContracts.{UphillVector}
 use Rattle.cube.specs.Cube.{port_count, NodeOf}
@@ -16,17 +17,16 @@ use Rattle.paths.specs.Network.{offered}
 use Rattle.paths.specs.CubeNetwork.{network}
 use Rattle.paths.specs.Search.{trying}
 use Rattle.paths.specs.Pass.{found}
+use Rattle.paths.specs.Send.{Receive}
 use Rattle.paths.proofs.CubeNetwork.{cube_nearing, one_link, cube_cubical, cube_leading, unfolded_vector}
 use Rattle.paths.specs.Bound.{ways_from}
 use Rattle.paths.proofs.Bound.{ways_more}
 use Rattle.layout.specs.Layout.{dimension_at}
-use Rattle.table.specs.TableContracts.{lowest_channel}
-use Rattle.table.specs.View.{view, receive, net, shape_of}
-use Rattle.answers.specs.SendOnTable.{free_in}
-use Rattle.answers.specs.PassOnBytes.{answer_of_pass, arrival_after, hops_left}
-use Rattle.search.specs.SearchContracts.{farthest_after, Packed, try_answer, arrive_answer, Narrowed, MayTry, MayArrive}
-use Rattle.answers.proofs.PassOnBytes.{at_target, arrives, target_receives, target_full, lowest_small}
-use Rattle.search.proofs.PackedAnswer.{of_receive, of_acknowledged}
+use Rattle.table.specs.View.{view, net, shape_of}
+use Rattle.answers.specs.SendOnTable.{free_in, pass_answer}
+use Rattle.answers.specs.PassOnBytes.{answer_of_pass, arrival_after, hops_left, hold_path}
+use Rattle.search.specs.SearchContracts.{farthest_after, passed, receive_as, try_answer, arrive_answer, Narrowed, MayTry, MayArrive}
+use Rattle.answers.proofs.PassOnBytes.{at_target, arrives}
 use Rattle.search.proofs.Narrow.{farthest_most, narrow_reach, narrow_may, narrow_tries}
 
 -- the ports of a node that is k hops away, each with the ways on from one hop nearer
@@ -35,29 +35,27 @@ unfolding ways_from
 one_further m j zero h l = absurd (omega arith)
 one_further m j (suc k) h l = mul-le-mul l (let r = ways_more 1 j k (omega arith) in omega arith)
 
+-- a free path that ends where it begins
+at_goal : (b : List ℕ) (c n h s : ℕ) (k : Option ℕ) → passed (Some h) k s b ≡ answer_of_pass b c n h (receive_as k) (found [] s)
+unfolding answer_of_pass hold_path
+at_goal b c n h s None = refl
+at_goal b c n h s (Some k) = let e : h ≡ h + 0 = omega arith in ap (λ x. pass_answer 0 x k s b) e
+
 -- An arrival.
 module _ {b : List ℕ} {t c n a h s : ℕ} (may : MayArrive b t c n a h s) where
-  at_goal : n ≡ t → answer_of_pass b c n h (receive (view b) n) (found [] s) ≡ arrive_answer b t c n a h s
+  pub arrive_here : (k : Option ℕ) → n ≡ t → passed (Some h) k s b ≡ arrive_answer b t c (receive_as k) n a h s
   unfolding arrive_answer
-  at_goal e = ap₂ (λ m w. answer_of_pass b c n h (receive (view b) m) w) e (sym (at_target (net (view b)) (free_in (view b)) t n a s (hops_left b t n) e))
-
-  pub arrive_receives : {k : ℕ} → n ≡ t → k ≡ lowest_channel (view b) n → k ≢ 8 → Packed (8589934592 + s + 4294967296 * (8 * h + k)) b (arrive_answer b t c n a h s)
-  arrive_receives {k} e q g =
-      record { same = of_acknowledged h k s b (omega (arith, may.hops)) (lowest_small (view b) n q g) (omega (arith, may.room)) ∙ target_receives (view b) b c n h s q g ∙ at_goal e }
-
-  pub arrive_full : {k : ℕ} → n ≡ t → k ≡ lowest_channel (view b) n → k ≡ 8 → Packed (4294967296 + s) b (arrive_answer b t c n a h s)
-  arrive_full e q g =
-      record { same = of_receive s b (omega (arith, may.room)) ∙ target_full (view b) b c n h s q g ∙ at_goal e }
+  arrive_here k e = at_goal b c n h s k ∙ ap (answer_of_pass b c n h (receive_as k)) (sym (at_target (net (view b)) (free_in (view b)) t n a s (hops_left b t n) e))
 
   module _ (away : n ≢ t) {v : ℕ} (uphill : UphillVector n t v) where
     offers : offered (net (view b)) t n ≡ ports_of port_count v
     unfolding view
     offers = unfolded_vector (shape_of (view b)) may.here.fits refl 8 n t may.here.fits may.here.node may.here.target ∙ ap (ports_of port_count) (sym uphill.value)
 
-    all_tried : try_answer b t c n v a h s ≡ arrive_answer b t c n a h s
+    all_tried : (r : Receive) → try_answer b t c r n v a h s ≡ arrive_answer b t c r n a h s
     unfolding try_answer arrive_answer hops_left
-    all_tried =
-        ap (answer_of_pass b c n h (receive (view b) t))
+    all_tried r =
+        ap (answer_of_pass b c n h r)
         (ap (λ ps. trying (free_in (view b) n) (arrival_after (net (view b)) (free_in (view b)) t n) (helical a ps) s) (sym offers) ∙ arrives (net (view b)) (free_in (view b)) t n a s (cube_nearing (shape_of (view b)) t) away)
 
     nearer : (p : ℕ) → p ∈ ports_of port_count v → hops_left b t n ≡ suc ((net (view b)).distance t ((net (view b)).next n p))
@@ -91,8 +89,8 @@ module _ {b : List ℕ} {t c n a h s : ℕ} (may : MayArrive b t c n a h s) wher
       pub arrive_may : MayTry b t c n left a h s
       arrive_may = narrow_may all_may narrow
 
-      pub arrive_tries : try_answer b t c n left a h s ≡ arrive_answer b t c n a h s
-      arrive_tries = narrow_tries b t c a h s narrow ∙ all_tried
+      pub arrive_tries : (r : Receive) → try_answer b t c r n left a h s ≡ arrive_answer b t c r n a h s
+      arrive_tries r = narrow_tries b t c r a h s narrow ∙ all_tried r
 
       pub arrive_falls : farthest_after b t n left < hops_left b t n
       arrive_falls = omega (arith, arrive_reach, narrow_reach b t narrow)

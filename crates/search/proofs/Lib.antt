@@ -1,5 +1,4 @@
 -- The laws of a pass on the bytes of a table.
-pub mod PackedAnswer
 pub mod Narrow
 pub mod PortsTried
 pub mod Arrivals

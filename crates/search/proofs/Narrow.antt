@@ -15,10 +15,11 @@ use Rattle.cube.specs.Helical.{helical, ports_of}
 use Rattle.cube.proofs.Bits.{has_and}
 use Rattle.cube.proofs.Order.{helical_keep, helical_mem, ports_mem, mem_ports}
 use Rattle.paths.specs.Pass.{PassResult}
+use Rattle.paths.specs.Send.{Receive}
 use Rattle.paths.specs.Search.{trying}
 use Rattle.paths.proofs.Depth.{trying_cons}
 use Rattle.entries.specs.EntryContracts.{enable_bits, Within}
-use Rattle.table.specs.View.{View, view, receive, net}
+use Rattle.table.specs.View.{View, view, net}
 use Rattle.layout.proofs.Entries.{enabled_has}
 use Rattle.answers.specs.SendOnTable.{free_in}
 use Rattle.answers.specs.PassOnBytes.{answer_of_pass, arrival_after}
@@ -61,11 +62,11 @@ module _ {v : View} {n vector left : ℕ} (narrow : Narrowed v n vector left) wh
   narrow_mem p m = let r = ports_mem 8 left m in mem_ports 8 vector p r.0 (narrow.among p r.1)
 
 -- the answer is that of the whole vector
-pub narrow_tries : (b : List ℕ) (t c a h s : ℕ) {n vector left : ℕ} → Narrowed (view b) n vector left → try_answer b t c n left a h s ≡ try_answer b t c n vector a h s
+pub narrow_tries : (b : List ℕ) (t c : ℕ) (r : Receive) (a h s : ℕ) {n vector left : ℕ} → Narrowed (view b) n vector left → try_answer b t c r n left a h s ≡ try_answer b t c r n vector a h s
 unfolding try_answer
-narrow_tries b t c a h s {n} {vector} {left} narrow =
+narrow_tries b t c r a h s {n} {vector} {left} narrow =
     let on : ℕ → ℕ → PassResult = arrival_after (net (view b)) (free_in (view b)) t n in
-    ap (answer_of_pass b c n h (receive (view b) t))
+    ap (answer_of_pass b c n h r)
     (ap (λ ps. trying (free_in (view b) n) on (helical a ps) s) (ports_kept narrow)
     ∙ ap (λ ps. trying (free_in (view b) n) on ps s) (helical_keep a (has left) (ports_of port_count vector))
     ∙ trying_kept (has left) (free_in (view b) n) on (helical a (ports_of port_count vector))

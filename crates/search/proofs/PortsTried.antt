@@ -1,6 +1,6 @@
 -- The turns of a node that tries its ports: what each asks of the arrival behind its port, and what it makes of the answer.
 -- Assumes nothing.
-use mathlib.Core.Path.{◌≡◌, refl, ap, ap₂, sym, ◌∙◌}
+use mathlib.Core.Path.{◌≡◌, refl, ap, sym, ◌∙◌}
 use mathlib.Core.Logic.{◌≢◌}
 use mathlib.Core.Bool.{true, false}
 use mathlib.Core.List.Memᴰ
@@ -9,6 +9,7 @@ use Prim.Native.Nat.{ℕ, suc, ◌+◌, ◌-◌, ◌*◌, ◌^◌, ◌≤◌, �
 use native.Mathlib.Omega.{arith}
 use native.Mathlib.Numerals.{add-one}
 use lib.ListN.{length}
+use Rattle.paths.specs.Send.{Receive}
 use Rattle.common.specs.Lists.{◌∈◌}
 use Rattle.cube.specs.CubeContracts.{Without, FirstTried}
 use Rattle.cube.specs.Cube.{port_count, VectorOf, next}
@@ -23,13 +24,12 @@ use Rattle.paths.specs.Bound.{ways_from}
 use Rattle.paths.proofs.Bound.{arriving_sends, ways_more}
 use Rattle.layout.specs.Layout.{dimension_at}
 use Rattle.entries.specs.EntryContracts.{put_owner, Within}
-use Rattle.table.specs.View.{view, set_owner, receive, net, shape_of}
+use Rattle.table.specs.View.{view, set_owner, net, shape_of}
 use Rattle.table.proofs.Views.{view_put_owner}
 use Rattle.answers.specs.SendOnTable.{free_in, PassAnswer, pass_answer}
 use Rattle.answers.specs.PassOnBytes.{answer_of_pass, arrival_after, hops_left}
-use Rattle.search.specs.SearchContracts.{farthest_after, answer_in, Packed, try_answer, arrive_answer, Enabled, SearchPre, MayTry, MayArrive}
-use Rattle.answers.proofs.PassOnBytes.{owner_length, arrival_after_lem, receive_same, given_back, free_owner, port_busy, port_acknowledged, port_receive_rejected, port_route_rejected, answer_scouts, ports_over}
-use Rattle.search.proofs.PackedAnswer.{in_route, in_receive, in_acknowledged}
+use Rattle.search.specs.SearchContracts.{farthest_after, try_answer, arrive_answer, Enabled, SearchPre, MayTry, MayArrive}
+use Rattle.answers.proofs.PassOnBytes.{owner_length, arrival_after_lem, given_back, free_owner, port_busy, port_acknowledged, port_receive_rejected, port_route_rejected, answer_scouts, ports_over}
 use Rattle.search.proofs.Narrow.{farthest_mem}
 
 -- a hop held: the same cube
@@ -41,36 +41,36 @@ module _ (b : List ℕ) (n p c : ℕ) (w : Within b n p) (small : c < 65536) whe
   held_net = ap (λ D. network record { dimension = D; fold = 0 }) (unfold view in held_dimension)
 
 -- an arrival on the table with the hop held, read on the table before it
-pub handed_on : (b : List ℕ) (t c n p h s : ℕ) → Within b n p → c < 65536 → c ≢ 0 → {b₁ : List ℕ} {n₁ : ℕ} → b₁ ≡ put_owner b n p c → n₁ ≡ next n p
-    → arrive_answer b₁ t c n₁ p (h + 1) (s + 1) ≡ answer_of_pass (put_owner b n p c) c (next n p) (h + 1) (receive (view b) t) (arrival_after (net (view b)) (free_in (view b)) t n p (suc s))
+pub handed_on : (b : List ℕ) (t c : ℕ) (r : Receive) (n p h s : ℕ) → Within b n p → c < 65536 → c ≢ 0 → {b₁ : List ℕ} {n₁ : ℕ} → b₁ ≡ put_owner b n p c → n₁ ≡ next n p
+    → arrive_answer b₁ t c r n₁ p (h + 1) (s + 1) ≡ answer_of_pass (put_owner b n p c) c (next n p) (h + 1) r (arrival_after (net (view b)) (free_in (view b)) t n p (suc s))
 unfolding arrive_answer hops_left arrival_after network
-handed_on b t c n p h s w small z e q =
+handed_on b t c r n p h s w small z e q =
     let B = put_owner b n p c in
     let m = next n p in
     let near = cube_nearing (shape_of (view b)) t in
     rw (e, q)
-    (ap₂ (λ N r. answer_of_pass B c m (h + 1) r (arriving (N.distance t m) N (free_in (view B)) t m p (s + 1))) (held_net b n p c w small) (receive_same (net (view b)) t near b n p c w small z t)
-    ∙ ap (answer_of_pass B c m (h + 1) (receive (view b) t))
+    (ap (λ N. answer_of_pass B c m (h + 1) r (arriving (N.distance t m) N (free_in (view B)) t m p (s + 1))) (held_net b n p c w small)
+    ∙ ap (answer_of_pass B c m (h + 1) r)
     (ap (arriving ((net (view b)).distance t m) (net (view b)) (free_in (view B)) t m p) (add-one s) ∙ arrival_after_lem (net (view b)) t near b n p c w small z ((net (view b)).distance t m) (suc s)))
 
 -- what holds at each turn of the trying of ports: the bytes are those at the start, the ports left are ports of the vector, there is room for
 -- the scouts still to be sent, and what is left to do gives the whole
-pub record PortsTried (b : List ℕ) (t c n vector a h s : ℕ) (now : List ℕ) (left sent : ℕ) : Type 0 where
+pub record PortsTried (b : List ℕ) (t c : ℕ) (r : Receive) (n vector a h s : ℕ) (now : List ℕ) (left sent : ℕ) : Type 0 where
   pub same : now ≡ b
   pub ports : VectorOf (dimension_at b) left
   pub sub : (p : ℕ) → p ∈ ports_of port_count left → p ∈ ports_of port_count vector
   pub room : sent + length (ports_of port_count left) * (1 + ways_from 1 (farthest_after b t n vector)) < 2 ^ 32
-  pub rest : try_answer b t c n left a h sent ≡ try_answer b t c n vector a h s
+  pub rest : try_answer b t c r n left a h sent ≡ try_answer b t c r n vector a h s
 
-pub first_turn : {b : List ℕ} {t c n v a h s : ℕ} → MayTry b t c n v a h s → PortsTried b t c n v a h s b v s
+pub first_turn : {b : List ℕ} {t c : ℕ} {r : Receive} {n v a h s : ℕ} → MayTry b t c n v a h s → PortsTried b t c r n v a h s b v s
 first_turn may = record { same = refl; ports = may.ports; sub = λ p m. m; room = may.room; rest = refl }
 
 -- the answer of a node once it has tried the ports of a list
-abbrev tried : List ℕ → ℕ → ℕ → ℕ → ℕ → List ℕ → ℕ → PassAnswer
-tried b t c n h ps s = answer_of_pass b c n h (receive (view b) t) (trying (free_in (view b) n) (arrival_after (net (view b)) (free_in (view b)) t n) ps s)
+abbrev tried : List ℕ → ℕ → ℕ → Receive → ℕ → ℕ → List ℕ → ℕ → PassAnswer
+tried b t c r n h ps s = answer_of_pass b c n h r (trying (free_in (view b) n) (arrival_after (net (view b)) (free_in (view b)) t n) ps s)
 
 -- what a node trying its ports may do with the first of those left
-module _ {b now : List ℕ} {t c n a h v left p sent s : ℕ} (may : MayTry b t c n v a h s) (inv : PortsTried b t c n v a h s now left sent) (some : left ≢ 0) (first : p ≡ first_port left a) where
+module _ {b now : List ℕ} {t c n a h v left p sent s : ℕ} {r : Receive} (may : MayTry b t c n v a h s) (inv : PortsTried b t c r n v a h s now left sent) (some : left ≢ 0) (first : p ≡ first_port left a) where
   pub here_tried : FirstTried port_count left a p
   here_tried = port_tried (dimension_at b) left a p may.here.fits inv.ports some first
 
@@ -133,7 +133,7 @@ module _ {b now : List ℕ} {t c n a h v left p sent s : ℕ} (may : MayTry b t 
     here_falls = omega (arith, held_distance, here_reach)
 
   -- the vector without that port
-  left_over : {r : ℕ} → Without left p r → r ≡ left - 2 ^ p
+  left_over : {x : ℕ} → Without left p x → x ≡ left - 2 ^ p
   left_over less = omega (arith, less.value)
 
   tail_ports : (q : ℕ) → q ∈ ports_of port_count (left - 2 ^ p) → q ∈ ports_of port_count v
@@ -142,15 +142,15 @@ module _ {b now : List ℕ} {t c n a h v left p sent s : ℕ} (may : MayTry b t 
   abbrev others : List ℕ
   others = helical a (ports_of port_count (left - 2 ^ p))
 
-  all_tries : tried b t c n h (p ∷ others) sent ≡ try_answer b t c n v a h s
+  all_tries : tried b t c r n h (p ∷ others) sent ≡ try_answer b t c r n v a h s
   unfolding try_answer
-  all_tries = ap (λ ps. tried b t c n h ps sent) (sym here_tried.rest) ∙ inv.rest
+  all_tries = ap (λ ps. tried b t c r n h ps sent) (sym here_tried.rest) ∙ inv.rest
 
   abbrev on : ℕ → ℕ → PassResult
   on = arrival_after (net (view b)) (free_in (view b)) t n
 
   -- the link is not free: on with the other ports
-  pub turn_busy : free_in (view now) n p ≡ false → {r : ℕ} → Without left p r → PortsTried b t c n v a h s now r sent
+  pub turn_busy : free_in (view now) n p ≡ false → {x : ℕ} → Without left p x → PortsTried b t c r n v a h s now x sent
   unfolding try_answer
   turn_busy e less =
       rw (left_over less)
@@ -159,57 +159,60 @@ module _ {b now : List ℕ} {t c n a h v left p sent s : ℕ} (may : MayTry b t 
         ports = (let l = inv.ports in omega arith);
         sub = tail_ports;
         room = omega (arith, here_room);
-        rest = port_busy (free_in (view b) n) on b c n h (receive (view b) t) p others sent (rw (← inv.same) e) ∙ all_tries;
+        rest = port_busy (free_in (view b) n) on b c n h r p others sent (rw (← inv.same) e) ∙ all_tries;
       }
 
   -- the link is free: the arrival behind it answers
-  module _ (free_now : free_in (view now) n p ≡ true) {b₁ b₂ : List ℕ} {n₁ x : ℕ} (held : b₁ ≡ put_owner now n p c) (to : n₁ ≡ next n p)
-      (arrival : Packed x b₂ (arrive_answer b₁ t c n₁ p (h + 1) (sent + 1))) where
+  module _ (free_now : free_in (view now) n p ≡ true) {b₁ : List ℕ} {n₁ : ℕ} {got : PassAnswer} (held : b₁ ≡ put_owner now n p c) (to : n₁ ≡ next n p)
+      (arrival : got ≡ arrive_answer b₁ t c r n₁ p (h + 1) (sent + 1)) where
     free : free_in (view b) n p ≡ true
     free = rw (← inv.same) free_now
 
     -- its answer, on the table before the hop
-    answer : {y : PassAnswer} → answer_in x b₂ ≡ y → y ≡ answer_of_pass (put_owner b n p c) c (next n p) (h + 1) (receive (view b) t) (on p (suc sent))
-    answer e = sym e ∙ arrival.same ∙ handed_on b t c n p h sent here_within may.here.small may.here.circuit (now_held held) to
+    answer : {y : PassAnswer} → got ≡ y → y ≡ answer_of_pass (put_owner b n p c) c (next n p) (h + 1) r (on p (suc sent))
+    answer e = sym e ∙ arrival ∙ handed_on b t c r n p h sent here_within may.here.small may.here.circuit (now_held held) to
 
-    pub turn_acknowledged : 8589934592 ≤ x → Packed x b₂ (try_answer b t c n v a h s)
-    turn_acknowledged m =
-        let e = in_acknowledged x b₂ m in
-        record { same = e ∙ port_acknowledged (free_in (view b) n) on b c n h (receive (view b) t) p others sent free _ _ _ b₂ (answer e) ∙ all_tries }
+    -- a free path, and a receive channel to take
+    pub turn_acknowledged : {x y d : ℕ} {b₂ : List ℕ} → got ≡ pass_answer 0 x y d b₂ → got ≡ try_answer b t c r n v a h s
+    turn_acknowledged {x} {y} {d} {b₂} e =
+        e ∙ port_acknowledged (free_in (view b) n) on b c n h r p others sent free y x d b₂ (answer e) ∙ all_tries
 
-    restored : b₂ ≡ put_owner b n p c → {b₃ : List ℕ} → b₃ ≡ put_owner b₂ n p 0 → b₃ ≡ b
+    restored : {b₂ b₃ : List ℕ} → b₂ ≡ put_owner b n p c → b₃ ≡ put_owner b₂ n p 0 → b₃ ≡ b
     restored e q = q ∙ ap (λ y. put_owner y n p 0) e ∙ given_back b n p c here_within (unfold view in free_owner (view b) n p free)
 
-    pub turn_full : 4294967296 ≤ x → x < 8589934592 → {b₃ : List ℕ} → b₃ ≡ put_owner b₂ n p 0 → Packed x b₃ (try_answer b t c n v a h s)
-    turn_full m l q =
-        let r = port_receive_rejected (free_in (view b) n) on b c n h (receive (view b) t) p others sent free _ _ _ b₂ (answer (in_receive x b₂ m l)) in
-        record { same = ap (answer_in x) (restored r.0 q) ∙ in_receive x b m l ∙ r.1 ∙ all_tries }
+    -- a free path, and none to take
+    pub turn_full : {d : ℕ} {b₂ b₃ : List ℕ} → got ≡ pass_answer 11 0 0 d b₂ → b₃ ≡ put_owner b₂ n p 0 → pass_answer 11 0 0 d b₃ ≡ try_answer b t c r n v a h s
+    turn_full {d} {b₂} e q =
+        let w = port_receive_rejected (free_in (view b) n) on b c n h r p others sent free 0 0 d b₂ (answer e) in
+        ap (pass_answer 11 0 0 d) (restored w.0 q) ∙ w.1 ∙ all_tries
 
-    few_scouts : x < 4294967296 → x ≤ suc sent + ways_from 1 (farthest_after b t n v)
+    few_scouts : {d : ℕ} {b₂ : List ℕ} → got ≡ pass_answer 10 0 0 d b₂ → d ≤ suc sent + ways_from 1 (farthest_after b t n v)
     unfolding arrival_after hops_left network
-    few_scouts l =
+    few_scouts {d} {b₂} e =
         let m = ways_more 1 (hops_left b t (next n p)) (farthest_after b t n v) here_reach in
         let all = arriving_sends (cube_nearing (shape_of (view b)) t) (cube_cubical (shape_of (view b)) (one_link (shape_of (view b)) (unfold view in may.here.fits) refl) t) (free_in (view b)) (next n p) p (suc sent) in
-        let same : x ≡ scouts (on p (suc sent)) = answer_scouts (put_owner b n p c) c (next n p) (h + 1) (receive (view b) t) (on p (suc sent)) 10 0 0 x b₂ (answer (in_route x b₂ l)) in
+        let same : d ≡ scouts (on p (suc sent)) = answer_scouts (put_owner b n p c) c (next n p) (h + 1) r (on p (suc sent)) 10 0 0 d b₂ (answer e) in
         omega (arith, all, m, same)
 
-    pub turn_next : x < 4294967296 → {r : ℕ} → Without left p r → {b₃ : List ℕ} → b₃ ≡ put_owner b₂ n p 0 → {d : ℕ} → d ≡ x → PortsTried b t c n v a h s b₃ r d
+    -- no free path
+    pub turn_next : {d x : ℕ} {b₂ b₃ : List ℕ} → got ≡ pass_answer 10 0 0 d b₂ → Without left p x → b₃ ≡ put_owner b₂ n p 0 → PortsTried b t c r n v a h s b₃ x d
     unfolding try_answer
-    turn_next l less u e =
-        let w = port_route_rejected (free_in (view b) n) on b c n h (receive (view b) t) p others sent free 0 0 x b₂ (answer (in_route x b₂ l)) in
-        rw (left_over less, e)
+    turn_next {d} {x} {b₂} e less u =
+        let w = port_route_rejected (free_in (view b) n) on b c n h r p others sent free 0 0 d b₂ (answer e) in
+        rw (left_over less)
         record {
           same = restored w.0 u;
           ports = (let l = inv.ports in omega arith);
           sub = tail_ports;
-          room = (let m = few_scouts l in omega (arith, here_room));
+          room = (let m = few_scouts e in omega (arith, here_room));
           rest = w.1 ∙ all_tries;
         }
 
 -- no port left
-pub turn_over : {b : List ℕ} {t c n v a h s : ℕ} {now : List ℕ} {left sent : ℕ} → PortsTried b t c n v a h s now left sent → left ≡ 0 → Packed sent now (try_answer b t c n v a h s)
+pub turn_over : {b : List ℕ} {t c n v a h s : ℕ} {r : Receive} {now : List ℕ} {left sent : ℕ} → PortsTried b t c r n v a h s now left sent → left ≡ 0
+    → pass_answer 10 0 0 sent now ≡ try_answer b t c r n v a h s
 unfolding try_answer
-turn_over {b} {t} {c} {n} {v} {a} {h} {s} {now} {left} {sent} inv z =
+turn_over {b} {t} {c} {n} {v} {a} {h} {s} {r} {now} {left} {sent} inv z =
     let none : helical a (ports_of port_count left) ≡ [] = ap (λ x. helical a (ports_of port_count x)) z ∙ helical_zero 8 a in
-    let over = ports_over (free_in (view b) n) (arrival_after (net (view b)) (free_in (view b)) t n) b c n h (receive (view b) t) sent in
-    record { same = in_route sent now (omega (arith, inv.room)) ∙ ap (pass_answer 10 0 0 sent) inv.same ∙ over ∙ ap (λ ps. tried b t c n h ps sent) (sym none) ∙ inv.rest }
+    let over = ports_over (free_in (view b) n) (arrival_after (net (view b)) (free_in (view b)) t n) b c n h r sent in
+    ap (pass_answer 10 0 0 sent) inv.same ∙ over ∙ ap (λ ps. tried b t c r n h ps sent) (sym none) ∙ inv.rest

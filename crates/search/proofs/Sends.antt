@@ -11,7 +11,7 @@ use lib.Dec.{eqb, lit<}
 use lib.ListN.{length}
 use lib.Pow.{pow_pos}
 use lib.Bits.{bit_xor, xor_lt}
-use borrow.Author.Tests.{lt-ltb}
+use borrow.Author.Tests.{lt-ltb, eq-eqb, ne_eqb}
 use Rattle.cube.specs.Bits.{bit_at, has}
 use Rattle.cube.specs.CubeContracts.{NodeCount}
 use Rattle.cube.specs.Cube.{largest_dimension, port_count, channels}
@@ -20,7 +20,7 @@ use Rattle.cube.specs.Helical.{ports_of}
 use Rattle.cube.proofs.Order.{length_ports}
 use Rattle.paths.specs.Pass.{PassResult, none, found, pass, scouts}
 use Rattle.paths.specs.Search.{trying, sending}
-use Rattle.paths.specs.Send.{Receive, channel, none_available, one_result, received, outcome}
+use Rattle.paths.specs.Send.{Receive, channel, none_available, lowest_of, one_result, received, outcome}
 use Rattle.paths.specs.CubeNetwork.{Shape, network, send_ports, other_ports}
 use Rattle.paths.proofs.Depth.{search_is_pass}
 use Rattle.paths.proofs.CubeNetwork.{distance_within, scouts_bound, other_vector}
@@ -29,13 +29,16 @@ use Rattle.paths.specs.Bound.{ways_from}
 use Rattle.paths.proofs.Bound.{ways_more}
 use Rattle.layout.specs.Layout.{dimension_at}
 use Rattle.entries.specs.EntryContracts.{put_receiver}
-use Rattle.table.specs.View.{view, receive, net, shape_of}
+use Rattle.table.specs.View.{View, view, receive, net, shape_of}
+use Rattle.table.specs.TableContracts.{lowest_channel}
+use Rattle.table.proofs.Receives.{channel_taken, channel_missing}
+use Rattle.common.specs.Lists.{some_below}
+use Rattle.std.specs.Prelude.{Option, Some, None}
 use Rattle.table.proofs.Made.{ones}
 use Rattle.answers.specs.SendOnTable.{free_in, pass_answer, answer_of_outcome}
 use Rattle.answers.specs.PassOnBytes.{hold_path, answer_of_pass, arrival_after}
-use Rattle.search.specs.SearchContracts.{farthest_after, try_answer, Narrowed, MayTry}
+use Rattle.search.specs.SearchContracts.{farthest_after, receive_as, try_answer, Narrowed, MayTry}
 use Rattle.answers.specs.SendAnswer.{bytes_after_send, send_answer, searched, MaySend}
-use Rattle.answers.proofs.PassOnBytes.{receive_small}
 use Rattle.answers.proofs.SendAnswer.{ports_in_turn, sent_stops, sent_goes_on, sent_leaves, sent_scouts, sent_counted}
 use Rattle.search.proofs.Narrow.{narrow_tries, farthest_most}
 
@@ -45,7 +48,7 @@ pass_of b s t vector = pass (net (view b)) (free_in (view b)) s (send_ports (sha
 
 module _ {b : List ℕ} {s t c vector : ℕ} (may : MaySend b s t c vector) where
   -- ports after arrival port 7 are tried from 0 upward: the search is the pass
-  pub tries_pass : try_answer b t c s vector 7 0 0 ≡ answer_of_pass b c s 0 (receive (view b) t) (pass_of b s t vector)
+  pub tries_pass : try_answer b t c (receive (view b) t) s vector 7 0 0 ≡ answer_of_pass b c s 0 (receive (view b) t) (pass_of b s t vector)
   unfolding try_answer
   tries_pass =
       ap (answer_of_pass b c s 0 (receive (view b) t))
@@ -71,15 +74,6 @@ module _ {b : List ℕ} {s t c vector : ℕ} (may : MaySend b s t c vector) wher
 
 -- The answer of a pass that was acknowledged, with the receive channel taken; and of one that was not.
 module _ (b : List ℕ) (c s t : ℕ) (r : Receive) where
-  pub pass_channel : (p : PassResult) {x h k n : ℕ} {b₁ : List ℕ} → pass_answer x h k n b₁ ≡ answer_of_pass b c s 0 r p → x ≡ 0 → r ≡ channel k
-  unfolding answer_of_pass
-  pass_channel (none m) {x} q z = let y : x ≡ 10 = cc in absurd (omega arith)
-  pass_channel (found w m) {x} {h} {k} {n} {b₁} q z = go r q
-    where
-      go : (r : Receive) → pass_answer x h k n b₁ ≡ answer_of_pass b c s 0 r (found w m) → r ≡ channel k
-      go none_available u = let y : x ≡ 11 = cc in absurd (omega arith)
-      go (channel j) u = let i : j ≡ k = cc in ap channel i
-
   pub pass_taken : (p : PassResult) {x h k n : ℕ} {b₁ b₂ : List ℕ} → pass_answer x h k n b₁ ≡ answer_of_pass b c s 0 r p → x ≡ 0 → b₂ ≡ put_receiver b₁ t k c → pass_answer x h k n b₂ ≡ send_answer true b c s t (one_result r p)
   unfolding answer_of_pass send_answer bytes_after_send answer_of_outcome outcome received scouts
   pass_taken (none m) {x} q z e = let y : x ≡ 10 = cc in absurd (omega arith)
@@ -115,14 +109,16 @@ one_pass : (b : List ℕ) (s t c vector : ℕ) → searched b s t c 0 vector ≡
 unfolding searched
 one_pass b s t c vector = ap (send_answer true b c s t) (maze_answers (shape_of (view b)) (free_in (view b)) (receive (view b) t) s vector t)
 
--- A send of routing type 0, from the ports that are left of its vector.
-module _ {b : List ℕ} {s t c vector left : ℕ} (may : MaySend b s t c vector) (narrow : Narrowed (view b) s vector left) {x h k n : ℕ} {b₁ : List ℕ}
-    (got : pass_answer x h k n b₁ ≡ try_answer b t c s left 7 0 0) where
-  passed : pass_answer x h k n b₁ ≡ answer_of_pass b c s 0 (receive (view b) t) (pass_of b s t vector)
-  passed = got ∙ narrow_tries b t c 7 0 0 narrow ∙ tries_pass may
+-- the receive channel that the code finds, or none
+pub told_channel : (v : View) (n : ℕ) (k : Option ℕ) → k ≡ some_below channels (lowest_channel v n) → receive_as k ≡ receive v n
+told_channel v n None e = unfold receive lowest_of lowest_channel in rw (eq-eqb _ 8 (unfold lowest_channel in channel_missing v n e)) refl
+told_channel v n (Some k) e = let f = channel_taken v n e in unfold receive lowest_of lowest_channel in rw (← f.0, ne_eqb k 8 f.1) refl
 
-  pub maze_channel : x ≡ 0 → k < channels
-  maze_channel z = receive_small (view b) t k (pass_channel b c s t (receive (view b) t) (pass_of b s t vector) passed z)
+-- A send of routing type 0, from the ports that are left of its vector.
+module _ {b : List ℕ} {s t c vector left : ℕ} (may : MaySend b s t c vector) (narrow : Narrowed (view b) s vector left) {taken : Receive} (told : taken ≡ receive (view b) t)
+    {x h k n : ℕ} {b₁ : List ℕ} (got : pass_answer x h k n b₁ ≡ try_answer b t c taken s left 7 0 0) where
+  passed : pass_answer x h k n b₁ ≡ answer_of_pass b c s 0 (receive (view b) t) (pass_of b s t vector)
+  passed = got ∙ ap (λ r. try_answer b t c r s left 7 0 0) told ∙ narrow_tries b t c (receive (view b) t) 7 0 0 narrow ∙ tries_pass may
 
   pub maze_taken : x ≡ 0 → {b₂ : List ℕ} → b₂ ≡ put_receiver b₁ t k c → pass_answer x h k n b₂ ≡ searched b s t c 0 vector
   maze_taken z e = pass_taken b c s t (receive (view b) t) (pass_of b s t vector) passed z e ∙ sym (one_pass b s t c vector)

@@ -1,18 +1,16 @@
 -- What the two halves of the search ask and answer: a node trying its ports, and an arrival.
 -- Assumes nothing.
-use Rattle.std.specs.Prelude.{◌≡◌, ◌≢◌, true, false, cond, List, [], ◌∷◌, ℕ, ◌+◌, ◌-◌, ◌*◌, ◌/◌, ◌%◌, ◌^◌, ◌≤◌, ◌<◌, leb, ltb, length, Result}
+use Rattle.std.specs.Prelude.{◌≡◌, ◌≢◌, true, false, cond, List, [], ◌∷◌, ℕ, ◌+◌, ◌*◌, ◌^◌, ◌≤◌, ◌<◌, leb, length, Option, Some, None}
 use Rattle.cube.specs.Bits.{has}
-use Rattle.cube.specs.Cube.{largest_dimension, port_count, channels, NodeOf, VectorOf}
+use Rattle.cube.specs.Cube.{largest_dimension, port_count, NodeOf, VectorOf}
 use Rattle.cube.specs.Helical.{helical, ports_of}
 use Rattle.paths.specs.Network.{Network}
 use Rattle.paths.specs.Bound.{ways_from}
 use Rattle.paths.specs.Search.{trying, arriving}
+use Rattle.paths.specs.Send.{Receive, channel, none_available}
 use Rattle.layout.specs.Layout.{table_length, dimension_at}
-use Rattle.table.specs.View.{View, view, receive, net}
+use Rattle.table.specs.View.{View, view, net}
 use Rattle.answers.specs.SendOnTable.{free_in, PassAnswer, pass_answer}
-use Rattle.answers.specs.declared.Acknowledged.{Acknowledged}
-use Rattle.answers.specs.declared.Rejected.{Rejected}
-use Rattle.answers.specs.Opens.{opened_answer}
 use Rattle.answers.specs.PassOnBytes.{answer_of_pass, arrival_after, hops_left}
 
 -- the largest distance to a target among the nodes behind the ports of a list
@@ -24,13 +22,13 @@ farthest N t n (p ∷ ps) = cond (leb (farthest N t n ps) (N.distance t (N.next 
 unfoldable pub farthest_after : List ℕ → ℕ → ℕ → ℕ → ℕ
 farthest_after b t n vector = farthest (net (view b)) t n (ports_of port_count vector)
 
--- trying the ports of a vector at node n, after an arrival on port a, with h hops made and s scouts sent; and an arrival
-unfoldable pub try_answer : List ℕ → ℕ → ℕ → ℕ → ℕ → ℕ → ℕ → ℕ → PassAnswer
-try_answer b t c n vector a h s =
-    answer_of_pass b c n h (receive (view b) t) (trying (free_in (view b) n) (arrival_after (net (view b)) (free_in (view b)) t n) (helical a (ports_of port_count vector)) s)
+-- trying the ports of a vector at node n, after an arrival on port a, with h hops made and s scouts sent, where the target takes r; and an arrival
+unfoldable pub try_answer : List ℕ → ℕ → ℕ → Receive → ℕ → ℕ → ℕ → ℕ → ℕ → PassAnswer
+try_answer b t c r n vector a h s =
+    answer_of_pass b c n h r (trying (free_in (view b) n) (arrival_after (net (view b)) (free_in (view b)) t n) (helical a (ports_of port_count vector)) s)
 
-unfoldable pub arrive_answer : List ℕ → ℕ → ℕ → ℕ → ℕ → ℕ → ℕ → PassAnswer
-arrive_answer b t c n a h s = answer_of_pass b c n h (receive (view b) t) (arriving (hops_left b t n) (net (view b)) (free_in (view b)) t n a s)
+unfoldable pub arrive_answer : List ℕ → ℕ → ℕ → Receive → ℕ → ℕ → ℕ → ℕ → PassAnswer
+arrive_answer b t c r n a h s = answer_of_pass b c n h r (arriving (hops_left b t n) (net (view b)) (free_in (view b)) t n a s)
 
 -- the ports left of a vector once some that are not free at node n are dropped from it
 pub record Narrowed (v : View) (n vector left : ℕ) : Type 0 where
@@ -42,20 +40,17 @@ pub record Narrowed (v : View) (n vector left : ℕ) : Type 0 where
 abbrev pub Enabled : View → ℕ → ℕ → Type 0
 Enabled v n vector = (p : ℕ) → p < port_count → has vector p ≡ true → v.enabled n p ≡ true
 
--- The answer goes back from hop to hop as one number x. Below 2 ^ 32 it is a route rejection, and x is its scouts. Below 2 * 2 ^ 32 it is a receive rejection, and the
--- scouts are x % 2 ^ 32. Else it is an acknowledgement: the scouts are x % 2 ^ 32, and x / 2 ^ 32 is 2 + 8 * hops + receive channel (the hops as 16 bits).
-unfoldable pub answer_in : ℕ → List ℕ → PassAnswer
-answer_in x b =
-    cond (ltb x 4294967296) (pass_answer 10 0 0 x b)
-    (cond (ltb x 8589934592) (pass_answer 11 0 0 (x % 4294967296) b)
-    (pass_answer 0 ((x / 4294967296 - 2) / channels % 65536) ((x / 4294967296 - 2) % channels) (x % 4294967296) b))
+-- the receive channel that a target has to take, or none, as the code has it
+abbrev pub receive_as : Option ℕ → Receive
+receive_as (Some k) = channel k
+receive_as None = none_available
 
-pub record Packed (x : ℕ) (b : List ℕ) (answer : PassAnswer) : Type 0 where
-  pub same : answer_in x b ≡ answer
-
--- the answer that such a number is
-abbrev pub Unpacked : ℕ → Result Acknowledged Rejected → Type 0
-Unpacked x answer = (b : List ℕ) → opened_answer answer b ≡ answer_in x b
+-- what a pass says that found a free path of so many hops, or none, where the target has a receive channel to take, or none; with the scouts sent, and the
+-- bytes afterwards
+abbrev pub passed : (hops receive : Option ℕ) → (scouts : ℕ) → List ℕ → PassAnswer
+passed None k s b = pass_answer 10 0 0 s b
+passed (Some h) (Some k) s b = pass_answer 0 h k s b
+passed (Some h) None s b = pass_answer 11 0 0 s b
 
 -- what both ask: a table of a cube up to dimension 8, a node and a target of it, a port, a circuit
 pub record SearchPre (b : List ℕ) (t c n a : ℕ) : Type 0 where

@@ -1,19 +1,20 @@
 // The search for a free permitted path on a lent table, for routing types 0 and 4.
 #![tactic(auto)]
 
-ghost use Rattle.std.specs.Prelude.{◌≡◌, ◌+◌, ◌*◌};
+ghost use Rattle.std.specs.Prelude.{◌≡◌};
 ghost use Rattle.entries.specs.EntryContracts.{Within};
 ghost use Rattle.table.specs.View.{view};
-ghost use Rattle.cube.specs.Cube.{channels};
 ghost use Rattle.answers.specs.Opens.{opened_answer};
-ghost use Rattle.search.specs.SearchContracts.{Narrowed, Enabled, Packed, Unpacked, try_answer, arrive_answer, MayTry, MayArrive};
+ghost use Rattle.search.specs.SearchContracts.{Narrowed, Enabled, passed, receive_as, try_answer, arrive_answer, MayTry, MayArrive};
 ghost use Rattle.answers.specs.SendAnswer.{MaySend, searched};
 
 use answers::{Acknowledged, LinkState, Rejected, SendRequest};
 use common::refusal::Refusal;
 use cube::{Circuit, FirstPortTable, Node, Port};
+use table::{Channels, Links};
 
 // The ports of a vector that are enabled at a node: no scout leaves by another.
+#[tactic(auto, using(crate::proofs::Narrow::enabled_narrow, crate::proofs::Narrow::enabled_all))]
 fn enabled_ports(t: &[u8], n: Node, vector: u16) -> u16
     requires { Within t.now n.0 0 }
     ensures { Narrowed (view t.now) n.0 vector result × Enabled (view t.now) n.0 result }
@@ -21,148 +22,102 @@ fn enabled_ports(t: &[u8], n: Node, vector: u16) -> u16
     vector & table::enable_bits(t, n)
 }
 
-// A pass's answer in one number, so that it goes back from hop to hop in a register: the scouts sent, where no path is free; RECEIVE_REJECTION more, where one is but no
-// receive channel; and where it is acknowledged, ACKNOWLEDGED more, and RECEIVE_REJECTION times 8 * hops + receive channel.
-// A struct of its parts in its place was slower: 4,000 opens of 77,940 scouts each took 1.15 seconds with it, and 1.01 with one number (docs/PERFORMANCE.md, request (c)).
-const RECEIVE_REJECTION: u64 = 4294967296;
-
-const ACKNOWLEDGED: u64 = 8589934592;
-
-// The number of an acknowledgement.
-fn acknowledged(hops: u16, receive: u16, scouts: u32) -> u64
-    ensures { result ≡ 8589934592 + scouts + 4294967296 * (channels * hops + receive) }
-{
-    let place = 8 * u64::from(hops) + u64::from(receive);
-    ACKNOWLEDGED + u64::from(scouts) + RECEIVE_REJECTION * place
-}
-
-// The answer that such a number is.
-fn unpacked(answer: u64) -> Result<Acknowledged, Rejected>
-    ensures { Unpacked answer result }
-{
-    let scouts = (answer % RECEIVE_REJECTION) as u32;
-    if answer < RECEIVE_REJECTION {
-        return Err(Rejected {
-            refusal: Refusal::RouteRejected,
-            scouts,
-        });
-    }
-    if answer < ACKNOWLEDGED {
-        return Err(Rejected {
-            refusal: Refusal::ReceiveRejected,
-            scouts,
-        });
-    }
-    let place = answer / RECEIVE_REJECTION - 2;
-    let hops = (place / 8 % 65536) as u16;
-    let receive = (place % 8) as u16;
-    Ok(Acknowledged {
-        hops,
-        receive,
-        scouts,
-    })
-}
-
-// A node tries the ports of a vector, all of them enabled. With none it rejects at once, as many do in a search that finds no path.
-#[cycle(arrive_try_in_turn_try_ports)]
-fn try_ports(
-    t: &mut [u8],
-    at: Node,
+// What stays the same through a pass: the target, its lowest receive channel that may be taken, if one may, the circuit that holds the hops, and the table of first ports.
+// What is another at each hop, its node, vector, arrival and counts, are parameters of the methods.
+// A pass answers the hops of the free path that it found, and counts its scouts in a number that is lent to it: an `Option` of a number goes back from hop to hop
+// in registers, and a larger answer through memory, which is slower (docs/PERFORMANCE.md, request (c)).
+#[derive(Clone, Copy)]
+struct Search<'a> {
     target: Node,
-    c: Circuit,
-    vector: u16,
-    arrival: Port,
-    hops: u16,
-    scouts: u32,
-    first: &FirstPortTable,
-) -> u64
-    requires may_try { MayTry t.old target.0 c.0 at.0 vector arrival.0 hops scouts }
-    requires enabled { Enabled (view t.old) at.0 vector }
-    ensures { Packed result t.new (try_answer t.old target.0 c.0 at.0 vector arrival.0 hops scouts) }
-{
-    if vector == 0 {
-        return u64::from(scouts);
-    }
-    try_in_turn(t, at, target, c, vector, arrival, hops, scouts, first)
+    receive: Option<u16>,
+    circuit: Circuit,
+    first: &'a FirstPortTable,
 }
 
-// It tries them in turn, in the helical order, and hands on to an arrival at the next node. Each hop is held as the scout goes, and given back when
-// it is rejected.
-#[cycle(arrive_try_in_turn_try_ports)]
-fn try_in_turn(
-    t: &mut [u8],
-    at: Node,
-    target: Node,
-    c: Circuit,
-    vector: u16,
-    arrival: Port,
-    hops: u16,
-    scouts: u32,
-    first: &FirstPortTable,
-) -> u64
-    requires may_try { MayTry t.old target.0 c.0 at.0 vector arrival.0 hops scouts }
-    requires enabled { Enabled (view t.old) at.0 vector }
-    ensures { Packed result t.new (try_answer t.old target.0 c.0 at.0 vector arrival.0 hops scouts) }
-{
-    let mut left = vector;
-    let mut sent = scouts;
-    while left != 0 {
-        let p = first.first_port(left, arrival);
-        left = cube::without(left, p);
-        let state = answers::link_state(t, at, p, true);
-        match state {
-            LinkState::Free => {
-                table::set_owner(t, at, p, c);
-                let got = arrive(
-                    t,
-                    cube::neighbour(at, p),
-                    target,
-                    c,
-                    p,
-                    hops + 1,
-                    sent + 1,
-                    first,
-                );
-                if got >= ACKNOWLEDGED {
-                    return got;
+impl Search<'_> {
+    // A node tries the ports of a vector, all of them enabled. With none it rejects at once, as many do in a search that finds no path.
+    #[cycle(arrive_try_in_turn_try_ports)]
+    #[tactic(auto, using(crate::proofs::PortsTried::first_turn, crate::proofs::PortsTried::turn_over))]
+    fn try_ports(
+        &self,
+        t: &mut [u8],
+        at: Node,
+        vector: u16,
+        arrival: Port,
+        hops: u16,
+        scouts: &mut u32,
+    ) -> Option<u16>
+        requires may_try { MayTry t.old self.now.target.0 self.now.circuit.0 at.0 vector arrival.0 hops scouts.old }
+        requires enabled { Enabled (view t.old) at.0 vector }
+        ensures { passed result self.now.receive scouts.new t.new
+            ≡ try_answer t.old self.now.target.0 self.now.circuit.0 (receive_as self.now.receive) at.0 vector arrival.0 hops scouts.old }
+    {
+        if vector == 0 {
+            return None;
+        }
+        self.try_in_turn(t, at, vector, arrival, hops, scouts)
+    }
+
+    // It tries them in turn, in the helical order, and hands on to an arrival at the next node. Each hop is held as the scout goes, and given back where
+    // no free path is found behind it, or the target has no receive channel that may be taken.
+    #[cycle(arrive_try_in_turn_try_ports)]
+    #[tactic(auto, using(crate::proofs::PortsTried::now_within, crate::proofs::PortsTried::turn_over))]
+    fn try_in_turn(
+        &self,
+        t: &mut [u8],
+        at: Node,
+        vector: u16,
+        arrival: Port,
+        hops: u16,
+        scouts: &mut u32,
+    ) -> Option<u16>
+        requires may_try { MayTry t.old self.now.target.0 self.now.circuit.0 at.0 vector arrival.0 hops scouts.old }
+        requires enabled { Enabled (view t.old) at.0 vector }
+        ensures { passed result self.now.receive scouts.new t.new
+            ≡ try_answer t.old self.now.target.0 self.now.circuit.0 (receive_as self.now.receive) at.0 vector arrival.0 hops scouts.old }
+    {
+        let mut left = vector;
+        // No iterator as `cube::VectorPorts` is: the helical order needs the table of first ports at each turn, and every hop of a search passes here.
+        while left != 0 {
+            let p = self.first.first_port(left, arrival);
+            left = cube::without(left, p);
+            let LinkState::Free = answers::link_state(t, at, p, true) else {
+                continue;
+            };
+            table::set_owner::<Links>(t, at, p, self.circuit);
+            *scouts += 1;
+            let found = self.arrive(t, cube::neighbour(at, p), p, hops + 1, scouts);
+            match (found, self.receive) {
+                (None, _) => table::set_owner::<Links>(t, at, p, Circuit(0)),
+                (Some(_), None) => {
+                    table::set_owner::<Links>(t, at, p, Circuit(0));
+                    return found;
                 }
-                table::set_owner(t, at, p, Circuit(0));
-                if got >= RECEIVE_REJECTION {
-                    return got;
-                }
-                sent = got as u32;
+                (Some(_), Some(_)) => return found,
             }
-            LinkState::Held => {}
-            LinkState::Blocked => {}
         }
+        None
     }
-    u64::from(sent)
-}
 
-// A scout arrives: at the target, whose lowest receive channel that is armed and not held is answered, or at a node, which hands on to the trying of its
-// uphill ports, those of them that are enabled.
-#[cycle(arrive_try_in_turn_try_ports)]
-fn arrive(
-    t: &mut [u8],
-    at: Node,
-    target: Node,
-    c: Circuit,
-    arrival: Port,
-    hops: u16,
-    scouts: u32,
-    first: &FirstPortTable,
-) -> u64
-    requires may_arrive { MayArrive t.old target.0 c.0 at.0 arrival.0 hops scouts }
-    ensures { Packed result t.new (arrive_answer t.old target.0 c.0 at.0 arrival.0 hops scouts) }
-{
-    if at == target {
-        match table::free_channel(t, at) {
-            None => RECEIVE_REJECTION + u64::from(scouts),
-            Some(receive) => acknowledged(hops, receive, scouts),
+    // A scout arrives: at the target, or at a node, which hands on to the trying of its uphill ports, those of them that are enabled.
+    #[cycle(arrive_try_in_turn_try_ports)]
+    fn arrive(
+        &self,
+        t: &mut [u8],
+        at: Node,
+        arrival: Port,
+        hops: u16,
+        scouts: &mut u32,
+    ) -> Option<u16>
+        requires may_arrive { MayArrive t.old self.now.target.0 self.now.circuit.0 at.0 arrival.0 hops scouts.old }
+        ensures { passed result self.now.receive scouts.new t.new
+            ≡ arrive_answer t.old self.now.target.0 self.now.circuit.0 (receive_as self.now.receive) at.0 arrival.0 hops scouts.old }
+    {
+        if at == self.target {
+            return Some(hops);
         }
-    } else {
-        let vector = enabled_ports(t, at, cube::uphill_vector(at, target));
-        try_ports(t, at, target, c, vector, arrival, hops, scouts, first)
+        let vector = enabled_ports(t, at, cube::uphill_vector(at, self.target));
+        self.try_ports(t, at, vector, arrival, hops, scouts)
     }
 }
 
@@ -177,20 +132,35 @@ pub fn maze(
     ensures { opened_answer result t.new ≡ searched t.old request.source.0 request.target.0 request.circuit.0 0 request.vector }
 {
     let ports = enabled_ports(t, request.source, request.vector);
-    let answer = try_in_turn(
+    let search = Search {
+        target: request.target,
+        receive: table::free_channel(t, request.target),
+        circuit: request.circuit,
+        first,
+    };
+    let mut scouts = 0;
+    let found = search.try_in_turn(
         t,
         request.source,
-        request.target,
-        request.circuit,
         ports,
         Port(cube::SEND_ARRIVAL),
         0,
-        0,
-        first,
+        &mut scouts,
     );
-    let found = unpacked(answer)?;
-    table::set_receiver(t, request.target, found.receive, request.circuit);
-    Ok(found)
+    let hops = found.ok_or(Rejected {
+        refusal: Refusal::RouteRejected,
+        scouts,
+    })?;
+    let receive = search.receive.ok_or(Rejected {
+        refusal: Refusal::ReceiveRejected,
+        scouts,
+    })?;
+    table::set_owner::<Channels>(t, request.target, receive, request.circuit);
+    Ok(Acknowledged {
+        hops,
+        receive,
+        scouts,
+    })
 }
 
 // Routing type 4: where the pass finds no path, a second one over the ports of the cube that are not in the vector. The answer is that of the last pass,

@@ -28,7 +28,7 @@ fn search_by_type(
     }
 }
 
-// A send of a routing type, by a table of first ports. Where its search is route rejected, it asks whether a path that it may try has no blocked link: with none,
+// A send of a routing type, by a table of first ports, which is lent for many sends and so is no part of the request. Where its search is route rejected, it asks whether a path that it may try has no blocked link: with none,
 // waiting does not help.
 pub fn send_by(
     t: &mut [u8],
@@ -45,14 +45,7 @@ pub fn send_by(
         Err(rejected) => return Err(rejected),
         Ok(found) => return Ok(found),
     };
-    if reach::some_path_enabled(
-        t,
-        request.source,
-        request.target,
-        routing,
-        request.vector,
-        first,
-    ) {
+    if reach::some_path_enabled(t, request, routing, first) {
         return Err(rejected);
     }
     Err(Rejected {
@@ -61,7 +54,7 @@ pub fn send_by(
     })
 }
 
-// The same, with the table built once for all its hops.
+// The same, with the table of first ports built once for all its hops.
 pub fn send(t: &mut [u8], request: SendRequest, routing: u16) -> Result<Acknowledged, Rejected>
     requires may_send { MaySend t.old request.source.0 request.target.0 request.circuit.0 request.vector }
     requires vector_nonzero { request.vector ≢ 0 }

@@ -10,6 +10,7 @@ use native.Mathlib.Nat.{zero-add}
 use lib.Dec.{eqb, ltb}
 use lib.ListN.{length, get_or, replicate}
 use borrow.Author.Tests.{eqb-true, eqb-false, eq-eqb, ne_eqb, lt-ltb}
+use Rattle.std.proofs.Common.{Option, None, Some}
 use Rattle.common.specs.Decides.{Decides}
 use Rattle.common.specs.Lists.{◌∈◌, from}
 use Rattle.common.proofs.Lists.{keep_nil}
@@ -33,7 +34,7 @@ use Rattle.layout.proofs.Entries.{enabled_has, mask_has}
 use Rattle.circuit_path.specs.CircuitSound.{end_for, CircuitSound}
 use Rattle.soundness.specs.Sound.{Nowhere, Sound}
 use Rattle.soundness.specs.SoundTest.{sound_test}
-use Rattle.soundness.specs.Counting.{Earlier, ReceivedBefore, CircuitFollowed, Counting, Counted, FreeCounted}
+use Rattle.soundness.specs.Counting.{Earlier, ReceivedBefore, CircuitFollowed, Counting, Counts, Frees}
 use Rattle.soundness.proofs.Soundness.{placed, link_stands}
 use Rattle.soundness.proofs.LinkCount.{links_same, links_more, links_parts}
 use Rattle.soundness.proofs.Passing.{off, unarmed, view_framed, decided, same_answer}
@@ -223,6 +224,12 @@ module _ (b : List ℕ) (bytes : (i : ℕ) → get_or b i 0 < 256) (s : Sound (v
       go true e = no_bit_above (dimension_at b) (enable_bits b n) (λ p l. off_at p (λ h. omega (arith, h.1)))
       go false e = no_bit_above 0 (enable_bits b n) (λ p l. off_at p (λ h. clash (lt-ltb n _ h.0) e))
 
+-- what two sums answer: whether all links are in them, and false where one of them failed
+abbrev pub all_links : Option ℕ → Option ℕ → Bool
+all_links None _ = false
+all_links (Some _) None = false
+all_links (Some hops) (Some free) = eqb (hops + free) 2048
+
 -- the answer of the test: whatever refuses the table, and the sum
 module _ (b : List ℕ) (d : dimension_at b ≤ largest_dimension) where
   pub refuse : (Sound (view b) → ⊥) → false ≡ sound_test (view b)
@@ -231,9 +238,11 @@ module _ (b : List ℕ) (d : dimension_at b ≤ largest_dimension) where
   pub counting_start : {before : List ℕ} → before ≡ replicate 256 0 → Counting (view b) 0 0 before
   counting_start e = subst (Counting (view b) 0 0) (sym e) (counting_none (view b))
 
-  pub sum_answers : EnablesFit b (dimension_at b) → ArmsFit b (dimension_at b) → {hops free : ℕ} {before m : List ℕ} → FreeCounted (view b) 0 256 free → before ≡ replicate 256 0 → Counted (view b) 0 2048 before m hops
-      → eqb (hops + free) 2048 ≡ sound_test (view b)
-  sum_answers fit arms {hops} {free} {before} {m} f e x =
+  pub sum_answers : EnablesFit b (dimension_at b) → ArmsFit b (dimension_at b) → (hops free : Option ℕ) {before : List ℕ} (m : List ℕ) → Frees (view b) 0 256 free → before ≡ replicate 256 0 → Counts (view b) 0 2048 before m hops
+      → all_links hops free ≡ sound_test (view b)
+  sum_answers fit arms None free m f e x = refuse (x 0 (counting_start e))
+  sum_answers fit arms (Some hops) None m f e x = refuse f
+  sum_answers fit arms (Some hops) (Some free) m f e x =
       same_answer _ _
       (sum_decides b d fit arms (subst (λ (y : ℕ). Counting (view b) 2048 y m) (zero-add hops) (x.counts 0 (counting_start e))) (λ n p i j h. f.enabled n p (omega arith) i j h)
       (let e = f.counted in let z = link_count_zero (held_by (view b) 0) in omega arith))

@@ -129,3 +129,6 @@ module _ (b : List ℕ) where
       go (inl l) (inr d) (inr m) x e = first_applies (large_dimension l d (omega arith))
       go (inl l) (inr d) (inl m) false e = first_applies (not_sound l d (omega arith) e)
       go (inl l) (inr d) (inl m) true e = first_applies (usable l d (omega arith) e)
+
+-- With these the check proves what a wrong length or dimension answers.
+pub ruleset checks = (wrong_length, no_dimension, large_dimension)

@@ -7,9 +7,10 @@ ghost use Rattle.soundness.specs.Counting.{Counts, Frees};
 ghost use Rattle.soundness.specs.SoundTest.{sound_test};
 ghost use Rattle.soundness.specs.TestContracts.{Usable, AbsentUnarmed, TableAnswer};
 
-use circuit_hops::{CubeTable, Marks};
+use circuit_hops::Marks;
 use common::refusal::Refusal;
 use cube::Node;
+use table::{Channels, CubeTable, Links};
 
 // Nodes are looked at in groups.
 const GROUP: u16 = 16;
@@ -26,10 +27,10 @@ fn hops_of(table: CubeTable, n: Node, seen: &mut Marks) -> Option<u32>
     ensures { Counts (view table.entry.bytes.now) (channels * n.0) (channels * n.0 + channels) seen.old.of_node seen.new.of_node result }
 {
     // Most nodes of most tables hold nothing: they are passed over, in groups or else one by one.
-    if table::receives_clear(table.bytes, n, 1) {
+    if table::none_held::<Channels>(table.bytes, n, 1) {
         return Some(0);
     }
-    if !table::held_armed(table.bytes, n) {
+    if !table::held_enabled::<Channels>(table.bytes, n) {
         return None;
     }
     // No channel is armed at a node that the cube lacks, so none is held there.
@@ -38,7 +39,7 @@ fn hops_of(table: CubeTable, n: Node, seen: &mut Marks) -> Option<u32>
     }
     let mut hops = 0;
     for k in 0..cube::CHANNELS {
-        let c = table::receiver(table.bytes, n, k);
+        let c = table::owner::<Channels>(table.bytes, n, k);
         if c.0 != 0 {
             hops += circuit_hops::hops_to(table, c, n, seen)?;
         }
@@ -51,7 +52,7 @@ fn hops_group(table: CubeTable, from: Node, seen: &mut Marks) -> Option<u32>
     requires unarmed { AbsentUnarmed table.bytes.now }
     ensures { Counts (view table.entry.bytes.now) (channels * from.0) (channels * from.0 + channels * 16) seen.old.of_node seen.new.of_node result }
 {
-    if table::receives_clear(table.bytes, from, GROUP) {
+    if table::none_held::<Channels>(table.bytes, from, GROUP) {
         return Some(0);
     }
     let mut hops = 0;
@@ -61,43 +62,21 @@ fn hops_group(table: CubeTable, from: Node, seen: &mut Marks) -> Option<u32>
     Some(hops)
 }
 
-// The hops of all circuits that hold a receive channel.
-fn all_hops(table: CubeTable, seen: &mut Marks) -> Option<u32>
-    requires { AbsentUnarmed table.bytes.now }
-    ensures { Counts (view table.entry.bytes.now) 0 2048 seen.old.of_node seen.new.of_node result }
-{
-    let mut hops = 0;
-    for i in 0..GROUPS {
-        hops += hops_group(table, Node(GROUP * i), seen)?;
-    }
-    Some(hops)
-}
-
-// How many links of a group of nodes nobody holds. None where one is held that is not enabled.
+// How many links of a group of nodes nobody holds. None where one is held that is not enabled. No twin of `hops_group`: one call counts the links of all its nodes.
 fn free_group(table: CubeTable, from: Node) -> Option<u32>
     requires { from.0 + 16 ≤ 256 }
     ensures { Frees (view table.entry.bytes.now) from.0 (from.0 + 16) result }
 {
-    if table::links_clear(table.bytes, from, GROUP) {
+    if table::none_held::<Links>(table.bytes, from, GROUP) {
         return Some(128);
     }
+    // Tried with `all` over the range: the check finds no proof of either return behind it.
     for n in from.0..from.0 + GROUP {
-        if !table::held_enabled(table.bytes, Node(n)) {
+        if !table::held_enabled::<Links>(table.bytes, Node(n)) {
             return None;
         }
     }
     Some(table::count_free_links(table.bytes, from, GROUP))
-}
-
-// The links that nobody holds. Its loop is that of `all_hops`, and a closure for the group's count would make neither plainer: the sum would be one over its calls.
-fn all_free(table: CubeTable) -> Option<u32>
-    ensures { Frees (view table.entry.bytes.now) 0 256 result }
-{
-    let mut free = 0;
-    for i in 0..GROUPS {
-        free += free_group(table, Node(GROUP * i))?;
-    }
-    Some(free)
 }
 
 // The test of a whole table: each circuit that holds a receive channel is followed once, and the links that it leads over, added up, are all that are held.
@@ -115,17 +94,25 @@ fn entries_sound(t: &[u8], dimension: u16) -> bool
         bytes: t,
         nodes: cube::node_count(dimension),
     };
-    let Some(free) = all_free(table) else {
-        return false;
-    };
     let mut seen = Marks::new();
-    let Some(hops) = all_hops(table, &mut seen) else {
-        return false;
-    };
+    let mut free = 0;
+    let mut hops = 0;
+    for i in 0..GROUPS {
+        let from = Node(GROUP * i);
+        let Some(more) = free_group(table, from) else {
+            return false;
+        };
+        free += more;
+        let Some(more) = hops_group(table, from, &mut seen) else {
+            return false;
+        };
+        hops += more;
+    }
     hops + free == ALL_LINKS
 }
 
 // Whether a table may be used, or the refusal of the first test that it fails.
+#[tactic(auto, using(crate::proofs::Passing::checks))]
 pub fn check(t: &[u8]) -> Result<(), Refusal>
     ensures { TableAnswer t.now (answer_of result) }
 {

@@ -1,4 +1,4 @@
--- The bytes of a view that has room in them are those of a table, and show it: with `encode-view`, what a table shows and its bytes determine each other.
+-- The bytes of a view that has room in them are those of a table, and show it: with `encode_view`, what a table shows and its bytes determine each other.
 -- Assumes nothing.
 use mathlib.Core.Path.{◌≡◌, refl, ap, ap₂, sym, ◌∙◌}
 use mathlib.Core.Logic.{⊎_elim}

@@ -18,7 +18,7 @@ mask_byte f n = bits_from (f n) 0 port_count
 unfoldable pub mask_bytes : (ℕ → ℕ → Bool) → List ℕ
 mask_bytes f = map (mask_byte f) (from 0 256)
 
--- "Circuit numbers take two bytes, low byte first. Rows run node by node", `portCount` entries to a row: k entries from entry i on
+-- "Circuit numbers take two bytes, low byte first. Rows run node by node", `port_count` entries to a row: k entries from entry i on
 unfoldable pub entry_bytes : (ℕ → ℕ → ℕ) → ℕ → ℕ → List ℕ
 entry_bytes f i zero = []
 entry_bytes f i (suc k) = f (i / port_count) (i % port_count) % 256 ∷ f (i / port_count) (i % port_count) / 256 ∷ entry_bytes f (suc i) k

@@ -1,22 +1,24 @@
 // The table that the caller lends: its values one at a time, from `entries`; what is asked of the rows of its nodes; and making one.
+// Table and node, or a run of nodes, are two arguments: of one node or run the callers ask one thing or two, so that making a struct of them at each call would take more
+// than the clause that each function has.
 #![tactic(auto)]
+
+mod cube_table;
 
 ghost use Rattle.std.specs.Prelude.{◌≡◌, ◌≢◌, true, ℕ, ◌+◌, ◌*◌, ◌<◌, ◌≤◌, eqb, length};
 ghost use Rattle.common.specs.Decides.{Decides};
 ghost use Rattle.common.specs.Lists.{lowest, some_below};
 ghost use Rattle.cube.specs.Cube.{largest_dimension, port_count, channels};
-ghost use Rattle.layout.specs.Layout.{table_length, enabled_at, owner_at, receiver_at, armed_at};
+ghost use Rattle.layout.specs.Layout.{table_length, receiver_at};
 ghost use Rattle.entries.specs.EntryContracts.{Within};
 ghost use Rattle.table.specs.View.{view, fresh};
 ghost use Rattle.table.specs.Encode.{encode};
 ghost use Rattle.table.specs.TableContracts.{HeldBy, links_held, EnablesFit, ArmsFit, free_count, lowest_channel};
 
-use cube::{Circuit, Node, Port};
-pub use entries::{
-    dimension, enable_bits, enabled, is_armed, owner, receiver, set_armed, set_enabled, set_owner,
-    set_receiver,
-};
-pub use layout::BYTES;
+use cube::{Circuit, Node};
+pub use cube_table::CubeTable;
+pub use entries::{dimension, enable_bits, enabled, owner, set_enabled, set_owner};
+pub use layout::{BYTES, Channels, Half, Links};
 
 // Whether every node has the enable bits of links of its cube alone, and the nodes that the cube lacks have none.
 pub fn enables_fit(t: &[u8], dimension: u16) -> bool
@@ -29,25 +31,16 @@ pub fn enables_fit(t: &[u8], dimension: u16) -> bool
         && layout::or_bytes(&t[absent..layout::ENABLE + layout::NODES]) == 0
 }
 
-// Whether the links, or the receive channels, of so many nodes from one on are all held by nobody. Where it says no, look at each. Links and receive channels stand apart
-// here and below, as in `entries`: each function is one line over the same function of `layout`.
-#[tactic(auto, using(layout::proofs::Entries::rows_zero), unfolding(layout::specs::Layout::owner_at))]
-pub fn links_clear(t: &[u8], n: Node, nodes: u16) -> bool
+// Whether nobody holds any of the links, or of the receive channels, of so many nodes from one on. Where it says no, a caller looks at each by itself.
+pub fn none_held<H: Half>(t: &[u8], n: Node, nodes: u16) -> bool
     requires { (length t.now ≡ table_length) × (n.0 + nodes ≤ 256) × (0 < nodes) }
-    ensures { result ≡ true → (m p : ℕ) → n.0 ≤ m → m < n.0 + nodes → p < port_count → owner_at t.now m p ≡ 0 }
+    ensures { result ≡ true → (m k : ℕ) → n.0 ≤ m → m < n.0 + nodes → k < port_count → H.owner t.now m k ≡ 0 }
 {
-    layout::or_bytes(layout::link_rows(t, n, nodes)) == 0
+    layout::or_bytes(layout::node_rows::<H>(t, n, nodes)) == 0
 }
 
-#[tactic(auto, using(layout::proofs::Entries::rows_zero), unfolding(layout::specs::Layout::receiver_at))]
-pub fn receives_clear(t: &[u8], n: Node, nodes: u16) -> bool
-    requires { (length t.now ≡ table_length) × (n.0 + nodes ≤ 256) × (0 < nodes) }
-    ensures { result ≡ true → (m k : ℕ) → n.0 ≤ m → m < n.0 + nodes → k < channels → receiver_at t.now m k ≡ 0 }
-{
-    layout::or_bytes(layout::receive_rows(t, n, nodes)) == 0
-}
-
-// Whether no receive channel is armed at the nodes that the cube lacks.
+// Whether no receive channel is armed at the nodes that the cube lacks: of the cube's own nodes, all channels may be armed.
+#[tactic(auto, using(crate::proofs::Fits::arms_fit))]
 pub fn arms_fit(t: &[u8], dimension: u16) -> bool
     requires { (length t.now ≡ table_length) × (dimension ≤ largest_dimension) }
     ensures { Decides (ArmsFit t.now dimension) result }
@@ -61,7 +54,7 @@ pub fn held_by(t: &[u8], c: Circuit, n: Node) -> u16
     requires { Within t.now n.0 0 }
     ensures { HeldBy t.now c.0 n.0 result }
 {
-    layout::row_vector(layout::link_rows(t, n, 1), c)
+    layout::row_vector(layout::node_row::<Links>(t, n), c)
 }
 
 // How many links of a node a circuit holds.
@@ -70,24 +63,15 @@ pub fn links_held(t: &[u8], c: Circuit, n: Node) -> u16
     requires { Within t.now n.0 0 }
     ensures { result ≡ links_held (view t.now) c.0 n.0 }
 {
-    layout::row_count(layout::link_rows(t, n, 1), c)
+    layout::row_count(layout::node_row::<Links>(t, n), c)
 }
 
-// Whether the links of a node that are held are enabled, and whether its receive channels that are held are armed.
-#[tactic(auto, using(crate::proofs::Rows::covers_node), unfolding(layout::specs::Layout::owner_at, layout::specs::Layout::enabled_at))]
-pub fn held_enabled(t: &[u8], n: Node) -> bool
+// Whether the links of a node that are held are enabled, or its receive channels that are held armed.
+pub fn held_enabled<H: Half>(t: &[u8], n: Node) -> bool
     requires { Within t.now n.0 0 }
-    ensures { Decides ((p : ℕ) → p < port_count → owner_at t.now n.0 p ≢ 0 → enabled_at t.now n.0 p ≡ true) result }
+    ensures { Decides ((k : ℕ) → k < port_count → H.owner t.now n.0 k ≢ 0 → H.enabled t.now n.0 k ≡ true) result }
 {
-    layout::mask_covers(layout::link_rows(t, n, 1), t[layout::enable_place(n)])
-}
-
-#[tactic(auto, using(crate::proofs::Rows::covers_node), unfolding(layout::specs::Layout::receiver_at, layout::specs::Layout::armed_at))]
-pub fn held_armed(t: &[u8], n: Node) -> bool
-    requires { Within t.now n.0 0 }
-    ensures { Decides ((k : ℕ) → k < channels → receiver_at t.now n.0 k ≢ 0 → armed_at t.now n.0 k ≡ true) result }
-{
-    layout::mask_covers(layout::receive_rows(t, n, 1), t[layout::arm_place(n)])
+    layout::mask_covers(layout::node_row::<H>(t, n), t[layout::mask_place::<H>(n)])
 }
 
 // How many links of so many nodes from one on nobody holds.
@@ -95,8 +79,8 @@ pub fn count_free_links(t: &[u8], n: Node, nodes: u16) -> u32
     requires { (length t.now ≡ table_length) × (n.0 + nodes ≤ 256) × (0 < nodes) }
     ensures { (result ≤ port_count * nodes) × (free_count t.now (port_count * n.0) + result ≡ free_count t.now (port_count * (n.0 + nodes))) }
 {
-    let rows = layout::link_rows(t, n, nodes);
-    // of two bytes, as an entry is, so that several are counted at a time
+    let rows = layout::node_rows::<Links>(t, n, nodes);
+    // Counted in two bytes, as an entry has, so that several are counted at a time: the library's count, a usize, takes sixteen times the instructions.
     let mut free: u16 = 0;
     for i in 0..8 * usize::from(nodes) {
         if layout::word(rows, layout::ENTRY * i) == 0 {
@@ -111,15 +95,15 @@ pub fn held_channel(t: &[u8], c: Circuit, n: Node) -> Option<u16>
     requires { Within t.now n.0 0 }
     ensures { result ≡ some_below channels (lowest (λ k. eqb (receiver_at t.now n.0 k) c.0) channels 0) }
 {
-    cube::lowest_of(layout::row_vector(layout::receive_rows(t, n, 1), c))
+    cube::lowest_of(layout::row_vector(layout::node_row::<Channels>(t, n), c))
 }
 
 pub fn free_channel(t: &[u8], n: Node) -> Option<u16>
     requires { Within t.now n.0 0 }
     ensures { result ≡ some_below channels (lowest_channel (view t.now) n.0) }
 {
-    let free = layout::row_vector(layout::receive_rows(t, n, 1), Circuit(0));
-    cube::lowest_of(free & u16::from(t[layout::arm_place(n)]))
+    let free = layout::row_vector(layout::node_row::<Channels>(t, n), Circuit(0));
+    cube::lowest_of(free & u16::from(t[layout::mask_place::<Channels>(n)]))
 }
 
 // Writes a table of a dimension: all its links enabled, nothing held, no channel armed.
@@ -130,6 +114,7 @@ pub fn make(t: &mut [u8], dimension: u8)
     let nodes = cube::node_count(u16::from(dimension));
     let absent = layout::ENABLE + usize::from(nodes);
     t[layout::DIMENSION] = dimension;
+    // Below 256, as a cube has 256 nodes at most: `try_from` would answer a failure that cannot come.
     t[layout::ENABLE..absent].fill((nodes - 1) as u8);
     t[absent..].fill(0);
 }

@@ -1,10 +1,9 @@
 -- What the functions that write the book of a table ask and answer. Nobody has to believe these: what a book is, book/Book and BookOf say.
 -- Assumes nothing.
-use Rattle.std.specs.Prelude.{◌≡◌, ◌*◌, true, false, Option, None, Some, List, map, ◌++◌, ℕ, ◌≤◌, length}
-use Rattle.std.specs.Borrow.{Bor}
-use Rattle.cube.specs.Cube.{largest_dimension, channels, cube_nodes}
+use Rattle.std.specs.Prelude.{◌*◌, List, map, ◌++◌, ℕ}
+use Rattle.cube.specs.Cube.{channels, cube_nodes}
 use Rattle.common.specs.Lists.{keep, from}
-use Rattle.layout.specs.Layout.{table_length, dimension_at}
+use Rattle.layout.specs.Layout.{dimension_at}
 use Rattle.table.specs.View.{View}
 use Rattle.circuit_path.specs.PathOf.{path_of}
 use Rattle.circuit_path.specs.OpenCircuit.{is_open_in}
@@ -18,16 +17,10 @@ last_of b = channels * cube_nodes (dimension_at b)
 unfoldable pub book_from : View → ℕ → ℕ → List BookCircuit
 book_from v c k = map (λ (n : ℕ). record { number = n; ports = path_of v n }) (keep (is_open_in v) (from c k))
 
--- the path of a circuit where it is open, as a slice of nine bytes at most
-abbrev pub path_if : View → ℕ → Option (Bor (List ℕ)) → Type 0
-path_if v c None = is_open_in v c ≡ false
-path_if v c (Some path) = (is_open_in v c ≡ true) × (path.now ≡ path_of v c) × (length path.now ≤ 9)
+-- the circuit of one number, if it is open
+abbrev pub circuit_if : View → ℕ → List BookCircuit
+circuit_if v c = book_from v c 1
 
 -- the bytes of a line of the index
 abbrev pub line_bytes : (number offset hops : ℕ) → List ℕ
 line_bytes number offset hops = word_bytes number ++ word_bytes offset ++ word_bytes hops
-
--- a table of a cube that a table has room for
-pub record BookPre (b : List ℕ) : Type 0 where
-  pub bytes : length b ≡ table_length
-  pub fits : dimension_at b ≤ largest_dimension

@@ -78,11 +78,8 @@ pub fn changes(
 
 // The first bytes of a table alone.
 pub fn lengths(rt: &impl Print, t: &[u8; table::BYTES]) -> io::Result<()> {
-    let mut refused: usize = 0;
-    for n in 0..table::BYTES {
-        if let Err(Refusal::TableLength) = soundness::check(&t[..n]) {
-            refused += 1;
-        }
-    }
+    let refused = (0..table::BYTES)
+        .filter(|n| matches!(soundness::check(&t[..*n]), Err(Refusal::TableLength)))
+        .count();
     println!(rt; "lengths: {refused} of {} refused by length", table::BYTES)
 }

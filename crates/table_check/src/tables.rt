@@ -1,7 +1,8 @@
-// Tables that hold circuits, laid hop by hop.
+// Tables that hold circuits, laid hop by hop. A dimension is a number here, as `table::make` takes it.
 ghost use Rattle.std.specs.Prelude.{◌≤◌};
 
 use cube::{Circuit, Node, Port};
+use table::{Channels, Links};
 
 const UP: [u8; 9] = [0, 0, 1, 2, 3, 4, 5, 6, 7];
 
@@ -16,7 +17,7 @@ fn empty(t: &mut [u8; table::BYTES], dimension: u8)
 // Gives a circuit one link: the node that it leads to.
 fn hop(t: &mut [u8; table::BYTES], c: Circuit, n: Node, p: Port) -> Node {
     if n.0 < 256 && p.0 < 8 {
-        table::set_owner(t, n, p, c);
+        table::set_owner::<Links>(t, n, p, c);
         cube::neighbour(n, p)
     } else {
         n
@@ -35,8 +36,8 @@ fn lay(t: &mut [u8; table::BYTES], c: Circuit, source: Node, ports: &[u8]) -> No
 // Gives a circuit a receive channel, which is armed.
 fn receive(t: &mut [u8; table::BYTES], c: Circuit, n: Node, channel: u16) {
     if n.0 < 256 && channel < 8 {
-        table::set_receiver(t, n, channel, c);
-        table::set_armed(t, n, channel, true);
+        table::set_owner::<Channels>(t, n, channel, c);
+        table::set_enabled::<Channels>(t, n, channel, true);
     }
 }
 
@@ -77,7 +78,7 @@ fn one(t: &mut [u8; table::BYTES], source: Node, ports: &[u8], n: Node, channel:
     receive(t, Circuit(1), n, channel);
 }
 
-// Eleven tables that hold circuit 1. 0, 1 and 8 are sound.
+// Eleven tables that hold circuit 1, by the number that is printed beside the answer. 0, 1 and 8 are sound.
 pub fn single(t: &mut [u8; table::BYTES], which: u16) {
     match which {
         // ports in an order that goes round
@@ -115,8 +116,8 @@ pub fn single(t: &mut [u8; table::BYTES], which: u16) {
         // the receive channel is not armed, and another one is
         _ => {
             one(t, Node(0), b"\x00", Node(1), 0);
-            table::set_armed(t, Node(1), 1, true);
-            table::set_armed(t, Node(1), 0, false);
+            table::set_enabled::<Channels>(t, Node(1), 1, true);
+            table::set_enabled::<Channels>(t, Node(1), 0, false);
         }
     }
 }

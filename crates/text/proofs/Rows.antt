@@ -1,17 +1,16 @@
 -- The text of a printed line, put together from what is written one behind the other.
 -- Assumes nothing.
-use mathlib.Core.Path.{◌≡◌, refl, ap, sym, ◌∙◌}
-use mathlib.Core.Logic.{◌≢◌, ⊎_elim}
+use mathlib.Core.Path.{◌≡◌, refl, ap}
+use mathlib.Core.Logic.{◌≢◌}
 use mathlib.Core.List.{List, [], ◌∷◌, ◌++◌, map, append-nil}
-use Prim.Native.Nat.{ℕ, ◌+◌, ◌≤◌, ◌<◌, min}
+use Prim.Native.Nat.{ℕ, ◌+◌, ◌≤◌, ◌<◌}
 use native.Mathlib.Numerals.{add-one}
 use native.Mathlib.Omega.{arith}
-use lib.ListN.{length, get_or, take, drop, length-append, drop_of_length-le}
-use lib.Seq.{take_all, drop-cons}
-use Rattle.common.proofs.Tests.{below_or}
+use lib.ListN.{length, get_or, drop, length-append, drop_of_length-le}
+use lib.Seq.{drop-cons}
 use Rattle.text.specs.Text.{newline, space, dash, decimal}
 use Rattle.text.specs.Row.{Field, shows, path, in_turn, field_bytes, Row, in_order, spaced, ended, row_text}
-use Rattle.text.specs.Written.{width, row_width}
+use Rattle.text.specs.Written.{row_width}
 
 -- fields, each behind a space
 unfoldable pub behind_spaces : List Field → List ℕ
@@ -39,12 +38,7 @@ unfolding row_text ended spaced in_order field_bytes behind_spaces
 row_text_lem n c a d e f g h =
     no_end (decimal n) (space ∷ field_bytes c) (space ∷ decimal a) (space ∷ field_bytes d) (space ∷ field_bytes e) (space ∷ field_bytes f) (space ∷ field_bytes g) (space ∷ field_bytes h) (newline ∷ [])
 
--- how many bytes a number takes
-pub number_width : (n : ℕ) → width (shows n) ≡ length (decimal n)
-unfolding field_bytes
-number_width n = refl
-
--- and so many bytes long
+-- how many bytes a printed line takes
 pub row_length : (r : Row) → length (row_text r) ≡ row_width r
 unfolding row_text ended spaced in_order
 row_length r = simp length-append (omega arith)
@@ -59,12 +53,6 @@ row_parts n c a d e f g h =
     let all = length-append (decimal n ++ behind_spaces fs) (newline ∷ []) in
     let text = ap length (row_text_lem n c a d e f g h) in
     omega (arith, row_length (record { line = shows n; call = c; answer = shows a; node = d; channel = e; receive = f; scouts = g; ports = h }))
-
--- the first ports of a buffer; a count above its length takes no more of it
-pub first_ports : (n : ℕ) (xs : List ℕ) {k : ℕ} → k ≡ min n (length xs) → take k xs ≡ take n xs
-first_ports n xs {k = k} e =
-    ⊎_elim (λ g. let m : k ≡ n = omega arith in ap (λ i. take i xs) m)
-    (λ g. take_all k xs (omega arith) ∙ sym (take_all n xs (omega arith))) (below_or (length xs) n)
 
 -- a path with no port, and one with some
 pub path_none : (w : List ℕ) → length w ≡ 0 → dash ∷ [] ≡ field_bytes (path w)

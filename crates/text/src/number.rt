@@ -1,6 +1,6 @@
 // Reading a field as a number.
 ghost use Rattle.std.specs.Prelude.{◌≡◌, ◌-◌, ◌≤◌, SomeIff};
-ghost use Rattle.text.specs.Text.{number, is_digit};
+ghost use Rattle.text.specs.Text.{number};
 ghost use Rattle.text.specs.Written.{or_none, said};
 
 // What a digit says.
@@ -24,6 +24,7 @@ fn digits(field: &[u8]) -> Option<u16>
     Some(n)
 }
 
+// The library's `parse` takes 01 and +1 too, and a str.
 pub fn read(field: &[u8]) -> Option<u16>
     ensures { result ≡ or_none (number field.now) }
 {

@@ -1,5 +1,6 @@
 // Writing into a lent output, from a place on. Each function answers the place behind what it wrote.
-// An output and its place are two parameters: a struct that holds the lent slice would need a clause of each function, and of each loop, that it stays the same slice.
+// An output and its place are two parameters: a struct that holds the lent slice needs a clause more of each function and each loop, that it stays the same slice (tried:
+// without it a caller knows nothing of what its own slice holds afterwards), and functions that answer the rest of a slice need one of what the rest lends.
 ghost use Rattle.std.specs.Prelude.{[], ◌∷◌, ◌+◌, ◌≤◌, ◌<◌, ◌≡◌, length};
 ghost use Rattle.text.specs.Text.{decimal};
 ghost use Rattle.text.specs.Row.{field_bytes, in_turn, path as shows_path};
@@ -26,10 +27,10 @@ fn digit(d: u32) -> u8
     requires { d < 10 }
     ensures { result ≡ 48 + d }
 {
-    b'0' + d as u8
+    b'0' + d as u8 // below 10: `try_from` would answer a failure that cannot come
 }
 
-// How many digits a number has. Compared, since a division for each digit is slower.
+// How many digits a number has, by comparing; the library's logarithm compares too, and speaks of powers where this speaks of the digits that are written.
 fn digit_count(n: u32) -> usize
     ensures { result ≡ length (decimal n) }
 {
@@ -54,13 +55,10 @@ pub fn decimal(out: &mut [u8], at: usize, n: u32) -> usize
 {
     let end = at + digit_count(n);
     let mut left = n;
-    let mut i = end - 1;
-    while left >= 10 {
+    for i in (at..end).rev() {
         out[i] = digit(left % 10);
         left /= 10;
-        i -= 1;
     }
-    out[i] = digit(left);
     end
 }
 

@@ -1,7 +1,7 @@
 // A printed line: its eight fields, each told from the others by what it shows.
-ghost use Rattle.std.specs.Prelude.{◌≡◌, ◌∷◌, ◌+◌, ◌≤◌, length, None};
+ghost use Rattle.std.specs.Prelude.{◌≡◌, List, ℕ, ◌∷◌, ◌+◌, ◌≤◌, length};
 ghost use Rattle.text.specs.Text.{space};
-ghost use Rattle.text.specs.Row.{field_bytes, row_text};
+ghost use Rattle.text.specs.Row.{answer_alone, field_bytes, row_text};
 ghost use Rattle.text.specs.Written.{Wrote, shown_of, field_of, row_of, width, row_width};
 
 use crate::put;
@@ -24,7 +24,7 @@ impl From<u16> for Field {
     }
 }
 
-// The fields of a printed line, in their order; None shows nothing.
+// The fields of a printed line, in their order; None shows nothing. The answer is the number as it is printed.
 #[derive(Clone, Copy)]
 pub struct Row {
     pub line: u16,
@@ -39,7 +39,7 @@ pub struct Row {
 
 // A line that shows its number and an answer alone.
 pub fn answer_alone(line: u16, answer: u16) -> Row
-    ensures { result ≡ record { line = line; call = None; answer = answer; node = None; channel = None; receive = None; scouts = None; ports = None } }
+    ensures { (w : List ℕ) → row_of w result ≡ answer_alone line answer }
 {
     Row {
         line,
@@ -54,6 +54,7 @@ pub fn answer_alone(line: u16, answer: u16) -> Row
 }
 
 // The bytes of a field that shows something.
+#[tactic(auto, unfolding(crate::specs::Row::field_bytes))]
 fn write_shown(out: &mut [u8], at: usize, f: Field, ports: &[u8]) -> usize
     requires { at + width (shown_of ports.now f) ≤ length out.old }
     ensures { Wrote out.old at (field_bytes (shown_of ports.now f)) out.new result }
@@ -68,17 +69,16 @@ fn write_shown(out: &mut [u8], at: usize, f: Field, ports: &[u8]) -> usize
     }
 }
 
-// A field behind a space. Most fields show nothing, so that is asked before the call.
+// A field behind a space; `-` where it shows nothing.
+#[tactic(auto, unfolding(crate::specs::Row::field_bytes))]
 fn write_next(out: &mut [u8], at: usize, f: Option<Field>, ports: &[u8]) -> usize
     requires { at + 1 + width (field_of ports.now f) ≤ length out.old }
     ensures { Wrote out.old at (space ∷ field_bytes (field_of ports.now f)) out.new result }
 {
+    let behind = put::byte(out, at, b' ');
     match f {
-        None => put::text(out, at, b" -"),
-        Some(f) => {
-            let behind = put::byte(out, at, b' ');
-            write_shown(out, behind, f, ports)
-        }
+        None => put::byte(out, behind, b'-'),
+        Some(f) => write_shown(out, behind, f, ports),
     }
 }
 

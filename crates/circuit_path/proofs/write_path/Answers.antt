@@ -12,8 +12,8 @@ loop-p-init c =
     let first = rw c.unwrap-first.ensures at c.first_hop.ensures in
     start_tracing c.requires.has_source c.dimension.ensures c.node_count-left.ensures c.source_of-source.ensures c.requires.c_value first.0 first.1 c.neighbour-at.ensures _
 
-pub bounds-buffer-hops : goal.bounds-buffer-hops
-bounds-buffer-hops c =
+pub bounds-buffer-from : goal.bounds-buffer-from
+bounds-buffer-from c =
     omega (arith, on_place c.loop-p.invariant c.in-Some.ensures.0 c.in-Some.ensures.1, c.loop-p.invariant.long, length-set c.args.buffer.now 0 c.unwrap-first.result.0, c.requires.in_bounds)
 
 pub overflow_add-hops : goal.overflow_add-hops
@@ -23,7 +23,7 @@ pub without-left-requires : goal.without-left-requires
 without-left-requires c = (omega (arith, c.in-Some.ensures.1), port_left c.loop-p.invariant c.in-Some.ensures.0 c.in-Some.ensures.1)
 
 pub loop-p-preserved : goal.loop-p-preserved
-loop-p-preserved c = on_tracing c.loop-p.invariant c.in-Some.ensures.0 c.in-Some.ensures.1 c.without-left.ensures c.neighbour-at-in-Some.ensures
+loop-p-preserved c = rw c.from.ensures (on_tracing c.loop-p.invariant c.in-Some.ensures.0 c.in-Some.ensures.1 c.without-left.ensures c.neighbour-at-in-Some.ensures)
 
 pub returns : goal.returns
 returns c =

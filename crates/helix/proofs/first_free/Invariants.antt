@@ -1,9 +1,7 @@
--- `helix::first_free` meets its contract: what is left to try gives the whole.
+-- `helix::first_free` meets its contract: the ports that are still to come give the whole.
+use Rattle.cube.specs.PortsLeft.{ports_left}
 use Rattle.helix.proofs.HelixSends.{PathTurn}
 use Rattle.helix.proofs.first_free.Given as goal
 
-abbrev pub invariant-loop-left : goal.invariant-loop-left
-invariant-loop-left l = PathTurn l.t l.source.0 l.target.0 l.initial.left l.left l.scouts
-
-abbrev pub decreases-loop-left : goal.decreases-loop-left
-decreases-loop-left l = l.left
+abbrev pub invariant-loop-port : goal.invariant-loop-port
+invariant-loop-port l = PathTurn l.t l.request.source.0 l.request.target.0 l.request.vector l.scouts (ports_left l.port-iterator)

@@ -1,11 +1,10 @@
--- `helix::hold_helix` meets its contract: what is still to go gives the bytes of the whole path.
-use Rattle.cube.specs.Cube.{next}
-use Rattle.answers.specs.PassOnBytes.{hops_left}
-use Rattle.helix.proofs.Following.{Holding}
+-- `helix::hold_helix` meets its contract: the links that are still to come give the bytes of the whole path.
+use Rattle.std.proofs.Common.{◌≡◌, length}
+use Rattle.std.specs.List.{fold}
+use Rattle.paths.specs.LinksLeft.{links_left}
+use Rattle.helix.specs.HelixContracts.{hold_link}
 use Rattle.helix.proofs.hold_helix.Given as goal
 
-abbrev pub invariant-loop-c : goal.invariant-loop-c
-invariant-loop-c l = Holding l.initial.t l.initial.node.0 l.target.0 l.initial.p.0 l.c.0 l.t l.node.0 l.p.0
-
-abbrev pub decreases-loop-c : goal.decreases-loop-c
-decreases-loop-c l = hops_left l.initial.t l.target.0 (next l.node.0 l.p.0)
+abbrev pub invariant-loop-node : goal.invariant-loop-node
+invariant-loop-node l =
+    (length l.t ≡ length l.initial.t) × (fold (hold_link l.c.0) l.t (links_left l.node-iterator) ≡ fold (hold_link l.c.0) l.initial.t (links_left l.initial.node-iterator))

@@ -1,18 +1,19 @@
 -- `line_answer::carry_out` meets its contract.
-use mathlib.Core.Path.{refl}
+use mathlib.Core.Path.{ap, ◌∙◌}
+use Rattle.text.specs.Row.{answer_alone}
 use Rattle.printed_line.specs.PrintedLine.{call_row, unreadable}
-use Rattle.printed_line.proofs.Answers.{answered, unread_line}
+use Rattle.printed_line.proofs.Answers.{answered, unread_line, with_call}
 use Rattle.line_answer.proofs.carry_out.Goals as goal
 
 pub returns-in_default : goal.returns-in_default
 unfolding unreadable
-returns-in_default c = rw (c.in_default.is, c.answer_alone.ensures, c.number.ensures) (unread_line refl)
+returns-in_default c = rw c.in_default.is (unread_line (c.answer_alone.ensures _ ∙ ap (answer_alone _) c.number.ensures))
 
 pub returns-in-Make : goal.returns-in-Make
 unfolding call_row
 returns-in-Make c =
-    rw (c.in-Some.is, c.in-Make.is, c.answer_alone-in-Make.ensures)
-    (answered (rw (← c.answer-answer.ensures) at c.make.ensures) refl)
+    rw (c.in-Some.is, c.in-Make.is)
+    (answered (rw (← c.answer-answer.ensures) at c.make.ensures) (ap (with_call _) (c.answer_alone-in-Make.ensures _)))
 
 pub returns-in-Block : goal.returns-in-Block
 unfolding call_row
@@ -33,17 +34,17 @@ returns-in-Open c =
 pub returns-in-Close : goal.returns-in-Close
 unfolding call_row
 returns-in-Close c =
-    rw (c.in-Some.is, c.in-Close.is, c.of_channel.ensures)
-    (answered (rw (← c.answer-answer-in-Close.ensures) at c.close.ensures) refl)
+    rw (c.in-Some.is, c.in-Close.is)
+    (answered (rw (← c.answer-answer-in-Close.ensures) at c.close.ensures) (c.of_channel.ensures _))
 
 pub returns-in-Arm : goal.returns-in-Arm
 unfolding call_row
 returns-in-Arm c =
-    rw (c.in-Some.is, c.in-Arm.is, c.of_channel-in-Arm.ensures)
-    (answered (rw (← c.answer-answer-in-Arm.ensures) at c.arm.ensures) refl)
+    rw (c.in-Some.is, c.in-Arm.is)
+    (answered (rw (← c.answer-answer-in-Arm.ensures) at c.arm.ensures) (c.of_channel-in-Arm.ensures _))
 
 pub returns-in-Disarm : goal.returns-in-Disarm
 unfolding call_row
 returns-in-Disarm c =
-    rw (c.in-Some.is, c.in-Disarm.is, c.of_channel-in-Disarm.ensures)
-    (answered (rw (← c.answer-answer-in-Disarm.ensures) at c.disarm.ensures) refl)
+    rw (c.in-Some.is, c.in-Disarm.is)
+    (answered (rw (← c.answer-answer-in-Disarm.ensures) at c.disarm.ensures) (c.of_channel-in-Disarm.ensures _))

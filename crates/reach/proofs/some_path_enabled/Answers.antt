@@ -1,7 +1,6 @@
 -- `reach::some_path_enabled` meets its contract: each routing type by the function that answers for its paths.
 use mathlib.Core.Path.{ap}
 use Prim.Native.Nat.{◌-◌}
-use native.Mathlib.Omega.{arith}
 use Rattle.cube.proofs.Ports.{count_of}
 use Rattle.reach.proofs.Asks.{fixed_finds, helix_finds, alternate_finds, maze_finds}
 use Rattle.reach.proofs.some_path_enabled.Goals as goal
@@ -15,13 +14,7 @@ returns-in-Helix c = helix_finds c.requires.may_ask c.in-Helix.ensures c.any_hel
 pub returns-in-Fixed : goal.returns-in-Fixed
 returns-in-Fixed c = fixed_finds c.requires.may_ask c.in-Fixed.ensures c.lowest_helix.ensures
 
-pub any_path-requires-in-AlternateMaze : goal.any_path-requires-in-AlternateMaze
-any_path-requires-in-AlternateMaze c =
-    let p = c.requires.may_ask in
-    let count = count_of c.dimension.ensures c.node_count-all.ensures.value in
-    record { sweep = p.sweep; source = p.source; ports = omega (arith, c.node_count-all.ensures.some) }
-
 pub returns-in-AlternateMaze : goal.returns-in-AlternateMaze
 returns-in-AlternateMaze c =
-    let count = count_of c.dimension.ensures c.node_count-all.ensures.value in
+    let count = count_of c.dimension.ensures c.node_count.ensures.value in
     alternate_finds c.requires.may_ask c.in-AlternateMaze.ensures (ap (◌- 1) count) c.any_path-in-AlternateMaze.ensures

@@ -5,9 +5,6 @@ use Rattle.answers.proofs.Opens.{route_refusal, other_refusal}
 use Rattle.send.proofs.ByWaiting.{may_ask_after, judged_kept, judged_helps, judged_blocked}
 use Rattle.send.proofs.send_by.Goals as goal
 
-pub search_by_type-requires : goal.search_by_type-requires
-search_by_type-requires c = c.requires
-
 pub returns-in-Err-2 : goal.returns-in-Err-2
 returns-in-Err-2 c =
     judged_kept _ _ _ _ _ _ c.in-Err.ensures (other_refusal _ (sym c.eq.ensures ∙ c.if-eq.false))

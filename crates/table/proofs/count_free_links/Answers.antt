@@ -19,10 +19,10 @@ loop-i-preserved c =
     let on : 8 * n + i + 1 ≡ 8 * n + (i + 1) = omega arith in
     elim c.if-word-eq0.branch [
       | then-word-eq0 w ↦
-          let more = free_yes b n c.args.nodes i _ _ c.requires.1 (omega arith) c.link_rows-rows.ensures c.word.ensures c.loop-i.invariant.1 w.if-word-eq0.true in
+          let more = free_yes b n c.args.nodes i _ _ c.requires.1 (omega arith) c.node_rows-rows.ensures c.word.ensures c.loop-i.invariant.1 w.if-word-eq0.true in
           (omega (arith, w.free-is), omega (arith, w.free-is, more, ap (free_count b) on))
       | else-word-eq0 w ↦
-          let same = free_no b n c.args.nodes i _ _ c.requires.1 (omega arith) c.link_rows-rows.ensures c.word.ensures c.loop-i.invariant.1 w.if-word-eq0.false in
+          let same = free_no b n c.args.nodes i _ _ c.requires.1 (omega arith) c.node_rows-rows.ensures c.word.ensures c.loop-i.invariant.1 w.if-word-eq0.false in
           (omega (arith, w.free-is), omega (arith, w.free-is, same, ap (free_count b) on))
     ]
 

@@ -14,5 +14,5 @@ pub returns : goal.returns
 returns c =
     let b = c.args.t.now in
     c.lowest_of.ensures
-    ∙ ap (some_below 8) (channels_available b c.args.n.0 0 c.requires.node c.row_vector-free.result c.from.result refl c.receive_rows.ensures
-    c.row_vector-free.ensures (c.from.ensures ∙ ap (λ i. get_or b i 0) c.arm_place.ensures.0))
+    ∙ ap (some_below 8) (channels_available b c.args.n.0 0 c.requires.node c.row_vector-free.result c.from.result refl c.node_row.ensures
+    c.row_vector-free.ensures (c.from.ensures ∙ ap (λ i. get_or b i 0) c.mask_place.ensures.0))

@@ -4,4 +4,4 @@ use Rattle.table.proofs.held_by.Goals as goal
 
 pub returns : goal.returns
 returns c =
-    links_vector c.args.t.now c.args.n.0 c.args.c.0 c.requires.node c.row_vector.result c.link_rows.ensures c.row_vector.ensures
+    links_vector c.args.t.now c.args.n.0 c.args.c.0 c.requires.node c.row_vector.result c.node_row.ensures c.row_vector.ensures

@@ -7,4 +7,4 @@ use Rattle.table.proofs.held_channel.Goals as goal
 pub returns : goal.returns
 returns c =
     c.lowest_of.ensures
-    ∙ ap (some_below 8) (channels_lowest c.args.t.now c.args.n.0 c.args.c.0 c.requires.node c.row_vector.result c.receive_rows.ensures c.row_vector.ensures)
+    ∙ ap (some_below 8) (channels_lowest c.args.t.now c.args.n.0 c.args.c.0 c.requires.node c.row_vector.result c.node_row.ensures c.row_vector.ensures)

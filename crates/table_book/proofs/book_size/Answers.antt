@@ -1,21 +1,21 @@
 -- `table_book::book_size` meets its contract: what was counted and what is left to count is the book of the table.
-use mathlib.Core.Path.{ap}
-use native.Mathlib.Omega.{arith}
+use mathlib.Core.Path.{ap, ◌∙◌}
 use lib.ListN.{length}
-use Rattle.table_book.proofs.BookFrom.{nothing_counted, count_open, count_closed, all_counted}
+use Rattle.table_book.proofs.BookFrom.{nothing_counted, count_open, all_counted}
 use Rattle.table_book.proofs.book_size.Goals as goal
-use Rattle.table_book.proofs.book_size.Goals.{in-Some, in_default}
 
 pub loop-c-init : goal.loop-c-init
-loop-c-init c = nothing_counted _
+loop-c-init c = rw (c.into_iter-c-iterator.ensures.into_iter_gives, c.of-c-items.ensures.first) (record { same = c.of-c-items.ensures.same; counted = nothing_counted _ })
 
 pub loop-c-preserved : goal.loop-c-preserved
 loop-c-preserved c =
-    let inside = c.last_circuit-c-end.ensures in
-    elim c.match-open_path.branch [
-      | in-Some w ↦ let p = w.in-Some.ensures in rw w.total-is (count_open c.loop-c.invariant (omega arith) p.0 (ap length p.1) p.2 w.with-total.ensures.0 w.with-total.ensures.1)
-      | in_default w ↦ rw w.total-is (count_closed c.loop-c.invariant (omega arith) w.in_default.ensures)
-    ]
+    let same = c.loop-c.invariant.same in
+    let next = rw (c.in-Some.ensures.steps.same, same) at c.in-Some.ensures.steps.rest in
+    let path = c.path.ensures in
+    record {
+      same = c.in-Some.ensures.steps.same ∙ same;
+      counted = count_open c.loop-c.invariant.counted c.in-Some.ensures.steps.rises next (ap length path.ports_value) path.few c.with-total.ensures.0 c.with-total.ensures.1;
+    }
 
 pub returns : goal.returns
-returns c = all_counted c.loop-c.invariant (omega arith)
+returns c = all_counted c.loop-c.invariant.counted (rw c.loop-c.invariant.same at c.in-None.ensures.steps.0)

@@ -12,4 +12,4 @@ copied : (b w : List ℕ) (at : ℕ) → at + length w ≤ length b → put_mid 
 copied b w at h = let k : at + length w - at ≡ length w = omega arith in rw (k, drop-drop (length w) at b, ← append_assoc (take at b) w (drop (at + length w) b)) (sym (sets-eq w b at h))
 
 pub returns-clause-ports_after : goal.returns-clause-ports_after
-returns-clause-ports_after c = rw c.copy_from_slice.ensures.after (copied _ _ _ c.requires.room.0)
+returns-clause-ports_after c = rw (c.copy_from_slice.ensures.after, c.from-at.ensures) (copied _ _ _ c.requires.room.0)

@@ -1,8 +1,12 @@
 -- `table_book::write_book` meets its contract: what is left to write behind what was written is the book of the table.
+use mathlib.Core.Path.{◌≡◌}
 use Rattle.table.specs.View.{view}
 use Rattle.table_book.specs.Writing.{last_of}
 use Rattle.table_book.proofs.Filling.{Filling}
 use Rattle.table_book.proofs.write_book.Given as goal
 
-abbrev pub invariant-loop-c : goal.invariant-loop-c
-invariant-loop-c l = Filling (view l.t) (last_of l.t) l.initial.ports l.initial.index l.ports l.index l.size.circuits l.size.hops l.c
+abbrev pub invariant-loop-circuit : goal.invariant-loop-circuit
+invariant-loop-circuit l = record {
+  same : l.circuit-iterator.table.bytes.now ≡ l.table.bytes.now;
+  filled : Filling (view l.table.bytes.now) (last_of l.table.bytes.now) l.initial.ports l.initial.index l.ports l.index l.size.circuits l.size.hops l.circuit-iterator.next;
+}

@@ -1,11 +1,6 @@
 -- `cube::vectors::lowest_of` meets its contract: the zeros below the lowest bit are its place.
-use native.Mathlib.Omega.{arith}
-use lib.Count.{trailing_le}
 use Rattle.cube.proofs.Ports.{lowest_none, lowest_some}
 use Rattle.cube.proofs.vectors.lowest_of.Goals as goal
-
-pub overflow_cast-result : goal.overflow_cast-result
-overflow_cast-result c = omega (arith, trailing_le 16 c.args.vector)
 
 pub returns-then-vector-eq0 : goal.returns-then-vector-eq0
 returns-then-vector-eq0 c = lowest_none c.args.vector c.requires c.if-vector-eq0.true

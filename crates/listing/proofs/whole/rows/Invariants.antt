@@ -7,10 +7,10 @@ use Rattle.listing.specs.Listing.{rows}
 use Rattle.ownership.specs.OnTable.{table_step}
 use Rattle.listing.proofs.whole.rows.Given as goal
 
-abbrev pub invariant-loop-text : goal.invariant-loop-text
-invariant-loop-text l =
-    (goal.iterator-loop-text).can_next l.text-iterator
-    × (goal.iterator-loop-text).is_finite l.text-iterator
-    × (l.line ≡ length l.yielded + 1)
+abbrev pub invariant-loop-line : goal.invariant-loop-line
+invariant-loop-line l =
+    let k = length l.yielded in
+    (goal.iterator-loop-line).can_next l.line-iterator
+    × (goal.iterator-loop-line).is_finite l.line-iterator
     × (length l.t ≡ length l.initial.t)
-    × Left l.initial.out l.at (rows_text (rows table_step l.initial.t 1 (lines l.input))) l.out l.end (rows_text (rows table_step l.t l.line (drop (length l.yielded) (lines l.input))))
+    × Left l.initial.out l.at (rows_text (rows table_step l.initial.t 1 (lines l.input))) l.out l.end (rows_text (rows table_step l.t (k + 1) (drop k (lines l.input))))

@@ -10,9 +10,6 @@ returns-in-10 c =
     let last : get_or input (length input - 1) 0 ≡ 10 = search rules in
     (lines_part input c.in-10.len_at_least last, omega (arith, length-take (length input - 1) input))
 
-pub returns-in_default : goal.returns-in_default
-returns-in_default c = absurd (omega (arith, c.requires, c.in_default.len_below))
-
 pub returns-in_default-2 : goal.returns-in_default-2
 returns-in_default-2 c =
     let input = c.args.input.now in

@@ -10,4 +10,4 @@ returns-in_err-not_stopped c =
     rw e (data_stopped _ c.in_err-not_stopped.ensures.1)
 
 pub returns : goal.returns
-returns c = data_taken _ _ c.in_ok-not_stopped.ensures c.doubleword.ensures
+returns c = data_taken _ _ c.in_ok-not_stopped.ensures.1 (rw c.in_ok-not_stopped.ensures.0 at c.doubleword.ensures)

@@ -25,5 +25,5 @@ returns c =
     _
     (sym (ap (λ (r : WordRead). r.number) c.in_ok-read.ensures))
     (ap (λ (r : WordRead). r.command) c.in_ok-read.ensures)
-    c.in_ok-not_stopped.ensures
-    c.obey.ensures
+    c.in_ok-not_stopped.ensures.1
+    (rw c.in_ok-not_stopped.ensures.0 at c.obey.ensures)

@@ -9,8 +9,8 @@ use Rattle.table.specs.View.{view}
 use Rattle.soundness.proofs.Free.{frees_all, frees_clear}
 use Rattle.soundness.proofs.sound.free_group.Goals as goal
 
-pub returns-then-links_clear : goal.returns-then-links_clear
-returns-then-links_clear c = frees_clear c.args.table.bytes.now c.args.from.0 (c.links_clear.ensures c.if-links_clear.true)
+pub returns-then-none_held : goal.returns-then-none_held
+returns-then-none_held c = frees_clear c.args.table.bytes.now c.args.from.0 (c.none_held.ensures c.if-none_held.true)
 
 pub returns-then-not-held_enabled : goal.returns-then-not-held_enabled
 returns-then-not-held_enabled c s = c.held_enabled.ensures.fails c.if-not-held_enabled.true (λ p i z. unfold view in s.held_enabled c.loop-n.n p z)

@@ -5,9 +5,9 @@ use Rattle.table.specs.View.{view}
 use Rattle.soundness.proofs.Counting.{counts_skip, counts_join, counts_fail, counts_as_lem}
 use Rattle.soundness.proofs.sound.hops_group.Goals as goal
 
-pub returns-then-receives_clear : goal.returns-then-receives_clear
+pub returns-then-none_held : goal.returns-then-none_held
 unfolding view
-returns-then-receives_clear c = counts_skip (omega arith) (λ n k l g h. c.receives_clear.ensures c.if-receives_clear.true n k (omega arith) (omega arith) l)
+returns-then-none_held c = counts_skip (omega arith) (λ n k l g h. c.none_held.ensures c.if-none_held.true n k (omega arith) (omega arith) l)
 
 pub loop-n-init : goal.loop-n-init
 loop-n-init c = counts_skip (omega arith) (λ n k l g h. absurd (omega arith))

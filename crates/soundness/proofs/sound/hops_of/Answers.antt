@@ -12,28 +12,28 @@ use Rattle.soundness.proofs.Deciding.{unarmed_fails, armed_held, absent_free}
 use Rattle.soundness.proofs.sound.hops_of.Goals as goal
 use Rattle.soundness.proofs.sound.hops_of.Goals.{then-c-ne0+in_ok-hops, else-c-ne0}
 
-pub returns-then-receives_clear : goal.returns-then-receives_clear
+pub returns-then-none_held : goal.returns-then-none_held
 unfolding view
-returns-then-receives_clear c = counts_skip (omega arith) (λ n k l g h. c.receives_clear.ensures c.if-receives_clear.true n k (omega arith) (omega arith) l)
+returns-then-none_held c = counts_skip (omega arith) (λ n k l g h. c.none_held.ensures c.if-none_held.true n k (omega arith) (omega arith) l)
 
-pub returns-then-not-held_armed : goal.returns-then-not-held_armed
-returns-then-not-held_armed c h x s = unarmed_fails c.args.table.bytes.now c.args.n.0 c.held_armed.ensures c.if-not-held_armed.true s
+pub returns-then-not-held_enabled : goal.returns-then-not-held_enabled
+returns-then-not-held_enabled c h x s = unarmed_fails c.args.table.bytes.now c.args.n.0 c.held_enabled.ensures c.if-not-held_enabled.true s
 
 pub returns-then-n-table : goal.returns-then-n-table
 returns-then-n-table c =
     let b = c.args.table.bytes.now in
     let n = c.args.n.0 in
-    let none = absent_free b n c.held_armed.ensures c.if-not-held_armed.false c.requires.unarmed (omega (arith, c.if-n-table.true, c.args.table.count)) in
+    let none = absent_free b n c.held_enabled.ensures c.if-not-held_enabled.false c.requires.unarmed (omega (arith, c.if-n-table.true, c.args.table.count)) in
     counts_skip (omega arith) (λ m k l g h. let e : n ≡ m = omega arith in ap (λ y. (view b).receiver y k) (sym e) ∙ none k l)
 
 pub returns-in_err-hops : goal.returns-in_err-hops
 returns-in_err-hops c =
     let b = c.args.table.bytes.now in
     let k = c.loop-k.k in
-    let held : c.receiver-c.result.0 ≡ (view b).receiver c.args.n.0 k = unfold view in c.receiver-c.ensures in
+    let held : c.owner-c.result.0 ≡ (view b).receiver c.args.n.0 k = unfold view in c.owner-c.ensures in
     rw c.from_residual.ensures
     (counts_fail c.loop-k.invariant (counts_entry (view b) c.loop-k.seen.of_node c.hops_to.new.seen.of_node (omega (arith, shown b, c.args.table.fits)) held c.if-c-ne0.true c.loop-k-test.true
-    (omega (arith, c.if-n-table.false, c.args.table.count, ap (2 ^◌) (shown b))) (armed_held b c.args.n.0 c.held_armed.ensures c.if-not-held_armed.false k c.loop-k-test.true (λ z. c.if-c-ne0.true (held ∙ z)))
+    (omega (arith, c.if-n-table.false, c.args.table.count, ap (2 ^◌) (shown b))) (armed_held b c.args.n.0 c.held_enabled.ensures c.if-not-held_enabled.false k c.loop-k-test.true (λ z. c.if-c-ne0.true (held ∙ z)))
     None c.in_err-hops.ensures))
 
 pub loop-k-init : goal.loop-k-init
@@ -44,11 +44,11 @@ loop-k-preserved c =
     let b = c.args.table.bytes.now in
     let n = c.args.n.0 in
     let k = c.loop-k.k in
-    let held : c.receiver-c.result.0 ≡ (view b).receiver n k = unfold view in c.receiver-c.ensures in
+    let held : c.owner-c.result.0 ≡ (view b).receiver n k = unfold view in c.owner-c.ensures in
     elim c.if-c-ne0.branch [
       | then-c-ne0+in_ok-hops w ↦
           counts_as_lem (counts_join c.loop-k.invariant (counts_entry (view b) c.loop-k.seen.of_node w.hops_to.new.seen.of_node (omega (arith, shown b, c.args.table.fits)) held w.if-c-ne0.true c.loop-k-test.true
-          (omega (arith, c.if-n-table.false, c.args.table.count, ap (2 ^◌) (shown b))) (armed_held b n c.held_armed.ensures c.if-not-held_armed.false k c.loop-k-test.true (λ z. w.if-c-ne0.true (held ∙ z)))
+          (omega (arith, c.if-n-table.false, c.args.table.count, ap (2 ^◌) (shown b))) (armed_held b n c.held_enabled.ensures c.if-not-held_enabled.false k c.loop-k-test.true (λ z. w.if-c-ne0.true (held ∙ z)))
           (Some w.in_ok-hops.field-0) w.in_ok-hops.ensures)) refl (omega arith) (ap (λ s. s.of_node) w.seen-is) w.hops-is
       | else-c-ne0 w ↦
           counts_as_lem (counts_join c.loop-k.invariant (counts_skip (omega arith) (λ a j z g h. let p : n ≡ a = omega arith in let q : k ≡ j = omega arith in ap₂ (view b).receiver (sym p) (sym q) ∙ sym held ∙ w.if-c-ne0.false)))

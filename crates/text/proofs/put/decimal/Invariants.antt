@@ -2,8 +2,5 @@
 use Rattle.text.proofs.Fields.{Writes}
 use Rattle.text.proofs.put.decimal.Given as goal
 
-abbrev pub invariant-loop-left : goal.invariant-loop-left
-invariant-loop-left l = Writes l.n l.at l.initial.out l.out l.left l.i
-
-abbrev pub decreases-loop-left : goal.decreases-loop-left
-decreases-loop-left l = l.left
+abbrev pub invariant-loop-i : goal.invariant-loop-i
+invariant-loop-i l = Writes l.n l.at l.initial.out l.out l.left l.i

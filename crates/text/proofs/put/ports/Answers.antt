@@ -6,12 +6,9 @@ use lib.ListN.{length, get_or, drop, length-append}
 use Prim.Native.Nat.{◌+◌}
 use Rattle.text.specs.Text.{decimal}
 use Rattle.text.specs.Row.{in_turn}
-use Rattle.text.proofs.Writing.{left_all, left_more, left_none, retext}
+use Rattle.text.proofs.Writing.{left_more, left_none, retext}
 use Rattle.text.proofs.Fields.{turn_step, turn_end}
 use Rattle.text.proofs.put.ports.Goals as goal
-
-pub loop-port-init : goal.loop-port-init
-loop-port-init c = left_all c.args.out.now c.args.at (in_turn c.args.path.now)
 
 pub decimal-end-requires : goal.decimal-end-requires
 decimal-end-requires c =

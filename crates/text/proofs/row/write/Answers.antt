@@ -1,5 +1,5 @@
 -- `text::row::write` meets its contract: what is left to write behind what was written are the fields, each behind a space.
-use mathlib.Core.Path.{◌≡◌, ap, ◌∙◌}
+use mathlib.Core.Path.{◌≡◌, ap}
 use mathlib.Core.List.{[], ◌∷◌, map}
 use native.Mathlib.Omega.{arith}
 use lib.ListN.{length, length-append, drop, get_or}
@@ -9,7 +9,7 @@ use Rattle.text.specs.declared.row.Field.TheVariants.{Number}
 use Rattle.text.specs.Text.{space}
 use Rattle.text.specs.Row.{shows, field_bytes}
 use Rattle.text.specs.Written.{field_of, width}
-use Rattle.text.proofs.Writing.{◌then◌, retext, left_all, left_more, left_none}
+use Rattle.text.proofs.Writing.{◌then◌, retext, left_more, left_none}
 use Rattle.text.proofs.Rows.{behind_spaces, behind_more, behind_none, row_text_lem, row_parts}
 use Rattle.text.proofs.row.write.Goals as goal
 
@@ -19,9 +19,6 @@ decimal-end-requires c =
     let w = c.args.ports.now in
     let n : c.from-2.result ≡ r.line = search rules in
     rw n (omega (arith, c.requires, row_parts r.line (field_of w r.call) r.answer (field_of w r.node) (field_of w r.channel) (field_of w r.receive) (field_of w r.scouts) (field_of w r.ports)))
-
-pub loop-field-init : goal.loop-field-init
-loop-field-init c = left_all _ _ _
 
 pub write_next-end-requires : goal.write_next-end-requires
 write_next-end-requires c =
@@ -51,9 +48,6 @@ byte-requires c =
     let a = ap (λ m. width (shows m)) answer in
     let all = row_parts c.from-2.result (field_of w r.call) c.from.result (field_of w r.node) (field_of w r.channel) (field_of w r.receive) (field_of w r.scouts) (field_of w r.ports) in
     omega (arith, n, a, all, c.loop-field.invariant.place, c.loop-field.invariant.long, c.decimal-end.ensures.place, c.decimal-end.auto.out, c.requires)
-
-pub shape_of-out : goal.shape_of-out
-shape_of-out c = c.byte.auto.out ∙ c.loop-field.invariant.long ∙ c.decimal-end.auto.out
 
 pub returns : goal.returns
 returns c =
