@@ -41,7 +41,7 @@ view_after_send v c s t route_rejected = v
 view_after_send v c s t receive_rejected = v
 
 -- Document 02, (c): waiting can help a send that finds no free path where some path that its type may try, "were all circuits closed", crosses no blocked
--- link. (`someAttempt` says it over the attempts of the send, with "enabled" in place of "free".)
+-- link. (`some_attempt` says it over the attempts of the send, with "enabled" in place of "free".)
 unfoldable pub waiting_helps : View → ℕ → ℕ → ℕ → ℕ → Bool
 waiting_helps v s t type vector = some_attempt (net v) v.enabled s t (attempts (shape_of v) type vector)
 

@@ -124,11 +124,11 @@ module _ (c : ℕ) where
     where
       go : (b : Bool) → eqb x.number c ≡ b → found xs (find (λ y. eqb y.number c) xs) → found (x ∷ xs) (cond b (Some x) (find (λ y. eqb y.number c) xs))
       go true q _ = rw q (refl, refl)
-      go false q h = behind (find (λ y. eqb y.number c) xs) h
+      go false q h = in_rest (find (λ y. eqb y.number c) xs) h
         where
-          behind : (o : Option IndexLine) → found xs o → found (x ∷ xs) o
-          behind None h = rw q h
-          behind (Some y) h = rw q h
+          in_rest : (o : Option IndexLine) → found xs o → found (x ∷ xs) o
+          in_rest None h = rw q h
+          in_rest (Some y) h = rw q h
 
   pub line_if_first : (xs : List IndexLine) (r : Option BookLine) → option_map line_is r ≡ find (λ x. eqb x.number c) xs → line_if c xs r
   line_if_first xs None e = subst (found xs) (sym e) (first_found xs)

@@ -77,7 +77,8 @@ impl BookLine {
     }
 }
 
-// The lines of an index that are left to read.
+// The lines of an index that are left to read. `chunks_exact` with `map` gives the same lines, but the language cannot name that type as a result, so each function that goes over them would
+// have to build it.
 #[derive(Drop)]
 struct IndexLines<'a> {
     index: &'a [u8],

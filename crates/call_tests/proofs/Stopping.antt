@@ -14,7 +14,7 @@ use Rattle.common.proofs.Tests.{first_passed, refusal_after, refusal_before}
 use Rattle.layout.specs.Layout.{table_length, dimension_at}
 use Rattle.entries.specs.EntryContracts.{Within}
 use Rattle.table.specs.View.{view}
-use Rattle.cube.specs.Cube.{largest_dimension, channels, NodeOf, circuit_of}
+use Rattle.cube.specs.Cube.{largest_dimension, channels, NodeOf, VectorOf, circuit_of}
 use Rattle.cube.proofs.Bits.{no_bit_above}
 use Rattle.cube.proofs.Circuits.{source_of_circuit}
 use Rattle.cube.proofs.Ports.{below_256, count_of}
@@ -77,7 +77,7 @@ module _ {b : List ℕ} {m k : ℕ} where
   unfolding Allowed facts_of view
   disarm_passed e = let r = none_applies b (disarming m k) refl e in (inside b r.0 r.1.0 r.1.0, r.1.1)
 
-pub open_passed : {b : List ℕ} {s c t : ℕ} (y : ℕ) {v : ℕ} → 0 ≡ stopped_at b (opening s c t y v) → Inside b s t × (c < channels) × (v < 2 ^ dimension_at b) × (v ≢ 0)
+pub open_passed : {b : List ℕ} {s c t : ℕ} (y : ℕ) {v : ℕ} → 0 ≡ stopped_at b (opening s c t y v) → Inside b s t × (c < channels) × VectorOf (dimension_at b) v × (v ≢ 0)
 unfolding Allowed facts_of view
 open_passed {b} {s} {c} {t} y {v} e =
     let r = none_applies b (opening s c t y v) refl e in

@@ -15,7 +15,7 @@ use common::refusal::Refusal;
 use cube::{Node, Port, RoutingType};
 
 // A node has send channels 0 to 7, and as many receive channels.
-const LAST_CHANNEL: u16 = 7;
+const LAST_CHANNEL: u16 = cube::CHANNELS - 1;
 
 pub(crate) fn channel_exists(c: u16) -> Result<(), Refusal>
     ensures { answer_of result ≡ refusal (channel_number c ∷ []) }

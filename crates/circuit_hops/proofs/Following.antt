@@ -14,7 +14,7 @@ use Rattle.common.specs.Lists.{keep, from}
 use Rattle.common.proofs.Tests.{below_or, clash, is_false, both, and}
 use Rattle.cube.specs.Bits.{has, flip}
 use Rattle.cube.specs.CubeContracts.{UphillVector}
-use Rattle.cube.specs.Cube.{largest_dimension, port_count, NodeOf, next, source_of, uphill}
+use Rattle.cube.specs.Cube.{largest_dimension, port_count, cube_nodes, NodeOf, next, source_of, uphill}
 use Rattle.cube.proofs.Axes.{axis_low, next_inside}
 use Rattle.cube.proofs.Bits.{has_room, flip_xor, zero_has}
 use Rattle.paths.specs.Network.{Path, Exactly}
@@ -133,7 +133,7 @@ module _ (b : List ℕ) {c t first : ℕ} (d : dimension_at b ≤ largest_dimens
   followed None none = no_path none
 
 -- the links at the source
-module _ {b : List ℕ} {nodes c held : ℕ} (t : ℕ) (d : dimension_at b ≤ largest_dimension) (count : nodes ≡ 2 ^ dimension_at b) (f : HeldBy b c (source_of c) held) where
+module _ {b : List ℕ} {nodes c held : ℕ} (t : ℕ) (d : dimension_at b ≤ largest_dimension) (count : nodes ≡ cube_nodes (dimension_at b)) (f : HeldBy b c (source_of c) held) where
   here : (p : ℕ) → p < port_count → has held p ≡ held_by (view b) c (source_of c) p
   unfolding view
   here = f.held

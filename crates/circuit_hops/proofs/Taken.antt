@@ -4,14 +4,14 @@ use mathlib.Core.Path.{◌≡◌, refl, ap, sym, ◌∙◌, subst}
 use mathlib.Core.Logic.{◌⊎◌, inl, inr, ⊎_elim, ◌≢◌}
 use mathlib.Core.Bool.{Bool, true, false}
 use mathlib.Core.List.{List}
-use Prim.Native.Nat.{ℕ, ◌*◌, ◌^◌, ◌≤◌, ◌<◌}
+use Prim.Native.Nat.{ℕ, ◌*◌, ◌≤◌, ◌<◌}
 use native.Mathlib.Omega.{arith}
 use lib.Dec.{eqb}
 use lib.ListN.{length, get_or}
 use lib.Bits.{bit_and}
 use Rattle.common.proofs.Tests.{below_or, clash, is_false}
 use Rattle.cube.specs.Bits.{has}
-use Rattle.cube.specs.Cube.{largest_dimension, port_count, NodeOf, VectorOf, source_of}
+use Rattle.cube.specs.Cube.{largest_dimension, port_count, channels, cube_nodes, NodeOf, VectorOf, source_of}
 use Rattle.cube.proofs.Bits.{high_has, no_bit_above}
 use Rattle.paths.proofs.Apart.{permitted_inside}
 use Rattle.paths.proofs.CubeNetwork.{unfolded_port}
@@ -28,7 +28,7 @@ use Rattle.circuit_hops.proofs.Seen.{not_seen, seen_before, marks_after}
 use Rattle.circuit_hops.proofs.Ways.{shown}
 
 -- a sound circuit holds links of its cube alone
-module _ (b : List ℕ) (c : ℕ) (d : dimension_at b ≤ largest_dimension) (i : source_of c < 2 ^ dimension_at b) (s : CircuitSound (view b) c) where
+module _ (b : List ℕ) (c : ℕ) (d : dimension_at b ≤ largest_dimension) (i : NodeOf (dimension_at b) (source_of c)) (s : CircuitSound (view b) c) where
   small : (view b).dimension ≤ largest_dimension
   small = omega (arith, shown b)
 
@@ -51,7 +51,7 @@ module _ (b : List ℕ) (c : ℕ) (d : dimension_at b ≤ largest_dimension) (i 
 pub positive : {c : ℕ} → c ≢ 0 → 0 < c
 positive {c} h = ⊎_elim (λ z. absurd (h (omega arith))) (λ z. z) (below_or 1 c)
 
-pub source_inside : (D : ℕ) {nodes c : ℕ} → nodes ≡ 2 ^ D → 0 < c → c ≤ 8 * nodes → NodeOf D (source_of c)
+pub source_inside : (D : ℕ) {nodes c : ℕ} → nodes ≡ cube_nodes D → 0 < c → c ≤ channels * nodes → NodeOf D (source_of c)
 source_inside D q h k = omega (arith, q)
 
 -- what following circuit c to node t comes to

@@ -44,7 +44,7 @@ module _ (v : View) (c t : ℕ) where
   way_owned n [] x m q o = absurd (on_none (net v) n m q o)
   way_owned n (p ∷ w) x m q o = ⊎_elim (λ e. rw (e.0, e.1) x.2.0) (λ k. way_owned (next n p) w x.3 m q k) (on_cases (net v) n p w m q o)
 
-  -- a port that is offered is below 8
+  -- a port that is offered is one of those that a node has
   pub offered_below : v.dimension ≤ largest_dimension → (n q : ℕ) → q ∈ offered (net v) t n → q < port_count
   offered_below h n q m = let k = (unfolded_port (shape_of v) h refl q).0 (offered_port (shape_of v) t n q m).0 in omega arith
 
@@ -146,7 +146,7 @@ pub record WalkStep (b : List ℕ) (c n t to : ℕ) : Type 0 where
   pub sole : Sole (view b) c t n port
   pub is_offered : port ∈ offered (net (view b)) t n
   pub there : to ≡ next n port
-  pub inside : to < 2 ^ dimension_at b
+  pub inside : NodeOf (dimension_at b) to
   pub nearer : (net (view b)).distance t n ≡ 1 + (net (view b)).distance t to
 
 -- the branches of the walk: at node n, towards t, after some hops
@@ -198,7 +198,7 @@ module _ (b : List ℕ) (c n t hops : ℕ) (d : dimension_at b ≤ largest_dimen
     walks_on (Some r) k = record { way = let w = k.way in (x.port ∷ w.0, on w.0 w.1, omega (arith, w.2)); most = k.most }
     walks_on None k = no_way k
 
--- a target is at most 8 hops away
-pub distance_most : (v : View) (t n : ℕ) → v.dimension ≤ largest_dimension → (net v).distance t n ≤ 8
+-- a target is at most as many hops away as the largest cube has dimensions
+pub distance_most : (v : View) (t n : ℕ) → v.dimension ≤ largest_dimension → (net v).distance t n ≤ largest_dimension
 unfolding network
 distance_most v t n h = omega (arith, length_keep (uphill t n) (from 0 v.dimension), length_from 0 v.dimension)

@@ -63,7 +63,7 @@ pub record FollowedPath (v : View) (c t hops : ℕ) : Type 0 where
   pub whole : (s : CircuitSound v c) → end_for v c s.path ≡ t → s.path ≡ path
 
 -- what following circuit c to node t and marking it comes to: a circuit that is marked already is not followed again
-pub record Followed (v : View) (c t : ℕ) (before after : List ℕ) (hops : ℕ) : Type 0 where
+pub record HopsCounted (v : View) (c t : ℕ) (before after : List ℕ) (hops : ℕ) : Type 0 where
   pub in_range : c ≤ circuit_count (shape_of v)
   pub found : FollowedPath v c t hops
   pub unseen : Seen v before c → ⊥
@@ -73,5 +73,5 @@ pub record Followed (v : View) (c t : ℕ) (before after : List ℕ) (hops : ℕ
 
 -- and where it comes to nothing, the number is out of range, or the circuit stands on no path that ends there, or it was marked
 abbrev pub Taken : View → ℕ → ℕ → List ℕ → List ℕ → Option ℕ → Type 0
-Taken v c t before after (Some hops) = Followed v c t before after hops
+Taken v c t before after (Some hops) = HopsCounted v c t before after hops
 Taken v c t before after None = c ≤ circuit_count (shape_of v) → (s : CircuitSound v c) → end_for v c s.path ≡ t → (Seen v before c → ⊥) → ⊥

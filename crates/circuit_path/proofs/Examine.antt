@@ -18,7 +18,7 @@ use Rattle.common.proofs.Lists.{keep_same, keep_all, any_some, some_any}
 use Rattle.common.proofs.From.{keep_wider, mem_from, length_from, from_below}
 use Rattle.cube.specs.Bits.{has}
 use Rattle.cube.specs.CubeContracts.{NodeCount}
-use Rattle.cube.specs.Cube.{largest_dimension, port_count, next, source_of}
+use Rattle.cube.specs.Cube.{largest_dimension, port_count, cube_nodes, next, source_of}
 use Rattle.cube.specs.Helical.{ports_of}
 use Rattle.cube.proofs.Bits.{has_and, zero_has, no_ports}
 use Rattle.cube.proofs.Ports.{count_of}
@@ -68,13 +68,13 @@ module _ (v : View) (h : v.dimension ≤ largest_dimension) (c : ℕ) where
       path_over ∙ ap (λ ps. take_first ps (λ a. walk_from positions (net v) (ports_of port_count (all_ports v)) (held_by v c) ((net v).next (source_of c) a))) r.1
       ∙ ap (a ∷◌) (walk_fuel (net v) (held_by v c) 18 8 (ports_of port_count (all_ports v)) (next (source_of c) a) (omega arith) (omega arith))
 
-  pub path_none : {a : ℕ} → a ≡ first_hop v c (source_of c) (all_ports v) → 8 ≤ a → path_of v c ≡ []
+  pub path_none : {a : ℕ} → a ≡ first_hop v c (source_of c) (all_ports v) → port_count ≤ a → path_of v c ≡ []
   unfolding first_hop take_first hops
   path_none e l =
       path_over ∙ ap (λ ps. take_first ps (λ a. walk_from positions (net v) (ports_of port_count (all_ports v)) (held_by v c) ((net v).next (source_of c) a))) (first_none hops (λ p m. hop_port v c (source_of c) (all_ports v) p m) (omega arith))
 
 -- the same, of the numbers that the code has: the dimension, the count of nodes and the source
-module _ (v : View) (c : ℕ) {D nodes : ℕ} (d : D ≡ v.dimension) (h : D ≤ largest_dimension) (m : nodes ≡ 2 ^ D) where
+module _ (v : View) (c : ℕ) {D nodes : ℕ} (d : D ≡ v.dimension) (h : D ≤ largest_dimension) (m : nodes ≡ cube_nodes D) where
   below : v.dimension ≤ largest_dimension
   below = omega arith
 
@@ -91,7 +91,7 @@ module _ (v : View) (c : ℕ) {D nodes : ℕ} (d : D ≡ v.dimension) (h : D ≤
       path_first v below c (every_port q e) g ∙ ap (a ∷◌) (ap₂ (links_followed v c) (sym (to ∙ ap (λ x. next x a) q)) (sym (ap (◌- 1) (count_of d m))))
 
 -- a circuit is open where the vector of the links that it holds at its source has a port of the cube
-pub open_vector : {b : List ℕ} {c D nodes s held : ℕ} → D ≡ dimension_at b → D ≤ largest_dimension → nodes ≡ 2 ^ D → s ≡ source_of c → HeldBy b c s held → not (eqb (bit_and held (nodes - 1)) 0) ≡ is_open_in (view b) c
+pub open_vector : {b : List ℕ} {c D nodes s held : ℕ} → D ≡ dimension_at b → D ≤ largest_dimension → nodes ≡ cube_nodes D → s ≡ source_of c → HeldBy b c s held → not (eqb (bit_and held (nodes - 1)) 0) ≡ is_open_in (view b) c
 unfolding is_open_in view
 open_vector {b} {c} {D} {nodes} {s} {held} d h m q f = rw all (go (eqb (bit_and held (nodes - 1)) 0) refl)
   where

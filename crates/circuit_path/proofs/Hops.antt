@@ -7,18 +7,18 @@ use mathlib.Core.List.{List, [], ◌∷◌, ◌++◌}
 use Prim.Native.Nat.{ℕ, zero, suc, ◌+◌, ◌-◌, ◌≤◌, ◌<◌}
 use native.Mathlib.Omega.{arith}
 use native.Mathlib.Numerals.{add-one}
-use Rattle.std.specs.Option.{option_or, MatchOption, IsSomeAnd}
+use Rattle.std.specs.Option.{option_or}
 use Rattle.std.specs.Prelude.{Option, None, Some}
 use Rattle.cube.specs.declared.kinds.Port.{Port}
 use Rattle.common.proofs.Tests.{below_or, both}
-use Rattle.common.proofs.Lowest.{lowest_here, lowest_on, lowest_end, lowest_skip, lowest_most, lowest_passes, lowest_found}
+use Rattle.common.proofs.Lowest.{lowest_here, lowest_on, lowest_end, lowest_most, lowest_passes, lowest_found}
 use mathlib.Core.Logic.{⊎_elim}
 use Rattle.common.specs.Lists.{◌∈◌, keep, from, lowest}
 use Rattle.common.proofs.Lists.{keep_yes, keep_no, keep_nil, keep_mem, keep_keep, keep_same}
 use Rattle.cube.specs.Bits.{has}
 use Rattle.cube.specs.CubeContracts.{Without}
 use Rattle.cube.specs.Cube.{port_count, next}
-use Rattle.cube.specs.Helical.{ports_of, first_or}
+use Rattle.cube.specs.Helical.{ports_of, first_or, no_port}
 use Rattle.cube.proofs.Order.{ports_mem, length_ports}
 use Rattle.paths.specs.CubeNetwork.{network}
 use Rattle.paths.specs.Recover.{drop_axis, walk_from, way_back, first_hop_choices}
@@ -29,10 +29,10 @@ use Rattle.circuit_path.specs.Follow.{takes, comes_back, links_followed, first_h
 
 -- a port found below p is the lowest that passes; where none was, the lowest from p on is
 abbrev pub Found : (ℕ → Bool) → ℕ → Option Port → Type 0
-Found f p None = lowest f (8 - p) p ≡ lowest f 8 0
-Found f p (Some q) = (q.0 ≡ lowest f 8 0) × (q.0 < 8)
+Found f p None = lowest f (port_count - p) p ≡ lowest f port_count 0
+Found f p (Some q) = (q.0 ≡ lowest f port_count 0) × (q.0 < port_count)
 
-module _ (f : ℕ → Bool) (p : Port) (h : p.0 < 8) where
+module _ (f : ℕ → Bool) (p : Port) (h : p.0 < port_count) where
   pub found_here : f p.0 ≡ true → (found : Option Port) → Found f p.0 found → Found f (p.0 + 1) (option_or found (Some p))
   found_here e None g = (sym (lowest_here f 8 p.0 h e) ∙ g, h)
   found_here e (Some q) g = g
@@ -58,18 +58,18 @@ lowest_from f (suc k) i = go (f i) refl (lowest_from f k (i + 1))
         let sum : i + 1 + k ≡ i + suc k = omega arith in
         rw (keep_no f i (from (suc i) k) e) (ih ∙ ap₂ (λ d s. first_or d (keep f (from s k))) sum (add-one i))
 
--- a list of ports below 8 has a first, or is empty
-first_some : (xs ys : List ℕ) → first_or 8 xs < 8 → first_or 8 (xs ++ ys) ≡ first_or 8 xs
+-- a list of ports has a first, or is empty
+first_some : (xs ys : List ℕ) → first_or no_port xs < port_count → first_or no_port (xs ++ ys) ≡ first_or no_port xs
 unfolding first_or
 first_some [] ys h = absurd (omega arith)
 first_some (x ∷ xs) ys h = refl
 
-pub first_none : (xs : List ℕ) → ((x : ℕ) → x ∈ xs → x < 8) → 8 ≤ first_or 8 xs → xs ≡ []
+pub first_none : (xs : List ℕ) → ((x : ℕ) → x ∈ xs → x < port_count) → port_count ≤ first_or no_port xs → xs ≡ []
 unfolding first_or
 first_none [] h l = refl
 first_none (x ∷ xs) h l = absurd (omega (arith, h x (Memᴰ.head refl)))
 
-pub first_is : (xs : List ℕ) (q : ℕ) → first_or 8 xs ≡ q → q < port_count → (ps : List ℕ) × (xs ≡ q ∷ ps)
+pub first_is : (xs : List ℕ) (q : ℕ) → first_or no_port xs ≡ q → q < port_count → (ps : List ℕ) × (xs ≡ q ∷ ps)
 unfolding first_or
 first_is [] q e h = absurd (omega arith)
 first_is (x ∷ xs) q e h = (xs, ap (◌∷ xs) e)
@@ -81,11 +81,11 @@ module _ (v : View) (c n vector : ℕ) where
   back : List ℕ
   back = keep (λ a. held_by v c (next n a) a) taken
 
-  takes_kept : keep (takes v c n vector) (from 0 8) ≡ taken
+  takes_kept : keep (takes v c n vector) (from 0 port_count) ≡ taken
   unfolding taken ports_of takes
   takes_kept = sym (keep_keep (held_by v c n) (has vector) (from 0 8))
 
-  back_kept : keep (comes_back v c n vector) (from 0 8) ≡ back
+  back_kept : keep (comes_back v c n vector) (from 0 port_count) ≡ back
   unfolding back comes_back
   back_kept = sym (ap (keep (λ a. held_by v c (next n a) a)) (sym takes_kept) ∙ keep_keep (λ a. held_by v c (next n a) a) (takes v c n vector) (from 0 8))
 
@@ -97,38 +97,38 @@ module _ (v : View) (c n vector : ℕ) where
   unfolding back
   back_port p m = (taken_port p (keep_mem _ taken m).0).0
 
-  lowest_taken : lowest (takes v c n vector) 8 0 ≡ first_or 8 taken
+  lowest_taken : lowest (takes v c n vector) port_count 0 ≡ first_or no_port taken
   lowest_taken = lowest_from (takes v c n vector) 8 0 ∙ ap (first_or 8) takes_kept
 
-  lowest_back : lowest (comes_back v c n vector) 8 0 ≡ first_or 8 back
+  lowest_back : lowest (comes_back v c n vector) port_count 0 ≡ first_or no_port back
   lowest_back = lowest_from (comes_back v c n vector) 8 0 ∙ ap (first_or 8) back_kept
 
   back_is : keep (way_back (net v) (ports_of port_count vector) (held_by v c) n) taken ≡ back
   unfolding back taken network
   back_is = keep_same _ _ taken (λ a m. way_back_one (net v) 8 vector (held_by v c) n a (omega arith) (keep_mem (held_by v c n) (ports_of port_count vector) m).0)
 
-  hop_is : first_hop v c n vector ≡ first_or 8 (back ++ taken)
+  hop_is : first_hop v c n vector ≡ first_or no_port (back ++ taken)
   unfolding first_hop first_hop_choices taken
   hop_is = ap (λ xs. first_or 8 (xs ++ taken)) back_is
 
-  pub first_back : (p : ℕ) → p ≡ lowest (comes_back v c n vector) 8 0 → p < port_count → p ≡ first_hop v c n vector
+  pub first_back : (p : ℕ) → p ≡ lowest (comes_back v c n vector) port_count 0 → p < port_count → p ≡ first_hop v c n vector
   first_back p e h = let q : p ≡ first_or 8 back = e ∙ lowest_back in q ∙ sym (hop_is ∙ first_some back taken (omega arith))
 
-  first_taken : (p q : ℕ) → p ≡ lowest (comes_back v c n vector) 8 0 → 8 ≤ p → q ≡ lowest (takes v c n vector) 8 0 → q ≡ first_hop v c n vector
+  first_taken : (p q : ℕ) → p ≡ lowest (comes_back v c n vector) port_count 0 → port_count ≤ p → q ≡ lowest (takes v c n vector) port_count 0 → q ≡ first_hop v c n vector
   first_taken p q e h f =
       let z : p ≡ first_or 8 back = e ∙ lowest_back in
       let none : back ≡ [] = first_none back back_port (omega arith) in
       f ∙ lowest_taken ∙ sym (hop_is ∙ ap (λ xs. first_or 8 (xs ++ taken)) none)
 
   -- none is taken before the lowest of the vector
-  pub vector_first : lowest (has vector) 8 0 ≤ lowest (takes v c n vector) 8 0
+  pub vector_first : lowest (has vector) port_count 0 ≤ lowest (takes v c n vector) port_count 0
   unfolding takes
   vector_first =
       ⊎_elim (λ l. lowest_found (has vector) 8 0 _ (omega arith) (both (has vector (lowest (takes v c n vector) 8 0)) _ (lowest_passes (takes v c n vector) 8 0 l)).0)
       (λ l. omega (arith, lowest_most (has vector) 8 0)) (below_or 8 (lowest (takes v c n vector) 8 0))
 
   -- where the way back is not held at any port, the first hop is the lowest that was found
-  pub first_found : (p : ℕ) → p ≡ 8 → lowest (comes_back v c n vector) (8 - p) p ≡ lowest (comes_back v c n vector) 8 0
+  pub first_found : (p : ℕ) → p ≡ port_count → lowest (comes_back v c n vector) (port_count - p) p ≡ lowest (comes_back v c n vector) port_count 0
       → (found : Option Port) → Found (takes v c n vector) p found → port_is (first_hop v c n vector) found
   first_found p z e None g =
       let low = sym (lowest_end _ 8 p z) ∙ e in
@@ -137,17 +137,17 @@ module _ (v : View) (c n vector : ℕ) where
   first_found p z e (Some q) g = (first_taken p q.0 (sym (lowest_end _ 8 p z) ∙ e) (omega arith) g.0, g.1)
 
   -- following: on by the lowest port, or no further
-  pub follow_port : (q : ℕ) → q ≡ lowest (takes v c n vector) 8 0 → q < port_count → has vector q ≡ true
+  pub follow_port : (q : ℕ) → q ≡ lowest (takes v c n vector) port_count 0 → q < port_count → has vector q ≡ true
   follow_port q e h = let r = first_is taken q (sym (e ∙ lowest_taken)) h in (taken_port q (rw r.1 (Memᴰ.head refl))).1
 
-  pub follow_on : (q rest : ℕ) → q ≡ lowest (takes v c n vector) 8 0 → q < port_count → Without vector q rest → links_followed v c n vector ≡ q ∷ links_followed v c (next n q) rest
+  pub follow_on : (q rest : ℕ) → q ≡ lowest (takes v c n vector) port_count 0 → q < port_count → Without vector q rest → links_followed v c n vector ≡ q ∷ links_followed v c (next n q) rest
   unfolding links_followed taken network
   follow_on q rest e h w =
       let r = first_is taken q (sym (e ∙ lowest_taken)) h in
       let drop : drop_axis q (ports_of port_count vector) ≡ ports_of port_count rest = drop_port 8 vector q rest (omega arith) (omega arith) w in
       walk_some (net v) (held_by v c) 8 (ports_of port_count vector) n q r.0 (length_ports 8 vector) r.1 ∙ ap (λ l. q ∷ walk_from 8 (net v) l (held_by v c) (next n q)) drop
 
-  pub follow_end : 8 ≤ lowest (takes v c n vector) 8 0 → links_followed v c n vector ≡ []
+  pub follow_end : port_count ≤ lowest (takes v c n vector) port_count 0 → links_followed v c n vector ≡ []
   unfolding links_followed taken
   follow_end h =
       let z = lowest_taken in
@@ -155,17 +155,3 @@ module _ (v : View) (c n vector : ℕ) where
 
 pub hop_port : (v : View) (c n vector p : ℕ) → p ∈ first_hop_choices (net v) (ports_of port_count vector) (held_by v c) n → p < port_count
 hop_port v c n vector p m = (ports_mem 8 vector (first_choice (net v) (ports_of port_count vector) (held_by v c) n p m).0).0
-
--- what a search among the ports from a number on finds, where none below it passes, is the lowest of all
-module _ (f : ℕ → Bool) (first : ℕ) (none : (k : ℕ) → k < first → f k ≡ false) where
-  before : (n : ℕ) → ((k : ℕ) → first ≤ k → k < n → f k ≡ false) → (k : ℕ) → k < n → f k ≡ false
-  before n d k l = ⊎_elim (none k) (λ a. d k a l) (below_or first k)
-
-  pub port_found : (r : Option ℕ) (q : Option Port)
-      → MatchOption r ((k : ℕ) → first ≤ k → k < 8 → f k ≡ false) (λ i. (first ≤ i) × (i < 8) × (f i ≡ true) × ((k : ℕ) → first ≤ k → k < i → f k ≡ false))
-      → MatchOption r (q ≡ None) (λ i. IsSomeAnd q (λ p. p.0 ≡ i)) → port_is (lowest f 8 0) q
-  port_found None q d m = let all = sym (lowest_end f 8 8 refl) ∙ lowest_skip f 8 8 (omega arith) (before 8 d) in rw m (omega arith)
-  port_found (Some i) None d m = absurd m
-  port_found (Some i) (Some p) d m =
-      let here = sym (lowest_here f 8 i d.1 d.2) ∙ lowest_skip f 8 i (omega (arith, d.1)) (before i d.3) in
-      (m ∙ here, omega (arith, d.1, m))

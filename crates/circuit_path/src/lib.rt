@@ -63,9 +63,13 @@ fn held_port(t: &[u8], c: Circuit, n: Node, vector: u16) -> Option<Port>
     ensures { port_is (lowest (takes (view t.now) c.0 n.0 vector) port_count 0) result }
 {
     let first = cube::lowest_of(vector)?;
-    (first..cube::PORTS)
-        .find(|p| takes(t, c, n, vector, Port(*p)))
-        .map(Port)
+    // Tried with `find` and `map`, speed: the book of a full table takes 30 % more time.
+    for p in first..cube::PORTS {
+        if takes(t, c, n, vector, Port(p)) {
+            return Some(Port(p));
+        }
+    }
+    None
 }
 
 // The first hop of a circuit's path from its source: one whose way back it holds too, or else the lowest.
@@ -86,8 +90,8 @@ fn first_hop(t: &[u8], c: Circuit, s: Node, vector: u16) -> Option<Port>
     found
 }
 
-// Whether a circuit is open. `HasSource` says of a table and a circuit that its source is a node of the cube, here and below: each caller asks one thing of a circuit, and would make a struct of the two
-// for it at the call.
+// Whether a circuit is open. `HasSource` says of a table and a circuit that its source is a node of the cube. It is a clause here and below, and that the circuit is open is one of `write_path`,
+// `path` and `release::release`, which writes the bytes: a struct that lends them would be made for one call each time.
 pub fn is_open(t: &[u8], c: Circuit) -> bool
     requires { HasSource t.now c.0 }
     ensures { result ≡ is_open_in (view t.now) c.0 }
@@ -109,7 +113,7 @@ pub fn write_path(t: &[u8], c: Circuit, buffer: &mut [u8]) -> WrittenPath
     let mut left = cube::node_count(table::dimension(t)) - 1;
     let source = cube::source_of(c);
     let first = first_hop(t, c, source, left).unwrap();
-    // A port is below 8: `try_from` would answer a failure that cannot come.
+    // A port is below 8: `try_from` would answer a failure that cannot come, here and below.
     buffer[0] = first.0 as u8;
     // The port of the first hop may be taken again; behind it each port is taken once. No iterator as `paths::HelixPath` is: the node where the path ends is a part of the answer.
     let mut at = cube::neighbour(source, first);

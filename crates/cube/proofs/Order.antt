@@ -19,7 +19,7 @@ use Rattle.common.proofs.From.{length_from, keep_wider, from_pairwise, kept_belo
 use Rattle.common.proofs.Every.{every_entry, table_rule}
 use Rattle.cube.specs.Bits.{has}
 use Rattle.cube.specs.CubeContracts.{Without, FirstTried}
-use Rattle.cube.specs.Cube.{largest_dimension, port_count}
+use Rattle.cube.specs.Cube.{largest_dimension, port_count, VectorOf}
 use Rattle.cube.specs.Helical.{ports_of, helical, first_or, first_port, FirstPorts}
 use Rattle.cube.proofs.Bits.{no_ports, zero_has, high_has}
 use Rattle.cube.proofs.Ports.{without_power}
@@ -70,7 +70,7 @@ unfolding ports_of
 ports_pairwise w v = keep_pairwise (has v) ◌<◌ (from 0 w) (from_pairwise 0 w)
 
 -- positions above the last port that a vector has add nothing
-pub ports_wider : (D w v : ℕ) → D ≤ w → v < 2 ^ D → ports_of w v ≡ ports_of D v
+pub ports_wider : (D w v : ℕ) → D ≤ w → VectorOf D v → ports_of w v ≡ ports_of D v
 unfolding ports_of
 ports_wider D w v h l = keep_wider (has v) 0 D w h (λ p k. high_has D v p l (omega arith))
 
@@ -138,16 +138,16 @@ table_of xs l t = record { entries = l; entry = λ v a h k. at v a h k }
         let place : i % 8 ≡ a = omega arith in
         table_rule (λ k. first_port (k / 8) (k % 8)) 2048 xs l t i (omega arith) ∙ rw (row, place)
 
--- a number of a cube of dimension 8 or less is a byte
-pub byte_vector : {D x : ℕ} → D ≤ largest_dimension → x < 2 ^ D → x < 256
+-- a vector, or a node, of a cube of dimension 8 or less is below 256
+pub byte_vector : {D x : ℕ} → D ≤ largest_dimension → VectorOf D x → x < 256
 byte_vector h l = lt_of_lt_of_le l (pow_mono h)
 
 -- the port tried first
-pub port_tried : (D v a p : ℕ) → D ≤ largest_dimension → v < 2 ^ D → v ≢ 0 → p ≡ first_port v a → FirstTried port_count v a p
+pub port_tried : (D v a p : ℕ) → D ≤ largest_dimension → VectorOf D v → v ≢ 0 → p ≡ first_port v a → FirstTried port_count v a p
 unfolding first_port
 port_tried D v a p h l z e = rw e (first_tried 8 8 v a (byte_vector h l) z)
 
-pub low_port : (D v p : ℕ) → v < 2 ^ D → has v p ≡ true → p < D
+pub low_port : (D v p : ℕ) → VectorOf D v → has v p ≡ true → p < D
 low_port D v p l e = go (ltb p D) refl
   where
     go : (x : Bool) → ltb p D ≡ x → p < D

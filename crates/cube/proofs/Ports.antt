@@ -18,7 +18,7 @@ use Rattle.common.proofs.LowestBit.{lowest_set, lowest_least}
 use Rattle.common.proofs.Tests.{below_or, clash, is_false}
 use Rattle.cube.specs.Bits.{bit_at, has, flip}
 use Rattle.cube.specs.CubeContracts.{UphillVector, Without}
-use Rattle.cube.specs.Cube.{NodeOf, largest_dimension, uphill}
+use Rattle.cube.specs.Cube.{largest_dimension, port_count, cube_nodes, NodeOf, uphill}
 use Rattle.cube.proofs.Bits.{bit_lt, bit_xor_lem, bit_flipped, bit_kept, has_bit, flip_drops, high_has}
 
 -- `1 << p` of w bits
@@ -26,14 +26,14 @@ pub port_bit : (w p : ℕ) → p < w → 1 * 2 ^ p % 2 ^ w ≡ 2 ^ p
 port_bit w p h = shl_exact 1 p w (lit< tt) (omega arith) ∙ one-mul (2 ^ p)
 
 -- a cube has at most 256 nodes, so that each of them is below 256
-pub most_nodes : {D : ℕ} → D ≤ largest_dimension → 2 ^ D ≤ 256
+pub most_nodes : {D : ℕ} → D ≤ largest_dimension → cube_nodes D ≤ 256
 most_nodes {D} h = pow_mono {i = D} {j = 8} h
 
 pub below_256 : {D n : ℕ} → D ≤ largest_dimension → NodeOf D n → n < 256
 below_256 h l = lt_of_lt_of_le l (most_nodes h)
 
 -- their count, where the dimension has another name
-pub count_of : {d e k : ℕ} → d ≡ e → k ≡ 2 ^ d → k ≡ 2 ^ e
+pub count_of : {d e k : ℕ} → d ≡ e → k ≡ cube_nodes d → k ≡ cube_nodes e
 count_of q c = c ∙ ap (2 ^◌) q
 
 -- the ports in which two nodes differ are the uphill ones
@@ -63,13 +63,13 @@ without_power v p e =
     let same : flip v p ≡ v - 2 ^ p = omega (arith, flip_drops v p e) in
     rw same at (without_of v p e)
 
--- the lowest of eight bits, as the code counts it, and that there is none
+-- the lowest port of a vector, as the code counts it, and that there is none
 module _ (v : ℕ) (h : v < 256) where
-  pub lowest_none : v ≡ 0 → None ≡ some_below 8 (lowest (has v) 8 0)
+  pub lowest_none : v ≡ 0 → None ≡ some_below port_count (lowest (has v) port_count 0)
   unfolding has bit_at lowest
   lowest_none e = rw e
 
-  pub lowest_some : v ≢ 0 → Some (count_trailing_zeros 16 v) ≡ some_below 8 (lowest (has v) 8 0)
+  pub lowest_some : v ≢ 0 → Some (count_trailing_zeros 16 v) ≡ some_below port_count (lowest (has v) port_count 0)
   unfolding has bit_at
   lowest_some z =
       let k = count_trailing_zeros 16 v in

@@ -1,30 +1,27 @@
 -- Sends of routing types 1 and 3 as the code makes them: helix paths looked at in turn, and what becomes of the first that is free.
 -- Assumes nothing.
 use mathlib.Core.Path.{◌≡◌, refl, ap, sym, subst, ◌∙◌}
-use mathlib.Core.Logic.{⊎_elim, ◌≢◌}
+use mathlib.Core.Logic.{◌≢◌}
 use mathlib.Core.Bool.{Bool, true, false}
 use mathlib.Core.List.Memᴰ
 use mathlib.Core.List.{List, [], ◌∷◌, map}
 use Prim.Native.Nat.{ℕ, ◌+◌, ◌-◌, ◌*◌, ◌^◌, ◌≤◌, ◌<◌}
 use native.Mathlib.Omega.{arith}
 use native.Mathlib.Nat.{le_refl}
-use lib.Dec.{eqb}
 use lib.ListN.{length, take}
 use lib.Pow.{pow_pos, pow-lt}
 use borrow.Author.Tests.{eq-eqb, ne_eqb}
-use Rattle.common.proofs.Tests.{clash, same?}
 use Rattle.common.specs.Lists.{◌∈◌}
-use Rattle.cube.specs.Bits.{has}
 use Rattle.cube.specs.CubeContracts.{Without, FirstTried}
 use Rattle.cube.specs.Cube.{largest_dimension, port_count, channels, VectorOf}
 use Rattle.cube.specs.Helical.{helical, ports_of, first_port}
-use Rattle.cube.proofs.Bits.{bit_power_other}
 use Rattle.cube.proofs.Order.{length_ports, helical_zero, ports_mem, ports_wider, port_tried, low_port}
 use Rattle.paths.specs.Pass.{PassResult, none, found, scouts}
 use Rattle.paths.specs.Helix.{try_paths}
 use Rattle.paths.specs.Send.{Receive, channel, none_available, one_result, outcome, received, lowest_of}
 use Rattle.paths.specs.CubeNetwork.{send_ports}
 use Rattle.paths.proofs.CubeNetwork.{unfolded_send_ports}
+use Rattle.paths.proofs.LinksOffered.{one_port_first}
 use Rattle.paths.proofs.Tried.{try_free, try_on, front_free, front_most}
 use Rattle.paths.proofs.Send.{helix_answers_lem, fixed_answers}
 use Rattle.layout.specs.Layout.{dimension_at}
@@ -144,15 +141,15 @@ module _ {b : List ℕ} {s t c vector : ℕ} (may : MaySend b s t c vector) wher
     path_sent : searched b s t c 1 vector ≡ send_answer true b c s t (one_result r (found (helix_in b s t got.port) sent))
     path_sent = helix_send _ got.path
 
-    none_there : k ≡ 8 → r ≡ none_available
+    none_there : k ≡ channels → r ≡ none_available
     unfolding r receive lowest_of lowest_channel
     none_there z = rw (← low, eq-eqb k 8 z)
 
-    pub helix_full : k ≡ 8 → pass_answer 11 0 0 sent b ≡ searched b s t c 1 vector
+    pub helix_full : k ≡ channels → pass_answer 11 0 0 sent b ≡ searched b s t c 1 vector
     unfolding send_answer bytes_after_send answer_of_outcome outcome received scouts
     helix_full z = sym (path_sent ∙ rw (none_there z))
 
-    module _ (g : k ≢ 8) where
+    module _ (g : k ≢ channels) where
       channel_is : r ≡ channel k
       unfolding r receive lowest_of lowest_channel
       channel_is = rw (← low, ne_eqb k 8 g)
@@ -167,22 +164,15 @@ module _ {b : List ℕ} {s t c vector : ℕ} (may : MaySend b s t c vector) wher
           rw (taken, path, got.long) (sym (path_sent ∙ rw channel_is))
 
 -- A vector of one port lists that port alone.
-power_off : (p q : ℕ) → q ≢ p → has (2 ^ p) q ≡ false
-unfolding has
-power_off p q off = ap (λ x. eqb x 1) (bit_power_other p q off)
-
 one_port : (p : ℕ) → p < port_count → helical 7 (ports_of port_count (2 ^ p)) ≡ p ∷ []
 one_port p l =
     let tried : FirstTried port_count (2 ^ p) 7 q = port_tried 8 (2 ^ p) 7 q (le_refl 8) (pow-lt l) (λ e. omega (arith, e, pow_pos p)) refl in
-    let same : q ≡ p = is_p tried.offered in
+    let same : q ≡ p = one_port_first p 7 l in
     let nothing : 2 ^ p - 2 ^ q ≡ 0 = rw same (omega arith) in
     tried.rest ∙ ap (λ v. q ∷ helical 7 (ports_of port_count v)) nothing ∙ ap (q ∷◌) (helical_zero 8 7) ∙ ap (◌∷ []) same
   where
     q : ℕ
     q = first_port (2 ^ p) 7
-
-    is_p : has (2 ^ p) q ≡ true → q ≡ p
-    is_p on = ⊎_elim (λ e. e) (λ off. absurd (clash on (power_off p q off))) (same? q p)
 
 -- A send of routing type 3 is one of type 1 with the lowest port of its vector alone.
 module _ {b : List ℕ} {s t c vector p others : ℕ} (may : MaySend b s t c vector) (some : vector ≢ 0) (first : p ≡ first_port vector 7) (less : Without vector p others) where

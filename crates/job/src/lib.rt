@@ -55,6 +55,7 @@ fn open_at(t: &mut [u8], sends: &[u8], place: usize, first: &FirstPortTable) -> 
 {
     let x = read_send(sends, place);
     SoundTable { bytes: t }.open_arguments(x)?;
+    // Tried with `map_err` and `?`, speed: a job of one send takes 16 % more time.
     match send::send_by(t, x.request(), x.routing, first) {
         Ok(_) => Ok(()),
         Err(rejected) => Err(rejected.refusal),

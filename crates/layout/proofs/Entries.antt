@@ -1,4 +1,4 @@
--- One entry, word or bit, as the code reads and writes it.
+-- One entry, word or bit, as the code reads and writes it. `port_count` stands for the entries of a row, of links or of receive channels.
 -- Assumes nothing.
 use mathlib.Core.Path.{◌≡◌, refl, ap, sym, ◌∙◌}
 use mathlib.Core.Logic.{◌⊎◌, ⊎_elim, ◌≢◌}
@@ -13,19 +13,20 @@ use lib.Bits.{bit_xor}
 use borrow.Author.Tests.{lt-ltb, not-true, not-false}
 use Rattle.common.proofs.Tests.{both_below}
 use Rattle.cube.specs.Bits.{has, with_bit}
+use Rattle.cube.specs.Cube.{port_count}
 use Rattle.cube.proofs.Bits.{flip_xor}
 use Rattle.cube.proofs.Ports.{port_bit}
 use Rattle.layout.specs.Layout.{in_table, mask_place, enable_part, enable_place, entry_place, word_at, mask_at, enabled_at, entry_at}
 use Rattle.layout.specs.LayoutContracts.{put_word, node_rows, RunOr}
 use Rattle.layout.proofs.Runs.{run_zero}
 
-pub within : (n p : ℕ) → n < 256 → p < 8 → in_table n p ≡ true
+pub within : (n p : ℕ) → n < 256 → p < port_count → in_table n p ≡ true
 within n p h l = rw (lt-ltb n 256 h, lt-ltb p 8 l)
 
-pub inside : (n k : ℕ) → in_table n k ≡ true → (n < 256) × (k < 8)
+pub inside : (n k : ℕ) → in_table n k ≡ true → (n < 256) × (k < port_count)
 inside n k e = both_below e
 
-module _ (b : List ℕ) (n p : ℕ) (h : n < 256) (l : p < 8) where
+module _ (b : List ℕ) (n p : ℕ) (h : n < 256) (l : p < port_count) where
   -- reading: i is the place that the code found
   pub entry_is : (part x i : ℕ) → i ≡ entry_place part n p → x ≡ word_at b i → x ≡ entry_at part b n p
   unfolding entry_at
@@ -72,7 +73,7 @@ module _ (b : List ℕ) (i c : ℕ) where
       off''' g e = ⊎_elim (λ x. omega arith) (λ x. omega arith) g
 
 -- two entries of one part lie at one place only if they are one
-pub place_one : (part m q n k : ℕ) → q < 8 → k < 8 → entry_place part m q ≡ entry_place part n k → (m ≡ n) × (q ≡ k)
+pub place_one : (part m q n k : ℕ) → q < port_count → k < port_count → entry_place part m q ≡ entry_place part n k → (m ≡ n) × (q ≡ k)
 place_one part m q n k h l e =
     let row : (8 * m + q) / 8 ≡ m = omega arith in
     let row' : (8 * n + k) / 8 ≡ n = omega arith in
@@ -95,20 +96,20 @@ module _ (part : ℕ) (b : List ℕ) (n nodes : ℕ) where
   rows_byte : (i : ℕ) → i < 16 * nodes → get_or (node_rows part b n nodes) i 0 ≡ get_or b (entry_place part n 0 + i) 0
   rows_byte i h = get_or-take (16 * nodes) (drop (entry_place part n 0) b) i 0 h ∙ get_or-drop (entry_place part n 0) b i 0
 
-  pub rows_word : (i : ℕ) → i < 8 * nodes → word_at (node_rows part b n nodes) (2 * i) ≡ word_at b (entry_place part n 0 + 2 * i)
+  pub rows_word : (i : ℕ) → i < port_count * nodes → word_at (node_rows part b n nodes) (2 * i) ≡ word_at b (entry_place part n 0 + 2 * i)
   rows_word i h =
       let low = rows_byte (2 * i) (omega arith) in
       let after : entry_place part n 0 + (2 * i + 1) ≡ entry_place part n 0 + 2 * i + 1 = omega arith in
       let high = rows_byte (2 * i + 1) (omega arith) ∙ ap (λ j. get_or b j 0) after in
       rw (low, high)
 
-pub row_entry : (b : List ℕ) (n part k : ℕ) {row : List ℕ} → n < 256 → k < 8 → row ≡ node_rows part b n 1 → word_at row (2 * k) ≡ entry_at part b n k
+pub row_entry : (b : List ℕ) (n part k : ℕ) {row : List ℕ} → n < 256 → k < port_count → row ≡ node_rows part b n 1 → word_at row (2 * k) ≡ entry_at part b n k
 row_entry b n part k {row} h l e =
     entry_is b n k h l part (word_at row (2 * k)) (entry_place part n 0 + 2 * k) (omega arith) (ap (λ ys. word_at ys (2 * k)) e ∙ rows_word part b n 1 k (omega arith))
 
 -- rows whose bytes are zero hold nothing
 pub rows_zero : (b : List ℕ) (part n nodes : ℕ) {all : ℕ} → part + 4096 ≤ length b → n + nodes ≤ 256 → RunOr (node_rows part b n nodes) all → all ≡ 0
-    → (m k : ℕ) → n ≤ m → m < n + nodes → k < 8 → entry_at part b m k ≡ 0
+    → (m k : ℕ) → n ≤ m → m < n + nodes → k < port_count → entry_at part b m k ≡ 0
 unfolding entry_at
 rows_zero b part n nodes room last run none m k g l h = go (in_table m k)
   where

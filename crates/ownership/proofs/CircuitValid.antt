@@ -100,7 +100,7 @@ module _ (h : History) (valid : Valid h) where
 
   -- the links and the target of a listed circuit lie in the cube
   inside : (x : Circuit) → x ∈ h.circuits
-      → ((n p : ℕ) → (n, p) ∈ links_of N x → (NodeOf h.dimension n) × (p < h.dimension)) × (x.target < 2 ^ h.dimension)
+      → ((n p : ℕ) → (n, p) ∈ links_of N x → (NodeOf h.dimension n) × (p < h.dimension)) × NodeOf h.dimension x.target
   unfolding On
   inside x m =
       let s = valid.stands x m in

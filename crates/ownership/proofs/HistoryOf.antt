@@ -210,8 +210,8 @@ module _ (v : View) (sound : Sound v) where
           armed = λ n k. armed_same eight n k i;
         }
 
-    standing : (x : Circuit) → x ∈ h.circuits → CircuitValid h x
-    standing x m = let r = listed_open x m in subst (CircuitValid h) r.2 (stood r.0 r.1)
+    listed_valid : (x : Circuit) → x ∈ h.circuits → CircuitValid h x
+    listed_valid x m = let r = listed_open x m in subst (CircuitValid h) r.2 (stood r.0 r.1)
       where
         stood : (c : ℕ) → Open c → CircuitValid h (circuit_at v c)
         stood c o =
@@ -232,6 +232,6 @@ module _ (v : View) (sound : Sound v) where
           most = unfold history_of in most;
           blocked = λ l m. unfold history_of in out_below l.0 l.1 (keep_mem _ _ m).0;
           armed = λ l m. unfold history_of in out_below l.0 l.1 (keep_mem _ _ m).0;
-          stands = standing;
+          stands = listed_valid;
           apart = apart;
         }

@@ -148,13 +148,13 @@ opens_until (y ∷ before) (x ∷ more) b a after e all f =
 either : (calls : List Call) (b : List ℕ) → AllAccepted b calls ⊎ FirstRefused b calls
 unfolding leaves answers
 either [] b = inl (λ g m. absurd (Memᴰ.not-nil m))
-either (a ∷ more) b = ⊎_elim (λ e. ⊎_elim (λ all. inl (later more e all)) (λ r. inr (behind e r)) (either more (table_step b a).state)) (λ f. inr (here f)) (same? (table_step b a).result.number 0)
+either (a ∷ more) b = ⊎_elim (λ e. ⊎_elim (λ all. inl (later more e all)) (λ r. inr (later_refused e r)) (either more (table_step b a).state)) (λ f. inr (here f)) (same? (table_step b a).result.number 0)
   where
     later : (calls : List Call) → (table_step b a).result.number ≡ 0 → AllAccepted (table_step b a).state calls → AllAccepted b (a ∷ calls)
     later calls e all g m = ⊎_elim (λ q. ap (λ (x : CallResult). x.number) q ∙ e) (λ k. all g k) (Memᴰ.cases_cons m)
 
-    behind : (table_step b a).result.number ≡ 0 → FirstRefused (table_step b a).state more → FirstRefused b (a ∷ more)
-    behind e r =
+    later_refused : (table_step b a).result.number ≡ 0 → FirstRefused (table_step b a).state more → FirstRefused b (a ∷ more)
+    later_refused e r =
         record { before = a ∷ r.before; call = r.call; after = r.after; split = ap (a ∷◌) r.split; accepted = later r.before e r.accepted; refused = r.refused }
 
     here : (table_step b a).result.number ≢ 0 → FirstRefused b (a ∷ more)

@@ -6,7 +6,7 @@ use mathlib.Core.Logic.{⊎_elim, ◌≢◌}
 use mathlib.Core.Bool.{Bool, true, not, ◌&&◌}
 use mathlib.Core.List.Memᴰ
 use mathlib.Core.List.{List, [], ◌∷◌, map}
-use Prim.Native.Nat.{ℕ, ◌^◌, ◌≤◌, ◌<◌}
+use Prim.Native.Nat.{ℕ, ◌≤◌, ◌<◌}
 use native.Mathlib.Omega.{arith}
 use lib.Dec.{eqb}
 use lib.ListN.{length}
@@ -91,7 +91,7 @@ arrives S n p (r ∷ w) = on_later (network S) n p (r ∷ w) _ _ (arrives S (nex
 
 module _ (v : View) (sound : Sound v) (most : v.dimension ≤ largest_dimension) (t : ℕ) where
   -- a permitted path to t comes in over a link of t's ports
-  comes_in : (s : ℕ) (w : Path) → NodeOf v.dimension s → Permitted (net v) s (ports (shape_of v)) t w → ((next t (arrival w), arrival w) ∈ links (net v) s w) × (arrival w < 8)
+  comes_in : (s : ℕ) (w : Path) → NodeOf v.dimension s → Permitted (net v) s (ports (shape_of v)) t w → ((next t (arrival w), arrival w) ∈ links (net v) s w) × (arrival w < port_count)
   unfolding On
   comes_in s [] i o = unfold Permitted in absurd o
   comes_in s (p ∷ w) i o =
@@ -101,17 +101,17 @@ module _ (v : View) (sound : Sound v) (most : v.dimension ≤ largest_dimension)
       (on, omega (arith, (unfolded_port (shape_of v) most refl (arrival (p ∷ w))).0 q, most))
 
   -- the circuit of a receive channel that is held, and the port by which its path comes in
-  module _ (full : (j : ℕ) → j < 8 → v.receiver t j ≢ 0) where
+  module _ (full : (j : ℕ) → j < channels → v.receiver t j ≢ 0) where
     abbrev circuit : ℕ → ℕ
     circuit j = v.receiver t j
 
-    stands : (j : ℕ) → j < 8 → CircuitSound v (circuit j)
+    stands : (j : ℕ) → j < channels → CircuitSound v (circuit j)
     stands j h = receive_stands v sound t j (full j h)
 
-    inside : (j : ℕ) → j < 8 → source_of (circuit j) < 2 ^ v.dimension
+    inside : (j : ℕ) → j < channels → NodeOf v.dimension (source_of (circuit j))
     inside j h = omega (arith, sound.receive_number t j, full j h)
 
-    into : (j : ℕ) (h : j < 8) → ((next t (arrival (stands j h).path), arrival (stands j h).path) ∈ links (net v) (source_of (circuit j)) (stands j h).path) × (arrival (stands j h).path < 8)
+    into : (j : ℕ) (h : j < channels) → ((next t (arrival (stands j h).path), arrival (stands j h).path) ∈ links (net v) (source_of (circuit j)) (stands j h).path) × (arrival (stands j h).path < port_count)
     into j h =
         let s = stands j h in
         let e = (s.once t j refl).0 in
@@ -120,13 +120,13 @@ module _ (v : View) (sound : Sound v) (most : v.dimension ≤ largest_dimension)
     abbrev port : ℕ → ℕ
     port j = arrival (path_of v (circuit j))
 
-    port_is : (j : ℕ) (h : j < 8) → arrival (stands j h).path ≡ port j
+    port_is : (j : ℕ) (h : j < channels) → arrival (stands j h).path ≡ port j
     port_is j h = ap arrival (sym (path_is v (circuit j) (stands j h)))
 
-    holds : (j : ℕ) → j < 8 → v.owner (next t (port j)) (port j) ≡ circuit j
+    holds : (j : ℕ) → j < channels → v.owner (next t (port j)) (port j) ≡ circuit j
     holds j h = eqb-true _ (circuit j) (subst (λ (q : ℕ). held_by v (circuit j) (next t q) q ≡ true) (port_is j h) ((stands j h).exactly.all _ _ (into j h).0))
 
-    same_channel : (i j : ℕ) → i < 8 → j < 8 → port i ≡ port j → i ≡ j
+    same_channel : (i j : ℕ) → i < channels → j < channels → port i ≡ port j → i ≡ j
     same_channel i j h l e =
         let c : circuit j ≡ circuit i = sym (holds j l) ∙ ap (λ q. v.owner (next t q) q) (sym e) ∙ holds i h in
         ((stands i h).once t i refl).1 ∙ sym ((stands i h).once t j c).1

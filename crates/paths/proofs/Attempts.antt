@@ -74,11 +74,11 @@ module _ (N : Network) (s t : ℕ) (free : ℕ → ℕ → Bool) (r : Receive) w
   route_rejected_says a n (says_route_rejected f) = nothing_says N s t free a n f
 
   -- where a channel is there to take, an attempt is acknowledged or route rejected
-  settles : (a : Attempt) (o : Outcome) (n : ℕ) → AttemptSays N s t free r a o n → r ≢ none_available → o ≢ route_rejected → Acknowledged o
+  acknowledged_else : (a : Attempt) (o : Outcome) (n : ℕ) → AttemptSays N s t free r a o n → r ≢ none_available → o ≢ route_rejected → Acknowledged o
   unfolding Acknowledged
-  settles a (acknowledged w k) n h g f = tt
-  settles a route_rejected n h g f = f refl
-  settles a receive_rejected n h g f = g (receive_rejected_says a n h).1
+  acknowledged_else a (acknowledged w k) n h g f = tt
+  acknowledged_else a route_rejected n h g f = f refl
+  acknowledged_else a receive_rejected n h g f = g (receive_rejected_says a n h).1
 
   -- route rejected, it has no free path
   no_route : (a : Attempt) (o : Outcome) (n : ℕ) → AttemptSays N s t free r a o n → (w : Path) → Tries N s t a w → Free N free s w → o ≢ route_rejected
@@ -113,7 +113,7 @@ module _ (N : Network) (s t : ℕ) (free : ℕ → ℕ → Bool) (r : Receive) w
       ((x.0, x.1, (w, y.0, y.1)), y.2)
 
   pub route_acknowledged : (xs : List Attempt) (o : Outcome) (n : ℕ) → AttemptsSay N s t free r xs o n → Route xs → r ≢ none_available → Acknowledged o
-  route_acknowledged xs o n h x g = let y = said_by xs o n h in settles y.0 o y.2.0 y.2.1 g (not_route_rejected xs o n h x)
+  route_acknowledged xs o n h x g = let y = said_by xs o n h in acknowledged_else y.0 o y.2.0 y.2.1 g (not_route_rejected xs o n h x)
 
   -- it is receive rejected only where one of them has a free path and no channel is there to take.
   pub receive_rejected_route : (xs : List Attempt) (n : ℕ) → AttemptsSay N s t free r xs receive_rejected n → Route xs × (r ≡ none_available)

@@ -33,8 +33,8 @@ unfolding Opens
 over_mem on [] m = unfold over in elim m [ ]
 over_mem on (p ∷ ps) {w} m =
     let here : (v : Path) → (v ≡ []) ⊎ (v ∈ on p) → Opens on (p ∷ ps) (p ∷ v) = λ v o. (Memᴰ.head refl, o) in
-    let behind = all_map (Opens on (p ∷ ps)) (λ (v : Path). p ∷ v) (on p) (λ v k. here v (inr k)) in
-    all_append (Opens on (p ∷ ps)) ((p ∷ []) ∷ map (λ (v : Path). p ∷ v) (on p)) (all_cons (Opens on (p ∷ ps)) (here [] (inl refl)) behind)
+    let later = all_map (Opens on (p ∷ ps)) (λ (v : Path). p ∷ v) (on p) (λ v k. here v (inr k)) in
+    all_append (Opens on (p ∷ ps)) ((p ∷ []) ∷ map (λ (v : Path). p ∷ v) (on p)) (all_cons (Opens on (p ∷ ps)) (here [] (inl refl)) later)
     (λ v k. opens_more on p ps v (over_mem on ps k)) w (rw over_cons at m)
 
 pub mem_over : (on : ℕ → List Path) (ps : List ℕ) {p : ℕ} {v : Path} → p ∈ ps → (v ≡ []) ⊎ (v ∈ on p) → (p ∷ v) ∈ over on ps
@@ -62,8 +62,8 @@ ways_climb (suc k) N t n a w m =
   where
     climbs : n ≢ t → ((p : ℕ) (v : Path) → v ∈ ways k N t (N.next n p) p → (v ≢ []) × Climb N t (N.next n p) v)
         → (w : Path) → Opens (λ p. ways k N t (N.next n p) p) (helical a (offered N t n)) w → (w ≢ []) × Climb N t n w
-    climbs off behind [] o = absurd o
-    climbs off behind (p ∷ v) o = (cons≢nil, (off, helical_mem a _ o.0, ⊎_elim (λ e. rw e tt) (λ i. (behind p v i).1) o.1))
+    climbs off later [] o = absurd o
+    climbs off later (p ∷ v) o = (cons≢nil, (off, helical_mem a _ o.0, ⊎_elim (λ e. rw e tt) (λ i. (later p v i).1) o.1))
 
 -- the climb behind the first hop of a beginning
 pub beginning_climb : (N : Network) (s : ℕ) (vector : List ℕ) (t p : ℕ) (w : Path) → (p ∷ w) ∈ beginnings N s vector t → (p ∈ vector) × Climb N t (N.next s p) w
@@ -89,8 +89,8 @@ module _ {N : Network} {t : ℕ} (near : Nearing N t) where
   climb_ways k n a [] h r = inl refl
   climb_ways zero n a (p ∷ w) h r = absurd (omega (arith, near.nearer n p r.1))
   climb_ways (suc k) n a (p ∷ w) h r =
-      let behind = climb_ways k (N.next n p) p w (omega (arith, near.nearer n p r.1)) r.2 in
-      inr (ways_all (λ ws. (p ∷ w) ∈ ws) k N t n a (λ e. absurd (r.0 e)) (λ off. mem_over _ _ (mem_helical a _ r.1) behind))
+      let later = climb_ways k (N.next n p) p w (omega (arith, near.nearer n p r.1)) r.2 in
+      inr (ways_all (λ ws. (p ∷ w) ∈ ws) k N t n a (λ e. absurd (r.0 e)) (λ off. mem_over _ _ (mem_helical a _ r.1) later))
 
   module _ {Node : ℕ → Type 0} (lead : Leading N t Node) where
     -- a way leads from a node to the target where one does from every node one nearer, and so from every node

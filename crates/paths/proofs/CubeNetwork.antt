@@ -237,16 +237,14 @@ module _ (S : Shape) (h : S.dimension ≤ largest_dimension) (z : S.fold ≡ 0) 
 
   -- The ports offered are those of the uphill vector, among however many positions.
   pub unfolded_vector : (w n t : ℕ) → S.dimension ≤ w → Node S n → Node S t → offered (network S) t n ≡ ports_of w (bit_xor n t)
-  unfolded_vector w n t k i l = unfolded_offered t n ∙ uphill_ports ∙ sym (ports_wider S.dimension w (bit_xor n t) k (xor_lt S.dimension n t i l))
-    where
-      uphill_ports : keep (uphill t n) (from 0 S.dimension) ≡ ports_of S.dimension (bit_xor n t)
-      uphill_ports = unfold ports_of in keep_same (uphill t n) (has (bit_xor n t)) (from 0 S.dimension) (λ p m. sym ((uphill_of n t).bits p))
+  unfolding ports_of
+  unfolded_vector w n t k i l =
+      unfolded_offered t n ∙ keep_same (uphill t n) (has (bit_xor n t)) (from 0 S.dimension) (λ p m. sym ((uphill_of n t).bits p)) ∙ sym (ports_wider S.dimension w (bit_xor n t) k (xor_lt S.dimension n t i l))
 
   -- An axis has one link, so "Both passes together never send more than 123,300", whatever the source, target, vector and free links.
   pub one_link : LinksEach S 1
   one_link = record { most = λ g. rw (by_port g) (omega arith) }
 
-  pub scouts_bound : (s t v : ℕ) (f g : ℕ → ℕ → Bool)
-      → scouts (pass (network S) f s (send_ports S v) t) + scouts (pass (network S) g s (other_ports S v) t) ≤ 123300
+  pub scouts_bound : (s t v : ℕ) (f g : ℕ → ℕ → Bool) → scouts (pass (network S) f s (send_ports S v) t) + scouts (pass (network S) g s (other_ports S v) t) ≤ 123300
   unfolding send_ports other_ports
   scouts_bound s t v f g = two_passes_bound (cube_nearing S t) (cube_cubical S one_link t) h s (λ q. has v (axis q)) f g

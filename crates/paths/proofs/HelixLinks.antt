@@ -5,7 +5,7 @@ use mathlib.Core.Logic.{◌≢◌}
 use mathlib.Core.Bool.{Bool, cond, ◌&&◌}
 use mathlib.Core.List.Memᴰ
 use mathlib.Core.List.{List, [], ◌∷◌}
-use Prim.Native.Nat.{ℕ, zero, suc, ◌+◌, ◌-◌, ◌≤◌, ◌<◌}
+use Prim.Native.Nat.{ℕ, zero, suc, ◌+◌, ◌≤◌, ◌<◌}
 use native.Mathlib.Omega.{arith}
 use native.Mathlib.Nat.{le_refl}
 use lib.Bits.{bit_xor, xor_lt}
@@ -58,24 +58,21 @@ module _ {n t p : ℕ} (target : t < 256) (inside : LinkInside n p) {m : ℕ} (t
 
   -- Off the target it goes on over the port that is tried first of the uphill vector.
   module _ (off : m ≢ t) {v q : ℕ} (up : v ≡ bit_xor m t) (first : q ≡ first_port v p) where
-    pub uphill_byte : v < 256
+    uphill_byte : v < 256
     uphill_byte = rw up (xor_lt 8 m t reached target)
 
     offers : offered largest t m ≡ ports_of port_count v
     unfolding largest
     offers = unfolded_vector (unfolded 8) (le_refl 8) refl 8 m t (le_refl 8) reached target ∙ ap (ports_of port_count) (sym up)
 
-    some : v ≢ 0
+    pub some_offered : v ≢ 0
     unfolding largest
-    some e =
+    some_offered e =
         let p = (cube_leading (unfolded 8) (le_refl 8) t target).leads m reached off in
         clash (ports_mem 8 v (rw offers at p.1)).1 (rw e (zero_has p.0))
 
     tried : FirstTried port_count v p q
-    tried = port_tried 8 v p q (le_refl 8) uphill_byte some first
-
-    pub link_after : LinkInside m q
-    link_after = (reached, tried.small)
+    tried = port_tried 8 v p q (le_refl 8) uphill_byte some_offered first
 
     pub links_on : helix_links n t p ≡ (n, p) ∷ helix_links m t q
     unfolding helix_links links network largest

@@ -28,3 +28,4 @@ pub mod FoldExamples
 pub mod TypeExamples
 pub mod SentAs
 pub mod HelixLinks
+pub mod LinksOffered

@@ -58,7 +58,7 @@ unfoldable pub other_ports : Shape → ℕ → List ℕ
 other_ports S vector = keep (λ q. not (has vector (axis q))) (ports S)
 
 -- What a routing type tries: "0, maze: one pass, with the send vector given"; "4, alternate maze: a pass with the given vector", and then a second over
--- the other ports, if that is not ended before (`goesOn`).
+-- the other ports, if that is not ended before (`send_goes_on`).
 -- Document 02, (b): "Type 3 takes the lowest port of the send vector, then at each node the first uphill port in helical order; if that path is not
 -- free, the send is rejected at once. Type 1 tries such a path for each port of the send vector in rising order until one is free."
 unfoldable pub attempts : Shape → ℕ → ℕ → List Attempt

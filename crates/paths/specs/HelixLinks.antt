@@ -1,10 +1,8 @@
 -- The links of a helix path of document 01's cube, by node and port. The path is the same in each cube that has its source, its target and its first port: the one of the
 -- largest dimension stands for all.
 -- Assumes nothing.
-use Rattle.std.specs.Prelude.{List, [], ℕ, ◌<◌, Option, Some, None}
+use Rattle.std.specs.Prelude.{List, ℕ, ◌<◌}
 use Rattle.cube.specs.Cube.{largest_dimension, port_count}
-use Rattle.cube.specs.declared.kinds.Node.{Node}
-use Rattle.cube.specs.declared.kinds.Port.{Port}
 use Rattle.paths.specs.Network.{Network, Link, links}
 use Rattle.paths.specs.Helix.{helix_path}
 use Rattle.paths.specs.CubeNetwork.{network, unfolded}
@@ -19,8 +17,3 @@ largest = network (unfolded largest_dimension)
 unfoldable pub helix_links : ℕ → ℕ → ℕ → List Link
 unfolding largest
 helix_links s t p = links largest s (helix_path largest s t p)
-
--- those from a link on, where there is one
-abbrev pub links_from : Option (Node × Port) → ℕ → List Link
-links_from None t = []
-links_from (Some l) t = helix_links l.0.0 t l.1.0

@@ -15,7 +15,7 @@ use borrow.Author.Tests.{eq-eqb, ne_eqb}
 use Rattle.common.specs.Lists.{◌∈◌, any}
 use Rattle.common.proofs.Tests.{both, and, or_left, same?}
 use Rattle.cube.specs.Bits.{bit_at, has, flip}
-use Rattle.cube.specs.Cube.{port_count, NodeOf, VectorOf, next}
+use Rattle.cube.specs.Cube.{port_count, cube_nodes, NodeOf, VectorOf, next}
 use Rattle.cube.specs.Helical.{ports_of}
 use Rattle.cube.proofs.Bits.{bit_lt, two_bits, bit_xor_lem, bit_flipped, bit_kept, same_bits, flip_inside, flip_drops, has_and}
 use Rattle.cube.proofs.Axes.{axis_low}
@@ -31,7 +31,7 @@ use Rattle.layout.specs.Layout.{dimension_at}
 use Rattle.entries.specs.EntryContracts.{enable_bits}
 use Rattle.table.specs.View.{view, net, shape_of}
 use Rattle.layout.proofs.Entries.{enabled_has}
-use Rattle.reach.specs.Marks.{marked, leads, reaches_on, Marks, MaySweep}
+use Rattle.reach.specs.Marks.{marked, leads, reaches_on, ReachMarks, MaySweep}
 
 -- `^` with a number twice changes nothing, and a bit changed before or behind it is the same
 pub xor_back : (w x t : ℕ) → x < 2 ^ w → t < 2 ^ w → bit_xor (bit_xor x t) t ≡ x
@@ -69,7 +69,7 @@ narrowed f g v bits h =
 -- the marks of all nodes that differ from the target in a vector below x are right
 pub record Swept (b : List ℕ) (t x : ℕ) (marks : List Bool) : Type 0 where
   pub size : length marks ≡ 256
-  pub right : (k : ℕ) → k < x → k < 2 ^ dimension_at b → marked marks (bit_xor k t) ≡ reaches_on b t (bit_xor k t)
+  pub right : (k : ℕ) → k < x → VectorOf (dimension_at b) k → marked marks (bit_xor k t) ≡ reaches_on b t (bit_xor k t)
 
 module _ (b : List ℕ) (t : ℕ) (may : MaySweep b t) where
   abbrev D : ℕ
@@ -82,7 +82,7 @@ module _ (b : List ℕ) (t : ℕ) (may : MaySweep b t) where
   enabled = (view b).enabled
 
   -- a port of a vector of the cube is a port of the cube, and leads to a node of it
-  port_of : (v p : ℕ) → v < 2 ^ D → p ∈ ports_of port_count v → (p < D) × (has v p ≡ true)
+  port_of : (v p : ℕ) → VectorOf D v → p ∈ ports_of port_count v → (p < D) × (has v p ≡ true)
   port_of v p h m = let k = ports_mem 8 v m in (low_port D v p h k.1, k.1)
 
   pub leads_to : (n p : ℕ) → p < D → next n p ≡ flip n p
@@ -95,7 +95,7 @@ module _ (b : List ℕ) (t : ℕ) (may : MaySweep b t) where
 
   -- A port of a vector leads to a marked node exactly where one does that is enabled and leads to a node that reaches the target, where the marks behind
   -- the vector's ports are right.
-  leads_reaches : (marks : List Bool) (n v x : ℕ) → NodeOf D n → v < 2 ^ D → x ≡ enable_bits b n
+  leads_reaches : (marks : List Bool) (n v x : ℕ) → NodeOf D n → VectorOf D v → x ≡ enable_bits b n
       → ((p : ℕ) → p < D → has v p ≡ true → marked marks (next n p) ≡ reaches_on b t (next n p))
       → leads marks n (bit_and v x) ≡ any (λ p. enabled n p && reaches_on b t (N.next n p)) (ports_of port_count v)
   unfolding leads network
@@ -103,7 +103,7 @@ module _ (b : List ℕ) (t : ℕ) (may : MaySweep b t) where
       narrowed (λ p. marked marks (next n p)) (enabled n) v x (bits_of n x i e)
       ∙ any_same _ _ (ports_of port_count v) (λ p m. let k = port_of v p h m in ap (enabled n p &&◌) (right p k.0 k.1))
 
-  pub inside : (x : ℕ) → x < 2 ^ D → NodeOf D (bit_xor x t)
+  pub inside : (x : ℕ) → VectorOf D x → NodeOf D (bit_xor x t)
   inside x h = xor_lt D x t h may.target
 
   pub offered_there : (n : ℕ) → NodeOf D n → offered N t n ≡ ports_of port_count (bit_xor n t)
@@ -129,7 +129,7 @@ module _ (b : List ℕ) (t : ℕ) (may : MaySweep b t) where
       there = step t ∙ or_left _ (eq-eqb t t refl)
 
   -- of any other node, what the marks of the nodes swept before it say is right,
-  pub swept_leads : (marks : List Bool) (x bits : ℕ) → 0 < x → x < 2 ^ D → Swept b t x marks → bits ≡ enable_bits b (bit_xor x t)
+  pub swept_leads : (marks : List Bool) (x bits : ℕ) → 0 < x → VectorOf D x → Swept b t x marks → bits ≡ enable_bits b (bit_xor x t)
       → leads marks (bit_xor x t) (bit_and x bits) ≡ reaches_on b t (bit_xor x t)
   swept_leads marks x bits some h s e =
       leads_reaches marks n x bits i h e right
@@ -153,7 +153,7 @@ module _ (b : List ℕ) (t : ℕ) (may : MaySweep b t) where
           rw there (s.right (flip x p) (omega (arith, flip_drops x p u, pow_pos p)) (flip_inside D x p h l))
 
   -- so that one more node is swept.
-  pub swept_more : (marks : List Bool) (x : ℕ) (r : Bool) → x < 2 ^ D → Swept b t x marks → r ≡ reaches_on b t (bit_xor x t) → Swept b t (x + 1) (set marks (bit_xor x t) r)
+  pub swept_more : (marks : List Bool) (x : ℕ) (r : Bool) → VectorOf D x → Swept b t x marks → r ≡ reaches_on b t (bit_xor x t) → Swept b t (x + 1) (set marks (bit_xor x t) r)
   swept_more marks x r h s e =
       record {
         size = simp length-set s.size;
@@ -163,25 +163,25 @@ module _ (b : List ℕ) (t : ℕ) (may : MaySweep b t) where
       here : marked (set marks (bit_xor x t) r) (bit_xor x t) ≡ reaches_on b t (bit_xor x t)
       here = get_or-set_same marks (bit_xor x t) r false (omega (arith, s.size, below_256 may.fits (inside x h))) ∙ e
 
-      other : (k : ℕ) → k < x → k < 2 ^ D → marked (set marks (bit_xor x t) r) (bit_xor k t) ≡ reaches_on b t (bit_xor k t)
+      other : (k : ℕ) → k < x → VectorOf D k → marked (set marks (bit_xor x t) r) (bit_xor k t) ≡ reaches_on b t (bit_xor k t)
       other k l j = get_or-set_other marks (bit_xor x t) (bit_xor k t) r false apart ∙ s.right k l j
         where
           apart : bit_xor k t ≢ bit_xor x t
           apart z = omega (arith, sym (xor_back D k t j may.target) ∙ ap (λ y. bit_xor y t) z ∙ xor_back D x t h may.target)
 
   -- With all of them swept, exactly those are marked that reach the target.
-  pub swept_all : (marks : List Bool) (x : ℕ) → 2 ^ D ≤ x → Swept b t x marks → Marks b t marks
-  unfolding Marks
+  pub swept_all : (marks : List Bool) (x : ℕ) → cube_nodes D ≤ x → Swept b t x marks → ReachMarks b t marks
+  unfolding ReachMarks
   swept_all marks x h s n i =
       let k = inside n i in
       let back = xor_back D n t i may.target in
       rw back at (s.right (bit_xor n t) (omega arith) k)
 
   -- Then a pass would find a path exactly where an enabled port of its vector leads to a marked node.
-  pub marks_find : (marks : List Bool) (s vector bits : ℕ) → Marks b t marks → NodeOf D s → VectorOf D vector → bits ≡ enable_bits b s
+  pub marks_find : (marks : List Bool) (s vector bits : ℕ) → ReachMarks b t marks → NodeOf D s → VectorOf D vector → bits ≡ enable_bits b s
       → leads marks s (bit_and vector bits) ≡ finds_path (pass N enabled s (send_ports (shape_of (view b)) vector) t)
   marks_find marks s vector bits m i h e =
-      leads_reaches marks s vector bits i h e (λ p l u. unfold Marks in m (next s p) (rw (leads_to s p l) (flip_inside D s p i l)))
+      leads_reaches marks s vector bits i h e (λ p l u. unfold ReachMarks in m (next s p) (rw (leads_to s p l) (flip_inside D s p i l)))
       ∙ sym found
     where
       ports : send_ports (shape_of (view b)) vector ≡ ports_of port_count vector

@@ -24,8 +24,8 @@ unfoldable pub reaches_on : List ℕ → ℕ → ℕ → Bool
 reaches_on b t n = reaches (net (view b)) (view b).enabled t n
 
 -- exactly those nodes are marked that do
-unfoldable pub Marks : List ℕ → ℕ → List Bool → Type 0
-Marks b t marks = (n : ℕ) → NodeOf (dimension_at b) n → marked marks n ≡ reaches_on b t n
+unfoldable pub ReachMarks : List ℕ → ℕ → List Bool → Type 0
+ReachMarks b t marks = (n : ℕ) → NodeOf (dimension_at b) n → marked marks n ≡ reaches_on b t n
 
 -- the links of the helix path of port p are all enabled
 unfoldable pub helix_enabled : List ℕ → ℕ → ℕ → ℕ → Bool

@@ -12,7 +12,7 @@ ghost use Rattle.paths.specs.CubeNetwork.{send_ports, attempts};
 ghost use Rattle.layout.specs.Layout.{dimension_at};
 ghost use Rattle.entries.specs.EntryContracts.{Within};
 ghost use Rattle.table.specs.View.{view, net, shape_of};
-ghost use Rattle.reach.specs.Marks.{marked, leads, Marks, helix_enabled, MaySweep, MayAsk};
+ghost use Rattle.reach.specs.Marks.{marked, leads, ReachMarks, helix_enabled, MaySweep, MayAsk};
 
 use answers::SendRequest;
 use cube::{FirstPortTable, Node, Port, RoutingType, VectorPorts};
@@ -36,7 +36,7 @@ fn leads_on(marks: &[bool; 256], n: Node, vector: u16) -> bool
 // each looks only at nodes whose marks are there.
 fn reaching(t: &[u8], target: Node) -> [bool; 256]
     requires { MaySweep t.now target.0 }
-    ensures { Marks t.now target.0 result }
+    ensures { ReachMarks t.now target.0 result }
 {
     let mut marks = [false; 256];
     marks[usize::from(target.0)] = true;
@@ -47,36 +47,34 @@ fn reaching(t: &[u8], target: Node) -> [bool; 256]
     marks
 }
 
-// A send that is asked about: its table, its source and target, and its vector.
+// A send that is asked about, on its table and with the table of first ports.
 #[derive(Clone, Copy)]
 struct AskedSend<'a> {
     bytes: &'a [u8],
-    source: Node,
-    target: Node,
-    vector: u16,
+    request: SendRequest,
     first: &'a FirstPortTable,
-    ghost may_ask: { MayAsk bytes.now source.0 target.0 vector },
+    ghost may_ask: { MayAsk bytes.now request.source.0 request.target.0 request.vector },
 }
 
 impl<'a> AskedSend<'a> {
     // Whether a pass over the ports of its vector would find a path, were all circuits closed.
     fn any_path(&self) -> bool
-        ensures { result ≡ finds_path (pass (net (view self.now.bytes.now)) (view self.now.bytes.now).enabled self.now.source.0 (send_ports (shape_of (view self.now.bytes.now)) self.now.vector) self.now.target.0) }
+        ensures { result ≡ finds_path (pass (net (view self.now.bytes.now)) (view self.now.bytes.now).enabled self.now.request.source.0 (send_ports (shape_of (view self.now.bytes.now)) self.now.request.vector) self.now.request.target.0) }
     {
-        let marks = reaching(self.bytes, self.target);
+        let marks = reaching(self.bytes, self.request.target);
         leads_on(
             &marks,
-            self.source,
-            self.vector & table::enable_bits(self.bytes, self.source),
+            self.request.source,
+            self.request.vector & table::enable_bits(self.bytes, self.request.source),
         )
     }
 
     // Whether the links of the helix path of a port are all enabled.
     fn helix_enabled(&self, port: Port) -> bool
         requires { port.0 < dimension_at self.now.bytes.now }
-        ensures { result ≡ helix_enabled self.now.bytes.now self.now.source.0 self.now.target.0 port.0 }
+        ensures { result ≡ helix_enabled self.now.bytes.now self.now.request.source.0 self.now.request.target.0 port.0 }
     {
-        HelixPath::new(self.source, self.target, port, self.first).all(
+        HelixPath::new(self.request.source, self.request.target, port, self.first).all(
             |(n, p)|
                 requires { Within self.now.bytes.now n.0 p.0 }
             { table::enabled::<Links>(self.bytes, n, p) },
@@ -85,9 +83,9 @@ impl<'a> AskedSend<'a> {
 
     // Whether those of some port of its vector are.
     fn any_helix(&self) -> bool
-        ensures { result ≡ any (helix_enabled self.now.bytes.now self.now.source.0 self.now.target.0) (ports_of port_count self.now.vector) }
+        ensures { result ≡ any (helix_enabled self.now.bytes.now self.now.request.source.0 self.now.request.target.0) (ports_of port_count self.now.request.vector) }
     {
-        VectorPorts::new(self.vector).any(
+        VectorPorts::new(self.request.vector).any(
             |p|
                 requires { p.0 < dimension_at self.now.bytes.now }
             { self.helix_enabled(p) },
@@ -96,9 +94,9 @@ impl<'a> AskedSend<'a> {
 
     // Whether those of its lowest port are.
     fn lowest_helix(&self) -> bool
-        ensures { result ≡ any (helix_enabled self.now.bytes.now self.now.source.0 self.now.target.0) (take 1 (ports_of port_count self.now.vector)) }
+        ensures { result ≡ any (helix_enabled self.now.bytes.now self.now.request.source.0 self.now.request.target.0) (take 1 (ports_of port_count self.now.request.vector)) }
     {
-        match VectorPorts::new(self.vector).next() {
+        match VectorPorts::new(self.request.vector).next() {
             Some(lowest) => self.helix_enabled(lowest),
             None => false,
         }
@@ -118,9 +116,7 @@ pub fn some_path_enabled(
 {
     let send = AskedSend {
         bytes: t,
-        source: request.source,
-        target: request.target,
-        vector: request.vector,
+        request,
         first,
     };
     // Any number is taken here and by a send, as the definition has it: a number that is no type is sent as type 0.
@@ -131,7 +127,7 @@ pub fn some_path_enabled(
         RoutingType::AlternateMaze => {
             // Written to a copy: the language has no `..send` for a struct with a ghost field.
             let mut over_all_ports = send;
-            over_all_ports.vector = cube::node_count(table::dimension(t)) - 1;
+            over_all_ports.request.vector = cube::node_count(table::dimension(t)) - 1;
             over_all_ports.any_path()
         }
     }

@@ -16,7 +16,7 @@ use borrow.Author.Tests.{eqb-true, eqb-false, eq-eqb}
 use Rattle.common.specs.Lists.{◌∈◌, lowest}
 use Rattle.common.proofs.Tests.{below_or, clash, is_false, both, and}
 use Rattle.common.proofs.Lowest.{lowest_passes, lowest_before}
-use Rattle.cube.specs.Cube.{port_count, NodeOf, next, source_of}
+use Rattle.cube.specs.Cube.{port_count, channels, NodeOf, next, source_of}
 use Rattle.cube.proofs.Axes.{next_inside}
 use Rattle.cube.proofs.Ports.{below_256}
 use Rattle.paths.specs.Network.{Path, links, has_link}
@@ -175,7 +175,7 @@ module _ {b : List ℕ} {c : ℕ} (known : HasSource b c) (some : is_open_in (vi
           shown : view (hold_path b 0 (source_of c) path) ≡ hold_links (view b) 0 (source_of c) path
           shown = view_hold 0 (lit< tt) (dimension_at b) known.fits b known.bytes (source_of c) path known.source ports_below
 
-      module _ {k : ℕ} (found : k ≡ lowest (λ j. eqb (receiver_at b₁ t j) c) 8 0) where
+      module _ {k : ℕ} (found : k ≡ lowest (λ j. eqb (receiver_at b₁ t j) c) channels 0) where
         the_channel : k ≡ stands.receive
         the_channel =
             let f : ℕ → Bool = λ j. eqb (receiver_at b₁ t j) c in

@@ -25,7 +25,7 @@ use Rattle.layout.specs.Layout.{dimension_at}
 use Rattle.table.specs.View.{view, net, shape_of}
 use Rattle.answers.specs.SendOnTable.{free_in, pass_answer}
 use Rattle.answers.specs.PassOnBytes.{answer_of_pass, arrival_after, hops_left, hold_path}
-use Rattle.search.specs.SearchContracts.{farthest_after, passed, receive_as, try_answer, arrive_answer, Narrowed, MayTry, MayArrive}
+use Rattle.search.specs.SearchContracts.{farthest_after, search_answer, receive_as, try_answer, arrive_answer, Narrowed, MayTry, MayArrive}
 use Rattle.answers.proofs.PassOnBytes.{at_target, arrives}
 use Rattle.search.proofs.Narrow.{farthest_most, narrow_reach, narrow_may, narrow_tries}
 
@@ -36,14 +36,14 @@ one_further m j zero h l = absurd (omega arith)
 one_further m j (suc k) h l = mul-le-mul l (let r = ways_more 1 j k (omega arith) in omega arith)
 
 -- a free path that ends where it begins
-at_goal : (b : List ℕ) (c n h s : ℕ) (k : Option ℕ) → passed (Some h) k s b ≡ answer_of_pass b c n h (receive_as k) (found [] s)
+at_goal : (b : List ℕ) (c n h s : ℕ) (k : Option ℕ) → search_answer (Some h) k s b ≡ answer_of_pass b c n h (receive_as k) (found [] s)
 unfolding answer_of_pass hold_path
 at_goal b c n h s None = refl
 at_goal b c n h s (Some k) = let e : h ≡ h + 0 = omega arith in ap (λ x. pass_answer 0 x k s b) e
 
 -- An arrival.
 module _ {b : List ℕ} {t c n a h s : ℕ} (may : MayArrive b t c n a h s) where
-  pub arrive_here : (k : Option ℕ) → n ≡ t → passed (Some h) k s b ≡ arrive_answer b t c (receive_as k) n a h s
+  pub arrive_here : (k : Option ℕ) → n ≡ t → search_answer (Some h) k s b ≡ arrive_answer b t c (receive_as k) n a h s
   unfolding arrive_answer
   arrive_here k e = at_goal b c n h s k ∙ ap (answer_of_pass b c n h (receive_as k)) (sym (at_target (net (view b)) (free_in (view b)) t n a s (hops_left b t n) e))
 

@@ -16,7 +16,7 @@ use Rattle.cube.specs.Cube.{port_count, VectorOf, next}
 use Rattle.cube.specs.Helical.{helical, ports_of, first_port}
 use Rattle.cube.proofs.Order.{byte_vector, port_tried, low_port, mem_ports, ports_mem, length_helical, helical_mem, mem_helical, helical_zero}
 use Rattle.cube.proofs.Axes.{next_inside}
-use Rattle.paths.specs.CubeNetwork.{network}
+use Rattle.paths.specs.CubeNetwork.{unfolded, network}
 use Rattle.paths.specs.Search.{trying, arriving}
 use Rattle.paths.specs.Pass.{PassResult, scouts}
 use Rattle.paths.proofs.CubeNetwork.{cube_nearing, one_link, cube_cubical}
@@ -38,7 +38,7 @@ module _ (b : List ℕ) (n p c : ℕ) (w : Within b n p) (small : c < 65536) whe
   held_dimension = unfold view set_owner in ap (λ v. v.dimension) (view_put_owner b n p c w small)
 
   pub held_net : net (view (put_owner b n p c)) ≡ net (view b)
-  held_net = ap (λ D. network record { dimension = D; fold = 0 }) (unfold view in held_dimension)
+  held_net = ap (λ D. network (unfolded D)) (unfold view in held_dimension)
 
 -- an arrival on the table with the hop held, read on the table before it
 pub handed_on : (b : List ℕ) (t c : ℕ) (r : Receive) (n p h s : ℕ) → Within b n p → c < 65536 → c ≢ 0 → {b₁ : List ℕ} {n₁ : ℕ} → b₁ ≡ put_owner b n p c → n₁ ≡ next n p

@@ -117,14 +117,14 @@ told_channel v n (Some k) e = let f = channel_taken v n e in unfold receive lowe
 -- A send of routing type 0, from the ports that are left of its vector.
 module _ {b : List ℕ} {s t c vector left : ℕ} (may : MaySend b s t c vector) (narrow : Narrowed (view b) s vector left) {taken : Receive} (told : taken ≡ receive (view b) t)
     {x h k n : ℕ} {b₁ : List ℕ} (got : pass_answer x h k n b₁ ≡ try_answer b t c taken s left 7 0 0) where
-  passed : pass_answer x h k n b₁ ≡ answer_of_pass b c s 0 (receive (view b) t) (pass_of b s t vector)
-  passed = got ∙ ap (λ r. try_answer b t c r s left 7 0 0) told ∙ narrow_tries b t c (receive (view b) t) 7 0 0 narrow ∙ tries_pass may
+  by_pass : pass_answer x h k n b₁ ≡ answer_of_pass b c s 0 (receive (view b) t) (pass_of b s t vector)
+  by_pass = got ∙ ap (λ r. try_answer b t c r s left 7 0 0) told ∙ narrow_tries b t c (receive (view b) t) 7 0 0 narrow ∙ tries_pass may
 
   pub maze_taken : x ≡ 0 → {b₂ : List ℕ} → b₂ ≡ put_receiver b₁ t k c → pass_answer x h k n b₂ ≡ searched b s t c 0 vector
-  maze_taken z e = pass_taken b c s t (receive (view b) t) (pass_of b s t vector) passed z e ∙ sym (one_pass b s t c vector)
+  maze_taken z e = pass_taken b c s t (receive (view b) t) (pass_of b s t vector) by_pass z e ∙ sym (one_pass b s t c vector)
 
   pub maze_rejected : x ≢ 0 → pass_answer x h k n b₁ ≡ searched b s t c 0 vector
-  maze_rejected f = pass_rejected b c s t (receive (view b) t) (pass_of b s t vector) passed f ∙ sym (one_pass b s t c vector)
+  maze_rejected f = pass_rejected b c s t (receive (view b) t) (pass_of b s t vector) by_pass f ∙ sym (one_pass b s t c vector)
 
 -- A rejected pass leaves each byte of the table as it was: so does the first pass of a type 4 send, before the second begins.
 pub first_pass_leaves : (b : List ℕ) (s t c vector : ℕ) {x h k n : ℕ} {b₁ : List ℕ} → pass_answer x h k n b₁ ≡ searched b s t c 0 vector → x ≢ 0 → b₁ ≡ b

@@ -47,10 +47,10 @@ receive_as None = none_available
 
 -- what a pass says that found a free path of so many hops, or none, where the target has a receive channel to take, or none; with the scouts sent, and the
 -- bytes afterwards
-abbrev pub passed : (hops receive : Option ℕ) → (scouts : ℕ) → List ℕ → PassAnswer
-passed None k s b = pass_answer 10 0 0 s b
-passed (Some h) (Some k) s b = pass_answer 0 h k s b
-passed (Some h) None s b = pass_answer 11 0 0 s b
+abbrev pub search_answer : (hops receive : Option ℕ) → (scouts : ℕ) → List ℕ → PassAnswer
+search_answer None k s b = pass_answer 10 0 0 s b
+search_answer (Some h) (Some k) s b = pass_answer 0 h k s b
+search_answer (Some h) None s b = pass_answer 11 0 0 s b
 
 -- what both ask: a table of a cube up to dimension 8, a node and a target of it, a port, a circuit
 pub record SearchPre (b : List ℕ) (t c n a : ℕ) : Type 0 where

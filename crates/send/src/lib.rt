@@ -28,8 +28,8 @@ fn search_by_type(
     }
 }
 
-// A send of a routing type, by a table of first ports, which is lent for many sends and so is no part of the request. Where its search is route rejected, it asks whether a path that it may try has no blocked link: with none,
-// waiting does not help.
+// A send of a routing type, by a table of first ports. The table is lent for many sends, and no search is told the type: so neither is a part of the request. Where its
+// search is route rejected, it asks whether a path that it may try has no blocked link: with none, waiting does not help.
 pub fn send_by(
     t: &mut [u8],
     request: SendRequest,

@@ -4,7 +4,7 @@ use mathlib.Core.Path.{◌≡◌, refl, ap, ap₂, sym, ◌∙◌, subst}
 use mathlib.Core.Logic.{◌⊎◌, inl, inr, ⊎_elim, ◌≢◌}
 use mathlib.Core.Bool.{Bool, true, false, ◌&&◌, ◌||◌}
 use mathlib.Core.List.{List, [], ◌∷◌}
-use Prim.Native.Nat.{ℕ, suc, ◌+◌, ◌*◌, ◌^◌, ◌≤◌, ◌<◌}
+use Prim.Native.Nat.{ℕ, suc, ◌+◌, ◌*◌, ◌≤◌, ◌<◌}
 use native.Mathlib.Omega.{arith}
 use lib.ListN.{length}
 use borrow.Author.Tests.{eqb-true}
@@ -23,7 +23,7 @@ use Rattle.table.specs.View.{View, shape_of, net, held_by}
 use Rattle.circuit_path.specs.CircuitSound.{end_for, CircuitSound}
 use Rattle.soundness.specs.Sound.{Sound}
 use Rattle.circuit_hops.specs.Seen.{Seen}
-use Rattle.circuit_hops.specs.CountHops.{FollowedPath, Followed, Taken}
+use Rattle.circuit_hops.specs.CountHops.{FollowedPath, HopsCounted, Taken}
 use Rattle.std.proofs.Common.{Option, Some, None}
 use Rattle.soundness.specs.Counting.{Earlier, ReceivedBefore, CircuitFollowed, Counting, Counts}
 use Rattle.soundness.proofs.LinkCount.{links_added}
@@ -39,29 +39,29 @@ length_links N s (p ∷ w) = ap suc (length_links N (N.next s p) w)
 module _ (v : View) where
   -- a receive channel that a circuit holds
   module _ {c n k : ℕ} (m after : List ℕ) (fits : v.dimension ≤ largest_dimension) (held : c ≡ v.receiver n k) (some : c ≢ 0) (l : k < channels) (node : NodeOf v.dimension n) (armed : v.armed n k ≡ true) where
-    here : ReceivedBefore v (8 * n + k + 1) c
+    here : ReceivedBefore v (channels * n + k + 1) c
     unfolding ReceivedBefore
     here = (n, k, (l, omega arith), sym held)
 
     -- the state before, and the path that was followed
-    module _ {h hops : ℕ} (x : Counting v (8 * n + k) h m) (taken : Followed v c n m after hops) where
+    module _ {h hops : ℕ} (x : Counting v (channels * n + k) h m) (taken : HopsCounted v c n m after hops) where
       path : FollowedPath v c n hops
       path = taken.found
 
       way : List Link
       way = links (net v) (source_of c) path.path
 
-      fresh : ReceivedBefore v (8 * n + k) c → ⊥
+      fresh : ReceivedBefore v (channels * n + k) c → ⊥
       unfolding ReceivedBefore
       fresh r = taken.unseen (subst (Seen v m) r.3 (x.marks r.0 r.1 r.2 (λ z. some (sym r.3 ∙ z))))
 
       on_way : (a b : ℕ) → has_link way a b ≡ true → v.owner a b ≡ c
       on_way a b e = unfold way in eqb-true _ c (path.owned a b (true_link _ a b e))
 
-      source_inside : source_of c < 2 ^ v.dimension
+      source_inside : NodeOf v.dimension (source_of c)
       source_inside = omega (arith, taken.in_range, positive some)
 
-      inside : (a b : ℕ) → (a, b) ∈ way → (a < 256) × (b < 8)
+      inside : (a b : ℕ) → (a, b) ∈ way → (a < 256) × (b < port_count)
       inside a b i =
           let r = (permitted_inside (shape_of v) (source_of c) n path.path source_inside path.permitted).0 a b (unfold way On in i) in
           let q = (unfolded_port (shape_of v) fits refl b).0 r.1 in
@@ -72,7 +72,7 @@ module _ (v : View) where
 
       -- the links of the path were not on
       off : (a b : ℕ) → (a, b) ∈ way → x.on a b ≡ false
-      off a b i = is_false (x.on a b) (λ e. fresh (subst (ReceivedBefore v (8 * n + k)) (on_way a b (link_true way a b i)) (x.passed a b e).3))
+      off a b i = is_false (x.on a b) (λ e. fresh (subst (ReceivedBefore v (channels * n + k)) (on_way a b (link_true way a b i)) (x.on_paths a b e).3))
 
       count : link_count on 2048 ≡ h + hops
       unfolding on
@@ -84,18 +84,18 @@ module _ (v : View) where
           way_length : length way ≡ length path.path
           way_length = unfold way in length_links (net v) (source_of c) path.path
 
-      passed : (a b : ℕ) → on a b ≡ true → (a < 256) × (b < 8) × (v.owner a b ≢ 0) × ReceivedBefore v (8 * n + k + 1) (v.owner a b)
+      on_paths : (a b : ℕ) → on a b ≡ true → (a < 256) × (b < port_count) × (v.owner a b ≢ 0) × ReceivedBefore v (channels * n + k + 1) (v.owner a b)
       unfolding on
-      passed a b e =
-          ⊎_elim (λ o. let r = x.passed a b o in (r.0, r.1, r.2, wider v _ _ _ (omega arith) r.3))
-          (λ o. let q = on_way a b o in let r = inside a b (true_link way a b o) in (r.0, r.1, (λ z. some (sym q ∙ z)), subst (ReceivedBefore v (8 * n + k + 1)) (sym q) here))
+      on_paths a b e =
+          ⊎_elim (λ o. let r = x.on_paths a b o in (r.0, r.1, r.2, wider v _ _ _ (omega arith) r.3))
+          (λ o. let q = on_way a b o in let r = inside a b (true_link way a b o) in (r.0, r.1, (λ z. some (sym q ∙ z)), subst (ReceivedBefore v (channels * n + k + 1)) (sym q) here))
           (either (x.on a b) (has_link way a b) e)
 
       -- a channel looked at so far was looked at before, or is this one
-      last : {n' k' : ℕ} → Earlier (8 * n + k + 1) n' k' → Earlier (8 * n + k) n' k' ⊎ ((n' ≡ n) × (k' ≡ k))
-      last {n'} {k'} e = ⊎_elim (λ b. inl (e.0, b)) (λ b. inr (let z : 8 * n' + k' ≡ 8 * n + k = omega (arith, e.1) in (omega (arith, e.0), omega (arith, e.0)))) (below_or (8 * n + k) (8 * n' + k'))
+      last : {n' k' : ℕ} → Earlier (channels * n + k + 1) n' k' → Earlier (channels * n + k) n' k' ⊎ ((n' ≡ n) × (k' ≡ k))
+      last {n'} {k'} e = ⊎_elim (λ b. inl (e.0, b)) (λ b. inr (let z : channels * n' + k' ≡ channels * n + k = omega (arith, e.1) in (omega (arith, e.0), omega (arith, e.0)))) (below_or (channels * n + k) (channels * n' + k'))
 
-      older : {n' k' : ℕ} → Earlier (8 * n + k) n' k' → v.receiver n' k' ≢ 0 → CircuitFollowed v on n' k'
+      older : {n' k' : ℕ} → Earlier (channels * n + k) n' k' → v.receiver n' k' ≢ 0 → CircuitFollowed v on n' k'
       older {n'} {k'} e z =
           let s = x.stands n' k' e z in
           record {
@@ -136,7 +136,7 @@ module _ (v : View) where
           only a b o =
               unfold on way in
               let r = both (held_by v c a b) (x.on a b || has_link (links (net v) (source_of c) path.path) a b) o in
-              ⊎_elim (λ y. absurd (fresh (subst (ReceivedBefore v (8 * n + k)) (eqb-true _ c r.0) (x.passed a b y).3))) (λ y. true_link _ a b y) (either (x.on a b) _ r.1)
+              ⊎_elim (λ y. absurd (fresh (subst (ReceivedBefore v (channels * n + k)) (eqb-true _ c r.0) (x.on_paths a b y).3))) (λ y. true_link _ a b y) (either (x.on a b) _ r.1)
 
           whole : {y : ℕ} → c ≡ y → (s : CircuitSound v y) → end_for v y s.path ≡ n → s.path ≡ path.path
           whole {y} q = subst (λ (y : ℕ). (s : CircuitSound v y) → end_for v y s.path ≡ n → s.path ≡ path.path) q path.whole
@@ -157,28 +157,28 @@ module _ (v : View) where
       unfolding Seen
       still_seen d i s = (s.0, s.1, s.2, (taken.marks (source_of d) s.0 i s.1).1 s.3)
 
-      pub counting_more : Counting v (8 * n + k + 1) (h + hops) after
+      pub counting_more : Counting v (channels * n + k + 1) (h + hops) after
       counting_more =
           record {
             on = on;
             count = count;
-            passed = passed;
+            on_paths = on_paths;
             stands = λ n' k' e z. ⊎_elim (λ o. older o z) (λ o. subst (λ (y : ℕ). CircuitFollowed v on y k') (sym o.0) (subst (λ (y : ℕ). CircuitFollowed v on n y) (sym o.1) newest)) (last e);
             once = λ n' k' m' j' e f q z. one n' k' m' j' (last e) (last f) q z;
             marks = λ n' k' e z. ⊎_elim (λ o. still_seen _ (older_source o z) (x.marks n' k' o z)) (λ o. subst (Seen v after) (held ∙ sym (same_receiver o)) at_source) (last e);
-            marks_received = λ s p a b e. ⊎_elim (λ o. wider v _ _ _ (omega arith) (x.marks_received s p a b o)) (λ o. subst (ReceivedBefore v (8 * n + k + 1)) (sym o) here) ((taken.marks s p a b).0 e);
+            marks_received = λ s p a b e. ⊎_elim (λ o. wider v _ _ _ (omega arith) (x.marks_received s p a b o)) (λ o. subst (ReceivedBefore v (channels * n + k + 1)) (sym o) here) ((taken.marks s p a b).0 e);
           }
         where
           same_receiver : {n' k' : ℕ} → (n' ≡ n) × (k' ≡ k) → v.receiver n' k' ≡ v.receiver n k
           same_receiver o = ap₂ v.receiver o.0 o.1
 
-          older_source : {n' k' : ℕ} → Earlier (8 * n + k) n' k' → v.receiver n' k' ≢ 0 → source_of (v.receiver n' k') < 256
+          older_source : {n' k' : ℕ} → Earlier (channels * n + k) n' k' → v.receiver n' k' ≢ 0 → source_of (v.receiver n' k') < 256
           older_source o z = let s = x.stands _ _ o z in omega (arith, s.in_range, most_nodes fits)
 
-          no_older : {n' k' : ℕ} → Earlier (8 * n + k) n' k' → v.receiver n' k' ≡ c → ⊥
+          no_older : {n' k' : ℕ} → Earlier (channels * n + k) n' k' → v.receiver n' k' ≡ c → ⊥
           no_older {n'} {k'} o q = unfold ReceivedBefore in fresh (n', k', o, q)
 
-          one : (n' k' m' j' : ℕ) → Earlier (8 * n + k) n' k' ⊎ ((n' ≡ n) × (k' ≡ k)) → Earlier (8 * n + k) m' j' ⊎ ((m' ≡ n) × (j' ≡ k)) → v.receiver n' k' ≡ v.receiver m' j' → v.receiver n' k' ≢ 0
+          one : (n' k' m' j' : ℕ) → Earlier (channels * n + k) n' k' ⊎ ((n' ≡ n) × (k' ≡ k)) → Earlier (channels * n + k) m' j' ⊎ ((m' ≡ n) × (j' ≡ k)) → v.receiver n' k' ≡ v.receiver m' j' → v.receiver n' k' ≢ 0
               → (n' ≡ m') × (k' ≡ j')
           one n' k' m' j' (inl e) (inl f) q z = x.once n' k' m' j' e f q z
           one n' k' m' j' (inl e) (inr f) q z = absurd (no_older e (q ∙ same_receiver f ∙ sym held))
@@ -186,26 +186,26 @@ module _ (v : View) where
           one n' k' m' j' (inr e) (inr f) q z = (e.0 ∙ sym f.0, e.1 ∙ sym f.1)
 
     -- and where the table is sound, the circuit can be followed
-    forced : Taken v c n m after None → Sound v → {h : ℕ} → Counting v (8 * n + k) h m → ⊥
+    forced : Taken v c n m after None → Sound v → {h : ℕ} → Counting v (channels * n + k) h m → ⊥
     forced none s x =
         none (subst (λ (y : ℕ). y ≤ circuit_count (shape_of v)) (sym held) (s.receive_number n k)) stands (sym (stands.once n k (sym held)).0) (λ z. again (seen_received z))
       where
         stands : CircuitSound v c
         stands = subst (CircuitSound v) (sym held) (receive_stands v s n k (λ z. some (held ∙ z)))
 
-        seen_received : Seen v m c → ReceivedBefore v (8 * n + k) c
+        seen_received : Seen v m c → ReceivedBefore v (channels * n + k) c
         seen_received z =
             unfold Seen in
-            subst (ReceivedBefore v (8 * n + k)) (eqb-true _ c z.2)
+            subst (ReceivedBefore v (channels * n + k)) (eqb-true _ c z.2)
             (x.marks_received (source_of c) z.0 (omega (arith, positive some, most_nodes fits, subst (λ (y : ℕ). y ≤ circuit_count (shape_of v)) (sym held) (s.receive_number n k))) z.1 z.3)
 
-        again : ReceivedBefore v (8 * n + k) c → ⊥
+        again : ReceivedBefore v (channels * n + k) c → ⊥
         again r =
             unfold ReceivedBefore in
             let e = stands.once n k (sym held) in
             let f = stands.once r.0 r.1 r.3 in
             omega (arith, e.0, e.1, f.0, f.1, r.2.1)
 
-    pub counts_entry : (hops : Option ℕ) → Taken v c n m after hops → Counts v (8 * n + k) (8 * n + k + 1) m after hops
+    pub counts_entry : (hops : Option ℕ) → Taken v c n m after hops → Counts v (channels * n + k) (channels * n + k + 1) m after hops
     counts_entry (Some hops) taken = record { counts = λ h x. counting_more x taken; most = omega (arith, taken.most) }
     counts_entry None none = λ h x s. forced none s x

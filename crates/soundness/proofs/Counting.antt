@@ -28,7 +28,7 @@ counting_none v =
     record {
       on = λ m q. false;
       count = links_none 2048;
-      passed = λ m q e. absurd (clash e refl);
+      on_paths = λ m q e. absurd (clash e refl);
       stands = λ n k e h. absurd (omega (arith, e.1));
       once = λ n k m j e f q h. absurd (omega (arith, e.1));
       marks = λ n k e h. absurd (omega (arith, e.1));
@@ -37,19 +37,19 @@ counting_none v =
 
 module _ {v : View} where
   -- receive channels that nobody holds are passed over
-  pub counts_skip : {i j : ℕ} {m : List ℕ} → i ≤ j → ((n k : ℕ) → k < channels → i ≤ 8 * n + k → 8 * n + k < j → v.receiver n k ≡ 0) → Counted v i j m m 0
+  pub counts_skip : {i j : ℕ} {m : List ℕ} → i ≤ j → ((n k : ℕ) → k < channels → i ≤ channels * n + k → channels * n + k < j → v.receiver n k ≡ 0) → Counted v i j m m 0
   counts_skip {i} {j} {m} l free =
       record { counts = λ h x. subst (λ (y : ℕ). Counting v j y m) (sym (add-zero h)) (on h x); most = omega arith }
     where
       back : {n k : ℕ} → Earlier j n k → v.receiver n k ≢ 0 → Earlier i n k
-      back {n} {k} e h = (e.0, ⊎_elim (λ b. b) (λ b. absurd (h (free n k e.0 b e.1))) (below_or i (8 * n + k)))
+      back {n} {k} e h = (e.0, ⊎_elim (λ b. b) (λ b. absurd (h (free n k e.0 b e.1))) (below_or i (channels * n + k)))
 
       on : (h : ℕ) → Counting v i h m → Counting v j h m
       on h x =
           record {
             on = x.on;
             count = x.count;
-            passed = λ a b e. let r = x.passed a b e in (r.0, r.1, r.2, wider v i j _ l r.3);
+            on_paths = λ a b e. let r = x.on_paths a b e in (r.0, r.1, r.2, wider v i j _ l r.3);
             stands = λ n k e z. x.stands n k (back e z) z;
             once = λ n k a b e f q z. x.once n k a b (back e z) (back f (λ y. z (q ∙ y))) q z;
             marks = λ n k e z. x.marks n k (back e z) z;

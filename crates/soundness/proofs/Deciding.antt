@@ -4,7 +4,7 @@ use mathlib.Core.Path.{◌≡◌, refl, ap, sym, ◌∙◌, subst}
 use mathlib.Core.Logic.{◌⊎◌, inl, inr, ⊎_elim, ◌≢◌}
 use mathlib.Core.Bool.{Bool, true, false, cond, not}
 use mathlib.Core.List.{List}
-use Prim.Native.Nat.{ℕ, ◌+◌, ◌^◌, ◌≤◌, ◌<◌}
+use Prim.Native.Nat.{ℕ, ◌+◌, ◌*◌, ◌^◌, ◌≤◌, ◌<◌}
 use native.Mathlib.Omega.{arith}
 use native.Mathlib.Nat.{zero-add}
 use lib.Dec.{eqb, ltb}
@@ -17,7 +17,7 @@ use Rattle.common.proofs.Lists.{keep_nil}
 use Rattle.common.proofs.Every.{decide₂}
 use Rattle.common.proofs.Tests.{same?, below_or, clash, is_false, both, both_below, and, decided_no}
 use Rattle.cube.specs.Bits.{has}
-use Rattle.cube.specs.Cube.{largest_dimension, port_count, channels, NodeOf, source_of}
+use Rattle.cube.specs.Cube.{largest_dimension, port_count, channels, cube_nodes, NodeOf, source_of}
 use Rattle.cube.proofs.Bits.{high_has, no_bit_above, no_ports}
 use Rattle.paths.specs.Network.{Path, links}
 use Rattle.paths.specs.Permitted.{Permitted}
@@ -60,12 +60,12 @@ module _ (b : List ℕ) (n : ℕ) {answer : Bool} (d : Decides ((k : ℕ) → k 
   unfolding view
   armed_held e = d.holds e
 
-  pub absent_free : answer ≡ true → ((n k : ℕ) → 2 ^ dimension_at b ≤ n → armed_at b n k ≡ false) → 2 ^ dimension_at b ≤ n → (k : ℕ) → k < channels → (view b).receiver n k ≡ 0
+  pub absent_free : answer ≡ true → ((n k : ℕ) → cube_nodes (dimension_at b) ≤ n → armed_at b n k ≡ false) → cube_nodes (dimension_at b) ≤ n → (k : ℕ) → k < channels → (view b).receiver n k ≡ 0
   unfolding view
   absent_free e arms l k i = ⊎_elim (λ z. z) (λ z. absurd (clash (d.holds e k i z) (arms n k l))) (same? (receiver_at b n k) 0)
 
 -- all receive channels were looked at, and all held links are enabled and counted
-module _ (b : List ℕ) (d : dimension_at b ≤ largest_dimension) (fit : EnablesFit b (dimension_at b)) (arms : ArmsFit b (dimension_at b)) {hops free : ℕ} {m : List ℕ} (x : Counting (view b) 2048 hops m)
+module _ (b : List ℕ) (d : dimension_at b ≤ largest_dimension) (fit : EnablesFit b (dimension_at b)) (arms : ArmsFit b (dimension_at b)) {hops free : ℕ} {m : List ℕ} (x : Counting (view b) (channels * 256) hops m)
     (on : (n p : ℕ) → n < 256 → p < port_count → (view b).owner n p ≢ 0 → (view b).enabled n p ≡ true) (counted : link_count (held_by (view b) 0) 2048 ≡ free) where
   v : View
   v = view b
@@ -77,7 +77,7 @@ module _ (b : List ℕ) (d : dimension_at b ≤ largest_dimension) (fit : Enable
   is_held n p h = unfold held in ap not (ne_eqb _ 0 h)
 
   on_held : (n p : ℕ) → x.on n p ≡ true → held n p ≡ true
-  on_held n p e = is_held n p (x.passed n p e).2
+  on_held n p e = is_held n p (x.on_paths n p e).2
 
   held_count : link_count held 2048 + free ≡ 2048
   held_count = unfold held in omega (arith, links_parts (held_by (view b) 0), counted)
@@ -86,10 +86,10 @@ module _ (b : List ℕ) (d : dimension_at b ≤ largest_dimension) (fit : Enable
   small = omega (arith, shown b)
 
   -- a place in the table is before the last one
-  earlier : (n k : ℕ) → n < 256 → k < channels → Earlier 2048 n k
+  earlier : (n k : ℕ) → n < 256 → k < channels → Earlier (channels * 256) n k
   earlier n k i l = (l, omega arith)
 
-  in_table : (n k : ℕ) → (view b).receiver n k ≢ 0 → Earlier 2048 n k
+  in_table : (n k : ℕ) → (view b).receiver n k ≢ 0 → Earlier (channels * 256) n k
   in_table n k h = ⊎_elim (λ i. earlier n k i.0 i.1) (λ o. absurd (h ((view_framed b).no_receive n k o))) (placed n k)
 
   stands : (n k : ℕ) → (view b).receiver n k ≢ 0 → CircuitFollowed (view b) x.on n k
@@ -121,19 +121,19 @@ module _ (b : List ℕ) (d : dimension_at b ≤ largest_dimension) (fit : Enable
     -- the circuit of a held link was received, and its path has the link
     received : (n p : ℕ) → (view b).owner n p ≢ 0 → (a : ℕ) × (k : ℕ) × ((view b).receiver a k ≡ (view b).owner n p) × ((view b).receiver a k ≢ 0)
     unfolding ReceivedBefore
-    received n p h = let r = (x.passed n p (all n p h)).3 in (r.0, r.1, r.3, λ z. h (sym r.3 ∙ z))
+    received n p h = let r = (x.on_paths n p (all n p h)).3 in (r.0, r.1, r.3, λ z. h (sym r.3 ∙ z))
 
     link_inside : (n p : ℕ) → (view b).owner n p ≢ 0 → (NodeOf (view b).dimension n) × (p < (view b).dimension)
     link_inside n p h =
         let r = received n p h in
         let t = stands r.0 r.1 r.3 in
         let c = (view b).receiver r.0 r.1 in
-        let in_source : source_of c < 2 ^ (view b).dimension = source_inside c r.3 t.in_range in
+        let in_source : NodeOf (view b).dimension (source_of c) = source_inside c r.3 t.in_range in
         let o : On (net (view b)) (source_of c) t.path n p = unfold On in t.exactly.only n p (and (eq-eqb _ c (sym r.2)) (all n p h)) in
         let i = (permitted_inside (shape_of (view b)) (source_of c) r.0 t.path in_source t.permitted).0 n p o in
         (i.0, (unfolded_port (shape_of (view b)) small refl p).0 i.1)
       where
-        source_inside : (c : ℕ) → c ≢ 0 → c ≤ circuit_count (shape_of (view b)) → source_of c < 2 ^ (view b).dimension
+        source_inside : (c : ℕ) → c ≢ 0 → c ≤ circuit_count (shape_of (view b)) → NodeOf (view b).dimension (source_of c)
         source_inside c h l = ⊎_elim (λ z. absurd (h (omega arith))) (λ z. omega arith) (below_or 1 c)
 
     -- a circuit that is received stands
@@ -184,7 +184,7 @@ module _ (b : List ℕ) (d : dimension_at b ≤ largest_dimension) (fit : Enable
         numbers : (c : ℕ) → c ≢ 0 → Nowhere (view b) c ⊎ CircuitSound (view b) c
         numbers c h = go (decide₂ 256 8 (λ n k. eqb ((view b).receiver n k) c))
           where
-            go : ((i : ℕ) × (j : ℕ) × (eqb ((view b).receiver i j) c ≡ true)) ⊎ ((i j : ℕ) → i < 256 → j < 8 → eqb ((view b).receiver i j) c ≡ false) → Nowhere (view b) c ⊎ CircuitSound (view b) c
+            go : ((i : ℕ) × (j : ℕ) × (eqb ((view b).receiver i j) c ≡ true)) ⊎ ((i j : ℕ) → i < 256 → j < channels → eqb ((view b).receiver i j) c ≡ false) → Nowhere (view b) c ⊎ CircuitSound (view b) c
             go (inl r) = let e = eqb-true _ c r.2 in inr (subst (CircuitSound (view b)) e (circuit_stands r.0 r.1 (λ z. h (sym e ∙ z))))
             go (inr f) = inl ((λ n p e. let r = received n p (λ z. h (sym e ∙ z)) in nobody r.0 r.1 (r.2 ∙ e)), nobody)
               where
@@ -238,15 +238,12 @@ module _ (b : List ℕ) (d : dimension_at b ≤ largest_dimension) where
   pub counting_start : {before : List ℕ} → before ≡ replicate 256 0 → Counting (view b) 0 0 before
   counting_start e = subst (Counting (view b) 0 0) (sym e) (counting_none (view b))
 
-  pub sum_answers : EnablesFit b (dimension_at b) → ArmsFit b (dimension_at b) → (hops free : Option ℕ) {before : List ℕ} (m : List ℕ) → Frees (view b) 0 256 free → before ≡ replicate 256 0 → Counts (view b) 0 2048 before m hops
+  pub sum_answers : EnablesFit b (dimension_at b) → ArmsFit b (dimension_at b) → (hops free : Option ℕ) {before : List ℕ} (m : List ℕ) → Frees (view b) 0 256 free → before ≡ replicate 256 0 → Counts (view b) 0 (channels * 256) before m hops
       → all_links hops free ≡ sound_test (view b)
   sum_answers fit arms None free m f e x = refuse (x 0 (counting_start e))
   sum_answers fit arms (Some hops) None m f e x = refuse f
   sum_answers fit arms (Some hops) (Some free) m f e x =
       same_answer _ _
       (sum_decides b d fit arms (subst (λ (y : ℕ). Counting (view b) 2048 y m) (zero-add hops) (x.counts 0 (counting_start e))) (λ n p i j h. f.enabled n p (omega arith) i j h)
-      (let e = f.counted in let z = link_count_zero (held_by (view b) 0) in omega arith))
+      (let e = f.counted in let z : link_count (held_by (view b) 0) 0 ≡ 0 = unfold link_count from in ap length (keep_nil _) in omega arith))
       (decided b d)
-    where
-      link_count_zero : (g : ℕ → ℕ → Bool) → link_count g 0 ≡ 0
-      link_count_zero g = unfold link_count from in ap length (keep_nil _)

@@ -28,15 +28,15 @@ count_run f i (suc k) h =
     let on : i + k + 1 ≡ i + suc k = omega arith in
     omega (arith, one, ap (λ x. length (keep f (from 0 x))) on)
 
-pub frees_all : (b : List ℕ) {n₀ n₁ free : ℕ} → free + 8 * n₀ ≤ 8 * n₁ → ((n p : ℕ) → n₀ ≤ n → n < n₁ → p < port_count → (view b).owner n p ≢ 0 → (view b).enabled n p ≡ true)
-    → free_count b (8 * n₀) + free ≡ free_count b (8 * n₁) → FreeCounted (view b) n₀ n₁ free
+pub frees_all : (b : List ℕ) {n₀ n₁ free : ℕ} → free + port_count * n₀ ≤ port_count * n₁ → ((n p : ℕ) → n₀ ≤ n → n < n₁ → p < port_count → (view b).owner n p ≢ 0 → (view b).enabled n p ≡ true)
+    → free_count b (port_count * n₀) + free ≡ free_count b (port_count * n₁) → FreeCounted (view b) n₀ n₁ free
 frees_all b l h e = record { enabled = h; counted = unfold free_count view in e; most = l }
 
 -- sixteen nodes that hold nothing
 pub frees_clear : (b : List ℕ) (n : ℕ) → ((m p : ℕ) → n ≤ m → m < n + 16 → p < port_count → owner_at b m p ≡ 0) → FreeCounted (view b) n (n + 16) 128
 frees_clear b n h = frees_all b (omega arith) (λ m p l k i z. absurd (z (unfold view in h m p l k i))) free
   where
-    free : free_count b (8 * n) + 128 ≡ free_count b (8 * (n + 16))
+    free : free_count b (port_count * n) + 128 ≡ free_count b (port_count * (n + 16))
     free = unfold free_count link_count in
         let on : 8 * n + 128 ≡ 8 * (n + 16) = omega arith in
         count_run (λ l. eqb (owner_at b (l / 8) (l % 8)) 0) (8 * n) 128 (λ j l k. eq-eqb _ 0 (h (j / 8) (j % 8) (omega arith) (omega arith) (omega arith)))

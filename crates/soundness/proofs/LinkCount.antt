@@ -117,7 +117,7 @@ module _ (f : ℕ → ℕ → Bool) (l : Link) where
 pair : {a b c d : ℕ} → a ≡ c → b ≡ d → ◌≡◌ {A = Link} (a, b) (c, d)
 pair e f = λ i. (e i, f i)
 
-pub links_added : (f : ℕ → ℕ → Bool) (ls : List Link) → Pairwise ◌≢◌ ls → ((l : Link) → l ∈ ls → (l.0 < 256) × (l.1 < 8) × (f l.0 l.1 ≡ false))
+pub links_added : (f : ℕ → ℕ → Bool) (ls : List Link) → Pairwise ◌≢◌ ls → ((l : Link) → l ∈ ls → (l.0 < 256) × (l.1 < port_count) × (f l.0 l.1 ≡ false))
     → link_count (λ m q. f m q || has_link ls m q) 2048 ≡ link_count f 2048 + length ls
 unfolding has_link Pairwise with_link
 links_added f [] d h = same_count (λ m q. or-false (f m q)) 2048 ∙ sym (add-zero _)

@@ -9,7 +9,7 @@ use native.Mathlib.Omega.{arith}
 use lib.Dec.{ltb, leb}
 use lib.ListN.{length}
 use borrow.Author.Tests.{ltb-false, eq-eqb, ne_eqb, le-leb, lt-leb}
-use Rattle.cube.specs.Cube.{largest_dimension, port_count, channels}
+use Rattle.cube.specs.Cube.{largest_dimension, port_count, channels, cube_nodes}
 use Rattle.common.specs.Decides.{Decides}
 use Rattle.common.specs.Tests.{refusal, test}
 use Rattle.common.proofs.Tests.{same?, below_or, clash, both, and, refused, passed, accepted}
@@ -29,7 +29,7 @@ use Rattle.soundness.specs.TableTests.{table_tests}
 use Rattle.soundness.proofs.Soundness.{Framed, EntriesPass, sound_entries, entries_sound}
 
 -- a link that the cube lacks is off where the enable bits of its node are below their limit
-pub off : (b : List ℕ) (D n p : ℕ) → n < 256 → enable_bits b n < enable_limit D n → (ltb n (2 ^ D) && ltb p D) ≡ false → enabled_at b n p ≡ false
+pub off : (b : List ℕ) (D n p : ℕ) → n < 256 → enable_bits b n < enable_limit D n → (ltb n (cube_nodes D) && ltb p D) ≡ false → enabled_at b n p ≡ false
 unfolding enabled_at mask_at enable_bits enable_limit
 off b D n p h fit e = rw (bits (ltb n (2 ^ D)) e fit) (and-false (in_table n p))
   where
@@ -38,7 +38,7 @@ off b D n p h fit e = rw (bits (ltb n (2 ^ D)) e fit) (and-false (in_table n p))
     bits false z k = high_has 0 (enable_bits b n) p k (omega arith)
 
 -- a channel of a node that the cube lacks is not armed where the masks of such nodes are 0
-pub unarmed : (b : List ℕ) (D n k : ℕ) → ArmsFit b D → 2 ^ D ≤ n → armed_at b n k ≡ false
+pub unarmed : (b : List ℕ) (D n k : ℕ) → ArmsFit b D → cube_nodes D ≤ n → armed_at b n k ≡ false
 unfolding armed_at mask_at ArmsFit arm_bits
 unarmed b D n k fit l = go (in_table n k) refl
   where
@@ -94,14 +94,14 @@ module _ (b : List ℕ) where
   unfolding table_tests
   wrong_length h = earlier (omega arith) (omega arith) (sym (refused 1 _ (rw (ne_eqb (length b) table_length h))))
 
-  second : length b ≡ table_length → not (leb 1 (dimension_at b) && leb (dimension_at b) 8) ≡ true → TableAnswer b 2
+  second : length b ≡ table_length → not (leb 1 (dimension_at b) && leb (dimension_at b) largest_dimension) ≡ true → TableAnswer b 2
   unfolding table_tests view
   second l e = earlier (omega arith) (omega arith) (sym (passed 1 _ (rw (eq-eqb (length b) table_length l)) ∙ refused 2 _ e))
 
   pub no_dimension : length b ≡ table_length → dimension_at b < 1 → TableAnswer b 2
   no_dimension l h = second l (rw (lt-leb 1 (dimension_at b) h))
 
-  pub large_dimension : length b ≡ table_length → 1 ≤ dimension_at b → 8 < dimension_at b → TableAnswer b 2
+  pub large_dimension : length b ≡ table_length → 1 ≤ dimension_at b → largest_dimension < dimension_at b → TableAnswer b 2
   large_dimension l k h = second l (rw (le-leb 1 (dimension_at b) k, lt-leb (dimension_at b) 8 h))
 
   module _ (l : length b ≡ table_length) (k : 1 ≤ dimension_at b) (h : dimension_at b ≤ largest_dimension) where

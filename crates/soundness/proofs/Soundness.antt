@@ -150,7 +150,7 @@ module _ (v : View) where
   record LinkFacts (n p c : ℕ) : Type 0 where
     on : v.enabled n p ≡ true
     circuit_passed : circuit_test v c ≡ true
-    passed : (n, p) ∈ links (net v) (source_of c) (path_of v c)
+    on_paths : (n, p) ∈ links (net v) (source_of c) (path_of v c)
 
   module _ (links_pass : (n p : ℕ) → link_test v n p ≡ true) (receives_pass : (n k : ℕ) → receive_test v n k ≡ true) (framed : Framed v) (c : ℕ) (some : c ≢ 0) where
     held_link : (n p : ℕ) → v.owner n p ≡ c → LinkFacts n p c
@@ -158,7 +158,7 @@ module _ (v : View) where
     held_link n p x =
         let a = both (v.enabled n p) _ (passing (ltb n (2 ^ v.dimension) && ltb p v.dimension) (rw (x, ne_eqb c 0 some, and-false (not (v.enabled n p))) at (links_pass n p))) in
         let b = both (circuit_test v c) _ a.1 in
-        record { on = a.0; circuit_passed = b.0; passed = true_link _ n p b.1 }
+        record { on = a.0; circuit_passed = b.0; on_paths = true_link _ n p b.1 }
 
     -- and that of a receive channel: it is armed, and its path ends there
     held_receive : (n k : ℕ) → v.receiver n k ≡ c → (v.armed n k ≡ true) × (circuit_test v c ≡ true) × (n ≡ end_for v c (path_of v c))
@@ -179,7 +179,7 @@ module _ (v : View) where
           exactly =
               record {
                 all = λ m q o. unfold path_of On in path_owned (shape_of v) (held_by v c) (source_of c) m q o;
-                only = λ m q o. (held_link m q (eqb-true _ c o)).passed;
+                only = λ m q o. (held_link m q (eqb-true _ c o)).on_paths;
               };
           receive = r.receive;
           small = r.small;
@@ -193,8 +193,8 @@ module _ (v : View) where
     number_stands : Nowhere v c ⊎ CircuitSound v c
     number_stands = go (decide₂ 256 8 (λ n p. eqb (v.owner n p) c)) (decide₂ 256 8 (λ n k. eqb (v.receiver n k) c))
       where
-        go : ((i : ℕ) × (j : ℕ) × (eqb (v.owner i j) c ≡ true)) ⊎ ((i j : ℕ) → i < 256 → j < 8 → eqb (v.owner i j) c ≡ false)
-            → ((i : ℕ) × (j : ℕ) × (eqb (v.receiver i j) c ≡ true)) ⊎ ((i j : ℕ) → i < 256 → j < 8 → eqb (v.receiver i j) c ≡ false) → Nowhere v c ⊎ CircuitSound v c
+        go : ((i : ℕ) × (j : ℕ) × (eqb (v.owner i j) c ≡ true)) ⊎ ((i j : ℕ) → i < 256 → j < port_count → eqb (v.owner i j) c ≡ false)
+            → ((i : ℕ) × (j : ℕ) × (eqb (v.receiver i j) c ≡ true)) ⊎ ((i j : ℕ) → i < 256 → j < channels → eqb (v.receiver i j) c ≡ false) → Nowhere v c ⊎ CircuitSound v c
         go (inl s) r = inr (circuit_sound (held_link s.0 s.1 (eqb-true _ c s.2)).circuit_passed)
         go (inr f) (inl s) = inr (circuit_sound (held_receive s.0 s.1 (eqb-true _ c s.2)).1)
         go (inr f) (inr g) =

@@ -35,7 +35,7 @@ pub record CircuitFollowed (v : View) (on : ℕ → ℕ → Bool) (n k : ℕ) : 
 pub record Counting (v : View) (i hops : ℕ) (seen : List ℕ) : Type 0 where
   pub on : ℕ → ℕ → Bool
   pub count : link_count on 2048 ≡ hops
-  pub passed : (m q : ℕ) → on m q ≡ true → (m < 256) × (q < port_count) × (v.owner m q ≢ 0) × ReceivedBefore v i (v.owner m q)
+  pub on_paths : (m q : ℕ) → on m q ≡ true → (m < 256) × (q < port_count) × (v.owner m q ≢ 0) × ReceivedBefore v i (v.owner m q)
   pub stands : (n k : ℕ) → Earlier i n k → v.receiver n k ≢ 0 → CircuitFollowed v on n k
   pub once : (n k m j : ℕ) → Earlier i n k → Earlier i m j → v.receiver n k ≡ v.receiver m j → v.receiver n k ≢ 0 → (n ≡ m) × (k ≡ j)
   pub marks : (n k : ℕ) → Earlier i n k → v.receiver n k ≢ 0 → Seen v seen (v.receiver n k)

@@ -10,6 +10,7 @@ use lib.Dec.{eqb, ltb}
 use borrow.Author.Tests.{ltb-true, ltb-false, lt-ltb, le-ltb, eqb-true, eqb-false}
 use Rattle.common.specs.Decides.{Decides}
 use Rattle.common.proofs.Tests.{decided_no}
+use Rattle.cube.specs.Cube.{cube_nodes}
 use Rattle.layout.specs.Layout.{table_length, arm_part}
 use Rattle.layout.specs.LayoutContracts.{RunOr}
 use Rattle.layout.proofs.Runs.{run_none_above, run_below, run_zero}
@@ -17,7 +18,7 @@ use Rattle.entries.specs.EntryContracts.{enable_bits, arm_bits}
 use Rattle.table.specs.TableContracts.{enable_limit, EnablesFit, ArmsFit}
 
 -- the enable bits of a cube's nodes below their number, and none for the others
-module _ (b : List ℕ) (D nodes i k : ℕ) {x : ℕ} (m : nodes ≡ 2 ^ D) (most : nodes ≤ 256) (long : length b ≡ table_length) (at : i ≡ 1) (count : k ≡ nodes) (g : RunOr (take k (drop i b)) x) where
+module _ (b : List ℕ) (D nodes i k : ℕ) {x : ℕ} (m : nodes ≡ cube_nodes D) (most : nodes ≤ 256) (long : length b ≡ table_length) (at : i ≡ 1) (count : k ≡ nodes) (g : RunOr (take k (drop i b)) x) where
   pub enables_large : nodes ≤ x → Decides (EnablesFit b D) false
   unfolding EnablesFit enable_limit enable_bits
   enables_large h = decided_no (λ fit. omega (arith, m, run_below b i k g (omega arith) D (λ j l. rw at (rw (lt-ltb j (2 ^ D) (omega (arith, m))) at (fit j (omega arith))))))
@@ -43,7 +44,7 @@ module _ (b : List ℕ) (D nodes i k : ℕ) {x : ℕ} (m : nodes ≡ 2 ^ D) (mos
       none fit = let small = run_below b i' k' f (omega arith) 0 (λ j l. rw (place j) (rw (le-ltb (nodes + j) (2 ^ D) (omega (arith, m))) at (fit (nodes + j) (omega arith)))) in omega arith
 
 -- no channel is armed from the node on that the cube lacks first
-pub arms_fit : (b : List ℕ) (D nodes i k : ℕ) {x : ℕ} → nodes ≡ 2 ^ D → nodes ≤ 256 → length b ≡ table_length → i ≡ arm_part + nodes → k ≡ 256 - nodes → RunOr (take k (drop i b)) x
+pub arms_fit : (b : List ℕ) (D nodes i k : ℕ) {x : ℕ} → nodes ≡ cube_nodes D → nodes ≤ 256 → length b ≡ table_length → i ≡ arm_part + nodes → k ≡ 256 - nodes → RunOr (take k (drop i b)) x
     → Decides (ArmsFit b D) (eqb x 0)
 unfolding ArmsFit arm_bits
 arms_fit b D nodes i k {x} m most long at count g =

@@ -52,14 +52,14 @@ unfolding has
 ones D p h l = same_test _ _ (at₂ 9 8 (λ D p. beq (has (2 ^ D - 1) p) (ltb p D)) refl D p (omega arith) l)
 
 -- the first byte, and what two fills then leave: with as many nodes as the dimension has, and all their bits
-fills_made : (b : List ℕ) (D n i k : ℕ) (ys zs : List ℕ) → length b ≡ table_length → n ≡ 2 ^ D → n ≤ 256 → i ≡ 1 + n → k ≡ n
+fills_made : (b : List ℕ) (D n i k : ℕ) (ys zs : List ℕ) → length b ≡ table_length → n ≡ cube_nodes D → n ≤ 256 → i ≡ 1 + n → k ≡ n
     → ys ≡ replicate (length ys) (n - 1) → length ys ≡ length (take k (drop 1 (set b 0 D)))
     → zs ≡ replicate (length zs) 0 → length zs ≡ length (take (length (put_mid 1 k (set b 0 D) ys) - i) (drop i (put_mid 1 k (set b 0 D) ys)))
     → put_mid i (length (put_mid 1 k (set b 0 D) ys) - i) (put_mid 1 k (set b 0 D) ys) zs ≡ made D
 unfolding made
 fills_made [] D n i k ys zs h e l at count y y' z z' = absurd (omega arith)
 fills_made (x ∷ bs) D n i k ys zs h e l at count y y' z z' =
-    rw (at, one-add n, take_at ys (drop k bs) n front, drop_at ys (drop k bs) n front, drop_of_length-le (drop k bs) {i = all - suc n} (omega (arith, behind, long)), append-nil zs, z, rest, y, front, e) refl
+    rw (at, one-add n, take_at ys (drop k bs) n front, drop_at ys (drop k bs) n front, drop_of_length-le (drop k bs) {i = all - suc n} (omega (arith, left_long, long)), append-nil zs, z, rest, y, front, e) refl
   where
     all : ℕ
     all = length (D ∷ (ys ++ drop k bs))
@@ -67,11 +67,11 @@ fills_made (x ∷ bs) D n i k ys zs h e l at count y y' z z' =
     front : length ys ≡ n
     front = y' ∙ length-take-le k bs (omega arith) ∙ count
 
-    behind : length (drop k bs) ≡ 8704 - n
-    behind = rw length-drop (omega arith)
+    left_long : length (drop k bs) ≡ 8704 - n
+    left_long = rw length-drop (omega arith)
 
     long : all ≡ 8705
-    long = ap suc (length-append ys (drop k bs) ∙ ap₂ ◌+◌ front behind ∙ omega arith)
+    long = ap suc (length-append ys (drop k bs) ∙ ap₂ ◌+◌ front left_long ∙ omega arith)
 
     rest : length zs ≡ 8704 - n
     rest = z' ∙ length-take-le (all - i) (drop i (D ∷ (ys ++ drop k bs))) (rw length-drop (omega arith)) ∙ omega (arith, long)
@@ -155,7 +155,7 @@ made_shows D h = λ i.
 pub made_encoded : (D : ℕ) → D ≤ largest_dimension → made D ≡ encode (fresh D)
 made_encoded D m = encode_shown (made D) (fresh D) (made_bytes D m) (made_shows D m)
 
-pub made_of : (b : List ℕ) (D n i k : ℕ) (ys zs : List ℕ) → D ≤ largest_dimension → length b ≡ table_length → n ≡ 2 ^ D → n ≤ 256 → i ≡ 1 + n → k ≡ n
+pub made_of : (b : List ℕ) (D n i k : ℕ) (ys zs : List ℕ) → D ≤ largest_dimension → length b ≡ table_length → n ≡ cube_nodes D → n ≤ 256 → i ≡ 1 + n → k ≡ n
     → ys ≡ replicate (length ys) (n - 1) → length ys ≡ length (take k (drop 1 (set b 0 D)))
     → zs ≡ replicate (length zs) 0 → length zs ≡ length (take (length (put_mid 1 k (set b 0 D) ys) - i) (drop i (put_mid 1 k (set b 0 D) ys)))
     → put_mid i (length (put_mid 1 k (set b 0 D) ys) - i) (put_mid 1 k (set b 0 D) ys) zs ≡ encode (fresh D)

@@ -28,7 +28,7 @@ chosen f k e = go (eqb (lowest f 8 0) 8) refl e
         (omega (arith, u, l), sym (ap f u) ∙ lowest_passes f 8 0 l, λ j h. lowest_before f 8 0 j (omega arith) (omega (arith, u, h)))
 
 -- none of eight passes
-pub none_chosen : (f : ℕ → Bool) → lowest_of f ≡ none_available → (j : ℕ) → j < 8 → f j ≡ false
+pub none_chosen : (f : ℕ → Bool) → lowest_of f ≡ none_available → (j : ℕ) → j < channels → f j ≡ false
 unfolding lowest_of
 none_chosen f e j h = go (eqb (lowest f 8 0) 8) refl e
   where

@@ -1,4 +1,5 @@
 -- The row of a node: what its entries, found as a vector or counted, say of links and receive channels, and how many links nobody holds.
+-- `port_count` stands for the entries of either.
 -- Assumes nothing.
 use mathlib.Core.Path.{◌≡◌, ap, ap₂, sym, ◌∙◌}
 use mathlib.Core.Logic.{◌≢◌}
@@ -16,6 +17,7 @@ use Rattle.common.proofs.Lists.{keep_same}
 use Rattle.common.proofs.From.{from_below, count_yes, count_no}
 use Rattle.common.proofs.Lowest.{lowest_same}
 use Rattle.cube.specs.Bits.{has}
+use Rattle.cube.specs.Cube.{port_count, channels}
 use Rattle.cube.proofs.Bits.{has_and}
 use Rattle.layout.specs.Layout.{entry_place, link_part, receive_part, mask_place, arm_part, arm_place, word_at, entry_at, mask_at, owner_at, receiver_at, armed_at}
 use Rattle.layout.specs.LayoutContracts.{node_rows, RowVector, row_count}
@@ -25,7 +27,7 @@ use Rattle.table.specs.TableContracts.{HeldBy, links_held, link_count, free_coun
 
 -- the row of a node, in the part of links or in that of receive channels
 module _ (b : List ℕ) (n c : ℕ) {row : List ℕ} (h : n < 256) where
-  entry_test : (part k : ℕ) → row ≡ node_rows part b n 1 → k < 8 → eqb (word_at row (2 * k)) c ≡ eqb (entry_at part b n k) c
+  entry_test : (part k : ℕ) → row ≡ node_rows part b n 1 → k < port_count → eqb (word_at row (2 * k)) c ≡ eqb (entry_at part b n k) c
   entry_test part k e l = ap (λ x. eqb x c) (row_entry b n part k h l e)
 
   pub links_vector : (vector : ℕ) → row ≡ node_rows link_part b n 1 → RowVector row c vector → HeldBy b c n vector
@@ -36,13 +38,13 @@ module _ (b : List ℕ) (n c : ℕ) {row : List ℕ} (h : n < 256) where
   unfolding row_count links_held view owner_at
   links_count e = ap length (keep_same _ _ (from 0 8) (λ p m. entry_test link_part p e (from_below 8 p m)))
 
-  pub channels_lowest : (vector : ℕ) → row ≡ node_rows receive_part b n 1 → RowVector row c vector → lowest (has vector) 8 0 ≡ lowest (λ k. eqb (receiver_at b n k) c) 8 0
+  pub channels_lowest : (vector : ℕ) → row ≡ node_rows receive_part b n 1 → RowVector row c vector → lowest (has vector) channels 0 ≡ lowest (λ k. eqb (receiver_at b n k) c) channels 0
   unfolding receiver_at
   channels_lowest vector e r = lowest_same (has vector) _ 8 0 (λ k g l. r.bits k l ∙ entry_test receive_part k e l)
 
   -- the channels that nobody holds, and of them those that a mask has
   pub channels_available : (free armed : ℕ) → c ≡ 0 → row ≡ node_rows receive_part b n 1 → RowVector row c free → armed ≡ get_or b (arm_place n) 0
-      → lowest (has (bit_and free armed)) 8 0 ≡ lowest_channel (view b) n
+      → lowest (has (bit_and free armed)) channels 0 ≡ lowest_channel (view b) n
   unfolding lowest_channel available view receiver_at armed_at
   channels_available free armed z e r a =
       lowest_same (has (bit_and free armed)) _ 8 0 (λ k g l.
@@ -52,8 +54,8 @@ module _ (b : List ℕ) (n c : ℕ) {row : List ℕ} (h : n < 256) where
 
 -- a mask that has every entry of a row that is not zero: of a node's entries in one part and its mask in another
 pub covers_node : (b : List ℕ) (n part masks j : ℕ) {row : List ℕ} {answer : _} → n < 256 → row ≡ node_rows part b n 1 → j ≡ mask_place masks n
-    → Decides ((k : ℕ) → k < 8 → word_at row (2 * k) ≢ 0 → has (get_or b j 0) k ≡ true) answer
-    → Decides ((k : ℕ) → k < 8 → entry_at part b n k ≢ 0 → mask_at masks b n k ≡ true) answer
+    → Decides ((k : ℕ) → k < port_count → word_at row (2 * k) ≢ 0 → has (get_or b j 0) k ≡ true) answer
+    → Decides ((k : ℕ) → k < port_count → entry_at part b n k ≢ 0 → mask_at masks b n k ≡ true) answer
 covers_node b n part masks j h e f d =
     record {
       holds = λ t k l z. mask_has b n k h l masks ∙ ap (λ x. has (get_or b x 0) k) (sym f) ∙ d.holds t k l (λ y. z (sym (row_entry b n part k h l e) ∙ y));
@@ -61,17 +63,17 @@ covers_node b n part masks j h e f d =
     }
 
 -- one more link is looked at
-module _ (b : List ℕ) (n nodes i x count : ℕ) {rows : List ℕ} (last : n + nodes ≤ 256) (h : i < 8 * nodes) (p : rows ≡ node_rows link_part b n nodes) (e : x ≡ word_at rows (2 * i)) (c : count ≡ free_count b (8 * n + i)) where
+module _ (b : List ℕ) (n nodes i x count : ℕ) {rows : List ℕ} (last : n + nodes ≤ 256) (h : i < port_count * nodes) (p : rows ≡ node_rows link_part b n nodes) (e : x ≡ word_at rows (2 * i)) (c : count ≡ free_count b (port_count * n + i)) where
   link : x ≡ owner_at b ((8 * n + i) / 8) ((8 * n + i) % 8)
   unfolding owner_at
   link =
       entry_is b ((8 * n + i) / 8) ((8 * n + i) % 8) (omega arith) (omega arith) link_part x (entry_place link_part n 0 + 2 * i) (omega arith)
       (e ∙ ap (λ ys. word_at ys (2 * i)) p ∙ rows_word link_part b n nodes i h)
 
-  pub free_yes : x ≡ 0 → count + 1 ≡ free_count b (8 * n + i + 1)
+  pub free_yes : x ≡ 0 → count + 1 ≡ free_count b (port_count * n + i + 1)
   unfolding free_count link_count
   free_yes z = count_yes (λ l. eqb (owner_at b (l / 8) (l % 8)) 0) (8 * n + i) count (eq-eqb _ 0 (sym link ∙ z)) c
 
-  pub free_no : x ≢ 0 → count ≡ free_count b (8 * n + i + 1)
+  pub free_no : x ≢ 0 → count ≡ free_count b (port_count * n + i + 1)
   unfolding free_count link_count
   free_no z = count_no (λ l. eqb (owner_at b (l / 8) (l % 8)) 0) (8 * n + i) count (ne_eqb _ 0 (λ y. z (link ∙ y))) c

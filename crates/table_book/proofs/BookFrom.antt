@@ -34,14 +34,14 @@ book_on_lem v c k = go (is_open_in v c) refl
 
 -- the same of a number of a table, where its circuit is open and where it is not
 module _ (v : View) (c last : ℕ) (h : c ≤ last) where
-  abbrev pub behind : List BookCircuit
-  behind = book_from v (c + 1) (last + 1 - (c + 1))
+  abbrev pub later : List BookCircuit
+  later = book_from v (c + 1) (last + 1 - (c + 1))
 
-  pub next_open : is_open_in v c ≡ true → book_from v c (last + 1 - c) ≡ record { number = c; ports = path_of v c } ∷ behind
+  pub next_open : is_open_in v c ≡ true → book_from v c (last + 1 - c) ≡ record { number = c; ports = path_of v c } ∷ later
   unfolding book_from from keep
   next_open e = let k : last + 1 - c ≡ suc (last + 1 - (c + 1)) = omega arith in rw (k, e, add-one c)
 
-  pub next_closed : is_open_in v c ≡ false → book_from v c (last + 1 - c) ≡ behind
+  pub next_closed : is_open_in v c ≡ false → book_from v c (last + 1 - c) ≡ later
   unfolding book_from from keep
   next_closed e = let k : last + 1 - c ≡ suc (last + 1 - (c + 1)) = omega arith in rw (k, e, add-one c)
 

@@ -40,14 +40,14 @@ nothing_filled b ports index =
 module _ {v : View} {last : ℕ} {ports₀ index₀ ports index : List ℕ} {circuits hops c : ℕ} (f : Filling v last ports₀ index₀ ports index circuits hops c) where
   -- a circuit that is open, behind which the numbers from d on are left: there is room for it,
   module _ (n d : ℕ) (next : book_from v c (last + 1 - c) ≡ record { number = n; ports = path_of v n } ∷ book_from v d (last + 1 - d)) where
-    abbrev behind : List BookCircuit
-    behind = book_from v d (last + 1 - d)
+    abbrev later : List BookCircuit
+    later = book_from v d (last + 1 - d)
 
     pub room : {k : ℕ} → k ≡ length (path_of v n) → hop_count (book_of v) ≤ length ports₀ → 6 * length (book_of v) ≤ length index₀
         → (hops + k ≤ length ports) × (6 * circuits + 6 ≤ length index)
     unfolding port_bytes
     room e p i = (
-      omega (arith, p, f.ports_long, f.counted.sum, ap hop_count next, length-append (path_of v n) (port_bytes behind)),
+      omega (arith, p, f.ports_long, f.counted.sum, ap hop_count next, length-append (path_of v n) (port_bytes later)),
       omega (arith, i, f.index_long, f.counted.count, ap length next),
     )
 
@@ -56,15 +56,15 @@ module _ {v : View} {last : ℕ} {ports₀ index₀ ports index : List ℕ} {cir
         → ports₁ ≡ sets ports hops w → index₁ ≡ sets index (6 * circuits) (line_bytes n hops (length w)) → Filling v last ports₀ index₀ ports₁ index₁ more sum d
     unfolding port_bytes index_from word_bytes
     fill_open {w} {ports₁} {index₁} {more} {sum} h e l q r x y =
-        let first : book_from v c (last + 1 - c) ≡ record { number = n; ports = w } ∷ behind = next ∙ ap (λ (p : List ℕ). record { number = n; ports = p } ∷ behind) (sym e) in
+        let first : book_from v c (last + 1 - c) ≡ record { number = n; ports = w } ∷ later = next ∙ ap (λ (p : List ℕ). record { number = n; ports = p } ∷ later) (sym e) in
         let place : 6 * circuits + 6 ≡ 6 * (circuits + 1) = omega arith in
         record {
           counted = count_open f.counted h next (ap length e) l q r;
           ports_long = ap length x ∙ length-sets ports hops w ∙ f.ports_long;
           index_long = ap length y ∙ length-sets index (6 * circuits) (line_bytes n hops (length w)) ∙ f.index_long;
-          ports_bytes = rw (x, r) (sym (sets_append ports hops w (port_bytes behind)) ∙ ap (λ (xs : List BookCircuit). sets ports hops (port_bytes xs)) (sym first) ∙ f.ports_bytes);
+          ports_bytes = rw (x, r) (sym (sets_append ports hops w (port_bytes later)) ∙ ap (λ (xs : List BookCircuit). sets ports hops (port_bytes xs)) (sym first) ∙ f.ports_bytes);
           index_bytes_lem = rw (y, q, r, ← place)
-              (sym (sets_append index (6 * circuits) (line_bytes n hops (length w)) (index_from (hops + length w) behind))
+              (sym (sets_append index (6 * circuits) (line_bytes n hops (length w)) (index_from (hops + length w) later))
               ∙ ap (λ (xs : List BookCircuit). sets index (6 * circuits) (index_from hops xs)) (sym first) ∙ f.index_bytes_lem);
         }
 

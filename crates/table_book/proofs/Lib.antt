@@ -1,3 +1,5 @@
 -- The laws of writing a table's book.
 pub mod BookFrom
 pub mod Filling
+pub mod NumbersLeft
+pub mod OpenLeft

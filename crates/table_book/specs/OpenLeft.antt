@@ -1,6 +1,6 @@
 -- What an iterator over the open circuits of a table has left, and gives.
 -- Assumes nothing.
-use Rattle.std.specs.Prelude.{◌≡◌, true, false, List, [], ◌∷◌, ℕ, ◌+◌, ◌-◌, ◌≤◌, ◌<◌, Option, MatchOption}
+use Rattle.std.specs.Prelude.{◌≡◌, true, List, [], ◌∷◌, ℕ, ◌+◌, ◌-◌, ◌≤◌, ◌<◌, Option, MatchOption}
 use Rattle.cube.specs.declared.kinds.Circuit.{Circuit}
 use Rattle.table.specs.View.{view}
 use Rattle.circuit_path.specs.PathOf.{path_of}
@@ -12,26 +12,20 @@ use Rattle.table_book.specs.declared.open_circuits.OpenCircuits.{OpenCircuits}
 
 -- the part of the table's book that is left
 abbrev pub open_left : OpenCircuits → List BookCircuit
-open_left s = book_from (view s.table.bytes.now) s.next (last_of s.table.bytes.now + 1 - s.next)
+open_left s = book_from (view s.table.bytes.now) s.numbers.start (last_of s.table.bytes.now + 1 - s.numbers.start)
 
 -- an iterator over all open circuits of a table
 pub record StartsAt (b : List ℕ) (s : OpenCircuits) : Type 0 where
   pub same : s.table.bytes.now ≡ b
-  pub first : s.next ≡ 1
+  pub first : s.numbers.start ≡ 1
 
--- the first number of those left whose circuit is open, or that none is
-abbrev pub FirstOpen : OpenCircuits → Option ℕ → Type 0
-FirstOpen s r =
-    let open_at = is_open_in (view s.table.bytes.now) in
-    MatchOption r ((k : ℕ) → s.next ≤ k → k < s.end → open_at k ≡ false) (λ n. (s.next ≤ n) × (n < s.end) × (open_at n ≡ true) × ((k : ℕ) → s.next ≤ k → k < n → open_at k ≡ false))
-
--- it gives the next open circuit, and leaves those behind it
+-- it gives the next open circuit, and leaves those above it
 pub record OpenNext (s : OpenCircuits) (c : Circuit) (t : OpenCircuits) : Type 0 where
   pub same : t.table.bytes.now ≡ s.table.bytes.now
   pub source : HasSource s.table.bytes.now c.0
   pub opens : is_open_in (view s.table.bytes.now) c.0 ≡ true
-  pub rises : s.next < t.next
-  pub inside : t.next ≤ last_of s.table.bytes.now + 1
+  pub rises : s.numbers.start < t.numbers.start
+  pub inside : t.numbers.start ≤ last_of s.table.bytes.now + 1
   pub rest : open_left s ≡ record { number = c.0; ports = path_of (view s.table.bytes.now) c.0 } ∷ open_left t
 
 abbrev pub GivesOpen : OpenCircuits → Option Circuit → OpenCircuits → Type 0

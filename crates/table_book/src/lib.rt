@@ -5,6 +5,7 @@ mod open_circuits;
 
 ghost use Rattle.std.specs.Prelude.{◌≡◌, ◌+◌, ◌*◌, ◌≤◌, length};
 ghost use Rattle.std.proofs.lemmas.List.Edits.{sets};
+ghost use Rattle.cube.specs.Cube.{channels};
 ghost use Rattle.table.specs.View.{view};
 ghost use Rattle.circuit_path.specs.Traced.{traced_into};
 ghost use Rattle.book.specs.Book.{port_bytes, index_bytes, hop_count};
@@ -31,7 +32,7 @@ const EMPTY: BookSize = BookSize {
 impl BookSize {
     // With a circuit more, of so many hops.
     fn with(self, hops: u16) -> BookSize
-        requires { (self.circuits ≤ 2048) × (self.hops ≤ 9 * self.circuits) × (hops ≤ 9) }
+        requires { (self.circuits ≤ channels * 256) × (self.hops ≤ 9 * self.circuits) × (hops ≤ 9) }
         ensures { (result.circuits ≡ self.circuits + 1) × (result.hops ≡ self.hops + hops) }
     {
         BookSize {

@@ -3,21 +3,21 @@ ghost use Rattle.std.specs.Prelude.{◌≡◌, ◌+◌, ◌≤◌};
 ghost use Rattle.table_book.specs.Writing.{last_of};
 
 use cube::Circuit;
+use std::ops::Range;
 use table::CubeTable;
 
-// The open circuits of a table: the numbers from `next` on, below `end`, are left to look at.
+// Those whose number is still to be looked at.
 #[derive(Drop)]
 pub(crate) struct OpenCircuits<'a> {
     table: CubeTable<'a>,
-    next: u16,
-    end: u16,
-    ghost low: { 1 ≤ next },
-    ghost inside: { next ≤ end },
-    ghost high: { end ≡ last_of table.bytes.now + 1 },
+    numbers: Range<u16>,
+    ghost low: { 1 ≤ numbers.start },
+    ghost inside: { numbers.start ≤ numbers.end },
+    ghost high: { numbers.end ≡ last_of table.bytes.now + 1 },
 }
 
 impl OpenCircuits<'_> {
-    ghost use Rattle.table_book.specs.OpenLeft.{StartsAt, FirstOpen};
+    ghost use Rattle.table_book.specs.OpenLeft.{StartsAt};
 
     // All open circuits of a table.
     pub(crate) fn of(table: CubeTable) -> OpenCircuits
@@ -25,17 +25,8 @@ impl OpenCircuits<'_> {
     {
         OpenCircuits {
             table,
-            next: 1,
-            end: cube::CHANNELS * table.nodes + 1,
+            numbers: 1..cube::CHANNELS * table.nodes + 1,
         }
-    }
-
-    // The first number of those left whose circuit is open.
-    fn first(&self) -> Option<u16>
-        ensures { FirstOpen self.now result }
-    {
-        let t = self.table.bytes;
-        (self.next..self.end).find(|c| circuit_path::is_open(t, Circuit(*c)))
     }
 }
 
@@ -50,8 +41,9 @@ impl Iterator for OpenCircuits<'_> {
     ghost remaining = { item_count open_left };
 
     fn next(&mut self) -> Option<Circuit> {
-        let number = self.first()?;
-        self.next = number + 1;
-        Some(Circuit(number))
+        let t = self.table.bytes;
+        self.numbers
+            .find(|c| circuit_path::is_open(t, Circuit(*c)))
+            .map(Circuit)
     }
 }

@@ -8,6 +8,7 @@ use std::io;
 mod sweep;
 mod tables;
 
+// The functions here and in `sweep` print to one place and test one table: both are lent to each, and no struct would hold them longer than a call.
 fn every_dimension(rt: &impl Print, t: &mut [u8; table::BYTES]) -> io::Result<()> {
     for dimension in 1u8..9 {
         tables::two_ways(t, dimension);

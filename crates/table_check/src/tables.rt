@@ -1,5 +1,6 @@
 // Tables that hold circuits, laid hop by hop. A dimension is a number here, as `table::make` takes it.
 ghost use Rattle.std.specs.Prelude.{◌≤◌};
+ghost use Rattle.cube.specs.Cube.{largest_dimension};
 
 use cube::{Circuit, Node, Port};
 use table::{Channels, Links};
@@ -9,7 +10,7 @@ const UP: [u8; 9] = [0, 0, 1, 2, 3, 4, 5, 6, 7];
 const DOWN: [u8; 8] = [7, 6, 5, 4, 3, 2, 1, 0];
 
 fn empty(t: &mut [u8; table::BYTES], dimension: u8)
-    requires { dimension ≤ 8 }
+    requires { dimension ≤ largest_dimension }
 {
     table::make(t, dimension);
 }
@@ -43,7 +44,7 @@ fn receive(t: &mut [u8; table::BYTES], c: Circuit, n: Node, channel: u16) {
 
 // One hop from node 0, and all ports downwards from the last node's last send channel.
 pub fn two_ways(t: &mut [u8; table::BYTES], dimension: u8)
-    requires { dimension ≤ 8 }
+    requires { dimension ≤ largest_dimension }
 {
     empty(t, dimension);
     let n = lay(t, Circuit(1), Node(0), b"\x00");
@@ -60,7 +61,7 @@ pub fn two_ways(t: &mut [u8; table::BYTES], dimension: u8)
 
 // Out of node 1 and back, and on by all ports upwards; and two hops from node 0.
 pub fn through_the_source(t: &mut [u8; table::BYTES], dimension: u8)
-    requires { dimension ≤ 8 }
+    requires { dimension ≤ largest_dimension }
 {
     empty(t, dimension);
     let n = lay(t, Circuit(14), Node(1), &UP[..1 + usize::from(dimension)]);

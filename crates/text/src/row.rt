@@ -75,10 +75,10 @@ fn write_next(out: &mut [u8], at: usize, f: Option<Field>, ports: &[u8]) -> usiz
     requires { at + 1 + width (field_of ports.now f) ≤ length out.old }
     ensures { Wrote out.old at (space ∷ field_bytes (field_of ports.now f)) out.new result }
 {
-    let behind = put::byte(out, at, b' ');
+    let after = put::byte(out, at, b' ');
     match f {
-        None => put::byte(out, behind, b'-'),
-        Some(f) => write_shown(out, behind, f, ports),
+        None => put::byte(out, after, b'-'),
+        Some(f) => write_shown(out, after, f, ports),
     }
 }
 

@@ -2,6 +2,7 @@
 use mathlib.Core.Path.{◌≡◌}
 use Prim.Native.Nat.{◌-◌}
 use Rattle.common.specs.Lists.{lowest}
+use Rattle.cube.specs.Cube.{port_count}
 use Rattle.table.specs.View.{view}
 use Rattle.circuit_path.specs.Follow.{takes, comes_back}
 use Rattle.circuit_path.proofs.Hops.{Found}
@@ -9,6 +10,6 @@ use Rattle.circuit_path.proofs.first_hop.Given as goal
 
 abbrev pub invariant-loop-p : goal.invariant-loop-p
 invariant-loop-p l = record {
-  back : lowest (comes_back (view l.t) l.c.0 l.s.0 l.vector) (8 - l.p) l.p ≡ lowest (comes_back (view l.t) l.c.0 l.s.0 l.vector) 8 0;
+  back : lowest (comes_back (view l.t) l.c.0 l.s.0 l.vector) (port_count - l.p) l.p ≡ lowest (comes_back (view l.t) l.c.0 l.s.0 l.vector) port_count 0;
   taken : Found (takes (view l.t) l.c.0 l.s.0 l.vector) l.p l.found;
 }

@@ -1,13 +1,10 @@
--- `circuit_path::held_port` meets its contract: the lowest from the vector's lowest on is the lowest of all.
+-- `circuit_path::held_port` meets its contract: the lowest from p on is the lowest of all.
+use mathlib.Core.Path.{◌∙◌, sym}
 use native.Mathlib.Omega.{arith}
-use Rattle.std.proofs.Common.{rules}
-use mathlib.Core.Bool.{true, false}
-use mathlib.Core.Path.{◌≡◌}
-use Rattle.std.proofs.lemmas.Iterator.{first_from_Range}
 use Rattle.table.specs.View.{view}
 use Rattle.circuit_path.specs.Follow.{takes}
-use Rattle.common.proofs.Lowest.{lowest_before, some_is, none_is}
-use Rattle.circuit_path.proofs.Hops.{vector_first, port_found}
+use Rattle.common.proofs.Lowest.{lowest_here, lowest_on, lowest_end, lowest_skip, lowest_before, some_is, none_is}
+use Rattle.circuit_path.proofs.Hops.{vector_first}
 use Rattle.circuit_path.proofs.held_port.Goals as goal
 
 pub returns-in_err-first : goal.returns-in_err-first
@@ -16,10 +13,18 @@ returns-in_err-first c =
     let first = vector_first (view c.args.t.now) c.args.c.0 c.args.n.0 c.args.vector in
     rw c.from_residual.ensures (omega arith)
 
-pub returns : goal.returns
-returns c =
-    let f = takes (view c.args.t.now) c.args.c.0 c.args.n.0 c.args.vector in
-    let d = first_from_Range _ _ _ c.find.result (λ k. f k ≡ true) (λ k. f k ≡ false) c.find.ensures.ran (λ x q k. search rules) (λ x q k. search rules) in
+pub loop-p-init : goal.loop-p-init
+loop-p-init c =
     let some = some_is c.in_ok-first.ensures in
+    let f = takes (view c.args.t.now) c.args.c.0 c.args.n.0 c.args.vector in
     let first = vector_first (view c.args.t.now) c.args.c.0 c.args.n.0 c.args.vector in
-    port_found f c.in_ok-first.first (λ k l. lowest_before f 8 0 k (omega arith) (omega arith)) c.find.result c.map.result d (search rules)
+    lowest_skip f 8 c.in_ok-first.first (omega arith) (λ j l. lowest_before f 8 0 j (omega arith) (omega arith))
+
+pub returns-then-takes : goal.returns-then-takes
+returns-then-takes c = (sym (lowest_here _ 8 c.loop-p.p c.loop-p-test.true (sym c.takes.ensures ∙ c.if-takes.true)) ∙ c.loop-p.invariant, c.loop-p-test.true)
+
+pub loop-p-preserved : goal.loop-p-preserved
+loop-p-preserved c = sym (lowest_on _ 8 c.loop-p.p c.loop-p-test.true (sym c.takes.ensures ∙ c.if-takes.false)) ∙ c.loop-p.invariant
+
+pub returns : goal.returns
+returns c = let some = some_is c.in_ok-first.ensures in let e = sym (lowest_end _ 8 c.loop-p.p (omega arith)) ∙ c.loop-p.invariant in omega arith

@@ -1,8 +1,7 @@
 -- `helix::try_each` meets its contract: the first free path, and the receive channel that the target has for it.
 use mathlib.Core.Path.{◌≡◌, refl, sym, ◌∙◌}
 use lib.Dec.{lit<}
-use Rattle.common.specs.declared.refusal.Refusal.TheVariants.{ReceiveRejected}
-use Rattle.std.proofs.lemmas.Result.{err_from_is_err_and}
+use Rattle.std.proofs.lemmas.Result.{err_from_is_err_and, IfErr-at_err}
 use Rattle.cube.proofs.Order.{byte_vector}
 use Rattle.table.specs.View.{view}
 use Rattle.table.proofs.Receives.{channel_taken, channel_missing}
@@ -24,8 +23,7 @@ returns-in_err-receive c =
     let none = sym c.in_err-receive.ensures.ok_part ∙ c.free_channel.ensures in
     let refused = rw c.in_err-receive.ensures.ok_part at c.in_err-receive.ensures.value in
     let p = err_from_is_err_and c.from_residual-in_err-receive.result c.from_residual-in_err-receive.ensures.1 in
-    let e : p.0 ≡ record { refusal = ReceiveRejected; scouts = c.in_ok-free.free.scouts } = cc in
-    rw (p.1, e) (helix_full c.requires.may_send c.in_ok-free.ensures refl (channel_missing (view c.args.t.now) c.args.request.target.0 none))
+    rw (p.1, IfErr-at_err (p.0 ≡◌) refused p.2) (helix_full c.requires.may_send c.in_ok-free.ensures refl (channel_missing (view c.args.t.now) c.args.request.target.0 none))
 
 pub set_owner-requires : goal.set_owner-requires
 set_owner-requires c =

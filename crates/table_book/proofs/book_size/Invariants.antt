@@ -8,5 +8,5 @@ use Rattle.table_book.proofs.book_size.Given as goal
 abbrev pub invariant-loop-c : goal.invariant-loop-c
 invariant-loop-c l = record {
   same : l.c-iterator.table.bytes.now ≡ l.table.bytes.now;
-  counted : Counting (view l.table.bytes.now) (last_of l.table.bytes.now) l.total.circuits l.total.hops l.c-iterator.next;
+  counted : Counting (view l.table.bytes.now) (last_of l.table.bytes.now) l.total.circuits l.total.hops l.c-iterator.numbers.start;
 }

@@ -11,10 +11,10 @@ use Rattle.reach.proofs.AskedSend.any_helix.Goals as goal
 pub any-requires-clause-callable : goal.any-requires-clause-callable
 any-requires-clause-callable c =
     let send = c.args.self.now in
-    callable (λ p. p.0) ports_left (λ s r t step. step) (helix_enabled send.bytes.now send.source.0 send.target.0) (λ x r q k. search rules) false
-    (λ p m. low_port _ send.vector p.0 send.may_ask.ports (ports_mem 8 send.vector (rw c.new.ensures at m)).1)
+    callable (λ p. p.0) ports_left (λ s r t step. step) (helix_enabled send.bytes.now send.request.source.0 send.request.target.0) (λ x r q k. search rules) false
+    (λ p m. low_port _ send.request.vector p.0 send.may_ask.ports (ports_mem 8 send.request.vector (rw c.new.ensures at m)).1)
 
 pub returns : goal.returns
 returns c =
-    let test = helix_enabled c.args.self.now.bytes.now c.args.self.now.source.0 c.args.self.now.target.0 in
+    let test = helix_enabled c.args.self.now.bytes.now c.args.self.now.request.source.0 c.args.self.now.request.target.0 in
     any_of (λ p. p.0) ports_left (λ s r t step. step) test (λ x r q k. search rules) c.any.new.self c.any.ensures.ran ∙ ap (any test) c.new.ensures

@@ -8,5 +8,5 @@ returns c =
     let send = c.args.self.now in
     let p = send.may_ask in
     c.leads_on.ensures
-    ∙ marks_find send.bytes.now send.target.0 p.sweep c.reaching-marks.result send.source.0 send.vector c.enable_bits.result
+    ∙ marks_find send.bytes.now send.request.target.0 p.sweep c.reaching-marks.result send.request.source.0 send.request.vector c.enable_bits.result
     c.reaching-marks.ensures p.source p.ports c.enable_bits.ensures.0

@@ -17,6 +17,6 @@ returns c =
     let send = c.args.self.now in
     let v = view send.bytes.now in
     let test : ℕ × ℕ → Bool = λ l. v.enabled l.0 l.1 in
-    let links = links_of (shape_of v) send.may_ask.sweep.fits refl send.target.0 send.may_ask.sweep.target send.source.0 c.args.port.0 send.may_ask.source c.requires in
+    let links = links_of (shape_of v) send.may_ask.sweep.fits refl send.request.target.0 send.may_ask.sweep.target send.request.source.0 c.args.port.0 send.may_ask.source c.requires in
     all_of {steps = GivesLink} link_of links_left (λ s r t step. step.0) test (λ x r q k. search rules) c.all.new.self c.all.ensures.ran
-    ∙ ap (list_all test) (c.new.ensures ∙ sym links) ∙ sym (free_links (net v) v.enabled send.source.0 _)
+    ∙ ap (list_all test) (c.new.ensures ∙ sym links) ∙ sym (free_links (net v) v.enabled send.request.source.0 _)

@@ -10,7 +10,7 @@ use Rattle.reach.proofs.AskedSend.lowest_helix.Goals as goal
 pub helix_enabled-requires : goal.helix_enabled-requires
 helix_enabled-requires c =
     let send = c.args.self.now in
-    low_port _ send.vector c.in-Some.lowest.0 send.may_ask.ports (ports_mem 8 send.vector (rw (← c.new.ensures, c.in-Some.ensures.steps) (Memᴰ.head refl))).1
+    low_port _ send.request.vector c.in-Some.lowest.0 send.may_ask.ports (ports_mem 8 send.request.vector (rw (← c.new.ensures, c.in-Some.ensures.steps) (Memᴰ.head refl))).1
 
 pub returns-in-Some : goal.returns-in-Some
 unfolding any

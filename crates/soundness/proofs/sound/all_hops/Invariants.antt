@@ -1,0 +1,8 @@
+-- `soundness::sound::all_hops` meets its contract: the groups so far are counted.
+use Prim.Native.Nat.{◌*◌}
+use Rattle.table.specs.View.{view}
+use Rattle.soundness.specs.Counting.{Counted}
+use Rattle.soundness.proofs.sound.all_hops.Given as goal
+
+abbrev pub invariant-loop-i : goal.invariant-loop-i
+invariant-loop-i l = Counted (view l.table.bytes.now) 0 (128 * l.i) l.initial.seen.of_node l.seen.of_node l.hops
