@@ -52,7 +52,7 @@ book_end v c last h = let k : last + 1 - c ≡ 0 = omega arith in ap (book_from 
 
 -- from a number on, up to the next that is open
 module _ (v : View) (last : ℕ) where
-  skip : (n c : ℕ) → c + n ≤ last + 1 → ((k : ℕ) → c ≤ k → k < c + n → is_open_in v k ≡ false) → book_from v c (last + 1 - c) ≡ book_from v (c + n) (last + 1 - (c + n))
+  pub skip : (n c : ℕ) → c + n ≤ last + 1 → ((k : ℕ) → c ≤ k → k < c + n → is_open_in v k ≡ false) → book_from v c (last + 1 - c) ≡ book_from v (c + n) (last + 1 - (c + n))
   skip zero c h none = let e : c + 0 ≡ c = omega arith in rw e refl
   skip (suc n) c h none =
       let e : c + 1 + n ≡ c + suc n = omega arith in

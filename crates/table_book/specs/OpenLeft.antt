@@ -19,6 +19,13 @@ pub record StartsAt (b : List ℕ) (s : OpenCircuits) : Type 0 where
   pub same : s.table.bytes.now ≡ b
   pub first : s.numbers.start ≡ 1
 
+-- it goes on to a node behind those that have no open circuit, or none of those left has one
+pub record NodeNext (s : OpenCircuits) (r : Option ℕ) (t : OpenCircuits) : Type 0 where
+  pub same : t.table.bytes.now ≡ s.table.bytes.now
+  pub rest : open_left s ≡ open_left t
+  pub rises : s.numbers.start ≤ t.numbers.start
+  pub found : MatchOption r (open_left t ≡ []) (λ n. s.nodes.start < t.nodes.start)
+
 -- it gives the next open circuit, and leaves those above it
 pub record OpenNext (s : OpenCircuits) (c : Circuit) (t : OpenCircuits) : Type 0 where
   pub same : t.table.bytes.now ≡ s.table.bytes.now

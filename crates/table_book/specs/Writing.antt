@@ -1,7 +1,7 @@
 -- What the functions that write the book of a table ask and answer. Nobody has to believe these: what a book is, book/Book and BookOf say.
 -- Assumes nothing.
-use Rattle.std.specs.Prelude.{◌*◌, List, map, ◌++◌, ℕ}
-use Rattle.cube.specs.Cube.{channels, cube_nodes}
+use Rattle.std.specs.Prelude.{◌≡◌, ◌<◌, ◌*◌, List, map, ◌++◌, ℕ}
+use Rattle.cube.specs.Cube.{port_count, channels, cube_nodes}
 use Rattle.common.specs.Lists.{keep, from}
 use Rattle.layout.specs.Layout.{dimension_at}
 use Rattle.table.specs.View.{View}
@@ -12,6 +12,10 @@ use Rattle.book.specs.Book.{BookCircuit, word_bytes}
 -- the largest circuit number of a table
 abbrev pub last_of : List ℕ → ℕ
 last_of b = channels * cube_nodes (dimension_at b)
+
+-- nobody holds a link out of a node
+abbrev pub HoldsNone : View → ℕ → Type 0
+HoldsNone v n = (p : ℕ) → p < port_count → v.owner n p ≡ 0
 
 -- the part of a table's book that has k numbers from c on
 unfoldable pub book_from : View → ℕ → ℕ → List BookCircuit
