@@ -39,7 +39,8 @@ use Rattle.common.proofs.Tests.{clash}
 use Rattle.layout.specs.Layout.{table_length}
 use Rattle.std.specs.Result.{is_err}
 use Rattle.job.specs.declared.JobRefused.{JobRefused}
-use Rattle.job.specs.JobContracts.{OpenedAt, job_number, job_sends, job_of, read_as}
+use Rattle.job.specs.JobValues.{job_number, job_sends}
+use Rattle.job.specs.JobContracts.{OpenedAt, job_of, read_as}
 
 -- the sends from a place on
 abbrev pub sends_from : List ℕ → ℕ → List Send

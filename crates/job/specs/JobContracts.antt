@@ -1,10 +1,8 @@
--- What the functions of a job do to the bytes of a table, as their contracts say it.
+-- What the functions of a job do to the bytes of a table, as their contracts say it. Nobody has to believe these.
 -- Assumes nothing.
-use Rattle.std.specs.Prelude.{◌≡◌, List, ℕ, ◌+◌, ◌*◌, ◌≤◌, length, Result, Ok, Err}
-use Rattle.common.specs.Refusals.{number_of}
+use Rattle.std.specs.Prelude.{◌≡◌, List, ℕ, ◌+◌, ◌*◌, ◌≤◌, length}
 use Rattle.common.specs.Tests.{refusal}
 use Rattle.answers.specs.declared.Opening.{Opening}
-use Rattle.job.specs.declared.JobRefused.{JobRefused}
 use Rattle.soundness.specs.TableTests.{table_tests}
 use Rattle.ownership.specs.Sends.{Send, send_at}
 use Rattle.ownership.specs.Calls.{Job}
@@ -23,16 +21,6 @@ pub record MayOpen (b sends : List ℕ) (i : ℕ) : Type 0 where
 -- the sends of a list in turn: bytes, number and count of a job
 abbrev pub job_of : List ℕ → ℕ → ℕ → Job (List ℕ)
 job_of b number sends = record { result = record { number = number; sends = sends }; state = b }
-
--- the number that a job answers: "Success is 0"
-abbrev pub job_number : Result ℕ JobRefused → ℕ
-job_number (Ok sends) = 0
-job_number (Err refused) = number_of refused.refusal
-
--- and beside it the number of its sends, or the place of the one that is refused
-abbrev pub job_sends : Result ℕ JobRefused → ℕ
-job_sends (Ok sends) = sends
-job_sends (Err refused) = refused.place
 
 -- a send as the code reads it
 abbrev pub read_as : Opening → Send

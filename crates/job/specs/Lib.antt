@@ -1,2 +1,3 @@
--- A job's sends, as the code opens them.
+-- A job's answer, and its sends as the code opens them.
+pub mod JobValues
 pub mod JobContracts

@@ -5,7 +5,7 @@ ghost use Rattle.answers.specs.Opens.{opened_number, opened_values};
 ghost use Rattle.arbiter.specs.Arbiter.{requester_of};
 ghost use Rattle.command_word.specs.Word.{read_answer, write_answer};
 ghost use Rattle.common.specs.Refusals.{answer_of};
-ghost use Rattle.job.specs.JobContracts.{job_number, job_sends};
+ghost use Rattle.job.specs.JobValues.{job_number, job_sends};
 ghost use Rattle.booking.specs.BookedValues.{booked_values};
 ghost use Rattle.receiver.specs.Receive.{received_as};
 
