@@ -1,6 +1,6 @@
 -- The calls of document 01 and of document 02: what each is lent, how it is tested, and what it gives.
 -- Assumes nothing.
-use Rattle.std.specs.Prelude.{Bool, true, false, cond, not, ◌||◌, List, [], ◌∷◌, ℕ, suc, ◌*◌, ◌%◌, eqb, ltb, length, get_or, replicate}
+use Rattle.std.specs.Prelude.{Bool, true, false, cond, not, ◌||◌, List, [], ◌∷◌, ℕ, suc, ◌*◌, ◌^◌, ◌%◌, eqb, ltb, length, get_or, replicate}
 use Rattle.common.specs.Tests.{Test, test, refusal}
 use Rattle.paths.specs.Network.{Path}
 use Rattle.paths.specs.Send.{Outcome, acknowledged, route_rejected, receive_rejected, SendResult}
@@ -142,7 +142,7 @@ abbrev pub routing_type : ℕ → Test
 routing_type y = test (not (eqb y 0 || (eqb y 1 || (eqb y 3 || eqb y 4)))) 7
 
 abbrev pub send_vector : CallFacts → ℕ → Test
-send_vector a v = test (eqb v 0 || not (ltb v (cube_nodes a.dimension))) 8
+send_vector a v = test (eqb v 0 || not (ltb v (2 ^ a.dimension))) 8
 
 -- "this send channel has an open circuit"; "this channel has no open circuit"; "the link is held"; "buffer shorter than 9 bytes"
 abbrev pub in_use : CallFacts → ℕ → ℕ → Test

@@ -19,7 +19,7 @@ pub record StartsAt (b : List ℕ) (s : OpenCircuits) : Type 0 where
   pub same : s.table.bytes.now ≡ b
   pub first : s.numbers.start ≡ 1
 
--- it goes on to a node behind those that have no open circuit, or none of those left has one
+-- it goes on to a node, past some that have no open circuit, or none of those left has one
 pub record NodeNext (s : OpenCircuits) (r : Option ℕ) (t : OpenCircuits) : Type 0 where
   pub same : t.table.bytes.now ≡ s.table.bytes.now
   pub rest : open_left s ≡ open_left t

@@ -72,7 +72,7 @@ impl Iterator for OpenCircuits<'_> {
 
     fn next(&mut self) -> Option<Circuit> {
         let t = self.table.bytes;
-        // From node to node, until one has an open circuit: no iterator of the library goes on over numbers that it is given on its way, but for `flat_map`, whose type cannot be named in the struct.
+        // From node to node, until one has an open circuit. `flat_map` over the nodes gives the same, but a struct cannot name its type.
         loop {
             let found = self.numbers.find(|c| circuit_path::is_open(t, Circuit(*c)));
             if let Some(number) = found {
