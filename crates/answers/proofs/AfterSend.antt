@@ -19,12 +19,12 @@ use Rattle.cube.proofs.Axes.{next_inside}
 use Rattle.cube.proofs.Ports.{below_256}
 use Rattle.paths.specs.Network.{Path, Link, links}
 use Rattle.paths.specs.Permitted.{Permitted}
-use Rattle.paths.specs.Send.{Receive, channel, Outcome, acknowledged, route_rejected, receive_rejected}
+use Rattle.paths.specs.Send.{Receive, lowest_available, Outcome, acknowledged, route_rejected, receive_rejected}
 use Rattle.paths.specs.CubeNetwork.{Shape, Node, ports, network, attempts, send}
 use Rattle.paths.proofs.Apart.{permitted_below}
 use Rattle.paths.proofs.Attempts.{said_by, acknowledged_says}
 use Rattle.paths.proofs.Send.{tries_permitted, send_says}
-use Rattle.paths.proofs.Words.{free_links}
+use Rattle.paths.proofs.Words.{free_path_links}
 use Rattle.layout.specs.Layout.{table_length, dimension_at, entry_place, link_part, receive_part}
 use Rattle.layout.specs.LayoutContracts.{put_word}
 use Rattle.entries.specs.EntryContracts.{put_entry, put_owner, put_receiver}
@@ -42,7 +42,7 @@ module _ (S : Shape) (free : ℕ → ℕ → Bool) (r : Receive) (s t : ℕ) whe
   pub record SendTakes (w : Path) (k : ℕ) : Type 0 where
     pub permitted : Permitted (network S) s (ports S) t w
     pub is_free : (l : Link) → l ∈ links (network S) s w → free l.0 l.1 ≡ true
-    pub receives : r ≡ channel k
+    pub receives : r ≡ lowest_available k
 
   -- A send that is acknowledged:
   pub send_taken : (vector : ℕ) → S.dimension ≤ largest_dimension → Node S s → Node S t → (w : Path) (k type : ℕ)
@@ -53,7 +53,7 @@ module _ (S : Shape) (free : ℕ → ℕ → Bool) (r : Receive) (s t : ℕ) whe
       let y = acknowledged_says (network S) s t free r x.0 w k x.2.0 x.2.1 in
       record {
         permitted = tries_permitted S s t type vector x.0 x.1 w y.0;
-        is_free = (free_links (network S) free s w).0 y.1;
+        is_free = (free_path_links (network S) free s w).0 y.1;
         receives = y.2;
       }
 

@@ -17,7 +17,7 @@ use Rattle.cube.specs.Helical.{helical}
 use Rattle.cube.proofs.Order.{helical_mem}
 use Rattle.paths.specs.Network.{Network, Path, offered, Nearing, link_free, link_held, link_blocked, is_free, link_state}
 use Rattle.paths.specs.Pass.{PassResult, none, found, scouts}
-use Rattle.paths.specs.Send.{Receive, channel, none_available}
+use Rattle.paths.specs.Send.{Receive, lowest_available, none_available}
 use Rattle.paths.specs.Search.{hop_or, trying, arriving, holding}
 use Rattle.paths.proofs.Words.{free_link}
 use Rattle.paths.proofs.Depth.{trying_cons}
@@ -59,12 +59,12 @@ pub free_held : (v : View) (n p c : ℕ) → c ≢ 0 → free_in (set_owner v n 
 unfolding free_in state_in held_in set_owner set_at holding
 free_held v n p c h = fun_ext (λ m. fun_ext (λ q. go (eqb m n && eqb q p) (v.enabled m q) (v.owner m q)))
   where
-    taken : (on : Bool) → is_free (link_state on true) ≡ false
-    taken true = unfold is_free link_state in refl
-    taken false = unfold is_free link_state in refl
+    held_not_free : (on : Bool) → is_free (link_state on true) ≡ false
+    held_not_free true = unfold is_free link_state in refl
+    held_not_free false = unfold is_free link_state in refl
 
     go : (x on : Bool) (o : ℕ) → is_free (link_state on (not (eqb (cond x c o) 0))) ≡ is_free (link_state on (not (eqb o 0))) && not x
-    go true on o = rw (ne_eqb c 0 h) (taken on ∙ sym (and-false (is_free (link_state on (not (eqb o 0))))))
+    go true on o = rw (ne_eqb c 0 h) (held_not_free on ∙ sym (and-false (is_free (link_state on (not (eqb o 0))))))
     go false on o = sym (and-true (is_free (link_state on (not (eqb o 0)))))
 
 -- the state of a link by its two tests
@@ -168,7 +168,7 @@ module _ (free : ℕ → Bool) (on : ℕ → ℕ → PassResult) (b : List ℕ) 
           → answer_of_pass (put_owner b n p c) c (next n p) (h + 1) r a ≡ answer_of_pass b c n h r (hop_or p a (trying free on ps))
       go r (none d) z = absurd (ten≢zero (unfold answer_of_pass refused_of in z))
       go none_available (found w d) z = absurd (eleven≢zero (unfold answer_of_pass refused_of in z))
-      go (channel k) (found w d) z =
+      go (lowest_available k) (found w d) z =
           unfold answer_of_pass hop_or hold_path in ap (λ x. pass_answer 0 x k d (hold_path (put_owner b n p c) c (next n p) w)) (one_longer h p w)
 
   -- receive rejected: the hop is given back, and no other port is tried
@@ -180,7 +180,7 @@ module _ (free : ℕ → Bool) (on : ℕ → ℕ → PassResult) (b : List ℕ) 
       go : (r : Receive) (a : PassResult) → pass_answer 11 hops k d b' ≡ answer_of_pass (put_owner b n p c) c (next n p) (h + 1) r a
           → (b' ≡ put_owner b n p c) × (pass_answer 11 hops k d b ≡ answer_of_pass b c n h r (hop_or p a (trying free on ps)))
       go r (none d) z = absurd (ten≢eleven (sym (unfold answer_of_pass refused_of in ap refused_of z)))
-      go (channel k) (found w d) z = absurd (eleven≢zero (unfold answer_of_pass refused_of in ap refused_of z))
+      go (lowest_available k) (found w d) z = absurd (eleven≢zero (unfold answer_of_pass refused_of in ap refused_of z))
       go none_available (found w d) z = (unfold answer_of_pass bytes_in in ap bytes_in z, unfold answer_of_pass hop_or with_bytes in ap (with_bytes b) z)
 
   -- route rejected: the hop is given back, and the next port is tried with the scouts sent by then
@@ -192,14 +192,14 @@ module _ (free : ℕ → Bool) (on : ℕ → ℕ → PassResult) (b : List ℕ) 
       go : (r : Receive) (a : PassResult) → pass_answer 10 hops k d b' ≡ answer_of_pass (put_owner b n p c) c (next n p) (h + 1) r a
           → (b' ≡ put_owner b n p c) × (trying free on ps d ≡ hop_or p a (trying free on ps))
       go r (none d) z = (unfold answer_of_pass bytes_in in ap bytes_in z, unfold answer_of_pass hop_or scouts_of in ap (λ x. trying free on ps (scouts_of x)) z)
-      go (channel k) (found w d) z = absurd (ten≢zero (unfold answer_of_pass refused_of in ap refused_of z))
+      go (lowest_available k) (found w d) z = absurd (ten≢zero (unfold answer_of_pass refused_of in ap refused_of z))
       go none_available (found w d) z = absurd (ten≢eleven (unfold answer_of_pass refused_of in ap refused_of z))
 
 -- the scouts of an answer are those of the pass
 pub answer_scouts : (b : List ℕ) (c n h : ℕ) (r : Receive) (a : PassResult) (x k hops s : ℕ) (b' : List ℕ) → pass_answer x hops k s b' ≡ answer_of_pass b c n h r a → s ≡ scouts a
 unfolding answer_of_pass scouts_of scouts
 answer_scouts b c n h r (none d) x k hops s b' e = ap scouts_of e
-answer_scouts b c n h (channel j) (found w d) x k hops s b' e = ap scouts_of e
+answer_scouts b c n h (lowest_available j) (found w d) x k hops s b' e = ap scouts_of e
 answer_scouts b c n h none_available (found w d) x k hops s b' e = ap scouts_of e
 
 -- no port left
@@ -232,6 +232,6 @@ module _ (N : Network) (free : ℕ → ℕ → Bool) (t n a s : ℕ) where
           (λ p m d. let q : N.distance t (N.next n p) ≡ k = omega (arith, near.nearer n p (helical_mem a _ m)) in ap (λ j. arriving j N free t (N.next n p) p d) q) s)
 
 -- the receive channel that a target takes is one of its eight
-pub receive_small : (v : View) (t k : ℕ) → receive v t ≡ channel k → k < channels
+pub receive_small : (v : View) (t k : ℕ) → receive v t ≡ lowest_available k → k < channels
 unfolding receive
 receive_small v t k e = (chosen (available v t) k e).0

@@ -9,7 +9,7 @@ use native.Mathlib.Omega.{arith}
 use Rattle.cube.specs.Cube.{largest_dimension, NodeOf}
 use Rattle.common.proofs.Tests.{clash}
 use Rattle.paths.specs.Network.{Path}
-use Rattle.paths.specs.Send.{channel, none_available, Outcome, acknowledged, route_rejected, receive_rejected, Acknowledged, Attempt, SendResult}
+use Rattle.paths.specs.Send.{lowest_available, none_available, Outcome, acknowledged, route_rejected, receive_rejected, Acknowledged, Attempt, SendResult}
 use Rattle.paths.specs.Sentences.{AttemptsSay}
 use Rattle.paths.specs.CubeNetwork.{attempts, send}
 use Rattle.paths.proofs.Attempts.{Route, not_route_rejected, acknowledged_route, route_acknowledged, receive_rejected_route}
@@ -27,7 +27,7 @@ use Rattle.answers.proofs.AfterSend.{Fits, view_after_send_lem, sent_fits, send_
 
 -- what the choice of a receive channel says
 module _ (v : View) (t : ℕ) where
-  channel_lowest : (k : ℕ) → receive v t ≡ channel k → Lowest v t k
+  channel_lowest : (k : ℕ) → receive v t ≡ lowest_available k → Lowest v t k
   unfolding receive
   channel_lowest k e = let r = chosen (available v t) k e in record { small = r.0; is_available = r.1; first = r.2 }
 
@@ -187,7 +187,7 @@ demand_2 b s t c type vector may x h k n b' q =
         rejections b c s t tried helps (could_route b s t type vector fits source target) (routes_blocked b s t type vector fits source target) o m x h k n b'
         (found_helps b s t type vector fits source target) q said
 
-    route : x ≡ 0 → Route (net (view b)) s t (free_in (view b)) (receive (view b) t) tried × (receive (view b) t ≡ channel k)
+    route : x ≡ 0 → Route (net (view b)) s t (free_in (view b)) (receive (view b) t) tried × (receive (view b) t ≡ lowest_available k)
     route z =
         let a = number_acknowledged b c s t helps o m x h k n b' q z in
         acknowledged_route (net (view b)) s t (free_in (view b)) (receive (view b) t) tried a.0 k m

@@ -6,7 +6,7 @@ use Rattle.cube.specs.Cube.{next}
 use Rattle.paths.specs.Network.{Network, Path}
 use Rattle.paths.specs.Pass.{PassResult, none, found}
 use Rattle.paths.specs.Search.{arriving}
-use Rattle.paths.specs.Send.{Receive, channel, none_available}
+use Rattle.paths.specs.Send.{Receive, lowest_available, none_available}
 use Rattle.entries.specs.EntryContracts.{put_owner}
 use Rattle.table.specs.View.{view, net}
 use Rattle.answers.specs.SendOnTable.{PassAnswer, pass_answer}
@@ -21,7 +21,7 @@ hold_path b c n (p ∷ w) = hold_path (put_owner b n p c) c (next n p) w
 -- the pass above. h hops were made before the search came to node n.
 unfoldable pub answer_of_pass : List ℕ → ℕ → ℕ → ℕ → Receive → PassResult → PassAnswer
 answer_of_pass b c n h r (none s) = pass_answer 10 0 0 s b
-answer_of_pass b c n h (channel k) (found w s) = pass_answer 0 (h + length w) k s (hold_path b c n w)
+answer_of_pass b c n h (lowest_available k) (found w s) = pass_answer 0 (h + length w) k s (hold_path b c n w)
 answer_of_pass b c n h none_available (found w s) = pass_answer 11 0 0 s b
 
 -- the arrival behind a port of node n, on the way to t

@@ -31,7 +31,7 @@ use Rattle.circuit_hops.specs.CountHops.{OnePort, Sole, SoleWay, Walks, HoldsPat
 use Rattle.circuit_hops.proofs.OneKept.{one_kept, few_kept}
 use Rattle.circuit_hops.proofs.OneBit.{sole_bit, some_bit, bit_has, bit_only, has_rest}
 use Rattle.circuit_hops.proofs.Ways.{way_onward, way_owned, way_only, onward_way, onward_once, onward_uphill, one_nearer, shown}
-use Rattle.circuit_hops.proofs.Taken.{HopsFollowed}
+use Rattle.circuit_hops.proofs.CountsHops.{HopsFollowed}
 
 module _ {v : View} {c t a : ℕ} {w : Path} (d : v.dimension ≤ largest_dimension) (x : HoldsPath v c t a w) where
   pub first_below : a < v.dimension

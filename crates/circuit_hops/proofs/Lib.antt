@@ -3,5 +3,5 @@ pub mod OneKept
 pub mod OneBit
 pub mod Seen
 pub mod Ways
-pub mod Taken
+pub mod CountsHops
 pub mod Following

@@ -72,6 +72,6 @@ pub record HopsCounted (v : View) (c t : ℕ) (before after : List ℕ) (hops : 
   pub most : hops ≤ 9
 
 -- and where it comes to nothing, the number is out of range, or the circuit stands on no path that ends there, or it was marked
-abbrev pub Taken : View → ℕ → ℕ → List ℕ → List ℕ → Option ℕ → Type 0
-Taken v c t before after (Some hops) = HopsCounted v c t before after hops
-Taken v c t before after None = c ≤ circuit_count (shape_of v) → (s : CircuitSound v c) → end_for v c s.path ≡ t → (Seen v before c → ⊥) → ⊥
+abbrev pub CountsHops : View → ℕ → ℕ → List ℕ → List ℕ → Option ℕ → Type 0
+CountsHops v c t before after (Some hops) = HopsCounted v c t before after hops
+CountsHops v c t before after None = c ≤ circuit_count (shape_of v) → (s : CircuitSound v c) → end_for v c s.path ≡ t → (Seen v before c → ⊥) → ⊥

@@ -9,7 +9,7 @@ ghost use Rattle.cube.specs.Cube.{source_of, NodeOf};
 ghost use Rattle.layout.specs.Layout.{dimension_at};
 ghost use Rattle.table.specs.TableContracts.{HeldBy};
 ghost use Rattle.table.specs.View.{view};
-ghost use Rattle.circuit_hops.specs.CountHops.{OnePort, Walks, Leaves, Taken};
+ghost use Rattle.circuit_hops.specs.CountHops.{OnePort, Walks, Leaves, CountsHops};
 
 use cube::{Circuit, Node};
 pub use marks::Marks;
@@ -80,7 +80,7 @@ fn first_link(table: CubeTable, c: Circuit, held: u16, end: Node) -> Option<u16>
 // The hops of the circuit that holds a receive channel at a node; None where its links do not fit together or it was counted before.
 pub fn hops_to(table: CubeTable, c: Circuit, end: Node, seen: &mut Marks) -> Option<u32>
     requires { (0 < c.0) × (end.0 < table.nodes) }
-    ensures { Taken (view table.entry.bytes.now) c.0 end.0 seen.old.of_node seen.new.of_node result }
+    ensures { CountsHops (view table.entry.bytes.now) c.0 end.0 seen.old.of_node seen.new.of_node result }
 {
     if c.0 > cube::CHANNELS * table.nodes {
         return None;

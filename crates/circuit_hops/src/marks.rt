@@ -21,7 +21,7 @@ impl Marks {
     pub fn mark(&mut self, source: Node, held: u16) -> bool
         requires { (source.0 < 256) × (held < 256) }
         ensures is_new { result ≡ eqb (bit_and (get_or self.old.of_node source.0 0) held) 0 }
-        ensures marked { result ≡ true → self.new.of_node ≡ with_marks self.old.of_node source.0 held }
+        ensures newly_marked { result ≡ true → self.new.of_node ≡ with_marks self.old.of_node source.0 held }
     {
         let at = usize::from(source.0);
         let old = u16::from(self.of_node[at]);

@@ -75,50 +75,50 @@ first_is [] q e h = absurd (omega arith)
 first_is (x ∷ xs) q e h = (xs, ap (◌∷ xs) e)
 
 module _ (v : View) (c n vector : ℕ) where
-  taken : List ℕ
-  taken = keep (held_by v c n) (ports_of port_count vector)
+  ports_held : List ℕ
+  ports_held = keep (held_by v c n) (ports_of port_count vector)
 
   back : List ℕ
-  back = keep (λ a. held_by v c (next n a) a) taken
+  back = keep (λ a. held_by v c (next n a) a) ports_held
 
-  takes_kept : keep (takes v c n vector) (from 0 port_count) ≡ taken
-  unfolding taken ports_of takes
+  takes_kept : keep (takes v c n vector) (from 0 port_count) ≡ ports_held
+  unfolding ports_held ports_of takes
   takes_kept = sym (keep_keep (held_by v c n) (has vector) (from 0 8))
 
   back_kept : keep (comes_back v c n vector) (from 0 port_count) ≡ back
   unfolding back comes_back
   back_kept = sym (ap (keep (λ a. held_by v c (next n a) a)) (sym takes_kept) ∙ keep_keep (λ a. held_by v c (next n a) a) (takes v c n vector) (from 0 8))
 
-  taken_port : (p : ℕ) → p ∈ taken → (p < port_count) × (has vector p ≡ true)
-  unfolding taken
+  taken_port : (p : ℕ) → p ∈ ports_held → (p < port_count) × (has vector p ≡ true)
+  unfolding ports_held
   taken_port p m = ports_mem 8 vector (keep_mem (held_by v c n) (ports_of port_count vector) m).0
 
   back_port : (p : ℕ) → p ∈ back → p < port_count
   unfolding back
-  back_port p m = (taken_port p (keep_mem _ taken m).0).0
+  back_port p m = (taken_port p (keep_mem _ ports_held m).0).0
 
-  lowest_taken : lowest (takes v c n vector) port_count 0 ≡ first_or no_port taken
+  lowest_taken : lowest (takes v c n vector) port_count 0 ≡ first_or no_port ports_held
   lowest_taken = lowest_from (takes v c n vector) 8 0 ∙ ap (first_or 8) takes_kept
 
   lowest_back : lowest (comes_back v c n vector) port_count 0 ≡ first_or no_port back
   lowest_back = lowest_from (comes_back v c n vector) 8 0 ∙ ap (first_or 8) back_kept
 
-  back_is : keep (way_back (net v) (ports_of port_count vector) (held_by v c) n) taken ≡ back
-  unfolding back taken network
-  back_is = keep_same _ _ taken (λ a m. way_back_one (net v) 8 vector (held_by v c) n a (omega arith) (keep_mem (held_by v c n) (ports_of port_count vector) m).0)
+  back_is : keep (way_back (net v) (ports_of port_count vector) (held_by v c) n) ports_held ≡ back
+  unfolding back ports_held network
+  back_is = keep_same _ _ ports_held (λ a m. way_back_one (net v) 8 vector (held_by v c) n a (omega arith) (keep_mem (held_by v c n) (ports_of port_count vector) m).0)
 
-  hop_is : first_hop v c n vector ≡ first_or no_port (back ++ taken)
-  unfolding first_hop first_hop_choices taken
-  hop_is = ap (λ xs. first_or 8 (xs ++ taken)) back_is
+  hop_is : first_hop v c n vector ≡ first_or no_port (back ++ ports_held)
+  unfolding first_hop first_hop_choices ports_held
+  hop_is = ap (λ xs. first_or 8 (xs ++ ports_held)) back_is
 
   pub first_back : (p : ℕ) → p ≡ lowest (comes_back v c n vector) port_count 0 → p < port_count → p ≡ first_hop v c n vector
-  first_back p e h = let q : p ≡ first_or 8 back = e ∙ lowest_back in q ∙ sym (hop_is ∙ first_some back taken (omega arith))
+  first_back p e h = let q : p ≡ first_or 8 back = e ∙ lowest_back in q ∙ sym (hop_is ∙ first_some back ports_held (omega arith))
 
   first_taken : (p q : ℕ) → p ≡ lowest (comes_back v c n vector) port_count 0 → port_count ≤ p → q ≡ lowest (takes v c n vector) port_count 0 → q ≡ first_hop v c n vector
   first_taken p q e h f =
       let z : p ≡ first_or 8 back = e ∙ lowest_back in
       let none : back ≡ [] = first_none back back_port (omega arith) in
-      f ∙ lowest_taken ∙ sym (hop_is ∙ ap (λ xs. first_or 8 (xs ++ taken)) none)
+      f ∙ lowest_taken ∙ sym (hop_is ∙ ap (λ xs. first_or 8 (xs ++ ports_held)) none)
 
   -- none is taken before the lowest of the vector
   pub vector_first : lowest (has vector) port_count 0 ≤ lowest (takes v c n vector) port_count 0
@@ -138,20 +138,20 @@ module _ (v : View) (c n vector : ℕ) where
 
   -- following: on by the lowest port, or no further
   pub follow_port : (q : ℕ) → q ≡ lowest (takes v c n vector) port_count 0 → q < port_count → has vector q ≡ true
-  follow_port q e h = let r = first_is taken q (sym (e ∙ lowest_taken)) h in (taken_port q (rw r.1 (Memᴰ.head refl))).1
+  follow_port q e h = let r = first_is ports_held q (sym (e ∙ lowest_taken)) h in (taken_port q (rw r.1 (Memᴰ.head refl))).1
 
   pub follow_on : (q rest : ℕ) → q ≡ lowest (takes v c n vector) port_count 0 → q < port_count → Without vector q rest → links_followed v c n vector ≡ q ∷ links_followed v c (next n q) rest
-  unfolding links_followed taken network
+  unfolding links_followed ports_held network
   follow_on q rest e h w =
-      let r = first_is taken q (sym (e ∙ lowest_taken)) h in
+      let r = first_is ports_held q (sym (e ∙ lowest_taken)) h in
       let drop : drop_axis q (ports_of port_count vector) ≡ ports_of port_count rest = drop_port 8 vector q rest (omega arith) (omega arith) w in
       walk_some (net v) (held_by v c) 8 (ports_of port_count vector) n q r.0 (length_ports 8 vector) r.1 ∙ ap (λ l. q ∷ walk_from 8 (net v) l (held_by v c) (next n q)) drop
 
   pub follow_end : port_count ≤ lowest (takes v c n vector) port_count 0 → links_followed v c n vector ≡ []
-  unfolding links_followed taken
+  unfolding links_followed ports_held
   follow_end h =
       let z = lowest_taken in
-      walk_none (net v) (held_by v c) 8 (ports_of port_count vector) n (first_none taken (λ p m. (taken_port p m).0) (omega arith))
+      walk_none (net v) (held_by v c) 8 (ports_of port_count vector) n (first_none ports_held (λ p m. (taken_port p m).0) (omega arith))
 
 pub hop_port : (v : View) (c n vector p : ℕ) → p ∈ first_hop_choices (net v) (ports_of port_count vector) (held_by v c) n → p < port_count
 hop_port v c n vector p m = (ports_mem 8 vector (first_choice (net v) (ports_of port_count vector) (held_by v c) n p m).0).0

@@ -14,7 +14,7 @@ use Rattle.paths.specs.HelixLinks.{LinkInside, helix_links}
 use Rattle.paths.specs.CubeNetwork.{Shape, network}
 use Rattle.paths.proofs.CubeNetwork.{distance_within}
 use Rattle.paths.proofs.Helix.{helix_short}
-use Rattle.paths.proofs.HelixLinks.{length_links, free_links, front_links, links_of}
+use Rattle.paths.proofs.HelixLinks.{length_links, free_path_test, front_links, links_of}
 use Rattle.entries.specs.EntryContracts.{put_owner}
 use Rattle.table.specs.View.{view, net, shape_of}
 use Rattle.answers.specs.SendOnTable.{free_in}
@@ -45,7 +45,7 @@ module _ {b : List ℕ} {s t p : ℕ} (may : MayFollow b s t p) where
   front = front_links (net (view b)) (free_in (view b)) s (helix_in b s t p) ∙ ap (prefix_len (link_free b)) its_links
 
   pub whole : free_all b s (helix_in b s t p) ≡ list_all (link_free b) (helix_links s t p)
-  whole = free_links (net (view b)) (free_in (view b)) s (helix_in b s t p) ∙ ap (list_all (link_free b)) its_links
+  whole = free_path_test (net (view b)) (free_in (view b)) s (helix_in b s t p) ∙ ap (list_all (link_free b)) its_links
 
   pub held : (c : ℕ) → hold_path b c s (helix_in b s t p) ≡ fold (hold_link c) b (helix_links s t p)
   held c = hold_links (shape_of (view b)) c b s (helix_in b s t p) ∙ ap (fold (hold_link c) b) its_links

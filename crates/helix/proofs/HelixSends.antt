@@ -18,7 +18,7 @@ use Rattle.cube.specs.Helical.{helical, ports_of, first_port}
 use Rattle.cube.proofs.Order.{length_ports, helical_zero, ports_mem, ports_wider, port_tried, low_port}
 use Rattle.paths.specs.Pass.{PassResult, none, found, scouts}
 use Rattle.paths.specs.Helix.{try_paths}
-use Rattle.paths.specs.Send.{Receive, channel, none_available, one_result, outcome, received, lowest_of}
+use Rattle.paths.specs.Send.{Receive, lowest_available, none_available, one_result, outcome, outcome_of_path, lowest_of}
 use Rattle.paths.specs.CubeNetwork.{send_ports}
 use Rattle.paths.proofs.CubeNetwork.{unfolded_send_ports}
 use Rattle.paths.proofs.LinksOffered.{one_port_first}
@@ -50,14 +50,14 @@ send_ports_of b vector h l = unfolded_send_ports (shape_of (view b)) h refl vect
 
 -- What holds at each turn of the trying of helix paths: the ports that are still to come are ports of the cube, no path so far sent more than nine scouts, and what is
 -- left to do gives the whole.
-pub record PathTurn (b : List ℕ) (s t vector sent : ℕ) (left : List ℕ) : Type 0 where
+pub record PathsTried (b : List ℕ) (s t vector sent : ℕ) (left : List ℕ) : Type 0 where
   pub ports : (p : ℕ) → p ∈ left → p < dimension_at b
   pub few : sent + 9 * length left ≤ 72
   pub rest : tried_after b s t sent left ≡ tried_in b s t vector
 
-pub first_path_turn : {b : List ℕ} {s t vector : ℕ} → MayTryPaths b s t vector → {left : List ℕ} → left ≡ ports_of port_count vector → PathTurn b s t vector 0 left
+pub before_first_path : {b : List ℕ} {s t vector : ℕ} → MayTryPaths b s t vector → {left : List ℕ} → left ≡ ports_of port_count vector → PathsTried b s t vector 0 left
 unfolding tried_in
-first_path_turn {b} {s} {t} {vector} may e =
+before_first_path {b} {s} {t} {vector} may e =
     rw e
     (record {
       ports = λ p m. low_port (dimension_at b) vector p may.ports (ports_mem 8 vector m).1;
@@ -65,15 +65,15 @@ first_path_turn {b} {s} {t} {vector} may e =
       rest = ap (tried_after b s t 0) (sym (send_ports_of b vector may.fits may.ports));
     })
 
-module _ {b : List ℕ} {s t vector sent : ℕ} {left : List ℕ} (inv : PathTurn b s t vector sent left) where
+module _ {b : List ℕ} {s t vector sent : ℕ} {left : List ℕ} (inv : PathsTried b s t vector sent left) where
   -- no port is left
-  pub path_turns_over : left ≡ [] → tried_in b s t vector ≡ none sent
-  path_turns_over e = sym inv.rest ∙ rw e (unfold try_paths in refl)
+  pub no_path_left : left ≡ [] → tried_in b s t vector ≡ none sent
+  no_path_left e = sym inv.rest ∙ rw e (unfold try_paths in refl)
 
   -- the next port
   module _ (may : MayTryPaths b s t vector) {p : ℕ} {ps : List ℕ} (e : left ≡ p ∷ ps) where
-    pub turn_follows : MayFollow b s t p
-    turn_follows =
+    pub port_follows : MayFollow b s t p
+    port_follows =
         record {
           bytes = may.bytes;
           fits = may.fits;
@@ -84,36 +84,36 @@ module _ {b : List ℕ} {s t vector sent : ℕ} {left : List ℕ} (inv : PathTur
 
     -- the front of its helix path
     module _ {links : List Link} (path : links ≡ helix_links s t p) where
-      pub turn_short : length links ≤ 9
-      turn_short = rw path (few_links turn_follows)
+      pub path_short : length links ≤ 9
+      path_short = rw path (few_links port_follows)
 
       module _ {hops : ℕ} {free : Bool} (looked : FreeFrontOf b links hops free) where
         hops_are : hops ≡ front_in b s (helix_in b s t p)
-        hops_are = looked.count ∙ ap (prefix_len (link_free b)) path ∙ sym (front turn_follows)
+        hops_are = looked.count ∙ ap (prefix_len (link_free b)) path ∙ sym (front port_follows)
 
         all_are : free_all b s (helix_in b s t p) ≡ free
-        all_are = whole turn_follows ∙ ap (list_all (link_free b)) (sym path) ∙ sym looked.all
+        all_are = whole port_follows ∙ ap (list_all (link_free b)) (sym path) ∙ sym looked.all
 
         whole_order : tried_after b s t sent (p ∷ ps) ≡ tried_in b s t vector
         whole_order = ap (tried_after b s t sent) (sym e) ∙ inv.rest
 
-        pub turn_found : free ≡ true → FreePathFound b s t vector links hops (sent + hops)
-        turn_found on =
+        pub path_found_free : free ≡ true → FreePathFound b s t vector links hops (sent + hops)
+        path_found_free on =
             record {
               port = p;
               path = sym whole_order ∙ try_free (net (view b)) (free_in (view b)) s sent _ _ (all_are ∙ on) ∙ ap (λ n. found (helix_in b s t p) (sent + n)) (sym hops_are);
-              there = turn_follows.port;
+              there = port_follows.port;
               links_of = path;
               long = hops_are ∙ front_free (net (view b)) (free_in (view b)) s (helix_in b s t p) (all_are ∙ on);
             }
 
-        pub turn_more : free ≡ false → PathTurn b s t vector (sent + hops) ps
-        turn_more off =
+        pub path_not_free : free ≡ false → PathsTried b s t vector (sent + hops) ps
+        path_not_free off =
             record {
               ports = λ q m. inv.ports q (rw e (Memᴰ.tail m));
               few =
                   (let most = front_most (net (view b)) (free_in (view b)) s (helix_in b s t p) in
-                  let long = few_path turn_follows in
+                  let long = few_path port_follows in
                   let few = subst (λ x. sent + 9 * length x ≤ 72) e inv.few in
                   omega (arith, hops_are));
               rest = ap (λ n. tried_after b s t (sent + n) ps) hops_are ∙ sym (try_on (net (view b)) (free_in (view b)) s sent _ _ (all_are ∙ off)) ∙ whole_order;
@@ -146,11 +146,11 @@ module _ {b : List ℕ} {s t c vector : ℕ} (may : MaySend b s t c vector) wher
     none_there z = rw (← low, eq-eqb k 8 z)
 
     pub helix_full : k ≡ channels → pass_answer 11 0 0 sent b ≡ searched b s t c 1 vector
-    unfolding send_answer bytes_after_send answer_of_outcome outcome received scouts
+    unfolding send_answer bytes_after_send answer_of_outcome outcome outcome_of_path scouts
     helix_full z = sym (path_sent ∙ rw (none_there z))
 
     module _ (g : k ≢ channels) where
-      channel_is : r ≡ channel k
+      channel_is : r ≡ lowest_available k
       unfolding r receive lowest_of lowest_channel
       channel_is = rw (← low, ne_eqb k 8 g)
 
@@ -158,7 +158,7 @@ module _ {b : List ℕ} {s t c vector : ℕ} (may : MaySend b s t c vector) wher
       channel_small = receive_small (view b) t k (unfold r in channel_is)
 
       pub helix_taken : {b₁ b₂ : List ℕ} → b₁ ≡ fold (hold_link c) b links → b₂ ≡ put_receiver b₁ t k c → pass_answer 0 hops k sent b₂ ≡ searched b s t c 1 vector
-      unfolding send_answer bytes_after_send answer_of_outcome outcome received scouts
+      unfolding send_answer bytes_after_send answer_of_outcome outcome outcome_of_path scouts
       helix_taken {b₁} now taken =
           let path : b₁ ≡ hold_path b c s (helix_in b s t got.port) = now ∙ ap (fold (hold_link c) b) got.links_of ∙ sym (held path_follows c) in
           rw (taken, path, got.long) (sym (path_sent ∙ rw channel_is))

@@ -40,6 +40,10 @@ arm_place n = mask_place arm_part n
 abbrev pub entry_place : ℕ → ℕ → ℕ → ℕ
 entry_place part n k = part + 16 * n + 2 * k
 
+-- a part has so many entries: 8 for each of 256 nodes
+abbrev pub entry_count : ℕ
+entry_count = 2048
+
 -- "4,096 bytes: for each node and port 0 to 7, the circuit holding that link"
 abbrev pub link_part : ℕ
 link_part = 257

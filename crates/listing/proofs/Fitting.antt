@@ -207,21 +207,21 @@ module _ (b : List ℕ) (n : ℕ) (small : n < 65536) where
           (λ h. omega (arith, call_length a g)) (below_or 2 (length l))
 
 -- what the lines of an input take: its bytes, and one more where the last newline is absent
-abbrev taken : List (List ℕ) → ℕ
-taken [] = 0
-taken (l ∷ ls) = suc (length l) + taken ls
+abbrev total_length : List (List ℕ) → ℕ
+total_length [] = 0
+total_length (l ∷ ls) = suc (length l) + total_length ls
 
-taken_lines : (input : List ℕ) → taken (lines input) ≤ suc (length input)
+taken_lines : (input : List ℕ) → total_length (lines input) ≤ suc (length input)
 unfolding lines cut
 taken_lines [] = omega arith
 taken_lines (x ∷ xs) = go (eqb x newline) (cut newline [] xs) (taken_lines xs)
   where
-    go : (b : Bool) (ls : List (List ℕ)) → taken ls ≤ suc (length xs) → taken (cond b ([] ∷ ls) (on_first x ls)) ≤ suc (suc (length xs))
+    go : (b : Bool) (ls : List (List ℕ)) → total_length ls ≤ suc (length xs) → total_length (cond b ([] ∷ ls) (on_first x ls)) ≤ suc (suc (length xs))
     go true ls h = omega arith
     go false [] h = unfold on_first in omega arith
     go false (l ∷ ls) h = unfold on_first in omega arith
 
-rows_length : (ls : List (List ℕ)) (b : List ℕ) (n : ℕ) → n + taken ls ≤ 65536 → length (rows_text (rows table_step b n ls)) ≤ 24 * taken ls
+rows_length : (ls : List (List ℕ)) (b : List ℕ) (n : ℕ) → n + total_length ls ≤ 65536 → length (rows_text (rows table_step b n ls)) ≤ 24 * total_length ls
 unfolding rows rows_text
 rows_length [] b n h = omega arith
 rows_length (l ∷ ls) b n h =

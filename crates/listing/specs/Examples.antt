@@ -9,7 +9,7 @@ use Rattle.cube.specs.Axes.{axis, present}
 use Rattle.cube.specs.Helical.{helical}
 use Rattle.paths.specs.Network.{offered, end, links, has_link, link_state, is_free, free_path}
 use Rattle.paths.specs.Pass.{over, ways, beginnings, scan, whole, pass, scouts}
-use Rattle.paths.specs.Send.{received, outcome, attempted, send_goes_on, runs, lowest_of}
+use Rattle.paths.specs.Send.{outcome_of_path, outcome, attempted, send_goes_on, runs, lowest_of}
 use Rattle.paths.specs.CubeNetwork.{network, ports, send_ports, other_ports, attempts, send}
 use Rattle.circuit_path.specs.Traced.{traced_into}
 use Rattle.ownership.specs.Calls.{answered, carries_scouts, call_tests, result_of, call_on}
@@ -60,5 +60,5 @@ output =
     []
 
 pub printed_example : recorded input ≡ output
-unfolding history_step stopped_on call_tests refusal facts_on open_on held_on taken_on any holds_link holds_receive belongs enabled_on free_on link_state is_free armed_on receive_on lowest_of lowest listed send_on with_opened applied result_of call_on carries_scouts traced_into send attempts attempted network ports send_ports other_ports present axis keep from has flip uphill helical offered end links has_link free_path over ways beginnings scan whole pass scouts received outcome send_goes_on runs answered digits decimal all_digits value leading_zero number on_first cut lines fields in_front numbers numbers_of asked by_letter with_numbers of_fields asks in_turn field_bytes in_order spaced ended row_text rows_text call_row unreadable traced row_for state_after rows header too_long listing recorded
+unfolding history_step stopped_on call_tests refusal facts_on open_on held_on taken_on any holds_link holds_receive belongs enabled_on free_on link_state is_free armed_on receive_on lowest_of lowest listed send_on with_opened applied result_of call_on carries_scouts traced_into send attempts attempted network ports send_ports other_ports present axis keep from has flip uphill helical offered end links has_link free_path over ways beginnings scan whole pass scouts outcome_of_path outcome send_goes_on runs answered digits decimal all_digits value leading_zero number on_first cut lines fields in_front numbers numbers_of asked by_letter with_numbers of_fields asks in_turn field_bytes in_order spaced ended row_text rows_text call_row unreadable traced row_for state_after rows header too_long listing recorded
 printed_example = refl

@@ -126,7 +126,7 @@ module _ (h : History) (valid : Valid h) where
     where
       drops : (f : Circuit → Bool) → Once f h.circuits
           → number_of f (keep (λ x. not (belongs s c x)) h.circuits) ≡ cond (eqb (number_of f h.circuits) (circuit_of s c)) 0 (number_of f h.circuits)
-      drops f o = number_drop f s c (close_facts h s c e) h.circuits (λ x m. (valid.stands x m).channel) o
+      drops f o = number_drop f s c (close_facts h s c e) h.circuits (λ x m. (valid.every_circuit x m).channel) o
   applied_view (tracing s c buffer) e = refl
   applied_view (arming n k) e = λ i. unfold set_armed enabled_on in
       record {

@@ -40,6 +40,6 @@ unfolding armed_on applied view_of
 close_armed h valid s c small n k =
     kept_link (λ m q. not (any (λ x. belongs s c x && holds_receive m q x) h.circuits)) h.armed n k
     ∙ ap (λ b. not b && has_link h.armed n k)
-    (number_belongs (holds_receive n k) s c small h.circuits (λ x m. (valid.stands x m).channel)
+    (number_belongs (holds_receive n k) s c small h.circuits (λ x m. (valid.every_circuit x m).channel)
     (receives_once (net_on h) n k h.circuits valid.apart))
     ∙ off_where (eqb ((view_of h).receiver n k) (circuit_of s c)) (has_link h.armed n k)

@@ -9,7 +9,7 @@ use Rattle.cube.specs.Axes.{axis, present}
 use Rattle.cube.specs.Helical.{helical}
 use Rattle.paths.specs.Network.{offered, end, links, has_link, link_state, is_free, free_path}
 use Rattle.paths.specs.Pass.{over, ways, beginnings, scan, whole, pass, scouts}
-use Rattle.paths.specs.Send.{received, outcome, attempted, send_goes_on, runs, lowest_of}
+use Rattle.paths.specs.Send.{outcome_of_path, outcome, attempted, send_goes_on, runs, lowest_of}
 use Rattle.paths.specs.CubeNetwork.{network, ports, send_ports, other_ports, attempts, send}
 use Rattle.paths.specs.Waiting.{finds_path, some_attempt}
 use Rattle.circuit_path.specs.Traced.{traced_into}
@@ -37,7 +37,7 @@ two_circuits_lem : books
     ∷ record { number = 23; values = 0 ∷ 0 ∷ []; buffers = replicate 3 9 ∷ replicate 11 9 ∷ [] }
     ∷ record { number = 23; values = 0 ∷ 0 ∷ []; buffers = replicate 2 9 ∷ replicate 12 9 ∷ [] }
     ∷ []
-unfolding leaves answers history_step stopped_on call_tests refusal facts_on open_on held_on taken_on armed_on any holds_link holds_receive belongs enabled_on free_on link_state is_free receive_on lowest_of lowest send_on waiting_on some_attempt finds_path with_opened applied result_of call_on send attempts attempted network ports send_ports other_ports present axis keep from has flip uphill helical offered end links has_link free_path over ways beginnings scan whole pass scouts received outcome send_goes_on runs answered book_on listed port_bytes word_bytes index_from traced_into
+unfolding leaves answers history_step stopped_on call_tests refusal facts_on open_on held_on taken_on armed_on any holds_link holds_receive belongs enabled_on free_on link_state is_free receive_on lowest_of lowest send_on waiting_on some_attempt finds_path with_opened applied result_of call_on send attempts attempted network ports send_ports other_ports present axis keep from has flip uphill helical offered end links has_link free_path over ways beginnings scan whole pass scouts outcome_of_path outcome send_goes_on runs answered book_on listed port_bytes word_bytes index_from traced_into
 two_circuits_lem = refl
 
 -- with no circuit nothing is written, and no buffer is too short

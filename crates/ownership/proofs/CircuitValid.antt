@@ -59,7 +59,7 @@ module _ (h : History) (valid : Valid h) where
   -- two listed circuits of one number are one
   pub same_circuit : (x y : Circuit) → x ∈ h.circuits → y ∈ h.circuits → number_for x ≡ number_for y → x ≡ y
   same_circuit x y m k e =
-      let r = circuit_parts x.source x.channel y.source y.channel (valid.stands x m).channel (valid.stands y k).channel e in
+      let r = circuit_parts x.source x.channel y.source y.channel (valid.every_circuit x m).channel (valid.every_circuit y k).channel e in
       pairwise_one (Disjoint N) h.circuits valid.apart x y m k (λ s. s.send r.0 r.1) (λ s. s.send (sym r.0) (sym r.1))
 
   -- a listed circuit holds its links and its receive channel
@@ -77,14 +77,14 @@ module _ (h : History) (valid : Valid h) where
   pub owner_exactly : (s c : ℕ) → c < channels → (n p : ℕ)
       → ((view_of h).owner n p ≡ circuit_of s c) ↔ ((x : Circuit) × (x ∈ h.circuits) × ((x.source ≡ s) × (x.channel ≡ c)) × ((n, p) ∈ links_of N x))
   owner_exactly s c small n p = (
-    (λ e. unfold view_of in let r = number_circuit (holds_link N n p) s c small h.circuits (λ x m. (valid.stands x m).channel) e in (r.0, r.1, (r.3, r.4), holds_link_lem N n p r.0 r.2)),
+    (λ e. unfold view_of in let r = number_circuit (holds_link N n p) s c small h.circuits (λ x m. (valid.every_circuit x m).channel) e in (r.0, r.1, (r.3, r.4), holds_link_lem N n p r.0 r.2)),
     (λ r. owner_of r.0 r.1 n p r.3 ∙ (λ i. circuit_of (r.2.0 i) (r.2.1 i))),
   )
 
   pub receiver_exactly : (s c : ℕ) → c < channels → (n k : ℕ)
       → ((view_of h).receiver n k ≡ circuit_of s c) ↔ ((x : Circuit) × (x ∈ h.circuits) × ((x.source ≡ s) × (x.channel ≡ c)) × ((n ≡ x.target) × (k ≡ x.receive)))
   receiver_exactly s c small n k = (
-    (λ e. unfold view_of in let r = number_circuit (holds_receive n k) s c small h.circuits (λ x m. (valid.stands x m).channel) e in (r.0, r.1, (r.3, r.4), holds_receive_lem n k r.0 r.2)),
+    (λ e. unfold view_of in let r = number_circuit (holds_receive n k) s c small h.circuits (λ x m. (valid.every_circuit x m).channel) e in (r.0, r.1, (r.3, r.4), holds_receive_lem n k r.0 r.2)),
     (λ r. (λ i. (view_of h).receiver (r.3.0 i) (r.3.1 i)) ∙ receiver_of r.0 r.1 ∙ (λ i. circuit_of (r.2.0 i) (r.2.1 i))),
   )
 
@@ -103,7 +103,7 @@ module _ (h : History) (valid : Valid h) where
       → ((n p : ℕ) → (n, p) ∈ links_of N x → (NodeOf h.dimension n) × (p < h.dimension)) × NodeOf h.dimension x.target
   unfolding On
   inside x m =
-      let s = valid.stands x m in
+      let s = valid.every_circuit x m in
       let r = permitted_inside (shape_on h) x.source x.target x.ports s.source s.permitted in
       ((λ n p i. ((r.0 n p i).0, (unfolded_port (shape_on h) valid.most refl p).0 (r.0 n p i).1)), subst (λ (n : ℕ). NodeOf h.dimension n) (permitted_end N x.source (ports (shape_on h)) x.target x.ports s.permitted) r.1)
 
@@ -114,10 +114,10 @@ module _ (h : History) (valid : Valid h) where
 
   -- its number gives its source back
   from_number : (x : Circuit) → x ∈ h.circuits → source_of (number_for x) ≡ x.source
-  from_number x m = source_of_circuit x.source x.channel (valid.stands x m).channel
+  from_number x m = source_of_circuit x.source x.channel (valid.every_circuit x m).channel
 
   ends : (x : Circuit) → x ∈ h.circuits → end N (source_of (number_for x)) x.ports ≡ x.target
-  ends x m = rw (from_number x m) (permitted_end N x.source (ports (shape_on h)) x.target x.ports (valid.stands x m).permitted)
+  ends x m = rw (from_number x m) (permitted_end N x.source (ports (shape_on h)) x.target x.ports (valid.every_circuit x m).permitted)
 
   some_number : (x : Circuit) → number_for x ≢ 0
   some_number x z = omega arith
@@ -128,7 +128,7 @@ module _ (h : History) (valid : Valid h) where
   valid_stands x m =
       record {
         path = x.ports;
-        permitted = rw (ends x m, from_number x m) (valid.stands x m).permitted;
+        permitted = rw (ends x m, from_number x m) (valid.every_circuit x m).permitted;
         exactly =
             record {
               all = λ n p l. eq-eqb _ _ (owner_of x m n p (rw (from_number x m) at l));
@@ -138,7 +138,7 @@ module _ (h : History) (valid : Valid h) where
                   rw (from_number x m) (subst (λ (y : Circuit). (n, p) ∈ links_of N y) (same_circuit r.0 x r.1 m (sym r.3 ∙ q)) r.2);
             };
         receive = x.receive;
-        small = (valid.stands x m).receive;
+        small = (valid.every_circuit x m).receive;
         receives = rw (ends x m) (receiver_of x m);
         once = λ n k q.
             let r = receive_held n k (λ z. some_number x (sym q ∙ z)) in
@@ -165,7 +165,7 @@ module _ (h : History) (valid : Valid h) where
           )
 
   number_small : (x : Circuit) → x ∈ h.circuits → number_for x ≤ channels * cube_nodes h.dimension
-  number_small x m = omega (arith, (valid.stands x m).source, (valid.stands x m).channel)
+  number_small x m = omega (arith, (valid.every_circuit x m).source, (valid.every_circuit x m).channel)
 
   -- A table that agrees with the history is sound.
   pub valid_sound : Sound (view_of h)
@@ -175,9 +175,9 @@ module _ (h : History) (valid : Valid h) where
         absent_receive = λ n k o.
             unfold view_of in ⊎_elim (λ e. e) (λ e. let r = receive_held n k e in absurd (o (subst (λ (m : ℕ). NodeOf h.dimension m) (sym r.2.0) (inside r.0 r.1).1))) (same? ((view_of h).receiver n k) 0);
         absent_armed = λ n k o. unfold view_of in is_false _ (λ e. o (armed_inside n k e).0);
-        held_enabled = λ n p e. unfold view_of in let r = link_held_lem n p e in (valid.stands r.0 r.1).enabled (n, p) r.2;
+        held_enabled = λ n p e. unfold view_of in let r = link_held_lem n p e in (valid.every_circuit r.0 r.1).enabled (n, p) r.2;
         held_armed = λ n k e.
-            unfold view_of in let r = receive_held n k e in (λ i. armed_on h (r.2.0 i) (r.2.1 i)) ∙ (valid.stands r.0 r.1).armed;
+            unfold view_of in let r = receive_held n k e in (λ i. armed_on h (r.2.0 i) (r.2.1 i)) ∙ (valid.every_circuit r.0 r.1).armed;
         link_number = λ n p. unfold view_of in ⊎_elim (λ z. omega arith) (λ e. let r = link_held_lem n p e in rw r.3 (number_small r.0 r.1)) (same? ((view_of h).owner n p) 0);
         receive_number = λ n k. unfold view_of in ⊎_elim (λ z. omega arith) (λ e. let r = receive_held n k e in rw r.3 (number_small r.0 r.1)) (same? ((view_of h).receiver n k) 0);
         numbers = occurs;

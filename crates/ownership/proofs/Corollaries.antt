@@ -98,7 +98,7 @@ module _ (b : List ℕ) (h : History) (D : ℕ) (e : Accepted b (making D)) (cal
     where
       shows : Listed s c (λ x. x ∈ history.circuits) → (n : ℕ) × ((p : ℕ) × (owner_at table n p ≡ circuit_of s c))
       shows r =
-          let first = first_link (net_on history) r.0.source (ports (shape_on history)) r.0.target r.0.ports (reached_represents.valid.stands r.0 r.1).permitted in
+          let first = first_link (net_on history) r.0.source (ports (shape_on history)) r.0.target r.0.ports (reached_represents.valid.every_circuit r.0 r.1).permitted in
           (r.0.source, (first.0, (table_holds_link s c l r.0.source first.0).1 (r.0, r.1, r.2, first.1)))
 
   pub receive_shown_exactly : (s c : ℕ) → c < channels → ((n : ℕ) × ((k : ℕ) × (receiver_at table n k ≡ circuit_of s c))) ↔ StillOpen s c (numbered (making D ∷ calls) (table_results b (making D ∷ calls)))

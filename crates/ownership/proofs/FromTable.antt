@@ -38,8 +38,8 @@ sound_represents b small e =
     let p = pass_tests b e in
     record {
       bytes = record { long = p.0; small = small };
-      shows = shows_same (view b) p.3 (eight b);
-      valid = table_valid (view b) p.3 (eight b) (unfold view in p.1) (unfold view in p.2);
+      shows = shows_same (view b) p.3 (unfold view in p.2) (eight b);
+      valid = table_valid (view b) p.3 (unfold view in p.2) (eight b) (unfold view in p.1);
     }
 
 -- So lists of calls agree with that history from there on,

@@ -19,13 +19,14 @@ use Rattle.cube.proofs.Circuits.{circuit_of_parts, channel_below}
 use Rattle.paths.specs.Network.{Link, has_link}
 use Rattle.paths.specs.Permitted.{Permitted}
 use Rattle.paths.proofs.Links.{link_true, true_link}
-use Rattle.table.specs.View.{View}
+use Rattle.table.specs.View.{View, shape_of}
 use Rattle.circuit_path.specs.CircuitSound.{end_for, CircuitSound}
 use Rattle.soundness.specs.Sound.{Sound}
 use Rattle.circuit_path.specs.PathOf.{path_of}
 use Rattle.circuit_path.proofs.CircuitSound.{path_is, sound_open}
 use Rattle.soundness.proofs.Soundness.{link_stands, receive_stands}
 use Rattle.paths.specs.CubeNetwork.{ports}
+use Rattle.paths.proofs.CubeNetwork.{unfolded_ports}
 use Rattle.circuit_path.specs.OpenCircuit.{is_open_in}
 use Rattle.book.specs.BookOf.{open_numbers}
 use Rattle.ownership.specs.History.{Circuit, History, shape_on, net_on, links_of, holds_link, holds_receive, enabled_on, armed_on}
@@ -66,7 +67,7 @@ every_out a b n p = go (ltb n a && ltb p b) refl
     go true e = let i = both_below e in link_true _ n p (mem_out (from 0 a) (from 0 b) n p (below_from a n i.0) (below_from b p i.1))
     go false e = is_false _ (λ t. let i = out_below n p (true_link _ n p t) in clash (and (lt-ltb n a i.0) (lt-ltb p b i.1)) e)
 
-module _ (v : View) (sound : Sound v) where
+module _ (v : View) (sound : Sound v) (fits : v.dimension ≤ largest_dimension) where
   abbrev D : ℕ
   D = v.dimension
 
@@ -109,8 +110,8 @@ module _ (v : View) (sound : Sound v) where
         let e = path_is v c o.stands in
         let there : f o.stands.receive ≡ true = rw e (eq-eqb _ c o.stands.receives) in
         let low : lowest f 8 0 ≤ o.stands.receive = lowest_found f 8 0 o.stands.receive (omega arith) there in
-        let taken : f (lowest f 8 0) ≡ true = lowest_passes f 8 0 (omega (arith, o.stands.small)) in
-        (o.stands.once _ _ (eqb-true _ c taken)).1
+        let channel_found : f (lowest f 8 0) ≡ true = lowest_passes f 8 0 (omega (arith, o.stands.small)) in
+        (o.stands.once _ _ (eqb-true _ c channel_found)).1
 
     link_number : (n p : ℕ) → (n, p) ∈ links_of (net_on h) (circuit_at v c) → v.owner n p ≡ c
     unfolding circuit_at history_of
@@ -156,7 +157,7 @@ module _ (v : View) (sound : Sound v) where
   enabled_same : (n p : ℕ) → v.enabled n p ≡ enabled_on h n p
   unfolding enabled_on history_of
   enabled_same n p =
-      rw (kept_link (λ m q. not (v.enabled m q)) _ n p, every_out (2 ^ D) D n p) (go (ltb n (2 ^ D) && ltb p D) refl (v.enabled n p) refl)
+      rw (kept_link (λ m q. not (v.enabled m q)) _ n p, unfolded_ports (shape_of v) fits refl, every_out (2 ^ D) D n p) (go (ltb n (2 ^ D) && ltb p D) refl (v.enabled n p) refl)
     where
       go : (x : Bool) → (ltb n (2 ^ D) && ltb p D) ≡ x → (y : Bool) → v.enabled n p ≡ y → y ≡ x && not (not y && x)
       go true e true q = refl
@@ -225,13 +226,13 @@ module _ (v : View) (sound : Sound v) where
               armed = sym (armed_same eight _ _) ∙ sound.held_armed _ _ (λ z. omega (arith, z, o.positive, receive_number c o _ _ refl refl));
             }
 
-    pub table_valid : 1 ≤ D → D ≤ largest_dimension → Valid h
-    table_valid least most =
+    pub table_valid : 1 ≤ D → Valid h
+    table_valid least =
         record {
           least = unfold history_of in least;
-          most = unfold history_of in most;
-          blocked = λ l m. unfold history_of in out_below l.0 l.1 (keep_mem _ _ m).0;
+          most = unfold history_of in fits;
+          blocked = λ l m. unfold history_of in out_below l.0 l.1 (rw (unfolded_ports (shape_of v) fits refl) at (keep_mem _ _ m).0);
           armed = λ l m. unfold history_of in out_below l.0 l.1 (keep_mem _ _ m).0;
-          stands = listed_valid;
+          every_circuit = listed_valid;
           apart = apart;
         }

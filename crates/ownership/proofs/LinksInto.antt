@@ -28,7 +28,7 @@ use Rattle.paths.proofs.Sentences.{permitted_end}
 use Rattle.paths.proofs.CubeNetwork.{unfolded_port}
 use Rattle.paths.proofs.Attempts.{said_by, receive_rejected_says}
 use Rattle.paths.proofs.Send.{tries_permitted}
-use Rattle.paths.proofs.Words.{free_links}
+use Rattle.paths.proofs.Words.{free_path_links}
 use Rattle.table.specs.View.{View, available, receive, shape_of, net, held_by}
 use Rattle.table.proofs.Receives.{none_chosen}
 use Rattle.circuit_path.specs.CircuitSound.{CircuitSound}
@@ -144,7 +144,7 @@ module _ (v : View) (sound : Sound v) (most : v.dimension ≤ largest_dimension)
   receives armed s w i o free e =
       let c = comes_in s w i o in
       no_way_in (λ j h. eqb-false _ 0 (ap (◌&& eqb (v.receiver t j) 0) (sym (armed j h)) ∙ none_chosen _ e j h)) (arrival w) c.1
-      (free_owner v _ _ ((free_links (net v) (free_in v) s w).0 free _ c.0))
+      (free_owner v _ _ ((free_path_links (net v) (free_in v) s w).0 free _ c.0))
 
   -- So no send to it is receive rejected.
   pub send_receives : ((k : ℕ) → k < channels → v.armed t k ≡ true) → (s : ℕ) → NodeOf v.dimension s → (type vector : ℕ) (o : Outcome) (n : ℕ)

@@ -55,5 +55,5 @@ module _ (h : History) (valid : Valid h) (s c : ℕ) (small : c < channels) wher
           let (p, m, f) = any_some (held_by (view_of h) (circuit_of s c) (source_of (circuit_of s c))) (ports (shape_of (view_of h))) t in
           let k = eqb-true _ _ f in
           let r = link_held_lem h valid (source_of (circuit_of s c)) p (λ z. omega (arith, k, z)) in
-          let b = circuit_parts r.0.source r.0.channel s c (valid.stands r.0 r.1).channel small (sym r.3 ∙ k) in
+          let b = circuit_parts r.0.source r.0.channel s c (valid.every_circuit r.0 r.1).channel small (sym r.3 ∙ k) in
           clash (some_any (belongs s c) h.circuits r.1 (parts_belong s c r.0 b.0 b.1)) e)

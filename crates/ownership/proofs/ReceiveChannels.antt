@@ -136,8 +136,8 @@ passed_otherwise b armed (booking ports index) z e = omega (arith, rw ((table_st
 passed_otherwise b armed (opening_all sends) z e =
     let p = pass_tests b (none_stops_lent b (opening_all sends) refl z) in
     let h = history_of (view b) in
-    let shows = shows_same (view b) p.3 (eight b) in
-    let valid = table_valid (view b) p.3 (eight b) p.1 p.2 in
+    let shows = shows_same (view b) p.3 p.2 (eight b) in
+    let valid = table_valid (view b) p.3 p.2 (eight b) p.1 in
     let eleven : (job_in (view b) (sends_in sends)).result.number ≡ 11 = rw ((table_step_lem b (opening_all sends)).result z) at e in
     job_otherwise h (table_armed b armed shows valid) (sends_in sends) (sym (ap (λ (j : Job View). j.result.number) (ap (λ v. job_in v (sends_in sends)) shows ∙ job_same h valid (sends_in sends))) ∙ eleven)
 

@@ -15,7 +15,7 @@ use Rattle.common.proofs.Lowest.{lowest_same}
 use Rattle.cube.specs.Cube.{largest_dimension, channels, next}
 use Rattle.paths.specs.Network.{Path, LinkState, link_free, link_held, link_blocked, link_state, is_free}
 use Rattle.paths.specs.Between.{Between, VectorUphill}
-use Rattle.paths.specs.Send.{Receive, channel, none_available, Outcome, acknowledged, route_rejected, receive_rejected, SendResult, lowest_of, attempted, runs}
+use Rattle.paths.specs.Send.{Receive, lowest_available, none_available, Outcome, acknowledged, route_rejected, receive_rejected, SendResult, lowest_of, attempted, runs}
 use Rattle.paths.specs.Waiting.{finds_path, some_attempt}
 use Rattle.paths.specs.CubeNetwork.{ports, unfolded, network, attempts, send}
 use Rattle.paths.proofs.CubeNetwork.{unfolded_port}
@@ -70,7 +70,7 @@ module _ (s c t vector : ℕ) (v w : View) (fits : v.dimension ≤ largest_dimen
   same_receive : receive v t ≡ receive w t
   unfolding receive lowest_of
   same_receive =
-      ap (λ (k : ℕ). cond (eqb k channels) none_available (channel k)) (lowest_same (available v t) (available w t) channels 0 (λ j i l. same_available j (omega arith)))
+      ap (λ (k : ℕ). cond (eqb k channels) none_available (lowest_available k)) (lowest_same (available v t) (available w t) channels 0 (λ j i l. same_available j (omega arith)))
 
   -- so the send is the same, and so is whether waiting helps it.
   same_send : send_in v s t 0 vector ≡ send_in w s t 0 vector

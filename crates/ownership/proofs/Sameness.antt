@@ -35,7 +35,7 @@ module _ (h : History) where
   unfolding available taken_in view_of
   available_same t =
       fun_ext (λ k.
-      ap (armed_on h t k &&◌) (sym (not-not (eqb ((view_of h).receiver t k) 0)) ∙ ap (λ (taken : ℕ → ℕ → Bool). not (taken t k)) taken_same))
+      ap (armed_on h t k &&◌) (sym (not-not (eqb ((view_of h).receiver t k) 0)) ∙ ap (λ (f : ℕ → ℕ → Bool). not (f t k)) taken_same))
 
   pub receive_same : (t : ℕ) → receive (view_of h) t ≡ receive_on h t
   unfolding receive receive_on

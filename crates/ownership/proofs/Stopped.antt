@@ -45,6 +45,6 @@ stopped_same h valid (closing s c) = past _ _ _ (past_channel c _ _ (λ l. ap (�
 stopped_same h valid (tracing s c buffer) =
     past _ _ _ (past_channel c _ _ (λ l. ap (λ (b : Bool). refusal (test (not b) 12 ∷ test (ltb (length buffer) 9) 14 ∷ [])) (open_same h valid s c l)))
 stopped_same h valid (arming n k) = refl
-stopped_same h valid (disarming n k) = past _ _ _ (past _ _ _ (ap (λ (taken : ℕ → ℕ → Bool). refusal (test (taken n k) 21 ∷ [])) (taken_same h)))
+stopped_same h valid (disarming n k) = past _ _ _ (past _ _ _ (ap (λ (f : ℕ → ℕ → Bool). refusal (test (f n k) 21 ∷ [])) (taken_same h)))
 stopped_same h valid (opening_all sends) = refl
 stopped_same h valid (booking ports index) = ap (λ (xs : List BookCircuit). refusal (test (ltb (length ports) (hop_count xs) || ltb (length index) (line_length * length xs)) 23 ∷ [])) (book_same h valid)

@@ -54,7 +54,7 @@ made_valid D l m =
       most = m;
       blocked = λ x k. absurd (Memᴰ.not-nil k);
       armed = λ x k. absurd (Memᴰ.not-nil k);
-      stands = λ x k. absurd (Memᴰ.not-nil k);
+      every_circuit = λ x k. absurd (Memᴰ.not-nil k);
       apart = tt;
     }
 
@@ -83,8 +83,8 @@ module _ (h : History) (valid : Valid h) where
         most = valid.most;
         blocked = inside;
         armed = valid.armed;
-        stands = λ x m.
-            let s = valid.stands x m in
+        every_circuit = λ x m.
+            let s = valid.every_circuit x m in
             record {
               source = s.source;
               channel = s.channel;
@@ -107,7 +107,7 @@ module _ (h : History) (valid : Valid h) where
         most = valid.most;
         blocked = valid.blocked;
         armed = inside;
-        stands = λ x m.
+        every_circuit = λ x m.
             let (s, on) = stand x m in
             record { source = s.source; channel = s.channel; permitted = s.permitted; enabled = s.enabled; receive = s.receive; armed = on };
         apart = apart;
@@ -144,7 +144,7 @@ module _ (h : History) (valid : Valid h) where
     added_valid : Valid (with_circuits h (new ∷ h.circuits))
     added_valid =
         circuits_valid (new ∷ h.circuits) h.armed valid.armed
-        (λ x m. let s = ⊎_elim (λ e. subst (CircuitValid h) (sym e) new_stands) (λ i. valid.stands x i) (Memᴰ.cases_cons m) in (s, s.armed))
+        (λ x m. let s = ⊎_elim (λ e. subst (CircuitValid h) (sym e) new_stands) (λ i. valid.every_circuit x i) (Memᴰ.cases_cons m) in (s, s.armed))
         (unfold Pairwise in (new_apart, valid.apart))
 
   opened_valid : (s c t y v : ℕ) → Allowed (facts_on h) (opening s c t y v) → (o : Outcome) → (send_on h s t y v).outcome ≡ o → Valid (with_opened h s c t o)
@@ -183,7 +183,7 @@ module _ (h : History) (valid : Valid h) where
   applied_valid (opening s c t y v) e = opened_valid h valid s c t y v (allowed_on h (opening s c t y v) e) (send_on h s t y v).outcome refl
   applied_valid (closing s c) e =
       circuits_valid h valid (keep other h.circuits) (applied h (closing s c)).armed (λ l m. valid.armed l (keep_mem _ h.armed m).0)
-      (λ x m. let k = keep_mem other h.circuits m in (valid.stands x k.0, unfold armed_on in still_armed x k.0 (not-true _ k.1)))
+      (λ x m. let k = keep_mem other h.circuits m in (valid.every_circuit x k.0, unfold armed_on in still_armed x k.0 (not-true _ k.1)))
       (keep_pairwise other (Disjoint (net_on h)) h.circuits valid.apart)
     where
       other : Circuit → Bool
@@ -193,20 +193,20 @@ module _ (h : History) (valid : Valid h) where
       still_armed : (x : Circuit) → x ∈ h.circuits → belongs s c x ≡ false → armed_on (applied h (closing s c)) x.target x.receive ≡ true
       still_armed x m f =
           let small = close_facts h s c e in
-          let stands = valid.stands x m in
+          let circuit = valid.every_circuit x m in
           close_armed h valid s c small x.target x.receive
-          ∙ (rw (receiver_of h valid x m, belongs_number s c x small stands.channel, f) stands.armed)
+          ∙ (rw (receiver_of h valid x m, belongs_number s c x small circuit.channel, f) circuit.armed)
   applied_valid (tracing s c buffer) e = valid
   applied_valid (arming n k) e =
       circuits_valid h valid h.circuits ((n, k) ∷ h.armed)
       (λ l m.
       ⊎_elim (λ q. subst (λ (x : ℕ × ℕ). (x.0 < 2 ^ h.dimension) × (x.1 < 8)) (sym q) (arm_facts h n k e)) (λ i. valid.armed l i)
       (Memᴰ.cases_cons m))
-      (λ x m. let s = valid.stands x m in (s, arm_armed h n k _ _ ∙ set_again (armed_on h) n k _ _ s.armed)) valid.apart
+      (λ x m. let s = valid.every_circuit x m in (s, arm_armed h n k _ _ ∙ set_again (armed_on h) n k _ _ s.armed)) valid.apart
   applied_valid (disarming n k) e =
       circuits_valid h valid h.circuits (without_entry n k h.armed) (λ l m. valid.armed l (unfold without_entry in (keep_mem _ h.armed m).0))
       (λ x m.
-      let s = valid.stands x m in
+      let s = valid.every_circuit x m in
       let other : x.target ≡ n → x.receive ≡ k → ⊥ = λ i j. clash (taken_receive h x m n k (sym i) (sym j)) (disarm_facts h n k e) in
       (s, disarm_armed h n k _ _ ∙ other_cleared (armed_on h) n k _ _ s.armed other)) valid.apart
   applied_valid (opening_all sends) e = job_valid h valid (sends_in sends)

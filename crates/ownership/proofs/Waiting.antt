@@ -18,7 +18,7 @@ use Rattle.paths.specs.Network.{Path}
 use Rattle.paths.specs.Send.{Outcome, acknowledged, route_rejected, receive_rejected}
 use Rattle.paths.specs.Waiting.{AllEnabled, SomePathEnabled, EveryPathBlocked, CrossesBlocked}
 use Rattle.paths.specs.CubeNetwork.{attempts, ports}
-use Rattle.paths.proofs.Words.{free_link, free_links}
+use Rattle.paths.proofs.Words.{free_link, free_path_links}
 use Rattle.table.specs.View.{View, view, net, shape_of, held_in, held_by, set_armed, without_circuit, available, set_at, set_enabled, set_owner, set_receiver}
 use Rattle.table.specs.Encode.{AllBytes}
 use Rattle.soundness.specs.TableTests.{table_tests}
@@ -120,7 +120,7 @@ module _ (b : List ℕ) (s c t y v : ℕ) where
   unfolding SomePathEnabled AllEnabled
   idle_route {w} idle same x =
       let could : CouldRoute w s t (attempts (shape_of w) y v) = rw (same.dimension, same.enabled) x in
-      (could.0, could.1, (could.2.0, could.2.1, (free_links (net w) (free_in w) s could.2.0).1 (λ l m. idle_free w idle l.0 l.1 (could.2.2 l m))))
+      (could.0, could.1, (could.2.0, could.2.1, (free_path_links (net w) (free_in w) s could.2.0).1 (λ l m. idle_free w idle l.0 l.1 (could.2.2 l m))))
 
   -- "if all circuits are closed and a channel at the target is armed", a send that was answered 10 is acknowledged
   pub closed_acknowledges : AllBytes b → {calls : List Call} → Each ClosesOrArms calls → number_on b ≡ 10 → NoLinkHeld (view (table_after b calls)) → Available (view (table_after b calls)) t

@@ -8,7 +8,7 @@ use Rattle.cube.specs.Cube.{uphill}
 use Rattle.cube.specs.Helical.{helical}
 use Rattle.paths.specs.Network.{offered, end, link_state, is_free, free_path}
 use Rattle.paths.specs.Pass.{over, ways, beginnings, scan, whole, pass, scouts}
-use Rattle.paths.specs.Send.{acknowledged, route_rejected, lowest_of, received, outcome, attempted, SendResult, send_goes_on, runs}
+use Rattle.paths.specs.Send.{acknowledged, route_rejected, lowest_of, outcome_of_path, outcome, attempted, SendResult, send_goes_on, runs}
 use Rattle.paths.specs.Waiting.{finds_path, some_attempt}
 use Rattle.paths.specs.CubeNetwork.{ports, network, send_ports, other_ports, attempts, send}
 use Rattle.table.specs.View.{View, fresh, set_at, set_armed, set_enabled, set_owner, set_receiver, held_in, without_circuit, available, receive}
@@ -78,7 +78,7 @@ freedom_answers =
     ∷ []
 
 freedom_sends_lem : freedom_sends ≡ freedom_answers
-unfolding send runs attempts attempted pass scan whole beginnings over ways scouts outcome received send_goes_on network ports send_ports other_ports present axis keep from lowest has flip uphill helical offered end free_path link_state is_free state_in free_in held_in lowest_of available receive fresh set_at set_armed set_enabled set_owner set_receiver without_circuit view_after_send hold_links
+unfolding send runs attempts attempted pass scan whole beginnings over ways scouts outcome outcome_of_path send_goes_on network ports send_ports other_ports present axis keep from lowest has flip uphill helical offered end free_path link_state is_free state_in free_in held_in lowest_of available receive fresh set_at set_armed set_enabled set_owner set_receiver without_circuit view_after_send hold_links
 freedom_sends_lem = refl
 
 -- Of these two rejections waiting helps in the first alone, so that one is 10 and the other 22: hence "free, held or blocked".

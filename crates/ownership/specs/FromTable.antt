@@ -4,7 +4,8 @@ use Rattle.std.specs.Prelude.{not, List, [], ◌∷◌, ◌++◌, map, ℕ, eqb}
 use Rattle.common.specs.Lists.{keep, from, lowest}
 use Rattle.cube.specs.Cube.{cube_nodes, source_of, channel_of, channels}
 use Rattle.paths.specs.Network.{Link}
-use Rattle.table.specs.View.{View}
+use Rattle.paths.specs.CubeNetwork.{ports}
+use Rattle.table.specs.View.{View, shape_of}
 use Rattle.circuit_path.specs.CircuitSound.{end_for}
 use Rattle.circuit_path.specs.PathOf.{path_of}
 use Rattle.book.specs.BookOf.{open_numbers}
@@ -30,7 +31,7 @@ unfoldable pub history_of : View → History
 history_of v =
     record {
       dimension = v.dimension;
-      blocked = keep (λ l. not (v.enabled l.0 l.1)) (links_out (from 0 (cube_nodes v.dimension)) (from 0 v.dimension));
+      blocked = keep (λ l. not (v.enabled l.0 l.1)) (links_out (from 0 (cube_nodes v.dimension)) (ports (shape_of v)));
       circuits = map (circuit_at v) (open_numbers v);
       armed = keep (λ l. v.armed l.0 l.1) (links_out (from 0 (cube_nodes v.dimension)) (from 0 channels));
     }

@@ -34,7 +34,7 @@ pub record Valid (h : History) : Type 0 where
   pub most : h.dimension ≤ largest_dimension
   pub blocked : (l : Link) → l ∈ h.blocked → LinkOf (shape_on h) l.0 l.1
   pub armed : (l : ℕ × ℕ) → l ∈ h.armed → Node (shape_on h) l.0 × (l.1 < channels)
-  pub stands : (x : Circuit) → x ∈ h.circuits → CircuitValid h x
+  pub every_circuit : (x : Circuit) → x ∈ h.circuits → CircuitValid h x
   pub apart : Pairwise (Disjoint (net_on h)) h.circuits
 
 -- These bytes represent this history. A list of calls can go on from any such table, however it came to do so.

@@ -10,7 +10,7 @@ use Rattle.cube.specs.Axes.{axis, present}
 use Rattle.cube.specs.Helical.{helical}
 use Rattle.paths.specs.Network.{offered, end, links, has_link, link_state, is_free, free_path}
 use Rattle.paths.specs.Pass.{over, ways, beginnings, scan, whole, pass, scouts}
-use Rattle.paths.specs.Send.{received, outcome, attempted, send_goes_on, runs, lowest_of}
+use Rattle.paths.specs.Send.{outcome_of_path, outcome, attempted, send_goes_on, runs, lowest_of}
 use Rattle.paths.specs.CubeNetwork.{network, ports, send_ports, other_ports, attempts, send}
 use Rattle.command_word.specs.Commands.{commands, values_in, values, reserved}
 use Rattle.command_word.specs.Word.{read_tests, reading, read_word, write_tests, writing, write_word}
@@ -108,12 +108,12 @@ results =
     ∷ []
 
 pub examples : map result inputs ≡ results
-unfolding answers history_step stopped_on call_tests refusal facts_on open_on held_on taken_on armed_on links_out any holds_link holds_receive belongs enabled_on free_on link_state is_free receive_on lowest_of lowest listed send_on waiting_on some_attempt finds_path with_opened applied result_of call_on traced_into send attempts attempted network ports send_ports other_ports present axis keep from has flip uphill helical offered end links has_link free_path over ways beginnings scan whole pass scouts received outcome send_goes_on runs answered commands values_in values reserved read_tests reading read_word write_tests writing write_word
+unfolding answers history_step stopped_on call_tests refusal facts_on open_on held_on taken_on armed_on links_out any holds_link holds_receive belongs enabled_on free_on link_state is_free receive_on lowest_of lowest listed send_on waiting_on some_attempt finds_path with_opened applied result_of call_on traced_into send attempts attempted network ports send_ports other_ports present axis keep from has flip uphill helical offered end links has_link free_path over ways beginnings scan whole pass scouts outcome_of_path outcome send_goes_on runs answered commands values_in values reserved read_tests reading read_word write_tests writing write_word
 examples = refl
 
 -- Document 02, (a): a channel must be armed to be taken; while it is held it is not disarmed, and 21 comes "after 5"; closing disarms it.
 armed_once : map shown (history_results before
     (making 3 ∷ opening 0 0 7 0 7 ∷ arming 7 0 ∷ opening 0 0 7 0 7 ∷ disarming 7 8 ∷ disarming 7 0 ∷ closing 0 0 ∷ opening 0 0 7 0 7 ∷ []))
     ≡ done ∷ opened 11 0 0 3 ∷ done ∷ opened 0 3 0 3 ∷ alone (5 ∷ []) ∷ alone (21 ∷ []) ∷ done ∷ opened 11 0 0 3 ∷ []
-unfolding answers history_step stopped_on call_tests refusal facts_on open_on held_on taken_on armed_on any holds_link holds_receive belongs enabled_on free_on link_state is_free receive_on lowest_of lowest listed send_on waiting_on some_attempt finds_path with_opened applied result_of call_on traced_into send attempts attempted network ports send_ports other_ports present axis keep from has flip uphill helical offered end links has_link free_path over ways beginnings scan whole pass scouts received outcome send_goes_on runs answered
+unfolding answers history_step stopped_on call_tests refusal facts_on open_on held_on taken_on armed_on any holds_link holds_receive belongs enabled_on free_on link_state is_free receive_on lowest_of lowest listed send_on waiting_on some_attempt finds_path with_opened applied result_of call_on traced_into send attempts attempted network ports send_ports other_ports present axis keep from has flip uphill helical offered end links has_link free_path over ways beginnings scan whole pass scouts outcome_of_path outcome send_goes_on runs answered
 armed_once = refl

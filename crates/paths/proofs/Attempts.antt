@@ -11,15 +11,15 @@ use Rattle.common.proofs.Tests.{clash}
 use Rattle.paths.specs.Network.{Network, Path}
 use Rattle.paths.specs.Permitted.{ComesBefore}
 use Rattle.paths.specs.Pass.{PassResult, none, found, scouts}
-use Rattle.paths.specs.Send.{Receive, channel, none_available, Outcome, acknowledged, route_rejected, receive_rejected, Acknowledged, received, outcome, Attempt, pass_over, helix_paths, attempted, one_result, send_goes_on, runs}
+use Rattle.paths.specs.Send.{Receive, lowest_available, none_available, Outcome, acknowledged, route_rejected, receive_rejected, Acknowledged, outcome_of_path, outcome, Attempt, pass_over, helix_paths, attempted, one_result, send_goes_on, runs}
 use Rattle.paths.specs.Sentences.{Free, AnswerSays, says_acknowledged, says_receive_rejected, says_route_rejected, Tries, SearchSays, AttemptSays, AttemptsSay, last, ends, goes_on}
 use Rattle.paths.proofs.TriedHelix.{tried_helix_lem, tried_first, tried_nothing}
 
 -- What a search and the target's receive channels come to says what document 01 says of it.
 pub answer_says : (Search : PassResult → Type 0) (r : Receive) (x : PassResult) → Search x → AnswerSays Search r (outcome r x) (scouts x)
-unfolding outcome scouts received
+unfolding outcome scouts outcome_of_path
 answer_says Search r (none c) h = says_route_rejected h
-answer_says Search (channel k) (found w c) h = says_acknowledged refl h
+answer_says Search (lowest_available k) (found w c) h = says_acknowledged refl h
 answer_says Search none_available (found w c) h = says_receive_rejected refl h
 
 -- A send goes on exactly after a route rejection; then the next attempt's answer counts, and all scouts are added.
@@ -63,7 +63,7 @@ module _ (N : Network) (s t : ℕ) (free : ℕ → ℕ → Bool) where
 
 module _ (N : Network) (s t : ℕ) (free : ℕ → ℕ → Bool) (r : Receive) where
   pub acknowledged_says : (a : Attempt) (w : Path) (k n : ℕ) → AttemptSays N s t free r a (acknowledged w k) n
-      → Tries N s t a w × Free N free s w × (r ≡ channel k)
+      → Tries N s t a w × Free N free s w × (r ≡ lowest_available k)
   acknowledged_says a w k n (says_acknowledged e f) = let x = found_says N s t free a w n f in (x.0, x.1, e)
 
   pub receive_rejected_says : (a : Attempt) (n : ℕ) → AttemptSays N s t free r a receive_rejected n
@@ -106,7 +106,7 @@ module _ (N : Network) (s t : ℕ) (free : ℕ → ℕ → Bool) (r : Receive) w
       (λ m. not_route_rejected xs o n rest (x.0, m, x.2)) (Memᴰ.cases_cons x.1)
 
   -- it is acknowledged exactly where one of them has a free path and a channel is there to take;
-  pub acknowledged_route : (xs : List Attempt) (w : Path) (k n : ℕ) → AttemptsSay N s t free r xs (acknowledged w k) n → Route xs × (r ≡ channel k)
+  pub acknowledged_route : (xs : List Attempt) (w : Path) (k n : ℕ) → AttemptsSay N s t free r xs (acknowledged w k) n → Route xs × (r ≡ lowest_available k)
   acknowledged_route xs w k n h =
       let x = said_by xs (acknowledged w k) n h in
       let y = acknowledged_says x.0 w k x.2.0 x.2.1 in

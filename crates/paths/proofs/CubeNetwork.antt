@@ -27,7 +27,7 @@ use Rattle.paths.specs.Network.{Path, offered, Nearing, Leading}
 use Rattle.paths.specs.Permitted.{Permitted}
 use Rattle.paths.specs.Sentences.{Says}
 use Rattle.paths.specs.Pass.{pass, scouts}
-use Rattle.paths.specs.CubeNetwork.{Shape, Node, ports, network, send_ports, other_ports}
+use Rattle.paths.specs.CubeNetwork.{Shape, Node, axes, ports, network, send_ports, other_ports}
 use Rattle.paths.proofs.Links.{permitted_length}
 use Rattle.paths.proofs.Sentences.{pass_says}
 use Rattle.paths.proofs.Bound.{Cubical, others, two_passes_bound}
@@ -67,7 +67,7 @@ one_more f g p D l on off same =
 
 -- at most m links to an axis: the ports whose axis passes a test are no more than m times the axes that pass it
 pub record LinksEach (S : Shape) (m : ℕ) : Type 0 where
-  pub most : (g : ℕ → Bool) → length (keep (λ q. g (axis q)) (ports S)) ≤ m * length (keep g (from 0 S.dimension))
+  pub most : (g : ℕ → Bool) → length (keep (λ q. g (axis q)) (ports S)) ≤ m * length (keep g (axes S))
 
 module _ (S : Shape) where
   -- the ports listed are those that are there; the axis of each is below D, and every number below D is one
@@ -199,7 +199,7 @@ module _ (S : Shape) where
 -- With fold mask 0 this is the cube of document 01.
 module _ (S : Shape) (h : S.dimension ≤ largest_dimension) (z : S.fold ≡ 0) where
   -- Its ports are those below D,
-  pub unfolded_ports : ports S ≡ from 0 S.dimension
+  pub unfolded_ports : ports S ≡ axes S
   unfolding ports present
   unfolded_ports =
       keep_wider (present S.dimension S.fold) 0 S.dimension 18 (omega arith) (λ q l. rw z (absent q (omega arith)))
@@ -220,18 +220,18 @@ module _ (S : Shape) (h : S.dimension ≤ largest_dimension) (z : S.fold ≡ 0) 
   unfolding network
   unfolded_next n p l = ap (flip n) (axis_low p (omega arith))
 
-  by_port : (f : ℕ → Bool) → keep (λ q. f (axis q)) (ports S) ≡ keep f (from 0 S.dimension)
+  by_port : (f : ℕ → Bool) → keep (λ q. f (axis q)) (ports S) ≡ keep f (axes S)
   by_port f = rw unfolded_ports (keep_same _ _ _ (λ p m. let l = from_below S.dimension p m in ap f (axis_low p (omega arith))))
 
   -- those that are uphill are offered, and a send tries those of its vector and then the others.
-  pub unfolded_offered : (t n : ℕ) → offered (network S) t n ≡ keep (uphill t n) (from 0 S.dimension)
+  pub unfolded_offered : (t n : ℕ) → offered (network S) t n ≡ keep (uphill t n) (axes S)
   unfolded_offered t n = offered_is S t n ∙ by_port (uphill t n)
 
   pub unfolded_send_ports : (v : ℕ) → send_ports S v ≡ ports_of S.dimension v
   unfolding send_ports ports_of
   unfolded_send_ports v = by_port (has v)
 
-  pub unfolded_other_ports : (v : ℕ) → other_ports S v ≡ keep (λ p. not (has v p)) (from 0 S.dimension)
+  pub unfolded_other_ports : (v : ℕ) → other_ports S v ≡ keep (λ p. not (has v p)) (axes S)
   unfolding other_ports
   unfolded_other_ports v = by_port (λ p. not (has v p))
 

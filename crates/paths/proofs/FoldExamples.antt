@@ -8,7 +8,7 @@ use Rattle.cube.specs.Cube.{uphill}
 use Rattle.cube.specs.Helical.{helical}
 use Rattle.paths.specs.Network.{Path, offered, take_first, end, links, has_link, free_path}
 use Rattle.paths.specs.Pass.{over, ways, beginnings, scan, whole, pass, scouts}
-use Rattle.paths.specs.Send.{channel, acknowledged, route_rejected, received, attempted, outcome, SendResult, send_goes_on, runs}
+use Rattle.paths.specs.Send.{lowest_available, acknowledged, route_rejected, outcome_of_path, attempted, outcome, SendResult, send_goes_on, runs}
 use Rattle.paths.specs.CubeNetwork.{Shape, ports, network, send_ports, other_ports, attempts, send}
 use Rattle.paths.specs.Bound.{ways_from, sends_from}
 use Rattle.paths.specs.Recover.{drop_axis, walk_from, way_back, first_hop_choices, path_of_links}
@@ -21,16 +21,16 @@ folded D mask = record { dimension = D; fold = mask }
 abbrev folded_sends : List SendResult
 folded_sends =
     -- D 1, mask 1, 0 to 1, vector 1, so ports 0 and 17
-    send 0 (folded 1 1) (free_but []) (channel 0) 0 1 1
+    send 0 (folded 1 1) (free_but []) (lowest_available 0) 0 1 1
     -- the same with the link over port 0 blocked
-    ∷ send 0 (folded 1 1) (free_but ((0, 0) ∷ [])) (channel 0) 0 1 1
+    ∷ send 0 (folded 1 1) (free_but ((0, 0) ∷ [])) (lowest_available 0) 0 1 1
     -- D 1, mask 1, 0 to itself: a scout that came in on port 0 tries 17 before 0
-    ∷ send 0 (folded 1 1) (free_but []) (channel 0) 0 1 0
+    ∷ send 0 (folded 1 1) (free_but []) (lowest_available 0) 0 1 0
     -- D 2, mask 3, 0 to 3, vector 1, both links from 1 to 3 blocked: type 0, and type 4, whose scout comes in on 1 and tries 17 before 0
-    ∷ send 0 (folded 2 3) (free_but ((1, 1) ∷ (1, 16) ∷ [])) (channel 0) 0 1 3
-    ∷ send 4 (folded 2 3) (free_but ((1, 1) ∷ (1, 16) ∷ [])) (channel 0) 0 1 3
+    ∷ send 0 (folded 2 3) (free_but ((1, 1) ∷ (1, 16) ∷ [])) (lowest_available 0) 0 1 3
+    ∷ send 4 (folded 2 3) (free_but ((1, 1) ∷ (1, 16) ∷ [])) (lowest_available 0) 0 1 3
     -- D 2, mask 1, 0 to 2, vector 1, link 1 to 3 blocked: out over 0, back over 17, and on
-    ∷ send 0 (folded 2 1) (free_but ((1, 1) ∷ [])) (channel 0) 0 1 2
+    ∷ send 0 (folded 2 1) (free_but ((1, 1) ∷ [])) (lowest_available 0) 0 1 2
     ∷ []
 
 abbrev folded_answers : List SendResult
@@ -44,7 +44,7 @@ folded_answers =
     ∷ []
 
 folded_sends_lem : folded_sends ≡ folded_answers
-unfolding send attempts attempted network ports send_ports other_ports present axis keep from has flip uphill helical offered end free_path over ways beginnings scan whole pass scouts received outcome send_goes_on runs
+unfolding send attempts attempted network ports send_ports other_ports present axis keep from has flip uphill helical offered end free_path over ways beginnings scan whole pass scouts outcome_of_path outcome send_goes_on runs
 folded_sends_lem = refl
 
 -- "The helical order then runs over 18 positions": with D 8 and mask 255, behind port 7 come 10 to 17 and then 0 to 7.

@@ -34,10 +34,10 @@ module _ (N : Network) where
   length_links n (p ∷ w) = ap suc (length_links (N.next n p) w)
 
   module _ (free : ℕ → ℕ → Bool) where
-    pub free_links : (n : ℕ) (w : Path) → free_path N free n w ≡ list_all (λ l. free l.0 l.1) (links N n w)
+    pub free_path_test : (n : ℕ) (w : Path) → free_path N free n w ≡ list_all (λ l. free l.0 l.1) (links N n w)
     unfolding free_path links
-    free_links n [] = refl
-    free_links n (p ∷ w) = ap (free n p &&◌) (free_links (N.next n p) w)
+    free_path_test n [] = refl
+    free_path_test n (p ∷ w) = ap (free n p &&◌) (free_path_test (N.next n p) w)
 
     pub front_links : (n : ℕ) (w : Path) → free_front N free n w ≡ prefix_len (λ l. free l.0 l.1) (links N n w)
     unfolding free_front links

@@ -13,7 +13,7 @@ use Rattle.common.specs.Lists.{◌∈◌}
 use Rattle.paths.specs.Network.{Network, Path}
 use Rattle.paths.specs.Permitted.{Permitted}
 use Rattle.paths.specs.Helix.{IsHelix}
-use Rattle.paths.specs.Send.{Receive, channel, none_available, Outcome, acknowledged, route_rejected, receive_rejected, Acknowledged, Attempt, pass_over, helix_paths}
+use Rattle.paths.specs.Send.{Receive, lowest_available, none_available, Outcome, acknowledged, route_rejected, receive_rejected, Acknowledged, Attempt, pass_over, helix_paths}
 use Rattle.paths.specs.Sentences.{Free, Tries, AttemptsSay}
 use Rattle.paths.specs.CubeNetwork.{Shape, Node, network, send_ports, attempts, send}
 use Rattle.paths.proofs.Helix.{helix_permitted}
@@ -75,10 +75,10 @@ module _ (S : Shape) (fits : S.dimension ≤ largest_dimension) (free : ℕ → 
       go : (o : Outcome) → AnswerOf type ≡ o → Acknowledged o → Acknowledged (AnswerOf other)
       go (acknowledged w k) e a =
           let x = acknowledged_route (network S) s t free r _ w k _ (rw e at (says type)) in
-          route_acknowledged (network S) s t free r _ _ _ (says other) (more x.0) (taken x.1)
+          route_acknowledged (network S) s t free r _ _ _ (says other) (more x.0) (some_receive x.1)
         where
-          taken : r ≡ channel k → r ≢ none_available
-          taken e h = let z : ◌≡◌ {A = ℕ} 0 1 = cc in omega arith
+          some_receive : r ≡ lowest_available k → r ≢ none_available
+          some_receive e h = let z : ◌≡◌ {A = ℕ} 0 1 = cc in omega arith
       go route_rejected e a = unfold Acknowledged in absurd a
       go receive_rejected e a = unfold Acknowledged in absurd a
 

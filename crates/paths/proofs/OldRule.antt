@@ -8,7 +8,7 @@ use Prim.Native.Nat.{ℕ, ◌+◌, ◌<◌}
 use native.Mathlib.Omega.{arith}
 use Rattle.paths.specs.Network.{Network, Path, free_path}
 use Rattle.paths.specs.Pass.{PassResult, none, found, whole, beginnings, pass, scouts}
-use Rattle.paths.specs.Send.{Receive, channel, none_available, route_rejected, receive_rejected, Acknowledged, received, outcome, attempted, SendResult, send_goes_on, runs}
+use Rattle.paths.specs.Send.{Receive, lowest_available, none_available, route_rejected, receive_rejected, Acknowledged, outcome_of_path, outcome, attempted, SendResult, send_goes_on, runs}
 use Rattle.paths.specs.CubeNetwork.{Shape, network, send_ports, other_ports, attempts, send}
 use Rattle.paths.specs.OldRule.{old_goes_on, old_runs, old_send, EndsEarly, here, later, Changes, AlternateChanges}
 use Rattle.paths.proofs.Scan.{scan_found}
@@ -36,12 +36,12 @@ early_or_same r [] = inr (unfold runs old_runs in refl)
 early_or_same r (none c ∷ xs) =
     ⊎_elim (λ e. inl (c + e.0, later e.1)) (λ e. inr (none_goes_on r c xs ∙ ap (after c) e ∙ sym (none_went_on r c xs))) (early_or_same r xs)
 early_or_same r (found w n ∷ []) = inr (unfold runs old_runs in refl)
-early_or_same (channel k) (found w n ∷ y ∷ ys) = inr (unfold runs old_runs send_goes_on old_goes_on outcome received in refl)
+early_or_same (lowest_available k) (found w n ∷ y ∷ ys) = inr (unfold runs old_runs send_goes_on old_goes_on outcome outcome_of_path in refl)
 early_or_same none_available (found w n ∷ y ∷ ys) = inl (n, here)
 
 -- Where it ends early, it is receive rejected with the scouts up to there,
 early_ends : (r : Receive) (xs : List PassResult) (n : ℕ) → EndsEarly r xs n → runs r xs ≡ record { outcome = receive_rejected; scouts = n }
-early_ends _ _ n here = unfold runs send_goes_on outcome received scouts in refl
+early_ends _ _ n here = unfold runs send_goes_on outcome outcome_of_path scouts in refl
 early_ends r _ _ (later {c = c} {n} {xs} e) = none_goes_on r c xs ∙ ap (after c) (early_ends r xs n e)
 
 -- and the target has no channel,
@@ -51,7 +51,7 @@ early_held r _ _ (later {n = n} {xs} e) = early_held r xs n e
 
 -- so that nothing was acknowledged by the old rule either.
 held_rejects : (x : PassResult) → Acknowledged (outcome none_available x) → ⊥
-unfolding outcome received Acknowledged
+unfolding outcome outcome_of_path Acknowledged
 held_rejects (none c) h = h
 held_rejects (found w c) h = h
 
@@ -59,7 +59,7 @@ old_rejects : (xs : List PassResult) → Acknowledged (old_runs none_available x
 old_rejects [] h = unfold old_runs Acknowledged in h
 old_rejects (x ∷ []) h = held_rejects x (unfold old_runs in h)
 old_rejects (none c ∷ y ∷ ys) h = old_rejects (y ∷ ys) (unfold old_runs old_goes_on outcome in h)
-old_rejects (found w c ∷ y ∷ ys) h = old_rejects (y ∷ ys) (unfold old_runs old_goes_on outcome received in h)
+old_rejects (found w c ∷ y ∷ ys) h = old_rejects (y ∷ ys) (unfold old_runs old_goes_on outcome outcome_of_path in h)
 
 -- The rules compared, of what any attempts in any network come to.
 pub changes : (r : Receive) (xs : List PassResult) → Changes r xs
@@ -78,19 +78,19 @@ changes r xs =
 
 -- Two attempts: the same answer, unless the first finds a path to a target without a channel,
 two_same : (r : Receive) (x y : PassResult) → ((w : Path) (n : ℕ) → x ≡ found w n → r ≢ none_available) → runs r (x ∷ y ∷ []) ≡ old_runs r (x ∷ y ∷ [])
-unfolding runs old_runs send_goes_on old_goes_on outcome received
+unfolding runs old_runs send_goes_on old_goes_on outcome outcome_of_path
 two_same r (none c) y f = refl
-two_same (channel k) (found w n) y f = refl
+two_same (lowest_available k) (found w n) y f = refl
 two_same none_available (found w n) y f = absurd (f w n refl refl)
 
 -- where the old answer was that of the second, with the scouts of both; that is another one, since a pass that finds a path sends a scout.
 both : (w : Path) (n : ℕ) (y : PassResult) → old_runs none_available (found w n ∷ y ∷ []) ≡ record { outcome = outcome none_available y; scouts = n + scouts y }
-unfolding old_runs old_goes_on outcome received scouts
+unfolding old_runs old_goes_on outcome outcome_of_path scouts
 both w n y = refl
 
 apart : (n : ℕ) (y : PassResult) → ((w : Path) (m : ℕ) → y ≡ found w m → 0 < m)
     → ◌≢◌ {A = SendResult} (record { outcome = receive_rejected; scouts = n }) (record { outcome = outcome none_available y; scouts = n + scouts y })
-unfolding outcome received scouts
+unfolding outcome outcome_of_path scouts
 apart n (none c) f e =
     let o : receive_rejected ≡ route_rejected = ap (λ (x : SendResult). x.outcome) e in
     let z : ◌≡◌ {A = ℕ} 0 1 = cc in omega arith

@@ -9,7 +9,7 @@ use Rattle.cube.specs.Helical.{helical}
 use Rattle.paths.specs.Network.{Path, Link, offered, take_first, end, free_path}
 use Rattle.paths.specs.Pass.{over, ways, beginnings, scan, whole, pass, scouts}
 use Rattle.paths.specs.Helix.{helix_from, helix_path, free_front, try_paths}
-use Rattle.paths.specs.Send.{channel, none_available, acknowledged, route_rejected, receive_rejected, received, attempted, outcome, SendResult, send_goes_on, runs}
+use Rattle.paths.specs.Send.{lowest_available, none_available, acknowledged, route_rejected, receive_rejected, outcome_of_path, attempted, outcome, SendResult, send_goes_on, runs}
 use Rattle.paths.specs.CubeNetwork.{Shape, unfolded, ports, network, send_ports, other_ports, attempts, send}
 use Rattle.paths.specs.Waiting.{finds_path, some_attempt}
 use Rattle.paths.proofs.Examples.{free_but, answer}
@@ -56,24 +56,24 @@ helix_ports_lem = refl
 abbrev helix_sends : List SendResult
 helix_sends =
     -- figure 7, links 1 to 5 and 3 to 7 blocked: type 3 is stopped at its third hop; type 1 goes on to port 1, and type 4 finds that path too
-    send 3 (unfolded 3) (free_but ((1, 2) ∷ (3, 2) ∷ [])) (channel 0) 0 7 7
-    ∷ send 1 (unfolded 3) (free_but ((1, 2) ∷ (3, 2) ∷ [])) (channel 0) 0 7 7
-    ∷ send 4 (unfolded 3) (free_but ((1, 2) ∷ (3, 2) ∷ [])) (channel 0) 0 7 7
+    send 3 (unfolded 3) (free_but ((1, 2) ∷ (3, 2) ∷ [])) (lowest_available 0) 0 7 7
+    ∷ send 1 (unfolded 3) (free_but ((1, 2) ∷ (3, 2) ∷ [])) (lowest_available 0) 0 7 7
+    ∷ send 4 (unfolded 3) (free_but ((1, 2) ∷ (3, 2) ∷ [])) (lowest_available 0) 0 7 7
     -- D 2, 0 to 2, vector 3: the lowest port is taken, though it leads away
-    ∷ send 3 (unfolded 2) (free_but []) (channel 5) 0 3 2
+    ∷ send 3 (unfolded 2) (free_but []) (lowest_available 5) 0 3 2
     -- D 2, 0 to 1, vector 2, link 2 to 3 blocked, the second hop: types 3 and 1 do not go back through the source, as type 0 does in example 5
-    ∷ send 3 (unfolded 2) (free_but ((2, 0) ∷ [])) (channel 0) 0 2 1
-    ∷ send 1 (unfolded 2) (free_but ((2, 0) ∷ [])) (channel 0) 0 2 1
+    ∷ send 3 (unfolded 2) (free_but ((2, 0) ∷ [])) (lowest_available 0) 0 2 1
+    ∷ send 1 (unfolded 2) (free_but ((2, 0) ∷ [])) (lowest_available 0) 0 2 1
     -- D 2, 0 to 3, vector 3: the first hop over port 0 blocked; then the second hop of both paths
-    ∷ send 3 (unfolded 2) (free_but ((0, 0) ∷ [])) (channel 0) 0 3 3
-    ∷ send 1 (unfolded 2) (free_but ((0, 0) ∷ [])) (channel 0) 0 3 3
-    ∷ send 1 (unfolded 2) (free_but ((1, 1) ∷ (2, 0) ∷ [])) (channel 0) 0 3 3
+    ∷ send 3 (unfolded 2) (free_but ((0, 0) ∷ [])) (lowest_available 0) 0 3 3
+    ∷ send 1 (unfolded 2) (free_but ((0, 0) ∷ [])) (lowest_available 0) 0 3 3
+    ∷ send 1 (unfolded 2) (free_but ((1, 1) ∷ (2, 0) ∷ [])) (lowest_available 0) 0 3 3
     -- the same with nothing blocked and no receive channel: no further path is tried
     ∷ send 1 (unfolded 2) (free_but []) none_available 0 3 3
     -- D 2, mask 2, 0 to 3, vector 2, link 0 to 2 over port 1 blocked: the partner, port 16, is tried next
-    ∷ send 1 (folded 2 2) (free_but ((0, 1) ∷ [])) (channel 0) 0 2 3
+    ∷ send 1 (folded 2 2) (free_but ((0, 1) ∷ [])) (lowest_available 0) 0 2 3
     -- D 3, mask 1, 0 to 7, vector 1, link 3 to 7 blocked: the paths of ports 0 and 17 share the link from 1 to 3, which counts twice
-    ∷ send 1 (folded 3 1) (free_but ((3, 2) ∷ [])) (channel 0) 0 1 7
+    ∷ send 1 (folded 3 1) (free_but ((3, 2) ∷ [])) (lowest_available 0) 0 1 7
     ∷ []
 
 abbrev helix_answers : List SendResult
@@ -93,7 +93,7 @@ helix_answers =
     ∷ []
 
 helix_sends_lem : helix_sends ≡ helix_answers
-unfolding send attempts attempted network ports send_ports other_ports present axis keep from has flip uphill helical offered end free_path over ways beginnings scan whole pass scouts helix_path helix_from take_first free_front try_paths received outcome send_goes_on runs
+unfolding send attempts attempted network ports send_ports other_ports present axis keep from has flip uphill helical offered end free_path over ways beginnings scan whole pass scouts helix_path helix_from take_first free_front try_paths outcome_of_path outcome send_goes_on runs
 helix_sends_lem = refl
 
 -- Document 02, (c): whether a path that a type may try crosses no blocked link.

@@ -12,11 +12,11 @@ use Rattle.common.specs.Lists.{◌∈◌, any}
 use Rattle.common.proofs.Tests.{clash, is_false, and}
 use Rattle.paths.specs.Network.{Network, Path, Link, links, free_path}
 use Rattle.paths.specs.Pass.{PassResult, none, found}
-use Rattle.paths.specs.Send.{Receive, channel, none_available, Outcome, acknowledged, route_rejected, receive_rejected, Acknowledged, received, outcome, Attempt, send_goes_on, runs}
+use Rattle.paths.specs.Send.{Receive, lowest_available, none_available, Outcome, acknowledged, route_rejected, receive_rejected, Acknowledged, outcome_of_path, outcome, Attempt, send_goes_on, runs}
 use Rattle.paths.specs.Sentences.{Free, Tries, AttemptsSay}
 use Rattle.paths.specs.CubeNetwork.{Shape, Node, network, attempts, send}
 use Rattle.paths.specs.Waiting.{finds_path, some_attempt, CrossesBlocked, AllEnabled, EveryPathBlocked, SomePathEnabled}
-use Rattle.paths.proofs.Words.{free_links}
+use Rattle.paths.proofs.Words.{free_path_links}
 use Rattle.paths.proofs.Attempts.{goes_on_after, runs_stop, runs_on, not_route_rejected, acknowledged_route, route_acknowledged, receive_rejected_route}
 use Rattle.paths.proofs.Send.{send_says}
 
@@ -27,9 +27,9 @@ is_true false h = absurd (h refl)
 
 -- What one attempt comes to is a route rejection exactly where it finds no path,
 rejected_one : (r : Receive) (x : PassResult) → (outcome r x ≡ route_rejected) ↔ (finds_path x ≡ false)
-unfolding outcome received finds_path
+unfolding outcome outcome_of_path finds_path
 rejected_one r (none c) = ((λ e. refl), (λ e. refl))
-rejected_one (channel k) (found w c) = ((λ e. let z : ◌≡◌ {A = ℕ} 0 1 = cc in absurd (omega arith)), (λ e. absurd (clash refl e)))
+rejected_one (lowest_available k) (found w c) = ((λ e. let z : ◌≡◌ {A = ℕ} 0 1 = cc in absurd (omega arith)), (λ e. absurd (clash refl e)))
 rejected_one none_available (found w c) = ((λ e. let z : ◌≡◌ {A = ℕ} 0 1 = cc in absurd (omega arith)), (λ e. absurd (clash refl e)))
 
 -- and so is what attempts made in turn come to, exactly where none of them finds one.
@@ -54,7 +54,7 @@ route_rejected_exactly r (x ∷ y ∷ ys) = go (finds_path x) refl (route_reject
 module _ (N : Network) (enabled : ℕ → ℕ → Bool) where
   enabled_free : (s : ℕ) (w : Path) → AllEnabled N enabled s w ↔ Free N enabled s w
   unfolding AllEnabled
-  enabled_free s w = ((free_links N enabled s w).1, (free_links N enabled s w).0)
+  enabled_free s w = ((free_path_links N enabled s w).1, (free_path_links N enabled s w).0)
 
   crosses : (s : ℕ) (w : Path) → (Free N enabled s w → ⊥) → CrossesBlocked N enabled s w
   unfolding CrossesBlocked free_path links
@@ -68,11 +68,11 @@ module _ (N : Network) (enabled : ℕ → ℕ → Bool) where
 
   not_crossed : (s : ℕ) (w : Path) → Free N enabled s w → CrossesBlocked N enabled s w → ⊥
   unfolding CrossesBlocked
-  not_crossed s w f x = clash ((free_links N enabled s w).0 f x.0 x.1) x.2
+  not_crossed s w f x = clash ((free_path_links N enabled s w).0 f x.0 x.1) x.2
 
 -- a path that is free stays so with more links to take
 pub wider_free : (N : Network) (f g : ℕ → ℕ → Bool) → ((n p : ℕ) → f n p ≡ true → g n p ≡ true) → (s : ℕ) (w : Path) → Free N f s w → Free N g s w
-wider_free N f g more s w h = (free_links N g s w).1 (λ l m. more l.0 l.1 ((free_links N f s w).0 h l m))
+wider_free N f g more s w h = (free_path_links N g s w).1 (λ l m. more l.0 l.1 ((free_path_links N f s w).0 h l m))
 
 -- Tests that agree on every link agree on whether a path is found, in any network.
 pub same_finds : (N : Network) (f g : ℕ → ℕ → Bool) (s t : ℕ) (xs : List Attempt) → ((n p : ℕ) → f n p ≡ g n p) → some_attempt N f s t xs ≡ some_attempt N g s t xs
@@ -100,16 +100,16 @@ module _ (S : Shape) (fits : S.dimension ≤ largest_dimension) (s t type vector
 
   -- one of them finds a path exactly where one of them has a path over links that may be taken
   finds_path_lem : (allowed : ℕ → ℕ → Bool) → (finds allowed ≡ true) ↔ FreePathOf allowed
-  finds_path_lem allowed = (λ e. there e (send type S allowed (channel 0) s vector t).outcome refl, back)
+  finds_path_lem allowed = (λ e. there e (send type S allowed (lowest_available 0) s vector t).outcome refl, back)
     where
-      there : finds allowed ≡ true → (o : Outcome) → (send type S allowed (channel 0) s vector t).outcome ≡ o → FreePathOf allowed
-      there e (acknowledged w k) i = (acknowledged_route (network S) s t allowed (channel 0) tried w k _ (rw i at (says allowed (channel 0)))).0
-      there e route_rejected i = absurd (clash e ((rejected_exactly allowed (channel 0)).0 i))
-      there e receive_rejected i = (receive_rejected_route (network S) s t allowed (channel 0) tried _ (rw i at (says allowed (channel 0)))).0
+      there : finds allowed ≡ true → (o : Outcome) → (send type S allowed (lowest_available 0) s vector t).outcome ≡ o → FreePathOf allowed
+      there e (acknowledged w k) i = (acknowledged_route (network S) s t allowed (lowest_available 0) tried w k _ (rw i at (says allowed (lowest_available 0)))).0
+      there e route_rejected i = absurd (clash e ((rejected_exactly allowed (lowest_available 0)).0 i))
+      there e receive_rejected i = (receive_rejected_route (network S) s t allowed (lowest_available 0) tried _ (rw i at (says allowed (lowest_available 0)))).0
 
       back : FreePathOf allowed → finds allowed ≡ true
       back x =
-          is_true _ (λ e. not_route_rejected (network S) s t allowed (channel 0) tried _ _ (says allowed (channel 0)) x ((rejected_exactly allowed (channel 0)).1 e))
+          is_true _ (λ e. not_route_rejected (network S) s t allowed (lowest_available 0) tried _ _ (says allowed (lowest_available 0)) x ((rejected_exactly allowed (lowest_available 0)).1 e))
 
   -- The computed test is true exactly where some path that the type may try crosses no blocked link,
   pub waiting_exactly : (enabled : ℕ → ℕ → Bool) → (finds enabled ≡ true) ↔ SomePathEnabled (network S) enabled s t tried

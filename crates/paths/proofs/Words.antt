@@ -56,11 +56,11 @@ permitted_in_words N s vector t w = (there w, back)
         )
 
 -- "A path is free if all its links are."
-pub free_links : (N : Network) (free : ℕ → ℕ → Bool) (n : ℕ) (w : Path) → (free_path N free n w ≡ true) ↔ ((l : Link) → l ∈ links N n w → free l.0 l.1 ≡ true)
+pub free_path_links : (N : Network) (free : ℕ → ℕ → Bool) (n : ℕ) (w : Path) → (free_path N free n w ≡ true) ↔ ((l : Link) → l ∈ links N n w → free l.0 l.1 ≡ true)
 unfolding free_path links
-free_links N free n [] = ((λ e l m. absurd (Memᴰ.not-nil m)), (λ h. refl))
-free_links N free n (p ∷ w) =
-    let ih = free_links N free (N.next n p) w in (
+free_path_links N free n [] = ((λ e l m. absurd (Memᴰ.not-nil m)), (λ h. refl))
+free_path_links N free n (p ∷ w) =
+    let ih = free_path_links N free (N.next n p) w in (
       (λ e l m. let b = both (free n p) (free_path N free (N.next n p) w) e in ⊎_elim (λ i. rw i b.0) (λ k. ih.0 b.1 l k) (Memᴰ.cases_cons m)),
       (λ h. and (h (n, p) (Memᴰ.head refl)) (ih.1 (λ l m. h l (Memᴰ.tail m)))),
     )

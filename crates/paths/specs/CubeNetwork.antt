@@ -38,6 +38,10 @@ is_link_of S n p = is_node S n && ltb p S.dimension
 unfoldable pub ports : Shape → List ℕ
 ports S = keep (present S.dimension S.fold) (from 0 positions)
 
+-- the axes of the cube, one for each dimension
+abbrev pub axes : Shape → List ℕ
+axes S = from 0 S.dimension
+
 -- a port leads to the node that differs in the bit of its axis; ports whose axis is uphill are offered, and the target is as many hops away
 -- as there are uphill axes
 unfoldable pub network : Shape → Network
@@ -46,7 +50,7 @@ network S =
       port_bound = positions;
       next = next;
       offers = λ t n q. present S.dimension S.fold q && uphill t n (axis q);
-      distance = λ t n. length (keep (uphill t n) (from 0 S.dimension));
+      distance = λ t n. length (keep (uphill t n) (axes S));
     }
 
 -- The ports of a send vector, and "every port below D that was not in the given vector (perhaps none)", both rising. Document 02, (h): a vector

@@ -9,12 +9,12 @@ use Rattle.paths.specs.Helix.{helix_path, try_paths}
 
 -- document 02, (a): "The target takes its lowest channel that is armed and not held": that channel, or none where there is no such channel
 pub data Receive : Type 0 where
-  channel : ℕ → Receive
+  lowest_available : ℕ → Receive
   none_available : Receive
 
 -- the lowest of a node's channels that passes a test, if any does
 unfoldable pub lowest_of : (ℕ → Bool) → Receive
-lowest_of f = cond (eqb (lowest f channels 0) channels) none_available (channel (lowest f channels 0))
+lowest_of f = cond (eqb (lowest f channels 0) channels) none_available (lowest_available (lowest f channels 0))
 
 -- "With none, route rejected. With one", the target takes its channel; where there is none to take, receive rejected.
 pub data Outcome : Type 0 where
@@ -28,13 +28,13 @@ Acknowledged (acknowledged w c) = Unit
 Acknowledged route_rejected = ⊥
 Acknowledged receive_rejected = ⊥
 
-unfoldable pub received : Path → Receive → Outcome
-received w (channel c) = acknowledged w c
-received w none_available = receive_rejected
+unfoldable pub outcome_of_path : Path → Receive → Outcome
+outcome_of_path w (lowest_available c) = acknowledged w c
+outcome_of_path w none_available = receive_rejected
 
 unfoldable pub outcome : Receive → PassResult → Outcome
 outcome r (none c) = route_rejected
-outcome r (found w c) = received w r
+outcome r (found w c) = outcome_of_path w r
 
 -- What a send tries in turn: the permitted paths whose first hop is a port of a list, in one pass; or the helix path of each port of a list, one after
 -- another.

@@ -7,7 +7,7 @@ use Rattle.paths.specs.Network.{Network, Path, free_path}
 use Rattle.paths.specs.Permitted.{Permitted, Beginning, ComesBefore}
 use Rattle.paths.specs.Pass.{PassResult, none, found}
 use Rattle.paths.specs.Helix.{IsHelix, HelixPaths, TriedSays}
-use Rattle.paths.specs.Send.{Receive, channel, none_available, Outcome, acknowledged, route_rejected, receive_rejected, Attempt, pass_over, helix_paths}
+use Rattle.paths.specs.Send.{Receive, lowest_available, none_available, Outcome, acknowledged, route_rejected, receive_rejected, Attempt, pass_over, helix_paths}
 
 -- c is the number of paths with P: a list holds exactly those, each once, and is c long
 pub record Number (P : Path → Type 0) (c : ℕ) : Type 0 where
@@ -43,7 +43,7 @@ module _ (N : Network) (free : ℕ → ℕ → Bool) (s : ℕ) (vector : List �
 -- What the answer of one attempt says, given what its search says and what the target's receive channels are: "With none, route rejected. With one",
 -- the target takes the receive channel that is there to take; where there is none, receive rejected. The scouts are the search's in each case.
 pub data AnswerSays (Search : PassResult → Type 0) (r : Receive) : Outcome → ℕ → Type 0 where
-  says_acknowledged : {w : Path} {k c : ℕ} → r ≡ channel k → Search (found w c) → AnswerSays Search r (acknowledged w k) c
+  says_acknowledged : {w : Path} {k c : ℕ} → r ≡ lowest_available k → Search (found w c) → AnswerSays Search r (acknowledged w k) c
   says_receive_rejected : {w : Path} {c : ℕ} → r ≡ none_available → Search (found w c) → AnswerSays Search r receive_rejected c
   says_route_rejected : {c : ℕ} → Search (none c) → AnswerSays Search r route_rejected c
 

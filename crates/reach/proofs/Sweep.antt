@@ -31,7 +31,7 @@ use Rattle.layout.specs.Layout.{dimension_at}
 use Rattle.entries.specs.EntryContracts.{enable_bits}
 use Rattle.table.specs.View.{view, net, shape_of}
 use Rattle.layout.proofs.Entries.{enabled_has}
-use Rattle.reach.specs.Marks.{marked, leads, reaches_on, ReachMarks, MaySweep}
+use Rattle.reach.specs.Marks.{reach_mark, leads, reaches_on, ReachMarks, MaySweep}
 
 -- `^` with a number twice changes nothing, and a bit changed before or behind it is the same
 pub xor_back : (w x t : ℕ) → x < 2 ^ w → t < 2 ^ w → bit_xor (bit_xor x t) t ≡ x
@@ -69,7 +69,7 @@ narrowed f g v bits h =
 -- the marks of all nodes that differ from the target in a vector below x are right
 pub record Swept (b : List ℕ) (t x : ℕ) (marks : List Bool) : Type 0 where
   pub size : length marks ≡ 256
-  pub right : (k : ℕ) → k < x → VectorOf (dimension_at b) k → marked marks (bit_xor k t) ≡ reaches_on b t (bit_xor k t)
+  pub right : (k : ℕ) → k < x → VectorOf (dimension_at b) k → reach_mark marks (bit_xor k t) ≡ reaches_on b t (bit_xor k t)
 
 module _ (b : List ℕ) (t : ℕ) (may : MaySweep b t) where
   abbrev D : ℕ
@@ -96,11 +96,11 @@ module _ (b : List ℕ) (t : ℕ) (may : MaySweep b t) where
   -- A port of a vector leads to a marked node exactly where one does that is enabled and leads to a node that reaches the target, where the marks behind
   -- the vector's ports are right.
   leads_reaches : (marks : List Bool) (n v x : ℕ) → NodeOf D n → VectorOf D v → x ≡ enable_bits b n
-      → ((p : ℕ) → p < D → has v p ≡ true → marked marks (next n p) ≡ reaches_on b t (next n p))
+      → ((p : ℕ) → p < D → has v p ≡ true → reach_mark marks (next n p) ≡ reaches_on b t (next n p))
       → leads marks n (bit_and v x) ≡ any (λ p. enabled n p && reaches_on b t (N.next n p)) (ports_of port_count v)
   unfolding leads network
   leads_reaches marks n v x i h e right =
-      narrowed (λ p. marked marks (next n p)) (enabled n) v x (bits_of n x i e)
+      narrowed (λ p. reach_mark marks (next n p)) (enabled n) v x (bits_of n x i e)
       ∙ any_same _ _ (ports_of port_count v) (λ p m. let k = port_of v p h m in ap (enabled n p &&◌) (right p k.0 k.1))
 
   pub inside : (x : ℕ) → VectorOf D x → NodeOf D (bit_xor x t)
@@ -122,7 +122,7 @@ module _ (b : List ℕ) (t : ℕ) (may : MaySweep b t) where
         right = λ k l h. let z : k ≡ 0 = omega arith in rw (z, xor_zero_l t) (here ∙ sym there);
       }
     where
-      here : marked (set marks t true) t ≡ true
+      here : reach_mark (set marks t true) t ≡ true
       here = get_or-set_same marks t true false (omega (arith, below_256 may.fits may.target))
 
       there : reaches_on b t t ≡ true
@@ -147,7 +147,7 @@ module _ (b : List ℕ) (t : ℕ) (may : MaySweep b t) where
       off : eqb n t ≡ false
       off = ne_eqb n t (λ z. omega (arith, sym back ∙ ap (λ y. bit_xor y t) z ∙ xor_self t))
 
-      right : (p : ℕ) → p < D → has x p ≡ true → marked marks (next n p) ≡ reaches_on b t (next n p)
+      right : (p : ℕ) → p < D → has x p ≡ true → reach_mark marks (next n p) ≡ reaches_on b t (next n p)
       right p l u =
           let there : next n p ≡ bit_xor (flip x p) t = leads_to n p l ∙ xor_flip D x t p h may.target l in
           rw there (s.right (flip x p) (omega (arith, flip_drops x p u, pow_pos p)) (flip_inside D x p h l))
@@ -160,10 +160,10 @@ module _ (b : List ℕ) (t : ℕ) (may : MaySweep b t) where
         right = λ k l j. ⊎_elim (λ z. rw z here) (λ z. other k (omega arith) j) (same? k x);
       }
     where
-      here : marked (set marks (bit_xor x t) r) (bit_xor x t) ≡ reaches_on b t (bit_xor x t)
+      here : reach_mark (set marks (bit_xor x t) r) (bit_xor x t) ≡ reaches_on b t (bit_xor x t)
       here = get_or-set_same marks (bit_xor x t) r false (omega (arith, s.size, below_256 may.fits (inside x h))) ∙ e
 
-      other : (k : ℕ) → k < x → VectorOf D k → marked (set marks (bit_xor x t) r) (bit_xor k t) ≡ reaches_on b t (bit_xor k t)
+      other : (k : ℕ) → k < x → VectorOf D k → reach_mark (set marks (bit_xor x t) r) (bit_xor k t) ≡ reaches_on b t (bit_xor k t)
       other k l j = get_or-set_other marks (bit_xor x t) (bit_xor k t) r false apart ∙ s.right k l j
         where
           apart : bit_xor k t ≢ bit_xor x t

@@ -12,12 +12,12 @@ use Rattle.layout.specs.Layout.{table_length, dimension_at}
 use Rattle.table.specs.View.{view, net}
 
 -- a node is marked
-abbrev pub marked : List Bool → ℕ → Bool
-marked marks n = get_or marks n false
+abbrev pub reach_mark : List Bool → ℕ → Bool
+reach_mark marks n = get_or marks n false
 
 -- a port of a vector leads from node n to a marked one
 unfoldable pub leads : List Bool → ℕ → ℕ → Bool
-leads marks n vector = any (λ p. marked marks (next n p)) (ports_of port_count vector)
+leads marks n vector = any (λ p. reach_mark marks (next n p)) (ports_of port_count vector)
 
 -- a node of a table's cube reaches t over enabled links
 unfoldable pub reaches_on : List ℕ → ℕ → ℕ → Bool
@@ -25,7 +25,7 @@ reaches_on b t n = reaches (net (view b)) (view b).enabled t n
 
 -- exactly those nodes are marked that do
 unfoldable pub ReachMarks : List ℕ → ℕ → List Bool → Type 0
-ReachMarks b t marks = (n : ℕ) → NodeOf (dimension_at b) n → marked marks n ≡ reaches_on b t n
+ReachMarks b t marks = (n : ℕ) → NodeOf (dimension_at b) n → reach_mark marks n ≡ reaches_on b t n
 
 -- the links of the helix path of port p are all enabled
 unfoldable pub helix_enabled : List ℕ → ℕ → ℕ → ℕ → Bool

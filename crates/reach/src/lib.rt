@@ -12,7 +12,7 @@ ghost use Rattle.paths.specs.CubeNetwork.{send_ports, attempts};
 ghost use Rattle.layout.specs.Layout.{dimension_at};
 ghost use Rattle.entries.specs.EntryContracts.{Within};
 ghost use Rattle.table.specs.View.{view, net, shape_of};
-ghost use Rattle.reach.specs.Marks.{marked, leads, ReachMarks, helix_enabled, MaySweep, MayAsk};
+ghost use Rattle.reach.specs.Marks.{reach_mark, leads, ReachMarks, helix_enabled, MaySweep, MayAsk};
 
 use answers::SendRequest;
 use cube::{FirstPortTable, Node, Port, RoutingType, VectorPorts};
@@ -27,7 +27,7 @@ fn leads_on(marks: &[bool; 256], n: Node, vector: u16) -> bool
     VectorPorts::new(vector).any(
         |p|
             requires { (n.0 < 256) × (p.0 < port_count) }
-            ensures { result ≡ marked marks.entry.now (next n.0 p.0) }
+            ensures { result ≡ reach_mark marks.entry.now (next n.0 p.0) }
         { marks[usize::from(cube::neighbour(n, p).0)] },
     )
 }

@@ -5,7 +5,7 @@ use native.Mathlib.Nat.{min-eq_left, min-eq_right}
 use borrow.Author.Tests.{eqb-false}
 use Rattle.command_word.specs.Word.{read_word}
 use Rattle.receiver.specs.declared.Channel.{Channel}
-use Rattle.receiver.specs.Receive.{Packet, data_packet, command_word, eight_more, one_less, overflows, after_data, stops, after_command, unread, numbered, taken, received}
+use Rattle.receiver.specs.Receive.{Packet, data_packet, command_word, eight_more, one_less, overflows, after_data, stops, after_command, unread, numbered, after_packet, received}
 use Rattle.receiver.specs.Machine.{Start, Machine, is_end, number, next, Shows}
 use Rattle.receiver.proofs.Steps.{unread_number, stopped_number, taken_number}
 
@@ -50,8 +50,8 @@ module _ (s : Start) (m : Machine) (c : Channel) (fits : s.count < 2 ^ 32) (runn
   not_zero l e = omega arith
 
   -- the address stands, or moves by 8
-  stands : s.count ≤ m.packets → c.address ≡ (s.address + 8 * min (suc m.packets) s.count) % 2 ^ 32
-  stands g =
+  address_stands : s.count ≤ m.packets → c.address ≡ (s.address + 8 * min (suc m.packets) s.count) % 2 ^ 32
+  address_stands g =
       let l : s.count ≤ suc m.packets = omega arith in
       rw (min-eq_right l) (rw (min-eq_right g) at h.shows.address)
 
@@ -100,7 +100,7 @@ module _ (s : Start) (m : Machine) (c : Channel) (fits : s.count < 2 ^ 32) (runn
           (rw (over true e))
           (rw e)
           (lt-ltb g (suc n) (omega arith))
-          (stands (omega arith))
+          (address_stands (omega arith))
       go false e true f =
           let same : n ≡ g = eqb-true n g f in
           let zero : c.count ≡ 0 = is_zero same in
@@ -109,7 +109,7 @@ module _ (s : Start) (m : Machine) (c : Channel) (fits : s.count < 2 ^ 32) (runn
           (rw (over false e, eq-eqb c.count 0 zero))
           (rw (e, f))
           (lt-ltb g (suc n) (omega arith))
-          (stands (omega arith))
+          (address_stands (omega arith))
       go false e false f =
           let most : n ≤ g = ltb-false g n (sym h.mark ∙ e) in
           let other : n ≢ g = eqb-false n g f in
@@ -153,7 +153,7 @@ same_end s c command e = rw e (go (eqb command 9) (eqb command 8) (eqb s.ignores
 
 -- One packet.
 pub step_held : (s : Start) (m : Machine) (c : Channel) (p : Packet) → s.count < 2 ^ 32 → Held s m c → Held s (next s m p) (received c p).channel
-unfolding received number next is_end taken after_command
+unfolding received number next is_end after_packet after_command
 step_held s m c data_packet fits h = rw (number_same m c data_packet h.shows.running) (go m.stopped refl)
   where
     go : (b : Bool) → m.stopped ≡ b → Held s (cond b m (one_more s m)) (cond (eqb (cond b 30 0) 0) (after_data c) c)

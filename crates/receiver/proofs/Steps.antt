@@ -4,7 +4,7 @@ use Rattle.std.proofs.Common.{◌≡◌, ℕ, ◌+◌, ◌%◌, ◌^◌, ◌<◌
 use Rattle.common.proofs.Tests.{refused, passed, accepted}
 use Rattle.command_word.specs.Word.{read_word}
 use Rattle.receiver.specs.declared.Channel.{Channel}
-use Rattle.receiver.specs.Receive.{Packet, data_packet, command_word, packet_tests, unread, numbered, taken, received, one_less, after_data, stops, after_command}
+use Rattle.receiver.specs.Receive.{Packet, data_packet, command_word, packet_tests, unread, numbered, after_packet, received, one_less, after_data, stops, after_command}
 
 -- the number of a packet, by which of its tests applies
 pub unread_number : (c : Channel) (p : Packet) (n : ℕ) → n ≡ unread p → n ≢ 0 → numbered c p ≡ n
@@ -24,7 +24,7 @@ refused_as : (c : Channel) (p : Packet) (n : ℕ) → numbered c p ≡ n → n �
 unfolding received
 refused_as c p n e h = rw (e, ne_eqb n 0 h)
 
-accepted_as : (c : Channel) (p : Packet) → numbered c p ≡ 0 → record { channel = taken c p; number = 0 } ≡ received c p
+accepted_as : (c : Channel) (p : Packet) → numbered c p ≡ 0 → record { channel = after_packet c p; number = 0 } ≡ received c p
 unfolding received
 accepted_as c p e = rw e
 
@@ -43,7 +43,7 @@ unfolding unread
 data_stopped c e = refused_as c data_packet 30 (stopped_number c data_packet refl e) (λ z. omega arith)
 
 pub data_taken : (c d : Channel) → c.running ≢ 0 → d ≡ after_data c → record { channel = d; number = 0 } ≡ received c data_packet
-unfolding unread taken
+unfolding unread after_packet
 data_taken c d h e = rw e (accepted_as c data_packet (taken_number c data_packet refl h))
 
 -- command words
@@ -57,7 +57,7 @@ word_stopped c word r e = refused_as c (command_word word) 30 (stopped_number c 
 
 pub word_taken : (c d : Channel) (word command : ℕ) → (read_word word).number ≡ 0 → command ≡ (read_word word).command → c.running ≢ 0 → d ≡ after_command c command
     → record { channel = d; number = 0 } ≡ received c (command_word word)
-unfolding unread taken
+unfolding unread after_packet
 word_taken c d word command r k h e = rw (e, k) (accepted_as c (command_word word) (taken_number c (command_word word) r h))
 
 -- A command that stops nothing changes nothing.

@@ -86,13 +86,13 @@ unfoldable pub numbered : Channel → Packet → ℕ
 numbered c p = refusal (packet_tests c (unread p))
 
 -- what an accepted packet does
-unfoldable pub taken : Channel → Packet → Channel
-taken c data_packet = after_data c
-taken c (command_word word) = after_command c (read_word word).command
+unfoldable pub after_packet : Channel → Packet → Channel
+after_packet c data_packet = after_data c
+after_packet c (command_word word) = after_command c (read_word word).command
 
 -- What a packet does, and its number. "both change nothing": a refusal leaves the channel as it is.
 unfoldable pub received : Channel → Packet → Received
-received c p = record { channel = cond (numbered c p == 0) (taken c p) c; number = numbered c p }
+received c p = record { channel = cond (numbered c p == 0) (after_packet c p) c; number = numbered c p }
 
 -- what the code answers a packet: the channel after it, or a refusal, which leaves the channel as it is
 abbrev pub received_as : Channel → Result Channel Refusal → Received

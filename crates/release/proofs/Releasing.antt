@@ -168,9 +168,9 @@ module _ {b : List ℕ} {c : ℕ} (known : HasSource b c) (some : is_open_in (vi
       target_within = record { bytes = ap length held ∙ hold_length b 0 (source_of c) path ∙ known.bytes; node = rw at_Target (below_256 known.fits target_inside); port = lit< tt }
 
       -- freeing links leaves the receive channels, of which the circuit holds one there
-      received : (j : ℕ) → eqb (receiver_at b₁ t j) c ≡ eqb ((view b).receiver target j) c
+      channel_same : (j : ℕ) → eqb (receiver_at b₁ t j) c ≡ eqb ((view b).receiver target j) c
       unfolding view
-      received j = ap (λ x. eqb x c) (ap (λ x. receiver_at x t j) held ∙ ap (λ (v : View). v.receiver t j) (shown ∙ held_path (view b) (shape_of (view b)) 0 (source_of c) path) ∙ ap (λ x. receiver_at b x j) at_Target)
+      channel_same j = ap (λ x. eqb x c) (ap (λ x. receiver_at x t j) held ∙ ap (λ (v : View). v.receiver t j) (shown ∙ held_path (view b) (shape_of (view b)) 0 (source_of c) path) ∙ ap (λ x. receiver_at b x j) at_Target)
         where
           shown : view (hold_path b 0 (source_of c) path) ≡ hold_links (view b) 0 (source_of c) path
           shown = view_hold 0 (lit< tt) (dimension_at b) known.fits b known.bytes (source_of c) path known.source ports_below
@@ -179,10 +179,10 @@ module _ {b : List ℕ} {c : ℕ} (known : HasSource b c) (some : is_open_in (vi
         the_channel : k ≡ stands.receive
         the_channel =
             let f : ℕ → Bool = λ j. eqb (receiver_at b₁ t j) c in
-            let yes : f stands.receive ≡ true = received stands.receive ∙ eq-eqb _ c receives in
+            let yes : f stands.receive ≡ true = channel_same stands.receive ∙ eq-eqb _ c receives in
             let most : lowest f 8 0 < 0 + 8 = ⊎_elim (λ l. l) (λ l. absurd (clash yes (lowest_before f 8 0 stands.receive (omega arith) (omega (arith, stands.small, l))))) (below_or 8 (lowest f 8 0)) in
             let here = lowest_passes f 8 0 most in
-            found ∙ eqb-true _ _ (both (eqb target target) _ (channel_held_lem target (lowest f 8 0) ∙ sym (received (lowest f 8 0)) ∙ here)).1
+            found ∙ eqb-true _ _ (both (eqb target target) _ (channel_held_lem target (lowest f 8 0) ∙ sym (channel_same (lowest f 8 0)) ∙ here)).1
 
         pub channel_within : Within b₁ t k
         channel_within = record { bytes = target_within.bytes; node = target_within.node; port = omega (arith, the_channel, stands.small) }

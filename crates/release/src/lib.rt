@@ -14,7 +14,7 @@ use cube::{Circuit, Node, Port};
 use table::{Channels, Links};
 
 // Frees the link out of the first port of a path at a node, then that out of the next port at the node behind it, and so on.
-fn free_links(t: &mut [u8], source: Node, path: &[u8])
+fn release_links(t: &mut [u8], source: Node, path: &[u8])
     requires { MayFree t.old source.0 path.now }
     ensures { t.new ≡ hold_path t.old 0 source.0 path.now }
 {
@@ -35,7 +35,7 @@ pub fn release(t: &mut [u8], c: Circuit)
 {
     let mut ports = [0u8; 9];
     let path = circuit_path::path(t, c, &mut ports);
-    free_links(t, cube::source_of(c), path.ports);
+    release_links(t, cube::source_of(c), path.ports);
     let target = path.end;
     if let Some(channel) = table::held_channel(t, c, target) {
         table::set_owner::<Channels>(t, target, channel, Circuit(0));

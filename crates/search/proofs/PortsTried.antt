@@ -62,8 +62,8 @@ pub record PortsTried (b : List ℕ) (t c : ℕ) (r : Receive) (n vector a h s :
   pub room : sent + length (ports_of port_count left) * (1 + ways_from 1 (farthest_after b t n vector)) < 2 ^ 32
   pub rest : try_answer b t c r n left a h sent ≡ try_answer b t c r n vector a h s
 
-pub first_turn : {b : List ℕ} {t c : ℕ} {r : Receive} {n v a h s : ℕ} → MayTry b t c n v a h s → PortsTried b t c r n v a h s b v s
-first_turn may = record { same = refl; ports = may.ports; sub = λ p m. m; room = may.room; rest = refl }
+pub before_first_port : {b : List ℕ} {t c : ℕ} {r : Receive} {n v a h s : ℕ} → MayTry b t c n v a h s → PortsTried b t c r n v a h s b v s
+before_first_port may = record { same = refl; ports = may.ports; sub = λ p m. m; room = may.room; rest = refl }
 
 -- the answer of a node once it has tried the ports of a list
 abbrev tried : List ℕ → ℕ → ℕ → Receive → ℕ → ℕ → List ℕ → ℕ → PassAnswer
@@ -150,9 +150,9 @@ module _ {b now : List ℕ} {t c n a h v left p sent s : ℕ} {r : Receive} (may
   on = arrival_after (net (view b)) (free_in (view b)) t n
 
   -- the link is not free: on with the other ports
-  pub turn_busy : free_in (view now) n p ≡ false → {x : ℕ} → Without left p x → PortsTried b t c r n v a h s now x sent
+  pub tried_not_free : free_in (view now) n p ≡ false → {x : ℕ} → Without left p x → PortsTried b t c r n v a h s now x sent
   unfolding try_answer
-  turn_busy e less =
+  tried_not_free e less =
       rw (left_over less)
       record {
         same = inv.same;
@@ -173,16 +173,16 @@ module _ {b now : List ℕ} {t c n a h v left p sent s : ℕ} {r : Receive} (may
     answer e = sym e ∙ arrival ∙ handed_on b t c r n p h sent here_within may.here.small may.here.circuit (now_held held) to
 
     -- a free path, and a receive channel to take
-    pub turn_acknowledged : {x y d : ℕ} {b₂ : List ℕ} → got ≡ pass_answer 0 x y d b₂ → got ≡ try_answer b t c r n v a h s
-    turn_acknowledged {x} {y} {d} {b₂} e =
+    pub tried_acknowledged : {x y d : ℕ} {b₂ : List ℕ} → got ≡ pass_answer 0 x y d b₂ → got ≡ try_answer b t c r n v a h s
+    tried_acknowledged {x} {y} {d} {b₂} e =
         e ∙ port_acknowledged (free_in (view b) n) on b c n h r p others sent free y x d b₂ (answer e) ∙ all_tries
 
     restored : {b₂ b₃ : List ℕ} → b₂ ≡ put_owner b n p c → b₃ ≡ put_owner b₂ n p 0 → b₃ ≡ b
     restored e q = q ∙ ap (λ y. put_owner y n p 0) e ∙ given_back b n p c here_within (unfold view in free_owner (view b) n p free)
 
     -- a free path, and none to take
-    pub turn_full : {d : ℕ} {b₂ b₃ : List ℕ} → got ≡ pass_answer 11 0 0 d b₂ → b₃ ≡ put_owner b₂ n p 0 → pass_answer 11 0 0 d b₃ ≡ try_answer b t c r n v a h s
-    turn_full {d} {b₂} e q =
+    pub tried_rejected : {d : ℕ} {b₂ b₃ : List ℕ} → got ≡ pass_answer 11 0 0 d b₂ → b₃ ≡ put_owner b₂ n p 0 → pass_answer 11 0 0 d b₃ ≡ try_answer b t c r n v a h s
+    tried_rejected {d} {b₂} e q =
         let w = port_receive_rejected (free_in (view b) n) on b c n h r p others sent free 0 0 d b₂ (answer e) in
         ap (pass_answer 11 0 0 d) (restored w.0 q) ∙ w.1 ∙ all_tries
 
@@ -195,9 +195,9 @@ module _ {b now : List ℕ} {t c n a h v left p sent s : ℕ} {r : Receive} (may
         omega (arith, all, m, same)
 
     -- no free path
-    pub turn_next : {d x : ℕ} {b₂ b₃ : List ℕ} → got ≡ pass_answer 10 0 0 d b₂ → Without left p x → b₃ ≡ put_owner b₂ n p 0 → PortsTried b t c r n v a h s b₃ x d
+    pub tried_next : {d x : ℕ} {b₂ b₃ : List ℕ} → got ≡ pass_answer 10 0 0 d b₂ → Without left p x → b₃ ≡ put_owner b₂ n p 0 → PortsTried b t c r n v a h s b₃ x d
     unfolding try_answer
-    turn_next {d} {x} {b₂} e less u =
+    tried_next {d} {x} {b₂} e less u =
         let w = port_route_rejected (free_in (view b) n) on b c n h r p others sent free 0 0 d b₂ (answer e) in
         rw (left_over less)
         record {
@@ -209,10 +209,10 @@ module _ {b now : List ℕ} {t c n a h v left p sent s : ℕ} {r : Receive} (may
         }
 
 -- no port left
-pub turn_over : {b : List ℕ} {t c n v a h s : ℕ} {r : Receive} {now : List ℕ} {left sent : ℕ} → PortsTried b t c r n v a h s now left sent → left ≡ 0
+pub no_port_left : {b : List ℕ} {t c n v a h s : ℕ} {r : Receive} {now : List ℕ} {left sent : ℕ} → PortsTried b t c r n v a h s now left sent → left ≡ 0
     → pass_answer 10 0 0 sent now ≡ try_answer b t c r n v a h s
 unfolding try_answer
-turn_over {b} {t} {c} {n} {v} {a} {h} {s} {r} {now} {left} {sent} inv z =
+no_port_left {b} {t} {c} {n} {v} {a} {h} {s} {r} {now} {left} {sent} inv z =
     let none : helical a (ports_of port_count left) ≡ [] = ap (λ x. helical a (ports_of port_count x)) z ∙ helical_zero 8 a in
     let over = ports_over (free_in (view b) n) (arrival_after (net (view b)) (free_in (view b)) t n) b c n h r sent in
     ap (pass_answer 10 0 0 sent) inv.same ∙ over ∙ ap (λ ps. tried b t c r n h ps sent) (sym none) ∙ inv.rest

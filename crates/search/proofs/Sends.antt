@@ -20,7 +20,7 @@ use Rattle.cube.specs.Helical.{ports_of}
 use Rattle.cube.proofs.Order.{length_ports}
 use Rattle.paths.specs.Pass.{PassResult, none, found, pass, scouts}
 use Rattle.paths.specs.Search.{trying, sending}
-use Rattle.paths.specs.Send.{Receive, channel, none_available, lowest_of, one_result, received, outcome}
+use Rattle.paths.specs.Send.{Receive, lowest_available, none_available, lowest_of, one_result, outcome_of_path, outcome}
 use Rattle.paths.specs.CubeNetwork.{Shape, network, send_ports, other_ports}
 use Rattle.paths.proofs.Depth.{search_is_pass}
 use Rattle.paths.proofs.CubeNetwork.{distance_within, scouts_bound, other_vector}
@@ -75,13 +75,13 @@ module _ {b : List ℕ} {s t c vector : ℕ} (may : MaySend b s t c vector) wher
 -- The answer of a pass that was acknowledged, with the receive channel taken; and of one that was not.
 module _ (b : List ℕ) (c s t : ℕ) (r : Receive) where
   pub pass_taken : (p : PassResult) {x h k n : ℕ} {b₁ b₂ : List ℕ} → pass_answer x h k n b₁ ≡ answer_of_pass b c s 0 r p → x ≡ 0 → b₂ ≡ put_receiver b₁ t k c → pass_answer x h k n b₂ ≡ send_answer true b c s t (one_result r p)
-  unfolding answer_of_pass send_answer bytes_after_send answer_of_outcome outcome received scouts
+  unfolding answer_of_pass send_answer bytes_after_send answer_of_outcome outcome outcome_of_path scouts
   pass_taken (none m) {x} q z e = let y : x ≡ 10 = cc in absurd (omega arith)
   pass_taken (found w m) {x} {h} {k} {n} {b₁} {b₂} q z e = go r q
     where
       go : (r : Receive) → pass_answer x h k n b₁ ≡ answer_of_pass b c s 0 r (found w m) → pass_answer x h k n b₂ ≡ send_answer true b c s t (one_result r (found w m))
       go none_available u = let y : x ≡ 11 = cc in absurd (omega arith)
-      go (channel j) u =
+      go (lowest_available j) u =
           let i : k ≡ j = cc in
           let l₀ : h ≡ 0 + length w = cc in
           let l : h ≡ length w = omega arith in
@@ -90,13 +90,13 @@ module _ (b : List ℕ) (c s t : ℕ) (r : Receive) where
           rw (z, l, o, e, d, i) refl
 
   pub pass_rejected : (p : PassResult) {x h k n : ℕ} {b₁ : List ℕ} → pass_answer x h k n b₁ ≡ answer_of_pass b c s 0 r p → x ≢ 0 → pass_answer x h k n b₁ ≡ send_answer true b c s t (one_result r p)
-  unfolding answer_of_pass send_answer bytes_after_send answer_of_outcome outcome received scouts
+  unfolding answer_of_pass send_answer bytes_after_send answer_of_outcome outcome outcome_of_path scouts
   pass_rejected (none m) q f = q
   pass_rejected (found w m) {x} {h} {k} {n} {b₁} q f = go r q
     where
       go : (r : Receive) → pass_answer x h k n b₁ ≡ answer_of_pass b c s 0 r (found w m) → pass_answer x h k n b₁ ≡ send_answer true b c s t (one_result r (found w m))
       go none_available u = u
-      go (channel j) u = let y : x ≡ 0 = cc in absurd (f y)
+      go (lowest_available j) u = let y : x ≡ 0 = cc in absurd (f y)
 
 -- "every port below D that was not in the given vector": the ports of the vector with every bit below D changed
 module _ (D vector : ℕ) (h : D ≤ largest_dimension) where

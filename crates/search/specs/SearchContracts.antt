@@ -7,7 +7,7 @@ use Rattle.cube.specs.Helical.{helical, ports_of}
 use Rattle.paths.specs.Network.{Network}
 use Rattle.paths.specs.Bound.{ways_from}
 use Rattle.paths.specs.Search.{trying, arriving}
-use Rattle.paths.specs.Send.{Receive, channel, none_available}
+use Rattle.paths.specs.Send.{Receive, lowest_available, none_available}
 use Rattle.layout.specs.Layout.{table_length, dimension_at}
 use Rattle.table.specs.View.{View, view, net}
 use Rattle.answers.specs.SendOnTable.{free_in, PassAnswer, pass_answer}
@@ -42,7 +42,7 @@ Enabled v n vector = (p : ℕ) → p < port_count → has vector p ≡ true → 
 
 -- the receive channel that a target has to take, or none, as the code has it
 abbrev pub receive_as : Option ℕ → Receive
-receive_as (Some k) = channel k
+receive_as (Some k) = lowest_available k
 receive_as None = none_available
 
 -- what a pass says that found a free path of so many hops, or none, where the target has a receive channel to take, or none; with the scouts sent, and the

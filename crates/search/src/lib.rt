@@ -37,7 +37,7 @@ struct Search<'a> {
 impl Search<'_> {
     // A node tries the ports of a vector, all of them enabled. With none it rejects at once, as many do in a search that finds no path.
     #[cycle(arrive_try_in_turn_try_ports)]
-    #[tactic(auto, using(crate::proofs::PortsTried::first_turn, crate::proofs::PortsTried::turn_over))]
+    #[tactic(auto, using(crate::proofs::PortsTried::before_first_port, crate::proofs::PortsTried::no_port_left))]
     fn try_ports(
         &self,
         t: &mut [u8],
@@ -61,7 +61,7 @@ impl Search<'_> {
     // It tries them in turn, in the helical order, and hands on to an arrival at the next node. Each hop is held as the scout goes, and given back where
     // no free path is found behind it, or the target has no receive channel that may be taken.
     #[cycle(arrive_try_in_turn_try_ports)]
-    #[tactic(auto, using(crate::proofs::PortsTried::now_within, crate::proofs::PortsTried::turn_over))]
+    #[tactic(auto, using(crate::proofs::PortsTried::now_within, crate::proofs::PortsTried::no_port_left))]
     fn try_in_turn(
         &self,
         t: &mut [u8],

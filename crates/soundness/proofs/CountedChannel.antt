@@ -12,6 +12,7 @@ use Rattle.common.specs.Lists.{◌∈◌}
 use Rattle.common.proofs.Tests.{below_or, is_false, both, and, either, or_left, or_right}
 use Rattle.cube.specs.Cube.{largest_dimension, port_count, channels, NodeOf, source_of}
 use Rattle.cube.proofs.Ports.{most_nodes}
+use Rattle.layout.specs.Layout.{entry_count}
 use Rattle.paths.specs.Network.{Network, Path, Link, links, has_link, Exactly}
 use Rattle.paths.specs.Permitted.{Permitted}
 use Rattle.paths.specs.CubeNetwork.{ports, circuit_count}
@@ -23,12 +24,12 @@ use Rattle.table.specs.View.{View, shape_of, net, held_by}
 use Rattle.circuit_path.specs.CircuitSound.{end_for, CircuitSound}
 use Rattle.soundness.specs.Sound.{Sound}
 use Rattle.circuit_hops.specs.Seen.{Seen}
-use Rattle.circuit_hops.specs.CountHops.{FollowedPath, HopsCounted, Taken}
+use Rattle.circuit_hops.specs.CountHops.{FollowedPath, HopsCounted, CountsHops}
 use Rattle.std.proofs.Common.{Option, Some, None}
 use Rattle.soundness.specs.Counting.{Earlier, ReceivedBefore, CircuitFollowed, Counting, Counts}
 use Rattle.soundness.proofs.LinkCount.{links_added}
 use Rattle.soundness.proofs.Soundness.{receive_stands}
-use Rattle.circuit_hops.proofs.Taken.{positive}
+use Rattle.circuit_hops.proofs.CountsHops.{positive}
 use Rattle.soundness.proofs.Counting.{wider}
 
 length_links : (N : Network) (s : ℕ) (w : Path) → length (links N s w) ≡ length w
@@ -44,22 +45,22 @@ module _ (v : View) where
     here = (n, k, (l, omega arith), sym held)
 
     -- the state before, and the path that was followed
-    module _ {h hops : ℕ} (x : Counting v (channels * n + k) h m) (taken : HopsCounted v c n m after hops) where
+    module _ {h hops : ℕ} (x : Counting v (channels * n + k) h m) (counted : HopsCounted v c n m after hops) where
       path : FollowedPath v c n hops
-      path = taken.found
+      path = counted.found
 
       way : List Link
       way = links (net v) (source_of c) path.path
 
       fresh : ReceivedBefore v (channels * n + k) c → ⊥
       unfolding ReceivedBefore
-      fresh r = taken.unseen (subst (Seen v m) r.3 (x.marks r.0 r.1 r.2 (λ z. some (sym r.3 ∙ z))))
+      fresh r = counted.unseen (subst (Seen v m) r.3 (x.marks r.0 r.1 r.2 (λ z. some (sym r.3 ∙ z))))
 
       on_way : (a b : ℕ) → has_link way a b ≡ true → v.owner a b ≡ c
       on_way a b e = unfold way in eqb-true _ c (path.owned a b (true_link _ a b e))
 
       source_inside : NodeOf v.dimension (source_of c)
-      source_inside = omega (arith, taken.in_range, positive some)
+      source_inside = omega (arith, counted.in_range, positive some)
 
       inside : (a b : ℕ) → (a, b) ∈ way → (a < 256) × (b < port_count)
       inside a b i =
@@ -74,7 +75,7 @@ module _ (v : View) where
       off : (a b : ℕ) → (a, b) ∈ way → x.on a b ≡ false
       off a b i = is_false (x.on a b) (λ e. fresh (subst (ReceivedBefore v (channels * n + k)) (on_way a b (link_true way a b i)) (x.on_paths a b e).3))
 
-      count : link_count on 2048 ≡ h + hops
+      count : link_count on entry_count ≡ h + hops
       unfolding on
       count =
           links_added x.on way (unfold way in permitted_distinct (cube_nearing (shape_of v) n) (source_of c) (ports (shape_of v)) path.path path.permitted)
@@ -97,7 +98,7 @@ module _ (v : View) where
 
       older : {n' k' : ℕ} → Earlier (channels * n + k) n' k' → v.receiver n' k' ≢ 0 → CircuitFollowed v on n' k'
       older {n'} {k'} e z =
-          let s = x.stands n' k' e z in
+          let s = x.followed n' k' e z in
           record {
             node = s.node;
             armed = s.armed;
@@ -122,7 +123,7 @@ module _ (v : View) where
           record {
             node = node;
             armed = armed;
-            in_range = subst (λ (y : ℕ). y ≤ circuit_count (shape_of v)) held (taken.in_range);
+            in_range = subst (λ (y : ℕ). y ≤ circuit_count (shape_of v)) held (counted.in_range);
             path = path.path;
             permitted = subst (λ (y : ℕ). Permitted (net v) (source_of y) (ports (shape_of v)) n path.path) held path.permitted;
             exactly = subst (λ (y : ℕ). Exactly (net v) (source_of y) path.path (λ a b. held_by v y a b && on a b)) held (record { all = all; only = only });
@@ -151,11 +152,11 @@ module _ (v : View) where
               let q = (unfolded_port (shape_of v) fits refl p).0 o.0 in
               let mine = own (source_of c) p (on_first_lem (net v) (source_of c) p w) in
               let low : p < port_count = omega arith in
-              (p, low, mine, (taken.marks (source_of c) p (omega (arith, source_inside, most_nodes fits)) low).2 refl mine)
+              (p, low, mine, (counted.marks (source_of c) p (omega (arith, source_inside, most_nodes fits)) low).2 refl mine)
 
       still_seen : (d : ℕ) → source_of d < 256 → Seen v m d → Seen v after d
       unfolding Seen
-      still_seen d i s = (s.0, s.1, s.2, (taken.marks (source_of d) s.0 i s.1).1 s.3)
+      still_seen d i s = (s.0, s.1, s.2, (counted.marks (source_of d) s.0 i s.1).1 s.3)
 
       pub counting_more : Counting v (channels * n + k + 1) (h + hops) after
       counting_more =
@@ -163,17 +164,17 @@ module _ (v : View) where
             on = on;
             count = count;
             on_paths = on_paths;
-            stands = λ n' k' e z. ⊎_elim (λ o. older o z) (λ o. subst (λ (y : ℕ). CircuitFollowed v on y k') (sym o.0) (subst (λ (y : ℕ). CircuitFollowed v on n y) (sym o.1) newest)) (last e);
+            followed = λ n' k' e z. ⊎_elim (λ o. older o z) (λ o. subst (λ (y : ℕ). CircuitFollowed v on y k') (sym o.0) (subst (λ (y : ℕ). CircuitFollowed v on n y) (sym o.1) newest)) (last e);
             once = λ n' k' m' j' e f q z. one n' k' m' j' (last e) (last f) q z;
             marks = λ n' k' e z. ⊎_elim (λ o. still_seen _ (older_source o z) (x.marks n' k' o z)) (λ o. subst (Seen v after) (held ∙ sym (same_receiver o)) at_source) (last e);
-            marks_received = λ s p a b e. ⊎_elim (λ o. wider v _ _ _ (omega arith) (x.marks_received s p a b o)) (λ o. subst (ReceivedBefore v (channels * n + k + 1)) (sym o) here) ((taken.marks s p a b).0 e);
+            marks_received = λ s p a b e. ⊎_elim (λ o. wider v _ _ _ (omega arith) (x.marks_received s p a b o)) (λ o. subst (ReceivedBefore v (channels * n + k + 1)) (sym o) here) ((counted.marks s p a b).0 e);
           }
         where
           same_receiver : {n' k' : ℕ} → (n' ≡ n) × (k' ≡ k) → v.receiver n' k' ≡ v.receiver n k
           same_receiver o = ap₂ v.receiver o.0 o.1
 
           older_source : {n' k' : ℕ} → Earlier (channels * n + k) n' k' → v.receiver n' k' ≢ 0 → source_of (v.receiver n' k') < 256
-          older_source o z = let s = x.stands _ _ o z in omega (arith, s.in_range, most_nodes fits)
+          older_source o z = let s = x.followed _ _ o z in omega (arith, s.in_range, most_nodes fits)
 
           no_older : {n' k' : ℕ} → Earlier (channels * n + k) n' k' → v.receiver n' k' ≡ c → ⊥
           no_older {n'} {k'} o q = unfold ReceivedBefore in fresh (n', k', o, q)
@@ -186,7 +187,7 @@ module _ (v : View) where
           one n' k' m' j' (inr e) (inr f) q z = (e.0 ∙ sym f.0, e.1 ∙ sym f.1)
 
     -- and where the table is sound, the circuit can be followed
-    forced : Taken v c n m after None → Sound v → {h : ℕ} → Counting v (channels * n + k) h m → ⊥
+    forced : CountsHops v c n m after None → Sound v → {h : ℕ} → Counting v (channels * n + k) h m → ⊥
     forced none s x =
         none (subst (λ (y : ℕ). y ≤ circuit_count (shape_of v)) (sym held) (s.receive_number n k)) stands (sym (stands.once n k (sym held)).0) (λ z. again (seen_received z))
       where
@@ -206,6 +207,6 @@ module _ (v : View) where
             let f = stands.once r.0 r.1 r.3 in
             omega (arith, e.0, e.1, f.0, f.1, r.2.1)
 
-    pub counts_entry : (hops : Option ℕ) → Taken v c n m after hops → Counts v (channels * n + k) (channels * n + k + 1) m after hops
-    counts_entry (Some hops) taken = record { counts = λ h x. counting_more x taken; most = omega (arith, taken.most) }
+    pub counts_entry : (hops : Option ℕ) → CountsHops v c n m after hops → Counts v (channels * n + k) (channels * n + k + 1) m after hops
+    counts_entry (Some hops) counted = record { counts = λ h x. counting_more x counted; most = omega (arith, counted.most) }
     counts_entry None none = λ h x s. forced none s x

@@ -12,6 +12,7 @@ use Rattle.cube.specs.Cube.{channels}
 use Rattle.common.proofs.Tests.{below_or, clash}
 use Rattle.cube.specs.Bits.{has}
 use Rattle.cube.proofs.Bits.{zero_has}
+use Rattle.layout.specs.Layout.{entry_count}
 use Rattle.table.specs.View.{View}
 use Rattle.soundness.specs.Sound.{Sound}
 use Rattle.circuit_hops.specs.Seen.{seen_at}
@@ -27,9 +28,9 @@ pub counting_none : (v : View) → Counting v 0 0 (replicate 256 0)
 counting_none v =
     record {
       on = λ m q. false;
-      count = links_none 2048;
+      count = links_none entry_count;
       on_paths = λ m q e. absurd (clash e refl);
-      stands = λ n k e h. absurd (omega (arith, e.1));
+      followed = λ n k e h. absurd (omega (arith, e.1));
       once = λ n k m j e f q h. absurd (omega (arith, e.1));
       marks = λ n k e h. absurd (omega (arith, e.1));
       marks_received = λ s p h l e. absurd (clash e (unfold seen_at in ap (λ x. has x p) (get_or-replicate 256 s 0 0 h) ∙ zero_has p));
@@ -50,7 +51,7 @@ module _ {v : View} where
             on = x.on;
             count = x.count;
             on_paths = λ a b e. let r = x.on_paths a b e in (r.0, r.1, r.2, wider v i j _ l r.3);
-            stands = λ n k e z. x.stands n k (back e z) z;
+            followed = λ n k e z. x.followed n k (back e z) z;
             once = λ n k a b e f q z. x.once n k a b (back e z) (back f (λ y. z (q ∙ y))) q z;
             marks = λ n k e z. x.marks n k (back e z) z;
             marks_received = λ s p a b e. wider v i j _ l (x.marks_received s p a b e);

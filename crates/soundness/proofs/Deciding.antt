@@ -26,7 +26,7 @@ use Rattle.paths.proofs.Apart.{permitted_inside}
 use Rattle.paths.proofs.Sentences.{permitted_end}
 use Rattle.paths.proofs.CubeNetwork.{unfolded_port}
 use Rattle.paths.proofs.Links.{On}
-use Rattle.layout.specs.Layout.{dimension_at, enable_place, receiver_at, armed_at, arm_place, arm_part}
+use Rattle.layout.specs.Layout.{dimension_at, enable_place, receiver_at, armed_at, arm_place, arm_part, entry_count}
 use Rattle.entries.specs.EntryContracts.{enable_bits, arm_bits}
 use Rattle.table.specs.TableContracts.{link_count, enable_limit, EnablesFit, ArmsFit}
 use Rattle.table.specs.View.{View, view, shape_of, net, held_by}
@@ -66,7 +66,7 @@ module _ (b : List ℕ) (n : ℕ) {answer : Bool} (d : Decides ((k : ℕ) → k 
 
 -- all receive channels were looked at, and all held links are enabled and counted
 module _ (b : List ℕ) (d : dimension_at b ≤ largest_dimension) (fit : EnablesFit b (dimension_at b)) (arms : ArmsFit b (dimension_at b)) {hops free : ℕ} {m : List ℕ} (x : Counting (view b) (channels * 256) hops m)
-    (on : (n p : ℕ) → n < 256 → p < port_count → (view b).owner n p ≢ 0 → (view b).enabled n p ≡ true) (counted : link_count (held_by (view b) 0) 2048 ≡ free) where
+    (on : (n p : ℕ) → n < 256 → p < port_count → (view b).owner n p ≢ 0 → (view b).enabled n p ≡ true) (counted : link_count (held_by (view b) 0) entry_count ≡ free) where
   v : View
   v = view b
 
@@ -79,7 +79,7 @@ module _ (b : List ℕ) (d : dimension_at b ≤ largest_dimension) (fit : Enable
   on_held : (n p : ℕ) → x.on n p ≡ true → held n p ≡ true
   on_held n p e = is_held n p (x.on_paths n p e).2
 
-  held_count : link_count held 2048 + free ≡ 2048
+  held_count : link_count held entry_count + free ≡ entry_count
   held_count = unfold held in omega (arith, links_parts (held_by (view b) 0), counted)
 
   small : (view b).dimension ≤ largest_dimension
@@ -92,8 +92,8 @@ module _ (b : List ℕ) (d : dimension_at b ≤ largest_dimension) (fit : Enable
   in_table : (n k : ℕ) → (view b).receiver n k ≢ 0 → Earlier (channels * 256) n k
   in_table n k h = ⊎_elim (λ i. earlier n k i.0 i.1) (λ o. absurd (h ((view_framed b).no_receive n k o))) (placed n k)
 
-  stands : (n k : ℕ) → (view b).receiver n k ≢ 0 → CircuitFollowed (view b) x.on n k
-  stands n k h = x.stands n k (in_table n k h) h
+  followed : (n k : ℕ) → (view b).receiver n k ≢ 0 → CircuitFollowed (view b) x.on n k
+  followed n k h = x.followed n k (in_table n k h) h
 
   -- in a sound table every held link is on
   all_on : Sound (view b) → (n p : ℕ) → held n p ≡ true → x.on n p ≡ true
@@ -105,7 +105,7 @@ module _ (b : List ℕ) (d : dimension_at b ≤ largest_dimension) (fit : Enable
       on_way : (a k : ℕ) → (view b).receiver a k ≢ 0 → (z : CircuitSound (view b) ((view b).receiver a k)) → end_for (view b) ((view b).receiver a k) z.path ≡ a
           → held_by (view b) ((view b).receiver a k) n p ≡ true → x.on n p ≡ true
       on_way a k h z q o =
-          let t = stands a k h in
+          let t = followed a k h in
           (both (held_by (view b) ((view b).receiver a k) n p) (x.on n p) (t.exactly.all n p (subst (λ (w : Path). (n, p) ∈ links (net (view b)) (source_of ((view b).receiver a k)) w) (t.whole z q) (z.exactly.only n p o)))).1
 
       found : CircuitSound (view b) ((view b).owner n p) → x.on n p ≡ true
@@ -119,14 +119,14 @@ module _ (b : List ℕ) (d : dimension_at b ≤ largest_dimension) (fit : Enable
   -- where every held link is on, the table is sound
   module _ (all : (n p : ℕ) → (view b).owner n p ≢ 0 → x.on n p ≡ true) where
     -- the circuit of a held link was received, and its path has the link
-    received : (n p : ℕ) → (view b).owner n p ≢ 0 → (a : ℕ) × (k : ℕ) × ((view b).receiver a k ≡ (view b).owner n p) × ((view b).receiver a k ≢ 0)
+    received_by : (n p : ℕ) → (view b).owner n p ≢ 0 → (a : ℕ) × (k : ℕ) × ((view b).receiver a k ≡ (view b).owner n p) × ((view b).receiver a k ≢ 0)
     unfolding ReceivedBefore
-    received n p h = let r = (x.on_paths n p (all n p h)).3 in (r.0, r.1, r.3, λ z. h (sym r.3 ∙ z))
+    received_by n p h = let r = (x.on_paths n p (all n p h)).3 in (r.0, r.1, r.3, λ z. h (sym r.3 ∙ z))
 
     link_inside : (n p : ℕ) → (view b).owner n p ≢ 0 → (NodeOf (view b).dimension n) × (p < (view b).dimension)
     link_inside n p h =
-        let r = received n p h in
-        let t = stands r.0 r.1 r.3 in
+        let r = received_by n p h in
+        let t = followed r.0 r.1 r.3 in
         let c = (view b).receiver r.0 r.1 in
         let in_source : NodeOf (view b).dimension (source_of c) = source_inside c r.3 t.in_range in
         let o : On (net (view b)) (source_of c) t.path n p = unfold On in t.exactly.only n p (and (eq-eqb _ c (sym r.2)) (all n p h)) in
@@ -153,7 +153,7 @@ module _ (b : List ℕ) (d : dimension_at b ≤ largest_dimension) (fit : Enable
         c = (view b).receiver n k
 
         t : CircuitFollowed (view b) x.on n k
-        t = stands n k h
+        t = followed n k h
 
         there : end_for (view b) c t.path ≡ n
         there = permitted_end (net (view b)) (source_of c) (ports (shape_of (view b))) n t.path t.permitted
@@ -162,12 +162,12 @@ module _ (b : List ℕ) (d : dimension_at b ≤ largest_dimension) (fit : Enable
     counted_sound =
         record {
           absent_link = λ n p out. (enabled_off n p out, zero_of ((view b).owner n p) (λ h. out (link_inside n p h)));
-          absent_receive = λ n k out. zero_of ((view b).receiver n k) (λ h. out (stands n k h).node);
+          absent_receive = λ n k out. zero_of ((view b).receiver n k) (λ h. out (followed n k h).node);
           absent_armed = λ n k out. unarmed_at n k out;
           held_enabled = λ n p h. ⊎_elim (λ i. on n p i.0 i.1 h) (λ o. absurd (h ((view_framed b).no_link n p o).1)) (placed n p);
-          held_armed = λ n k h. (stands n k h).armed;
-          link_number = λ n p. ⊎_elim (λ z. omega arith) (λ h. let r = received n p h in subst (λ (y : ℕ). y ≤ circuit_count (shape_of (view b))) r.2 (stands r.0 r.1 r.3).in_range) (same? ((view b).owner n p) 0);
-          receive_number = λ n k. ⊎_elim (λ z. omega arith) (λ h. (stands n k h).in_range) (same? ((view b).receiver n k) 0);
+          held_armed = λ n k h. (followed n k h).armed;
+          link_number = λ n p. ⊎_elim (λ z. omega arith) (λ h. let r = received_by n p h in subst (λ (y : ℕ). y ≤ circuit_count (shape_of (view b))) r.2 (followed r.0 r.1 r.3).in_range) (same? ((view b).owner n p) 0);
+          receive_number = λ n k. ⊎_elim (λ z. omega arith) (λ h. (followed n k h).in_range) (same? ((view b).receiver n k) 0);
           numbers = numbers;
         }
       where
@@ -186,22 +186,22 @@ module _ (b : List ℕ) (d : dimension_at b ≤ largest_dimension) (fit : Enable
           where
             go : ((i : ℕ) × (j : ℕ) × (eqb ((view b).receiver i j) c ≡ true)) ⊎ ((i j : ℕ) → i < 256 → j < channels → eqb ((view b).receiver i j) c ≡ false) → Nowhere (view b) c ⊎ CircuitSound (view b) c
             go (inl r) = let e = eqb-true _ c r.2 in inr (subst (CircuitSound (view b)) e (circuit_stands r.0 r.1 (λ z. h (sym e ∙ z))))
-            go (inr f) = inl ((λ n p e. let r = received n p (λ z. h (sym e ∙ z)) in nobody r.0 r.1 (r.2 ∙ e)), nobody)
+            go (inr f) = inl ((λ n p e. let r = received_by n p (λ z. h (sym e ∙ z)) in nobody r.0 r.1 (r.2 ∙ e)), nobody)
               where
                 nobody : (n k : ℕ) → (view b).receiver n k ≢ c
                 nobody n k e = ⊎_elim (λ i. clash (eq-eqb _ c e) (f n k i.0 i.1)) (λ o. h (sym e ∙ (view_framed b).no_receive n k o)) (placed n k)
 
-  sum_decides : Decides (Sound (view b)) (eqb (hops + free) 2048)
+  sum_decides : Decides (Sound (view b)) (eqb (hops + free) entry_count)
   sum_decides =
       record {
-        holds = λ e. counted_sound (λ n p h. links_same x.on held on_held (few (eqb-true _ 2048 e)) n p (in_place n p h).0 (in_place n p h).1 (is_held n p h));
-        fails = λ e s. eqb-false _ 2048 e (equal (links_more x.on held on_held) (links_more held x.on (all_on s)));
+        holds = λ e. counted_sound (λ n p h. links_same x.on held on_held (few (eqb-true _ entry_count e)) n p (in_place n p h).0 (in_place n p h).1 (is_held n p h));
+        fails = λ e s. eqb-false _ entry_count e (equal (links_more x.on held on_held) (links_more held x.on (all_on s)));
       }
     where
-      few : hops + free ≡ 2048 → link_count held 2048 ≤ link_count x.on 2048
+      few : hops + free ≡ entry_count → link_count held entry_count ≤ link_count x.on entry_count
       few e = omega (arith, held_count, x.count)
 
-      equal : link_count x.on 2048 ≤ link_count held 2048 → link_count held 2048 ≤ link_count x.on 2048 → hops + free ≡ 2048
+      equal : link_count x.on entry_count ≤ link_count held entry_count → link_count held entry_count ≤ link_count x.on entry_count → hops + free ≡ entry_count
       equal l k = omega (arith, held_count, x.count)
 
       in_place : (n p : ℕ) → (view b).owner n p ≢ 0 → (n < 256) × (p < port_count)
@@ -228,7 +228,7 @@ module _ (b : List ℕ) (bytes : (i : ℕ) → get_or b i 0 < 256) (s : Sound (v
 abbrev pub all_links : Option ℕ → Option ℕ → Bool
 all_links None _ = false
 all_links (Some _) None = false
-all_links (Some hops) (Some free) = eqb (hops + free) 2048
+all_links (Some hops) (Some free) = eqb (hops + free) entry_count
 
 -- the answer of the test: whatever refuses the table, and the sum
 module _ (b : List ℕ) (d : dimension_at b ≤ largest_dimension) where
@@ -244,6 +244,6 @@ module _ (b : List ℕ) (d : dimension_at b ≤ largest_dimension) where
   sum_answers fit arms (Some hops) None m f e x = refuse f
   sum_answers fit arms (Some hops) (Some free) m f e x =
       same_answer _ _
-      (sum_decides b d fit arms (subst (λ (y : ℕ). Counting (view b) 2048 y m) (zero-add hops) (x.counts 0 (counting_start e))) (λ n p i j h. f.enabled n p (omega arith) i j h)
+      (sum_decides b d fit arms (subst (λ (y : ℕ). Counting (view b) entry_count y m) (zero-add hops) (x.counts 0 (counting_start e))) (λ n p i j h. f.enabled n p (omega arith) i j h)
       (let e = f.counted in let z : link_count (held_by (view b) 0) 0 ≡ 0 = unfold link_count from in ap length (keep_nil _) in omega arith))
       (decided b d)

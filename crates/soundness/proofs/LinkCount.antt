@@ -16,6 +16,7 @@ use Rattle.common.specs.Lists.{◌∈◌, keep, from, Pairwise}
 use Rattle.common.proofs.Lists.{keep_yes, keep_no, keep_append, keep_same, keep_none, length_parts}
 use Rattle.common.proofs.From.{from_mem, mem_from, from_below, from_split, length_from}
 use Rattle.common.proofs.Tests.{clash, is_false, both, and, or_right}
+use Rattle.layout.specs.Layout.{entry_count}
 use Rattle.paths.specs.Network.{Link, has_link}
 use Rattle.table.specs.TableContracts.{link_count}
 
@@ -61,10 +62,10 @@ kept_one_more f g k i l off on same = go (k - suc i) (omega arith)
 -- the same of links
 module _ (f g : ℕ → ℕ → Bool) where
   -- one link more
-  pub link_more : (n p : ℕ) → n < 256 → p < port_count → f n p ≡ false → g n p ≡ true → ((m q : ℕ) → ((m ≡ n) × (q ≡ p) → ⊥) → f m q ≡ g m q) → link_count g 2048 ≡ suc (link_count f 2048)
+  pub link_more : (n p : ℕ) → n < 256 → p < port_count → f n p ≡ false → g n p ≡ true → ((m q : ℕ) → ((m ≡ n) × (q ≡ p) → ⊥) → f m q ≡ g m q) → link_count g entry_count ≡ suc (link_count f entry_count)
   unfolding link_count
   link_more n p h l off on same =
-      kept_one_more (λ i. f (i / 8) (i % 8)) (λ i. g (i / 8) (i % 8)) 2048 (8 * n + p) (omega arith) (ap₂ f (node n p l) (port n p l) ∙ off) (ap₂ g (node n p l) (port n p l) ∙ on)
+      kept_one_more (λ i. f (i / 8) (i % 8)) (λ i. g (i / 8) (i % 8)) entry_count (8 * n + p) (omega arith) (ap₂ f (node n p l) (port n p l) ∙ off) (ap₂ g (node n p l) (port n p l) ∙ on)
       (λ j k. same (j / 8) (j % 8) (λ e. k (omega arith)))
     where
       node : (n p : ℕ) → p < port_count → (8 * n + p) / 8 ≡ n
@@ -74,10 +75,10 @@ module _ (f g : ℕ → ℕ → Bool) where
       port n p l = omega arith
 
   -- a test of links that passes no more often than one that it implies
-  pub links_same : ((m q : ℕ) → f m q ≡ true → g m q ≡ true) → link_count g 2048 ≤ link_count f 2048 → (m q : ℕ) → m < 256 → q < port_count → g m q ≡ true → f m q ≡ true
+  pub links_same : ((m q : ℕ) → f m q ≡ true → g m q ≡ true) → link_count g entry_count ≤ link_count f entry_count → (m q : ℕ) → m < 256 → q < port_count → g m q ≡ true → f m q ≡ true
   unfolding link_count
   links_same h l m q i j t =
-      sym (ap₂ f node port) ∙ kept_same (λ i. f (i / 8) (i % 8)) (λ i. g (i / 8) (i % 8)) (from 0 2048) (λ x k e. h (x / 8) (x % 8) e) l (8 * m + q) (mem_from 0 2048 (8 * m + q) (omega arith) (omega arith)) (ap₂ g node port ∙ t)
+      sym (ap₂ f node port) ∙ kept_same (λ i. f (i / 8) (i % 8)) (λ i. g (i / 8) (i % 8)) (from 0 entry_count) (λ x k e. h (x / 8) (x % 8) e) l (8 * m + q) (mem_from 0 entry_count (8 * m + q) (omega arith) (omega arith)) (ap₂ g node port ∙ t)
     where
       node : (8 * m + q) / 8 ≡ m
       node = omega arith
@@ -85,13 +86,13 @@ module _ (f g : ℕ → ℕ → Bool) where
       port : (8 * m + q) % 8 ≡ q
       port = omega arith
 
-  pub links_more : ((m q : ℕ) → f m q ≡ true → g m q ≡ true) → link_count f 2048 ≤ link_count g 2048
+  pub links_more : ((m q : ℕ) → f m q ≡ true → g m q ≡ true) → link_count f entry_count ≤ link_count g entry_count
   unfolding link_count
-  links_more h = kept_more (λ i. f (i / 8) (i % 8)) (λ i. g (i / 8) (i % 8)) (from 0 2048) (λ x k e. h (x / 8) (x % 8) e)
+  links_more h = kept_more (λ i. f (i / 8) (i % 8)) (λ i. g (i / 8) (i % 8)) (from 0 entry_count) (λ x k e. h (x / 8) (x % 8) e)
 
-pub links_parts : (f : ℕ → ℕ → Bool) → link_count f 2048 + link_count (λ m q. not (f m q)) 2048 ≡ 2048
+pub links_parts : (f : ℕ → ℕ → Bool) → link_count f entry_count + link_count (λ m q. not (f m q)) entry_count ≡ entry_count
 unfolding link_count
-links_parts f = length_parts (λ i. f (i / 8) (i % 8)) (from 0 2048) ∙ length_from 0 2048
+links_parts f = length_parts (λ i. f (i / 8) (i % 8)) (from 0 entry_count) ∙ length_from 0 entry_count
 
 pub links_none : (k : ℕ) → link_count (λ m q. false) k ≡ 0
 unfolding link_count
@@ -118,12 +119,12 @@ pair : {a b c d : ℕ} → a ≡ c → b ≡ d → ◌≡◌ {A = Link} (a, b) (
 pair e f = λ i. (e i, f i)
 
 pub links_added : (f : ℕ → ℕ → Bool) (ls : List Link) → Pairwise ◌≢◌ ls → ((l : Link) → l ∈ ls → (l.0 < 256) × (l.1 < port_count) × (f l.0 l.1 ≡ false))
-    → link_count (λ m q. f m q || has_link ls m q) 2048 ≡ link_count f 2048 + length ls
+    → link_count (λ m q. f m q || has_link ls m q) entry_count ≡ link_count f entry_count + length ls
 unfolding has_link Pairwise with_link
-links_added f [] d h = same_count (λ m q. or-false (f m q)) 2048 ∙ sym (add-zero _)
+links_added f [] d h = same_count (λ m q. or-false (f m q)) entry_count ∙ sym (add-zero _)
 links_added f (l ∷ ls) d h =
     let mine = h l (Memᴰ.head refl) in
     let one = link_more f (with_link f l) l.0 l.1 mine.0 mine.1 mine.2 (link_on f l) (link_off f l) in
-    same_count (λ m q. sym (or_assoc (f m q) (eqb m l.0 && eqb q l.1) (has_link ls m q))) 2048
+    same_count (λ m q. sym (or_assoc (f m q) (eqb m l.0 && eqb q l.1) (has_link ls m q))) entry_count
     ∙ links_added (with_link f l) ls d.1 (λ k m. let b = h k (Memᴰ.tail m) in (b.0, b.1, sym (link_off f l k.0 k.1 (λ e. d.0 k m (sym (pair e.0 e.1)))) ∙ b.2))
     ∙ omega (arith, one)

@@ -3,6 +3,7 @@
 -- Assumes nothing.
 use Rattle.std.specs.Prelude.{◌≡◌, ◌≢◌, Bool, true, ◌&&◌, List, ℕ, ◌+◌, ◌*◌, ◌≤◌, ◌<◌, Option, Some, None}
 use Rattle.cube.specs.Cube.{port_count, channels, source_of, NodeOf}
+use Rattle.layout.specs.Layout.{entry_count}
 use Rattle.paths.specs.Network.{Path, Exactly}
 use Rattle.paths.specs.Permitted.{Permitted}
 use Rattle.paths.specs.CubeNetwork.{ports, circuit_count}
@@ -34,9 +35,9 @@ pub record CircuitFollowed (v : View) (on : ℕ → ℕ → Bool) (n k : ℕ) : 
 -- by a circuit that was received before; no circuit was received twice; and those circuits are marked.
 pub record Counting (v : View) (i hops : ℕ) (seen : List ℕ) : Type 0 where
   pub on : ℕ → ℕ → Bool
-  pub count : link_count on 2048 ≡ hops
+  pub count : link_count on entry_count ≡ hops
   pub on_paths : (m q : ℕ) → on m q ≡ true → (m < 256) × (q < port_count) × (v.owner m q ≢ 0) × ReceivedBefore v i (v.owner m q)
-  pub stands : (n k : ℕ) → Earlier i n k → v.receiver n k ≢ 0 → CircuitFollowed v on n k
+  pub followed : (n k : ℕ) → Earlier i n k → v.receiver n k ≢ 0 → CircuitFollowed v on n k
   pub once : (n k m j : ℕ) → Earlier i n k → Earlier i m j → v.receiver n k ≡ v.receiver m j → v.receiver n k ≢ 0 → (n ≡ m) × (k ≡ j)
   pub marks : (n k : ℕ) → Earlier i n k → v.receiver n k ≢ 0 → Seen v seen (v.receiver n k)
   pub marks_received : (s p : ℕ) → s < 256 → p < port_count → seen_at seen s p ≡ true → ReceivedBefore v i (v.owner s p)

@@ -12,7 +12,7 @@ use borrow.Author.Tests.{eqb-true}
 use Rattle.common.specs.Lists.{from}
 use Rattle.common.proofs.Every.{at}
 use Rattle.cube.specs.Bits.{has}
-use Rattle.layout.specs.Layout.{table_length, dimension_at, mask_place, mask_at, enable_part, arm_part, enabled_at, armed_at, entry_place, entry_at, link_part, receive_part, owner_at, receiver_at}
+use Rattle.layout.specs.Layout.{table_length, dimension_at, mask_place, mask_at, enable_part, arm_part, enabled_at, armed_at, entry_place, entry_at, link_part, receive_part, owner_at, receiver_at, entry_count}
 use Rattle.layout.proofs.Entries.{within, mask_has}
 use Rattle.table.specs.View.{view}
 use Rattle.table.specs.Encode.{bits_from, mask_byte, mask_bytes, entry_bytes, encode}
@@ -48,7 +48,7 @@ module _ (b : List ℕ) (small : (i : ℕ) → get_or b i 0 < 256) where
       ∙ sym (drop-cons b (part + n) 0 (omega arith))
 
   -- an entry's two bytes
-  entry_word : (part i : ℕ) → i < 2048 → entry_at part b (i / 8) (i % 8) ≡ get_or b (part + 2 * i) 0 + 256 * get_or b (suc (part + 2 * i)) 0
+  entry_word : (part i : ℕ) → i < entry_count → entry_at part b (i / 8) (i % 8) ≡ get_or b (part + 2 * i) 0 + 256 * get_or b (suc (part + 2 * i)) 0
   unfolding entry_at
   entry_word part i h =
       let place : entry_place part (i / 8) (i % 8) ≡ part + 2 * i = omega arith in
@@ -56,7 +56,7 @@ module _ (b : List ℕ) (small : (i : ℕ) → get_or b i 0 < 256) where
       rw (within (i / 8) (i % 8) (omega arith) (omega arith), place, after)
 
   -- k entries of a part from entry i on, and what lies behind them
-  entries : (part i k : ℕ) → i + k ≤ 2048 → part + 4096 ≤ length b → entry_bytes (entry_at part b) i k ++ drop (part + 2 * (i + k)) b ≡ drop (part + 2 * i) b
+  entries : (part i k : ℕ) → i + k ≤ entry_count → part + 4096 ≤ length b → entry_bytes (entry_at part b) i k ++ drop (part + 2 * (i + k)) b ≡ drop (part + 2 * i) b
   unfolding entry_bytes
   entries part i zero h l = let same : part + 2 * (i + 0) ≡ part + 2 * i = omega arith in ap (λ j. drop j b) same
   entries part i (suc k) h l =
@@ -78,8 +78,8 @@ encode_view b l small =
     ap (get_or b 0 0 ∷◌)
     (ap ((front ++ receives) ++◌) (sym (append-nil arms) ∙ ap (arms ++◌) (sym (drop_of_length-le b {i = table_length} (omega arith)))
     ∙ masks b small arm_part 0 256 (lit≤ tt) (omega arith))
-    ∙ append_assoc front receives (drop 8449 b) ∙ ap (front ++◌) (entries b small receive_part 0 2048 (lit≤ tt) (omega arith))
-    ∙ append_assoc enables links (drop 4353 b) ∙ ap (enables ++◌) (entries b small link_part 0 2048 (lit≤ tt) (omega arith))
+    ∙ append_assoc front receives (drop 8449 b) ∙ ap (front ++◌) (entries b small receive_part 0 entry_count (lit≤ tt) (omega arith))
+    ∙ append_assoc enables links (drop 4353 b) ∙ ap (enables ++◌) (entries b small link_part 0 entry_count (lit≤ tt) (omega arith))
     ∙ masks b small enable_part 0 256 (lit≤ tt) (omega arith))
     ∙ sym (drop-cons b 0 0 (omega arith))
   where
@@ -87,10 +87,10 @@ encode_view b l small =
     enables = map (mask_byte (mask_at enable_part b)) (from 0 256)
 
     links : List ℕ
-    links = entry_bytes (entry_at link_part b) 0 2048
+    links = entry_bytes (entry_at link_part b) 0 entry_count
 
     receives : List ℕ
-    receives = entry_bytes (entry_at receive_part b) 0 2048
+    receives = entry_bytes (entry_at receive_part b) 0 entry_count
 
     arms : List ℕ
     arms = map (mask_byte (mask_at arm_part b)) (from 0 256)

@@ -15,7 +15,7 @@ use Rattle.common.proofs.From.{length_from}
 use Rattle.common.proofs.Tests.{same?}
 use Rattle.cube.specs.Bits.{has, flip, with_bit}
 use Rattle.cube.proofs.Bits.{zero_has, with_bit_same, with_bit_other, with_bit_inside}
-use Rattle.layout.specs.Layout.{in_table, dimension_at, mask_place, mask_at, enable_part, arm_part, enabled_at, armed_at, entry_place, entry_at, link_part, receive_part, owner_at, receiver_at, word_at}
+use Rattle.layout.specs.Layout.{in_table, dimension_at, mask_place, mask_at, enable_part, arm_part, enabled_at, armed_at, entry_place, entry_at, link_part, receive_part, owner_at, receiver_at, word_at, entry_count}
 use Rattle.layout.proofs.Entries.{inside}
 use Rattle.table.specs.View.{View, view}
 use Rattle.table.specs.Encode.{bits_from, mask_byte, mask_bytes, entry_bytes, encode, Bytes, EntriesFit, ViewFits}
@@ -77,18 +77,18 @@ entries_word f i (suc k) (suc j) h =
 
 -- a part of entries behind others, as it is read
 part_shows : (f : ℕ → ℕ → ℕ) → EntriesFit f → (part : ℕ) (front back : List ℕ) → length front ≡ part
-    → (n k : ℕ) → entry_at part (front ++ (entry_bytes f 0 2048 ++ back)) n k ≡ f n k
+    → (n k : ℕ) → entry_at part (front ++ (entry_bytes f 0 entry_count ++ back)) n k ≡ f n k
 unfolding entry_at
 part_shows f fit part front back e n k = go (in_table n k) refl
   where
     all : List ℕ
-    all = entry_bytes f 0 2048
+    all = entry_bytes f 0 entry_count
 
     byte : (i : ℕ) → i < 4096 → get_or (front ++ (all ++ back)) (part + i) 0 ≡ get_or all i 0
     byte i h =
         let place : part + i ≡ length front + i = omega (arith, e) in
         ap (λ j. get_or (front ++ (all ++ back)) j 0) place ∙ get_or-append-add front (all ++ back) i 0
-        ∙ get_or-append all back 0 i (omega (arith, entries_length f 0 2048))
+        ∙ get_or-append all back 0 i (omega (arith, entries_length f 0 entry_count))
 
     go : (x : Bool) → in_table n k ≡ x → cond x (word_at (front ++ (all ++ back)) (entry_place part n k)) 0 ≡ f n k
     go true t =
@@ -98,7 +98,7 @@ part_shows f fit part front back e n k = go (in_table n k) refl
         let node : (0 + (8 * n + k)) / 8 ≡ n = omega arith in
         let column : (0 + (8 * n + k)) % 8 ≡ k = omega arith in
         rw (low, high) (ap₂ (λ x y. x + 256 * y) (byte (2 * (8 * n + k)) (omega arith)) (byte (2 * (8 * n + k) + 1) (omega arith))
-        ∙ entries_word f 0 2048 (8 * n + k) (omega arith) ∙ ap₂ f node column)
+        ∙ entries_word f 0 entry_count (8 * n + k) (omega arith) ∙ ap₂ f node column)
     go false t = sym (fit.outside n k t)
 
 -- a part of masks behind others, as it is read
@@ -153,19 +153,19 @@ module _ (v : View) (fit : ViewFits v) where
   enables = mask_bytes v.enabled
 
   abbrev links : List ℕ
-  links = entry_bytes v.owner 0 2048
+  links = entry_bytes v.owner 0 entry_count
 
   abbrev receives : List ℕ
-  receives = entry_bytes v.receiver 0 2048
+  receives = entry_bytes v.receiver 0 entry_count
 
   abbrev arms : List ℕ
   arms = mask_bytes v.armed
 
   links_end : length (enables ++ links) ≡ 4352
-  links_end = length-append enables links ∙ ap₂ ◌+◌ (masks_length v.enabled) (entries_length v.owner 0 2048)
+  links_end = length-append enables links ∙ ap₂ ◌+◌ (masks_length v.enabled) (entries_length v.owner 0 entry_count)
 
   receives_end : length ((enables ++ links) ++ receives) ≡ 8448
-  receives_end = length-append (enables ++ links) receives ∙ ap₂ ◌+◌ links_end (entries_length v.receiver 0 2048)
+  receives_end = length-append (enables ++ links) receives ∙ ap₂ ◌+◌ links_end (entries_length v.receiver 0 entry_count)
 
   pub encode_bytes : Bytes (encode v)
   unfolding encode
@@ -176,8 +176,8 @@ module _ (v : View) (fit : ViewFits v) where
             append_small (v.dimension ∷ []) (((enables ++ links) ++ receives) ++ arms) first
             (append_small ((enables ++ links) ++ receives) arms
             (append_small (enables ++ links) receives
-            (append_small enables links (masks_small v.enabled) (entries_small v.owner fit.owner 0 2048))
-            (entries_small v.receiver fit.receiver 0 2048)) (masks_small v.armed));
+            (append_small enables links (masks_small v.enabled) (entries_small v.owner fit.owner 0 entry_count))
+            (entries_small v.receiver fit.receiver 0 entry_count)) (masks_small v.armed));
       }
     where
       first : Small (v.dimension ∷ [])

@@ -4,7 +4,7 @@
 use Rattle.std.specs.Prelude.{◌≡◌, refl, true, false, List, [], ◌∷◌, map, ℕ, get_or, replicate}
 use Rattle.common.specs.Lists.{from, lowest}
 use Rattle.cube.specs.Bits.{has, flip, with_bit}
-use Rattle.paths.specs.Send.{channel, none_available, lowest_of}
+use Rattle.paths.specs.Send.{lowest_available, none_available, lowest_of}
 use Rattle.layout.specs.Layout.{entry_at, owner_at, receiver_at, mask_at, armed_at}
 use Rattle.layout.proofs.Examples.{bytes}
 use Rattle.entries.specs.EntryContracts.{put_entry, put_owner, put_receiver, put_mask, put_armed}
@@ -63,7 +63,7 @@ lowest_armed : (lowest_channel held 232 ≡ 7) × (lowest_channel held 231 ≡ 8
 unfolding lowest lowest_channel available set_at
 lowest_armed = (refl, refl)
 
-receives_lowest : (receive held 232 ≡ channel 7) × (receive held 231 ≡ none_available)
+receives_lowest : (receive held 232 ≡ lowest_available 7) × (receive held 231 ≡ none_available)
 unfolding lowest lowest_of receive available set_at
 receives_lowest = (refl, refl)
 

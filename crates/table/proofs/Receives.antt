@@ -11,16 +11,16 @@ use Rattle.std.specs.Prelude.{Some, None}
 use Rattle.cube.specs.Cube.{channels}
 use Rattle.common.specs.Lists.{lowest, some_below}
 use Rattle.common.proofs.Lowest.{lowest_most, lowest_passes, lowest_before, some_is, none_is}
-use Rattle.paths.specs.Send.{channel, none_available, lowest_of}
+use Rattle.paths.specs.Send.{lowest_available, none_available, lowest_of}
 use Rattle.table.specs.View.{View, available}
 use Rattle.table.specs.TableContracts.{lowest_channel}
 
 -- it is one of eight, passes, and none below it does
-pub chosen : (f : ℕ → Bool) (k : ℕ) → lowest_of f ≡ channel k → (k < channels) × (f k ≡ true) × ((j : ℕ) → j < k → f j ≡ false)
+pub chosen : (f : ℕ → Bool) (k : ℕ) → lowest_of f ≡ lowest_available k → (k < channels) × (f k ≡ true) × ((j : ℕ) → j < k → f j ≡ false)
 unfolding lowest_of
 chosen f k e = go (eqb (lowest f 8 0) 8) refl e
   where
-    go : (x : Bool) → eqb (lowest f 8 0) 8 ≡ x → cond x none_available (channel (lowest f 8 0)) ≡ channel k → (k < channels) × (f k ≡ true) × ((j : ℕ) → j < k → f j ≡ false)
+    go : (x : Bool) → eqb (lowest f 8 0) 8 ≡ x → cond x none_available (lowest_available (lowest f 8 0)) ≡ lowest_available k → (k < channels) × (f k ≡ true) × ((j : ℕ) → j < k → f j ≡ false)
     go true q z = let y : ◌≡◌ {A = ℕ} 0 1 = cc in absurd (omega arith)
     go false q z =
         let u : lowest f 8 0 ≡ k = cc in
@@ -32,7 +32,7 @@ pub none_chosen : (f : ℕ → Bool) → lowest_of f ≡ none_available → (j :
 unfolding lowest_of
 none_chosen f e j h = go (eqb (lowest f 8 0) 8) refl e
   where
-    go : (x : Bool) → eqb (lowest f 8 0) 8 ≡ x → cond x none_available (channel (lowest f 8 0)) ≡ none_available → f j ≡ false
+    go : (x : Bool) → eqb (lowest f 8 0) 8 ≡ x → cond x none_available (lowest_available (lowest f 8 0)) ≡ none_available → f j ≡ false
     go true q z = lowest_before f 8 0 j (omega arith) (let y = eqb-true (lowest f 8 0) 8 q in omega (arith, y, h))
     go false q z = let y : ◌≡◌ {A = ℕ} 0 1 = cc in absurd (omega arith)
 

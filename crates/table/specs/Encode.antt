@@ -3,7 +3,7 @@
 use Rattle.std.specs.Prelude.{Bool, false, cond, List, [], ◌∷◌, ◌++◌, map, ◌≡◌, ℕ, zero, suc, ◌+◌, ◌/◌, ◌%◌, ◌^◌, ◌<◌, length, get_or}
 use Rattle.common.specs.Lists.{from}
 use Rattle.cube.specs.Cube.{port_count}
-use Rattle.layout.specs.Layout.{table_length, in_table}
+use Rattle.layout.specs.Layout.{table_length, in_table, entry_count}
 use Rattle.table.specs.View.{View}
 
 -- a byte with bit p set where a test passes, for the w bits from p on
@@ -25,7 +25,7 @@ entry_bytes f i (suc k) = f (i / port_count) (i % port_count) % 256 ∷ f (i / p
 
 -- 1 byte, 256 bytes, 4,096 bytes, 4,096 bytes and 256 bytes
 unfoldable pub encode : View → List ℕ
-encode v = v.dimension ∷ mask_bytes v.enabled ++ entry_bytes v.owner 0 2048 ++ entry_bytes v.receiver 0 2048 ++ mask_bytes v.armed
+encode v = v.dimension ∷ mask_bytes v.enabled ++ entry_bytes v.owner 0 entry_count ++ entry_bytes v.receiver 0 entry_count ++ mask_bytes v.armed
 
 -- every number of a list is a byte
 abbrev pub AllBytes : List ℕ → Type 0

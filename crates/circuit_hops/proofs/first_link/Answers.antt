@@ -2,7 +2,7 @@
 use mathlib.Core.Path.{sym, ◌∙◌}
 use native.Mathlib.Omega.{arith}
 use Rattle.circuit_hops.proofs.Following.{leaving_one, leaving_none, leaving_several, several_none}
-use Rattle.circuit_hops.proofs.Taken.{vector_inside}
+use Rattle.circuit_hops.proofs.CountsHops.{vector_inside}
 use Rattle.circuit_hops.proofs.Ways.{not_none}
 use Rattle.circuit_hops.proofs.first_link.Goals as goal
 use Rattle.circuit_hops.proofs.first_link.Goals.{then-links_held-gt1+else-not-one_at_most+else-table-held, else-links_held-gt1+else-held-table}

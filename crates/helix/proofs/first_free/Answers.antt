@@ -3,29 +3,29 @@ use mathlib.Core.Path.{refl, ap, ◌∙◌}
 use Rattle.cube.specs.PortsLeft.{ports_left}
 use Rattle.cube.proofs.Order.{byte_vector}
 use Rattle.helix.proofs.Following.{starts_inside}
-use Rattle.helix.proofs.HelixSends.{first_path_turn, path_turns_over, turn_follows, turn_short, turn_found, turn_more}
+use Rattle.helix.proofs.HelixSends.{before_first_path, no_path_left, port_follows, path_short, path_found_free, path_not_free}
 use Rattle.helix.proofs.first_free.Goals as goal
 
 pub loop-port-init : goal.loop-port-init
-loop-port-init c = first_path_turn c.requires.may_try_paths (ap ports_left c.into_iter-port-iterator.ensures.into_iter_gives ∙ c.new-port-items.ensures)
+loop-port-init c = before_first_path c.requires.may_try_paths (ap ports_left c.into_iter-port-iterator.ensures.into_iter_gives ∙ c.new-port-items.ensures)
 
 pub new-path-requires : goal.new-path-requires
 new-path-requires c =
-    let follows = turn_follows c.loop-port.invariant c.requires.may_try_paths c.in-Some.ensures.steps in
+    let follows = port_follows c.loop-port.invariant c.requires.may_try_paths c.in-Some.ensures.steps in
     record { source_inside = starts_inside follows; target_inside = byte_vector follows.fits follows.target }
 
 pub free_front-requires : goal.free_front-requires
 free_front-requires c =
     let may = c.requires.may_try_paths in
-    record { bytes = may.bytes; few = turn_short c.loop-port.invariant may c.in-Some.ensures.steps c.new-path.ensures }
+    record { bytes = may.bytes; few = path_short c.loop-port.invariant may c.in-Some.ensures.steps c.new-path.ensures }
 
 pub returns-in-Ok : goal.returns-in-Ok
 returns-in-Ok c =
-    rw c.from.ensures (turn_found c.loop-port.invariant c.requires.may_try_paths c.in-Some.ensures.steps c.new-path.ensures c.in-Ok.ensures refl)
+    rw c.from.ensures (path_found_free c.loop-port.invariant c.requires.may_try_paths c.in-Some.ensures.steps c.new-path.ensures c.in-Ok.ensures refl)
 
 pub loop-port-preserved : goal.loop-port-preserved
 loop-port-preserved c =
-    rw c.from-scouts.ensures (turn_more c.loop-port.invariant c.requires.may_try_paths c.in-Some.ensures.steps c.new-path.ensures c.in-Err.ensures refl)
+    rw c.from-scouts.ensures (path_not_free c.loop-port.invariant c.requires.may_try_paths c.in-Some.ensures.steps c.new-path.ensures c.in-Err.ensures refl)
 
 pub returns : goal.returns
-returns c = (refl, path_turns_over c.loop-port.invariant c.in-None.ensures.steps.0)
+returns c = (refl, no_path_left c.loop-port.invariant c.in-None.ensures.steps.0)

@@ -6,16 +6,16 @@ use Rattle.common.proofs.Runs.{callable, any_of}
 use Rattle.cube.specs.Cube.{next}
 use Rattle.cube.specs.PortsLeft.{ports_left}
 use Rattle.cube.proofs.Order.{ports_mem}
-use Rattle.reach.specs.Marks.{leads, marked}
+use Rattle.reach.specs.Marks.{leads, reach_mark}
 use Rattle.reach.proofs.leads_on.Goals as goal
 
 pub any-requires-clause-callable : goal.any-requires-clause-callable
 any-requires-clause-callable c =
-    callable (λ p. p.0) ports_left (λ s r t step. step) (λ p. marked c.args.marks.now (next c.args.n.0 p)) (λ x r q k. search rules) false
+    callable (λ p. p.0) ports_left (λ s r t step. step) (λ p. reach_mark c.args.marks.now (next c.args.n.0 p)) (λ x r q k. search rules) false
     (λ p m. (c.requires.0, (ports_mem 8 c.args.vector (rw c.new.ensures at m)).0))
 
 pub returns : goal.returns
 unfolding leads
 returns c =
-    let test : ℕ → Bool = λ p. marked c.args.marks.now (next c.args.n.0 p) in
+    let test : ℕ → Bool = λ p. reach_mark c.args.marks.now (next c.args.n.0 p) in
     any_of (λ p. p.0) ports_left (λ s r t step. step) test (λ x r q k. search rules) c.any.new.self c.any.ensures.ran ∙ ap (any test) c.new.ensures

@@ -1,7 +1,7 @@
 -- The search meets its contracts: each hop is held, handed on, and given back where it is rejected.
 use Rattle.answers.proofs.PassOnBytes.{told_free, told_busy}
 use Rattle.search.proofs.Arrivals.{arrive_here, arrive_tries, arrive_may, arrive_falls}
-use Rattle.search.proofs.PortsTried.{here_tried, now_within, now_enabled, here_room, here_arrives, here_falls, turn_busy, turn_acknowledged, turn_full, turn_next}
+use Rattle.search.proofs.PortsTried.{here_tried, now_within, now_enabled, here_room, here_arrives, here_falls, tried_not_free, tried_acknowledged, tried_rejected, tried_next}
 use Rattle.table.specs.View.{view}
 use Rattle.search.specs.SearchContracts.{search_answer}
 use mathlib.Core.Path.{ap, ap₂, sym, ◌∙◌}
@@ -58,18 +58,18 @@ try_in_turn-set_owner-requires-in-Some-None t c =
 pub try_in_turn-returns-in-Some-None : goal.try_in_turn-returns-in-Some-None
 try_in_turn-returns-in-Some-None t c =
     ap₂ (λ h k. search_answer h k c.arrive-found.new.scouts c.set_owner-in-Some-None.new.t) c.in-Some-None.is-0 c.in-Some-None.is-1
-    ∙ turn_full c.requires.may_try c.loop-left.invariant c.loop-left-test.true c.first_port-p.ensures (told_free (view c.loop-left.t) c.args.at.0 c.first_port-p.result.0 c.link_state.ensures c.in-Free.is) c.set_owner.ensures c.neighbour.ensures c.arrive-found.ensures
+    ∙ tried_rejected c.requires.may_try c.loop-left.invariant c.loop-left-test.true c.first_port-p.ensures (told_free (view c.loop-left.t) c.args.at.0 c.first_port-p.result.0 c.link_state.ensures c.in-Free.is) c.set_owner.ensures c.neighbour.ensures c.arrive-found.ensures
     (ap₂ (λ h k. search_answer h k c.arrive-found.new.scouts c.arrive-found.new.t) c.in-Some-None.is-0 c.in-Some-None.is-1) c.set_owner-in-Some-None.ensures
 
 pub try_in_turn-returns-in-Some-Some : goal.try_in_turn-returns-in-Some-Some
 try_in_turn-returns-in-Some-Some t c =
-    turn_acknowledged c.requires.may_try c.loop-left.invariant c.loop-left-test.true c.first_port-p.ensures (told_free (view c.loop-left.t) c.args.at.0 c.first_port-p.result.0 c.link_state.ensures c.in-Free.is) c.set_owner.ensures c.neighbour.ensures c.arrive-found.ensures
+    tried_acknowledged c.requires.may_try c.loop-left.invariant c.loop-left-test.true c.first_port-p.ensures (told_free (view c.loop-left.t) c.args.at.0 c.first_port-p.result.0 c.link_state.ensures c.in-Free.is) c.set_owner.ensures c.neighbour.ensures c.arrive-found.ensures
     (ap₂ (λ h k. search_answer h k c.arrive-found.new.scouts c.arrive-found.new.t) c.in-Some-Some.is-0 c.in-Some-Some.is-1)
 
 pub try_in_turn-loop-left-preserved-in_default : goal.try_in_turn-loop-left-preserved-in_default
 try_in_turn-loop-left-preserved-in_default t c =
-    turn_busy c.requires.may_try c.loop-left.invariant c.loop-left-test.true c.first_port-p.ensures (told_busy (view c.loop-left.t) c.args.at.0 c.first_port-p.result.0 _ c.link_state.ensures c.in_default.not-Free) c.without-left.ensures
+    tried_not_free c.requires.may_try c.loop-left.invariant c.loop-left-test.true c.first_port-p.ensures (told_busy (view c.loop-left.t) c.args.at.0 c.first_port-p.result.0 _ c.link_state.ensures c.in_default.not-Free) c.without-left.ensures
 
 pub try_in_turn-loop-left-preserved : goal.try_in_turn-loop-left-preserved
 try_in_turn-loop-left-preserved t c =
-    turn_next c.requires.may_try c.loop-left.invariant c.loop-left-test.true c.first_port-p.ensures (told_free (view c.loop-left.t) c.args.at.0 c.first_port-p.result.0 c.link_state.ensures c.in-Free.is) c.set_owner.ensures c.neighbour.ensures c.arrive-found.ensures (ap (λ h. search_answer h c.args.self.now.receive c.arrive-found.new.scouts c.arrive-found.new.t) c.in-None-default.is-0) c.without-left.ensures c.set_owner-in-None-default.ensures
+    tried_next c.requires.may_try c.loop-left.invariant c.loop-left-test.true c.first_port-p.ensures (told_free (view c.loop-left.t) c.args.at.0 c.first_port-p.result.0 c.link_state.ensures c.in-Free.is) c.set_owner.ensures c.neighbour.ensures c.arrive-found.ensures (ap (λ h. search_answer h c.args.self.now.receive c.arrive-found.new.scouts c.arrive-found.new.t) c.in-None-default.is-0) c.without-left.ensures c.set_owner-in-None-default.ensures

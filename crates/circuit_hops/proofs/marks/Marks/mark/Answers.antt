@@ -5,8 +5,8 @@ use lib.ListN.{get_or, set}
 use Rattle.circuit_hops.specs.Seen.{with_marks}
 use Rattle.circuit_hops.proofs.marks.Marks.mark.Goals as goal
 
-pub returns-clause-marked : goal.returns-clause-marked
+pub returns-clause-newly_marked : goal.returns-clause-newly_marked
 unfolding with_marks
-returns-clause-marked c e =
+returns-clause-newly_marked c e =
     let m = c.args.self.now.of_node in
     ap₂ (λ i x. set m i (bit_or x c.args.held)) c.from-at.ensures (c.from-old.ensures ∙ ap (λ i. get_or m i 0) c.from-at.ensures)

@@ -23,7 +23,7 @@ use Rattle.circuit_path.specs.CircuitSound.{end_for, CircuitSound}
 use Rattle.circuit_hops.specs.Seen.{with_marks}
 use Rattle.std.proofs.Common.{Option, Some, None}
 use Rattle.paths.specs.CubeNetwork.{circuit_count}
-use Rattle.circuit_hops.specs.CountHops.{FollowedPath, StandsNowhere, Taken}
+use Rattle.circuit_hops.specs.CountHops.{FollowedPath, StandsNowhere, CountsHops}
 use Rattle.circuit_hops.proofs.Seen.{not_seen, seen_before, marks_after}
 use Rattle.circuit_hops.proofs.Ways.{shown}
 
@@ -67,9 +67,9 @@ module _ (b : List ℕ) (c t : ℕ) (before after : List ℕ) {s held : ℕ} (at
   marked_at : {x : Bool} → x ≡ eqb (bit_and (get_or before s 0) held) 0 → eqb (bit_and (get_or before (source_of c) 0) held) 0 ≡ x
   marked_at e = ap (λ n. eqb (bit_and (get_or before n 0) held) 0) (sym at) ∙ sym e
 
-  pub taken_new : (hops : Option ℕ) → true ≡ eqb (bit_and (get_or before s 0) held) 0 → after ≡ with_marks before s held → s < length before → c ≤ circuit_count (shape_of (view b))
-      → HopsFollowed (view b) c t hops → Taken (view b) c t before after hops
-  taken_new (Some hops) e m i l x =
+  pub counts_new : (hops : Option ℕ) → true ≡ eqb (bit_and (get_or before s 0) held) 0 → after ≡ with_marks before s held → s < length before → c ≤ circuit_count (shape_of (view b))
+      → HopsFollowed (view b) c t hops → CountsHops (view b) c t before after hops
+  counts_new (Some hops) e m i l x =
       record {
         in_range = l;
         found = x.0;
@@ -77,7 +77,7 @@ module _ (b : List ℕ) (c t : ℕ) (before after : List ℕ) {s held : ℕ} (at
         marks = λ s p h. marks_after before here (m ∙ ap (λ n. with_marks before n held) at) (omega arith) s p;
         most = x.1;
       }
-  taken_new None e m i l x = λ k z q u. x z q
+  counts_new None e m i l x = λ k z q u. x z q
 
-  pub taken_seen : false ≡ eqb (bit_and (get_or before s 0) held) 0 → Taken (view b) c t before after None
-  taken_seen e l z q u = u (seen_before before here (marked_at e))
+  pub counts_seen : false ≡ eqb (bit_and (get_or before s 0) held) 0 → CountsHops (view b) c t before after None
+  counts_seen e l z q u = u (seen_before before here (marked_at e))

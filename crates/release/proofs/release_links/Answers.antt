@@ -1,6 +1,6 @@
--- `release::free_links` meets its contract: what is left to free, from where the loop stands, leaves what all of it leaves.
+-- `release::release_links` meets its contract: what is left to free, from where the loop stands, leaves what all of it leaves.
 use Rattle.release.proofs.Releasing.{without_on, freed_bytes_are}
-use Rattle.release.proofs.free_links.Goals as goal
+use Rattle.release.proofs.release_links.Goals as goal
 
 pub loop-port-preserved : goal.loop-port-preserved
 loop-port-preserved c =
