@@ -541,6 +541,51 @@ maze_traced base_book_lookup(const uint8_t *ports, size_t ports_len, const uint8
     return answer;
 }
 
+/* Whether two buffers and two counts make a book. One pass over the index, as in a lookup. */
+static int well_formed(size_t ports_len, const uint8_t *index, size_t index_len, unsigned circuits, unsigned hops) {
+    unsigned above = 0, at = 0, bad = 0;
+    if (circuits > MAZE_CIRCUITS_LARGEST || MAZE_BOOK_LINE_BYTES * (size_t)circuits > index_len || hops > ports_len) return 0;
+    for (unsigned i = 0; i < circuits; i++, index += MAZE_BOOK_LINE_BYTES) {
+        unsigned number = entry(index, 0), length = entry(index, 2);
+        bad |= (number <= above) | (entry(index, 1) != at) | (length - 1 >= MAZE_HOPS_LARGEST);
+        above = number;
+        at += length;
+    }
+    return !bad && above <= MAZE_CIRCUITS_LARGEST && at == hops;
+}
+
+/* One pass over the circuits of the book: the first bad one is the answer, as 26 comes before what the links and the targets come to. Behind the first hop each port
+ * is walked at most once, and then the path is permitted. */
+uint16_t base_judge(const uint8_t *table, size_t table_len, const uint8_t *ports, size_t ports_len, const uint8_t *index, size_t index_len, uint16_t circuits,
+                    uint16_t hops) {
+    uint16_t number = refuse_table(table, table_len);
+    unsigned bad_link = 0, too_few = 0;
+    uint8_t used[MAZE_NODES], ends[MAZE_NODES];
+    if (number) return number;
+    if (!well_formed(ports_len, index, index_len, circuits, hops)) return MAZE_BAD_BOOK;
+    memset(used, 0, sizeof used);
+    memset(ends, 0, sizeof ends);
+    for (unsigned i = 0; i < circuits; i++, index += MAZE_BOOK_LINE_BYTES) {
+        unsigned circuit = entry(index, 0), length = entry(index, 2), node = (circuit - 1) / MAZE_CHANNELS, walked = 0;
+        if (node >> table[0] || held_by(links(table, node), circuit)) return MAZE_BAD_BOOK_CIRCUIT;
+        for (unsigned hop = 0; hop < length; hop++) {
+            unsigned port = *ports++, bit;
+            if (port >= table[0]) return MAZE_BAD_BOOK_CIRCUIT;
+            bit = 1u << port;
+            if (hop) {
+                if (walked & bit) return MAZE_BAD_BOOK_CIRCUIT;
+                walked |= bit;
+            }
+            bad_link |= (~(unsigned)table[MAZE_ENABLED_AT + node] | used[node]) & bit;
+            bad_link |= entry(links(table, node), port);
+            used[node] |= (uint8_t)bit;
+            node ^= bit;
+        }
+        too_few |= ends[node]++ >= __builtin_popcount(table[MAZE_ARMED_AT + node] & ~held(receives(table, node)));
+    }
+    return bad_link ? MAZE_BAD_BOOK_LINK : too_few ? MAZE_RECEIVE_REJECTED : MAZE_ACCEPTED;
+}
+
 /* How many numbers each command can carry; 0 where it is reserved. */
 static const uint8_t carries[16] = {1, 1, 1, 0, 2, 1, 64, 64, 1, 2, 0, 0, 1, 1, 2, 0};
 

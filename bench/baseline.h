@@ -17,6 +17,8 @@ maze_traced base_trace(const uint8_t *table, size_t table_len, uint16_t node, ui
 maze_booked base_book(const uint8_t *table, size_t table_len, uint8_t *ports, size_t ports_len, uint8_t *index, size_t index_len);
 maze_traced base_book_lookup(const uint8_t *ports, size_t ports_len, const uint8_t *index, size_t index_len, uint16_t circuits, uint16_t hops, uint16_t circuit,
                             uint8_t *buffer, size_t buffer_len);
+uint16_t base_judge(const uint8_t *table, size_t table_len, const uint8_t *ports, size_t ports_len, const uint8_t *index, size_t index_len, uint16_t circuits,
+                    uint16_t hops);
 maze_word_read_answer base_word_read(uint16_t word);
 maze_word_written base_word_write(uint16_t command, uint16_t carried);
 maze_served base_arbitrate(maze_arbiter *arbiter, uint32_t requests);
@@ -37,6 +39,8 @@ maze_traced sse_trace(const uint8_t *table, size_t table_len, uint16_t node, uin
 maze_booked sse_book(const uint8_t *table, size_t table_len, uint8_t *ports, size_t ports_len, uint8_t *index, size_t index_len);
 maze_traced sse_book_lookup(const uint8_t *ports, size_t ports_len, const uint8_t *index, size_t index_len, uint16_t circuits, uint16_t hops, uint16_t circuit,
                            uint8_t *buffer, size_t buffer_len);
+uint16_t sse_judge(const uint8_t *table, size_t table_len, const uint8_t *ports, size_t ports_len, const uint8_t *index, size_t index_len, uint16_t circuits,
+                   uint16_t hops);
 maze_word_read_answer sse_word_read(uint16_t word);
 maze_word_written sse_word_write(uint16_t command, uint16_t carried);
 maze_served sse_arbitrate(maze_arbiter *arbiter, uint32_t requests);

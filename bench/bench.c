@@ -26,6 +26,7 @@ struct calls {
     maze_traced (*trace)(const uint8_t *, size_t, uint16_t, uint16_t, uint8_t *, size_t);
     maze_booked (*book)(const uint8_t *, size_t, uint8_t *, size_t, uint8_t *, size_t);
     maze_traced (*book_lookup)(const uint8_t *, size_t, const uint8_t *, size_t, uint16_t, uint16_t, uint16_t, uint8_t *, size_t);
+    uint16_t (*judge)(const uint8_t *, size_t, const uint8_t *, size_t, const uint8_t *, size_t, uint16_t, uint16_t);
     maze_word_read_answer (*word_read)(uint16_t);
     maze_word_written (*word_write)(uint16_t, uint16_t);
     maze_served (*arbitrate)(maze_arbiter *, uint32_t);
@@ -36,13 +37,13 @@ struct calls {
 };
 
 static const struct calls plain = {base_make, base_block, base_unblock, base_arm, base_disarm, base_open, base_open_all, base_close, base_trace, base_book, base_book_lookup,
-                                   base_word_read, base_word_write, base_arbitrate, base_receive_start, base_receive_data, base_receive_word,
+                                   base_judge, base_word_read, base_word_write, base_arbitrate, base_receive_start, base_receive_data, base_receive_word,
                                    base_receive_overshoot};
 static const struct calls sse = {sse_make, sse_block, sse_unblock, sse_arm, sse_disarm, sse_open, sse_open_all, sse_close, sse_trace, sse_book, sse_book_lookup,
-                                 sse_word_read, sse_word_write, sse_arbitrate, sse_receive_start, sse_receive_data, sse_receive_word,
+                                 sse_judge, sse_word_read, sse_word_write, sse_arbitrate, sse_receive_start, sse_receive_data, sse_receive_word,
                                  sse_receive_overshoot};
 static const struct calls library = {maze_make, maze_block, maze_unblock, maze_arm, maze_disarm, maze_open, maze_open_all, maze_close, maze_trace, maze_book, maze_book_lookup,
-                                     maze_word_read, maze_word_write, maze_arbitrate, maze_receive_start, maze_receive_data, maze_receive_word,
+                                     maze_judge, maze_word_read, maze_word_write, maze_arbitrate, maze_receive_start, maze_receive_data, maze_receive_word,
                                      maze_receive_overshoot};
 
 enum { BYTES = MAZE_TABLE_BYTES };
@@ -129,6 +130,11 @@ static maze_booked booked;
 static void book_it(void) { booked = base_book(table, BYTES, book_ports, sizeof book_ports, book_index, sizeof book_index); }
 static void booked_one(void) { nine_hops(), book_it(); }
 static void booked_short(void) { full_of_short(), book_it(); }
+
+/* The same books, and the table with their circuits closed and their channels armed again. */
+static void emptied_one(void) { booked_one(), armed(8); }
+static void emptied_short(void) { booked_short(), armed(8); }
+static void emptied_long(void) { full_of_long(), book_it(), armed(8); }
 
 /* Every word once, and every command with every number of six bits once, in an order that a processor cannot foresee: so they come from
  * boards. */
@@ -244,6 +250,12 @@ static unsigned long turn_lookup(const struct calls *c, struct with with) {
     return found.number + 100ul * found.hops + 10000ul * buffer[0];
 }
 
+/* The book that the table was prepared with, judged by it. */
+static unsigned long turn_judge(const struct calls *c, struct with with) {
+    (void)with;
+    return c->judge(table, BYTES, book_ports, sizeof book_ports, book_index, sizeof book_index, booked.circuits, booked.hops);
+}
+
 static unsigned long turn_words_read(const struct calls *c, struct with with) {
     (void)with;
     unsigned long sum = 0;
@@ -333,6 +345,7 @@ static const struct {
     {"trace of 9 hops", nine_hops, turn_trace, {0, 0, 0, 0}, MAZE_ACCEPTED, 5000, 1},
     {"a book of 1 circuit of 9 hops", nine_hops, turn_book, {0, 0, 0, 0}, MAZE_ACCEPTED, 2000, 1},
     {"a lookup in a book of 1 circuit of 9 hops", booked_one, turn_lookup, {1, 0, 0, 0}, MAZE_ACCEPTED, 20000, 1},
+    {"judging a book of 1 circuit of 9 hops", emptied_one, turn_judge, {0, 0, 0, 0}, MAZE_ACCEPTED, 2000, 1},
     {"2,047 circuits of 1 hop: open and close", full_of_short, turn_open_close, {0, 1, 1, 0}, MAZE_ACCEPTED, 300, 1},
     {"  open, rejected", full_of_short, turn_open, {0, 255, 255, 0}, MAZE_ROUTE_REJECTED, 300, 1},
     {"  open, rejected, links into the target blocked", full_into_blocked, turn_open, {0, 255, 255, 0}, MAZE_NO_ROUTE, 300, 1},
@@ -344,12 +357,15 @@ static const struct {
     {"  a book", full_of_short, turn_book, {0, 0, 0, 0}, MAZE_ACCEPTED, 100, 1},
     {"  a lookup of the first in it", booked_short, turn_lookup, {2, 0, 0, 0}, MAZE_ACCEPTED, 500, 1},
     {"  a lookup of the last in it", booked_short, turn_lookup, {2048, 0, 0, 0}, MAZE_ACCEPTED, 500, 1},
+    {"  judging their book, all of them closed", emptied_short, turn_judge, {0, 0, 0, 0}, MAZE_ACCEPTED, 100, 1},
+    {"  the same, all of them open", booked_short, turn_judge, {0, 0, 0, 0}, MAZE_BAD_BOOK_CIRCUIT, 100, 1},
     {"circuits of all lengths, 2,047 links: open and close", full_of_long, turn_open_close, {0, 1, 1, 0}, MAZE_ACCEPTED, 300, 1},
     {"  open, rejected", full_of_long, turn_open, {0, 255, 255, 0}, MAZE_ROUTE_REJECTED, 300, 1},
     {"  block and unblock", full_of_long, turn_block, {0, 0, 0, 0}, MAZE_ACCEPTED, 300, 1},
     {"  disarm and arm", full_of_long, turn_arm, {1, 0, 0, 0}, MAZE_ACCEPTED, 300, 1},
     {"  trace of 8 hops", full_of_long, turn_trace, {220, 1, 0, 0}, MAZE_ACCEPTED, 300, 1},
     {"  a book", full_of_long, turn_book, {0, 0, 0, 0}, MAZE_ACCEPTED, 100, 1},
+    {"  judging their book, all of them closed", emptied_long, turn_judge, {0, 0, 0, 0}, MAZE_ACCEPTED, 100, 1},
     {"reading a word, of 4,096", mixed_words, turn_words_read, {0, 0, 0, 0}, MAZE_ACCEPTED, 50, 4096},
     {"writing a word, of 1,024", mixed_words, turn_words_write, {0, 0, 0, 0}, MAZE_ACCEPTED, 200, 1024},
     {"a choice of the arbiter, few ask, of 1,024", few_requests, turn_arbitrate, {0, 0, 0, 0}, MAZE_ACCEPTED, 200, 1024},

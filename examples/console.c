@@ -11,6 +11,7 @@
  *     L                                    list the open circuits
  *     K                                    write the book of the open circuits
  *     G circuit                            look a circuit number up in the book as it was last written
+ *     J                                    judge that book: whether the table could take its circuits now
  *     M                                    draw the map of links
  *     U                                    draw it without the nodes where nothing is held, blocked or armed
  *
@@ -41,8 +42,8 @@ static const struct form {
     {'F', 1, "dimension"},    {'B', 2, "node port"},    {'E', 2, "node port"},
     {'R', 2, "node channel"}, {'D', 2, "node channel"}, {'S', 5, "node channel target type vector"},
     {'C', 2, "node channel"}, {'T', 2, "node channel"}, {'L', 0, "nothing"},
-    {'K', 0, "nothing"},      {'G', 1, "circuit"},      {'M', 0, "nothing"},
-    {'U', 0, "nothing"},
+    {'K', 0, "nothing"},      {'G', 1, "circuit"},      {'J', 0, "nothing"},
+    {'M', 0, "nothing"},      {'U', 0, "nothing"},
 };
 
 /* What a call answered that gives its number alone. */
@@ -102,6 +103,12 @@ static void say_found(uint16_t circuit) {
     printf("%u.%u ports", maze_circuit_node(circuit), maze_circuit_channel(circuit));
     for (unsigned hop = 0; hop < found.hops; hop++) printf(" %u", (unsigned)ports[hop]);
     printf("\n");
+}
+
+static void say_judged(void) {
+    unsigned number = maze_judge(table, sizeof table, book_ports, sizeof book_ports, book_index, sizeof book_index, book.circuits, book.hops);
+    printf("book: ");
+    say(number, "accepted");
 }
 
 /* The open circuits by source and send channel; a walk over the receive channels meets each of them once. */
@@ -192,7 +199,7 @@ static const struct form *read_call(char *line, long length, unsigned long line_
     for (size_t i = 0; i < sizeof forms / sizeof *forms; i++)
         if (word[0] == forms[i].letter && word[1] == '\0') form = &forms[i];
     if (!form) {
-        printf("line %lu: '%s' is no call; calls are F, B, E, R, D, S, C, T, L, K, G, M and U\n", line_number, word);
+        printf("line %lu: '%s' is no call; calls are F, B, E, R, D, S, C, T, L, K, G, J, M and U\n", line_number, word);
         return NULL;
     }
     while ((word = strtok(NULL, " \t\r")) != NULL) {
@@ -227,6 +234,7 @@ static void make_call(char letter, const uint16_t *n) {
     case 'L': list_circuits(); break;
     case 'K': say_booked(); break;
     case 'G': say_found(n[0]); break;
+    case 'J': say_judged(); break;
     default: draw_map(letter == 'M'); break;
     }
 }

@@ -4,33 +4,33 @@
  * Every call finishes, takes any numbers, and answers MAZE_ACCEPTED or a refusal number;
  * maze_receive_start and maze_receive_overshoot, which refuse nothing, answer a channel and a
  * count. The tests of a call run in rising order of number, and the first that applies is the
- * answer; but a job (maze_open_all) tests its list, 28, before its sends, and a lookup
- * (maze_book_lookup) tests its book, 25, before 12 and 14. A refused call alters no byte lent to it
- * and answers zero beside its number; only MAZE_ROUTE_REJECTED, MAZE_RECEIVE_REJECTED and
- * MAZE_NO_ROUTE carry their scouts, a job tells which of its sends was refused, and a receive
- * channel comes back as it was. Numbers are tested at their whole width and never cut: node 256 is
- * not node 0. But C itself cuts a number that is wider than the parameter before the call is made,
- * so that 65536 arrives as 0; the warning -Wconversion tells.
+ * answer; but a job (maze_open_all) tests its list, 28, before its sends, a lookup
+ * (maze_book_lookup) tests its book, 25, before 12 and 14, and maze_judge tests receive
+ * channels, 11, last. A refused call alters no byte lent to it and answers zero beside its
+ * number; only 10, 11 and 22 of maze_open carry their scouts, a job tells which of its sends was
+ * refused, and a receive channel comes back as it was. Numbers are tested at their whole width and
+ * never cut: node 256 is not node 0. But C itself cuts a number that is wider than the parameter
+ * before the call is made, so that 65536 arrives as 0; the warning -Wconversion tells.
  *
  * What the caller sees to:
  * - A pointer to bytes comes with a length, and points to at least that many bytes that stay valid
  *   during the call. With length 0 the pointer may be anything, also null. No alignment is asked
  *   for.
- * - The memory of a table is writable, for every call but maze_trace and maze_book: an open writes
- *   to the table while it searches, also where it is rejected in the end. maze_trace, maze_book and
- *   the reading functions only read it, and maze_book_lookup only reads its book. The memory of a
- *   buffer that a call may write is writable.
+ * - The memory of a table is writable, for every call but maze_trace, maze_book and maze_judge: an
+ *   open writes to the table while it searches, also where it is rejected in the end. Those three
+ *   and the reading functions only read it, and maze_judge and maze_book_lookup only read their
+ *   book. The memory of a buffer that a call may write is writable.
  * - The buffer of maze_trace does not overlap the table, nor does the list of maze_open_all. The
  *   two buffers of maze_book overlap neither the table nor each other, and the buffer of
- *   maze_book_lookup does not overlap the book.
+ *   maze_book_lookup does not overlap the book. What is lent to maze_judge may overlap.
  * - The arbiter lent to maze_arbitrate is a maze_arbiter of the caller's, aligned as C aligns one
  *   and never null, that nobody else reads or writes during the call.
  * - While a call that may write a table runs, nobody else reads or writes that table: a search
  *   marks the links of its path as it goes and frees each of them again where it goes back, so a
  *   table looked at meanwhile may show circuits that are never opened. Nobody else uses a buffer
- *   that is written. Several threads may read, trace or book one table, or look up in one book, at
- *   the same time if nobody changes it. Calls on different tables may run at the same time: the
- *   library keeps nothing of its own between calls.
+ *   that is written. Several threads may read, trace or book one table, judge books against it, or
+ *   look up in one book or judge it, at the same time if nobody changes it. Calls on different
+ *   tables may run at the same time: the library keeps nothing of its own between calls.
  * The padding of an answer struct has no meaning.
  *
  * Linking: the library is for x86-64 with SSE2, by the System V rules for calls, so the stack is
@@ -45,7 +45,7 @@
 #include <stddef.h>
 #include <stdint.h>
 
-#define MAZE_VERSION "0.11.0" /* CHANGELOG.md says what each version changes for a caller */
+#define MAZE_VERSION "0.12.0" /* CHANGELOG.md says what each version changes for a caller */
 
 /* The functions of this header are inline and static, so that they ask nothing of the library. */
 #if defined __cplusplus || (defined __STDC_VERSION__ && __STDC_VERSION__ >= 199901L)
@@ -72,7 +72,7 @@ extern "C" {
 #define MAZE_BAD_SEND_VECTOR 8    /* the send vector is zero or has a port that the cube lacks */
 #define MAZE_CHANNEL_IN_USE 9     /* the send channel has an open circuit */
 #define MAZE_ROUTE_REJECTED 10    /* no path that the type may try is free; closing may help */
-#define MAZE_RECEIVE_REJECTED 11  /* no receive channel of the target is armed and not held */
+#define MAZE_RECEIVE_REJECTED 11  /* too few receive channels of a node are armed and not held */
 #define MAZE_NO_CIRCUIT 12        /* the send channel has no open circuit; or none in a book */
 #define MAZE_LINK_HELD 13         /* a circuit holds the link */
 #define MAZE_BUFFER_SHORT 14      /* the buffer is shorter than 9 bytes; whatever the path */
@@ -86,6 +86,8 @@ extern "C" {
 #define MAZE_NO_ROUTE 22          /* every path that the type may try crosses a blocked link */
 #define MAZE_BOOK_SHORT 23        /* a buffer cannot hold its part of the book */
 #define MAZE_BAD_BOOK 25          /* the book is not well formed */
+#define MAZE_BAD_BOOK_CIRCUIT 26  /* a circuit of a book has a bad source, path or send channel */
+#define MAZE_BAD_BOOK_LINK 27     /* a link of the book is blocked, taken or shared */
 #define MAZE_BAD_SEND_LIST 28     /* the list of sends is no multiple of ten bytes or above 640 */
 #define MAZE_CHANNEL_STOPPED 30   /* the receive channel is stopped */
 #define MAZE_BAD_REQUESTER 31     /* a request bit is at 26 or above, or the record is above 25 */
@@ -299,6 +301,28 @@ maze_booked maze_book(const uint8_t *table, size_t table_len, uint8_t *ports, si
 maze_traced maze_book_lookup(const uint8_t *ports, size_t ports_len, const uint8_t *index,
                              size_t index_len, uint16_t circuits, uint16_t hops,
                              uint16_t circuit, uint8_t *buffer, size_t buffer_len);
+
+/* Judges a book, which may come from anywhere, against a table; both are only read. 0 means exactly
+ * that the book is well formed, that each circuit has its source in the cube, ports below the
+ * dimension that make a permitted path for some send vector, and a send channel without an open
+ * circuit, that all links of the circuits are free and no two share one, and that each node has at
+ * least as many receive channels armed and not held as circuits of the book end there. Of a sound
+ * table and a well-formed book that is so exactly where a sound table of the same dimension, with
+ * the same links blocked and receive channels armed, can have these circuits open, over these
+ * ports, beside those that are. Each test looks at the whole book before the next one does:
+ *   25: the book is not well formed.
+ *   26: the source of a circuit is not in the cube, or a port of it is not below the dimension; or
+ *       its ports are no permitted path, for any send vector, to the node where they lead; or its
+ *       send channel has an open circuit in the table.
+ *   27: a link of a circuit is blocked, or held in the table, or is a link of another circuit of
+ *       the book too.
+ *   11: more circuits of the book end at a node than it has receive channels armed and not held.
+ * A book of no circuit and no hop is accepted by every sound table. A book that maze_book wrote is
+ * accepted by its table once each of its circuits is closed and then its receive channel armed
+ * again.
+ * Answers 0, or the first of 1, 2, 3, 25, 26, 27 and 11 that applies, in this order. */
+uint16_t maze_judge(const uint8_t *table, size_t table_len, const uint8_t *ports, size_t ports_len,
+                    const uint8_t *index, size_t index_len, uint16_t circuits, uint16_t hops);
 
 /* ---- Reading a table between calls ----
  *
@@ -521,7 +545,7 @@ MAZE_INLINE const char *maze_refusal_text(unsigned number) {
     case MAZE_BAD_SEND_VECTOR: return "the send vector is zero or has a port that the cube lacks";
     case MAZE_CHANNEL_IN_USE: return "the send channel has an open circuit";
     case MAZE_ROUTE_REJECTED: return "no path that the type may try is free";
-    case MAZE_RECEIVE_REJECTED: return "no receive channel of the target is armed and not held";
+    case MAZE_RECEIVE_REJECTED: return "too few receive channels of a node are armed and not held";
     case MAZE_NO_CIRCUIT: return "the send channel has no open circuit";
     case MAZE_LINK_HELD: return "a circuit holds the link";
     case MAZE_BUFFER_SHORT: return "the buffer is shorter than 9 bytes";
@@ -535,6 +559,8 @@ MAZE_INLINE const char *maze_refusal_text(unsigned number) {
     case MAZE_NO_ROUTE: return "every path that the type may try crosses a blocked link";
     case MAZE_BOOK_SHORT: return "a buffer cannot hold its part of the book";
     case MAZE_BAD_BOOK: return "the book is not well formed";
+    case MAZE_BAD_BOOK_CIRCUIT: return "a circuit of a book has a bad source, path or send channel";
+    case MAZE_BAD_BOOK_LINK: return "a link of the book is blocked, taken or shared";
     case MAZE_BAD_SEND_LIST: return "the list of sends is no multiple of ten bytes or above 640";
     case MAZE_CHANNEL_STOPPED: return "the receive channel is stopped";
     case MAZE_BAD_REQUESTER: return "a request bit is at 26 or above, or the record is above 25";

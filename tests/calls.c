@@ -3,6 +3,7 @@
  *
  * A byte of a table is given by its place: the link out of port p of node n is held at 257 + 16 n + 2 p, receive channel c of node n at
  * 4353 + 16 n + 2 c, the enabled links of node n are at 1 + n, and its armed channels at 8449 + n. */
+#include "books.h"
 #include "expect.h"
 #include "subject.h"
 
@@ -874,7 +875,6 @@ static void refused_job(unsigned number, unsigned place, size_t length, size_t l
 }
 
 /* The buffers lent for a book, which go on behind what is lent, and what they were before. */
-enum { PORTS = 2048 * 9, INDEX = 2049 * 6 };
 
 static uint8_t book_ports[PORTS + SPARE], book_index[INDEX + SPARE], kept_ports[PORTS + SPARE], kept_index[INDEX + SPARE];
 
@@ -902,6 +902,14 @@ static void refused_book(unsigned number, size_t length, size_t ports_length, si
     expect(unaltered() && unaltered_book(), "altered by a book refused as", number, ports_length);
 }
 
+/* Of a judging the refusals of the table alone stand here; the others are in judge.c. */
+static void refused_judging(unsigned number, size_t length, size_t ports_length, size_t index_length, unsigned circuits, unsigned hops) {
+    keep();
+    fresh_book();
+    refused(number, maze_judge(table, length, book_ports, ports_length, book_index, index_length, (uint16_t)circuits, (uint16_t)hops), "refused judging", circuits);
+    expect(unaltered_book(), "altered by a judging refused as", number, circuits);
+}
+
 /* Every call but making is refused with this number, also where later tests apply. */
 static void all_refused(unsigned number, size_t length) {
     refused_block(number, length, 0, 0);
@@ -920,6 +928,8 @@ static void all_refused(unsigned number, size_t length) {
     refused_job(number, 0, length, 650);
     refused_book(number, length, 2048, 12288);
     refused_book(number, length, 0, 0);
+    refused_judging(number, length, 0, 0, 0, 0);
+    refused_judging(number, length, 0, 0, 65535, 65535);
 }
 
 static void lengths(void) {
@@ -947,6 +957,7 @@ static void lengths(void) {
         expect(traced.number == 1 && traced.hops == 0, "no table, trace", i, 0);
         expect(maze_open_all(none, 0, none, 0).number == 1, "no table, job", i, 0);
         expect(maze_book(none, 0, none, 0, none, 0).number == 1, "no table, book", i, 0);
+        expect(maze_judge(none, 0, none, 0, none, 0, 0, 0) == 1 && maze_judge(none, 0, none, 0, none, 0, 1, 1) == 1, "no table, judging", i, 0);
     }
 }
 
@@ -1430,11 +1441,6 @@ static void books(void) {
     refused_book(1, BYTES + 1, 2048, 12288);
 }
 
-/* A line of the index lent: number, offset and length, two bytes each, low byte first. */
-struct line {
-    unsigned number, offset, length;
-};
-
 static void put_line(unsigned place, struct line line) {
     const unsigned numbers[] = {line.number, line.offset, line.length};
     for (unsigned i = 0; i < 3; i++) book_index[6 * place + 2 * i] = (uint8_t)(numbers[i] % 256), book_index[6 * place + 2 * i + 1] = (uint8_t)(numbers[i] / 256);
@@ -1459,79 +1465,22 @@ static void expect_lookup(const char *what, size_t ports_length, size_t index_le
     expect(got.number == 0 && got.hops == found && memcmp(buffer, book_ports + offset, found) == 0 && fresh_from(found) && unaltered_book(), what, circuit, got.number);
 }
 
-/* A book of circuits 5, 300 and 2048, of 2, 9 and 1 hops, 12 in all. */
-static const struct line good_lines[] = {{5, 0, 2}, {300, 2, 9}, {2048, 11, 1}};
-
 static void good_book(void) {
     fresh_book();
     for (unsigned i = 0; i < 3; i++) put_line(i, good_lines[i]);
 }
 
 static void lookups(void) {
-    static const struct {
-        const char *what;
-        size_t ports_length, index_length;
-        unsigned circuits, hops;
-        struct line lines[3];
-    } bad[] = {
-        {"an index one byte short", 12, 17, 3, 12, {{5, 0, 2}, {300, 2, 9}, {2048, 11, 1}}},
-        {"no index", 12, 0, 3, 12, {{5, 0, 2}, {300, 2, 9}, {2048, 11, 1}}},
-        {"ports one byte short", 11, 18, 3, 12, {{5, 0, 2}, {300, 2, 9}, {2048, 11, 1}}},
-        {"no ports", 0, 18, 3, 12, {{5, 0, 2}, {300, 2, 9}, {2048, 11, 1}}},
-        {"one circuit too many for the index", 12, 23, 4, 12, {{5, 0, 2}, {300, 2, 9}, {2048, 11, 1}}},
-        {"one circuit too many", 12, INDEX, 4, 12, {{5, 0, 2}, {300, 2, 9}, {2048, 11, 1}}},
-        {"one circuit too few", 12, 18, 2, 12, {{5, 0, 2}, {300, 2, 9}, {2048, 11, 1}}},
-        /* six times 10,923 is 65,538, and six times 10,925 is 65,550: their low 16 bits are 2 and 14 */
-        {"10,923 circuits", 12, 18, 10923, 12, {{5, 0, 2}, {300, 2, 9}, {2048, 11, 1}}},
-        {"10,925 circuits", 12, 18, 10925, 12, {{5, 0, 2}, {300, 2, 9}, {2048, 11, 1}}},
-        {"65,535 circuits", 12, 18, 65535, 12, {{5, 0, 2}, {300, 2, 9}, {2048, 11, 1}}},
-        {"259 circuits", 12, INDEX, 259, 12, {{5, 0, 2}, {300, 2, 9}, {2048, 11, 1}}},
-        {"one hop too many for the ports", 12, 18, 3, 13, {{5, 0, 2}, {300, 2, 9}, {2048, 11, 1}}},
-        {"the last pair ends before the hops", PORTS, 18, 3, 13, {{5, 0, 2}, {300, 2, 9}, {2048, 11, 1}}},
-        {"the last pair ends behind the hops", 12, 18, 3, 11, {{5, 0, 2}, {300, 2, 9}, {2048, 11, 1}}},
-        {"268 hops", PORTS, 18, 3, 268, {{5, 0, 2}, {300, 2, 9}, {2048, 11, 1}}},
-        {"65,535 hops", PORTS, 18, 3, 65535, {{5, 0, 2}, {300, 2, 9}, {2048, 11, 1}}},
-        {"no hop", 12, 18, 3, 0, {{5, 0, 2}, {300, 2, 9}, {2048, 11, 1}}},
-        {"no circuit and one hop", 12, 18, 0, 1, {{5, 0, 2}, {300, 2, 9}, {2048, 11, 1}}},
-        {"no circuit and twelve hops", 12, 18, 0, 12, {{5, 0, 2}, {300, 2, 9}, {2048, 11, 1}}},
-        {"number 0", 12, 18, 3, 12, {{0, 0, 2}, {300, 2, 9}, {2048, 11, 1}}},
-        {"number 2,049", 12, 18, 3, 12, {{5, 0, 2}, {300, 2, 9}, {2049, 11, 1}}},
-        {"number 65,535", 12, 18, 3, 12, {{5, 0, 2}, {300, 2, 9}, {65535, 11, 1}}},
-        {"number 2,049 first", 2, 6, 1, 2, {{2049, 0, 2}, {0, 0, 0}, {0, 0, 0}}},
-        {"equal numbers at first", 12, 18, 3, 12, {{300, 0, 2}, {300, 2, 9}, {2048, 11, 1}}},
-        {"equal numbers at last", 12, 18, 3, 12, {{5, 0, 2}, {300, 2, 9}, {300, 11, 1}}},
-        {"falling numbers at first", 12, 18, 3, 12, {{301, 0, 2}, {300, 2, 9}, {2048, 11, 1}}},
-        {"falling numbers at last", 12, 18, 3, 12, {{5, 0, 2}, {300, 2, 9}, {299, 11, 1}}},
-        {"rising low bytes", 12, 18, 3, 12, {{256, 0, 2}, {5, 2, 9}, {2048, 11, 1}}},
-        {"length 0 at first", 12, 18, 3, 10, {{5, 0, 0}, {300, 0, 9}, {2048, 9, 1}}},
-        {"length 0 between", 12, 18, 3, 3, {{5, 0, 2}, {300, 2, 0}, {2048, 2, 1}}},
-        {"length 0 at last", 12, 18, 3, 11, {{5, 0, 2}, {300, 2, 9}, {2048, 11, 0}}},
-        {"length 0 alone", 12, 18, 1, 0, {{5, 0, 0}, {300, 0, 9}, {2048, 9, 1}}},
-        {"length 10 at first", PORTS, 18, 3, 20, {{5, 0, 10}, {300, 10, 9}, {2048, 19, 1}}},
-        {"length 10 between", PORTS, 18, 3, 13, {{5, 0, 2}, {300, 2, 10}, {2048, 12, 1}}},
-        {"length 10 at last", PORTS, 18, 3, 21, {{5, 0, 2}, {300, 2, 9}, {2048, 11, 10}}},
-        {"length 257", PORTS, 18, 3, 268, {{5, 0, 2}, {300, 2, 9}, {2048, 11, 257}}},
-        {"length 65,535", PORTS, 18, 3, 10, {{5, 0, 2}, {300, 2, 9}, {2048, 11, 65535}}},
-        {"a gap of one byte", PORTS, 18, 3, 13, {{5, 0, 2}, {300, 3, 9}, {2048, 12, 1}}},
-        {"a gap before the last", PORTS, 18, 3, 13, {{5, 0, 2}, {300, 2, 9}, {2048, 12, 1}}},
-        {"an overlap of one byte", PORTS, 18, 3, 11, {{5, 0, 2}, {300, 1, 9}, {2048, 10, 1}}},
-        {"an overlap at the last", PORTS, 18, 3, 11, {{5, 0, 2}, {300, 2, 9}, {2048, 10, 1}}},
-        {"the first offset 1", PORTS, 18, 3, 13, {{5, 1, 2}, {300, 3, 9}, {2048, 12, 1}}},
-        {"the first offset 256", PORTS, 18, 3, 12, {{5, 256, 2}, {300, 2, 9}, {2048, 11, 1}}},
-        {"the first offset 65,535", PORTS, 18, 3, 11, {{5, 65535, 2}, {300, 1, 9}, {2048, 10, 1}}},
-        {"offsets that are not in order", 12, 18, 3, 12, {{5, 10, 2}, {300, 1, 9}, {2048, 0, 1}}},
-        {"one pair twice", 12, 18, 3, 12, {{5, 0, 2}, {300, 2, 9}, {2048, 2, 1}}},
-    };
     static const unsigned circuits[] = {0, 1, 5, 6, 77, 300, 2048, 2049, 65535};
     static const size_t lengths[] = {0, 8, 9, BUFFER};
 
-    for (size_t i = 0; i < sizeof bad / sizeof *bad; i++) {
+    for (size_t i = 0; i < sizeof bad_books / sizeof *bad_books; i++) {
         fresh_book();
-        for (unsigned line = 0; line < 3; line++) put_line(line, bad[i].lines[line]);
+        for (unsigned line = 0; line < 3; line++) put_line(line, bad_books[i].lines[line]);
         /* 25 before 12 and 14 */
         for (size_t c = 0; c < sizeof circuits / sizeof *circuits; c++)
             for (size_t k = 0; k < sizeof lengths / sizeof *lengths; k++)
-                refused_lookup(bad[i].what, 25, bad[i].ports_length, bad[i].index_length, bad[i].circuits, bad[i].hops, circuits[c], lengths[k]);
+                refused_lookup(bad_books[i].what, 25, bad_books[i].ports_length, bad_books[i].index_length, bad_books[i].circuits, bad_books[i].hops, circuits[c], lengths[k]);
     }
 
     /* the good book, in buffers that just hold it and in larger ones */

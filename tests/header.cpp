@@ -32,9 +32,18 @@ int main() {
     const maze_traced found = maze_book_lookup(book_ports.data(), book_ports.size(), index.data(), index.size(), booked.circuits, booked.hops, 1, ports, sizeof ports);
     check(found.number == MAZE_ACCEPTED && found.hops == 3 && ports[0] == 1 && ports[1] == 2 && ports[2] == 0, "look up");
     check(maze_book_lookup(book_ports.data(), 2, index.data(), index.size(), 1, 3, 1, ports, sizeof ports).number == MAZE_BAD_BOOK, "a book not well formed");
+    auto judge = [&](uint16_t circuits) {
+        return maze_judge(table.data(), table.size(), book_ports.data(), book_ports.size(), index.data(), index.size(), circuits, booked.hops);
+    };
+    check(judge(1) == MAZE_BAD_BOOK_CIRCUIT && judge(2) == MAZE_BAD_BOOK, "judge a book whose circuit is open");
     check(maze_disarm(table.data(), table.size(), 7, 0) == MAZE_CHANNEL_HELD, "disarm a held channel");
     check(maze_close(table.data(), table.size(), 0, 0) == MAZE_ACCEPTED && !MAZE_RECEIVE_ARMED(table.data(), 7, 0), "close");
     check(maze_close(table.data(), table.size(), 0, 0) == MAZE_NO_CIRCUIT, "close again");
+    check(judge(1) == MAZE_RECEIVE_REJECTED, "judge it with no channel armed");
+    check(maze_arm(table.data(), table.size(), 7, 0) == MAZE_ACCEPTED && judge(1) == MAZE_ACCEPTED, "judge it with a channel armed");
+    book_ports[0] = 0; /* 0, 1, 5, 4: over the first of the two blocked links */
+    check(judge(1) == MAZE_BAD_BOOK_LINK, "judge a path over a blocked link");
+    check(maze_disarm(table.data(), table.size(), 7, 0) == MAZE_ACCEPTED, "disarm");
     check(maze_unblock(table.data(), table.size(), 1, 2) == MAZE_ACCEPTED, "unblock");
     const std::vector<uint8_t> sends = {0, 0, 0, 0, 7, 0, 0, 0, 7, 0, 0, 0, 1, 0, 7, 0, 0, 0, 7, 0};
     const maze_opened_all job = maze_open_all(table.data(), table.size(), sends.data(), sends.size());

@@ -5,8 +5,8 @@
  * runs that many streams of calls of each kind and dimension (20 without an argument), each from a seed of its own. At the first difference it
  * shortens the list of calls as long as they still differ, prints it and stops. Otherwise it prints how often each case has occurred. Calls are
  * written as in the printed list, and beside them `T node channel` traces, `J` opens the sends that follow it together, each as behind S, `K` writes the book of the table,
- * `L circuit circuits hops` looks a circuit up in the book that stands there, `P place value` writes one byte of the table and `W place value` one of the book's index,
- * and `/ table of N`, `/ buffer of N`, `/ list of N`, `/ ports of N` or `/ index of N` behind a call says that it was lent N bytes. */
+ * `L circuit circuits hops` looks a circuit up in the book that stands there, `G circuits hops` judges that book, `P place value` writes one byte of the table,
+ * `W place value` one of the book's index and `V place value` one of its ports, and `/ table of N`, `/ buffer of N`, `/ list of N`, `/ ports of N` or `/ index of N` behind a call says that it was lent N bytes. */
 #include "draw.h"
 #include "reference.h"
 #include "subject.h"
@@ -15,7 +15,7 @@
 #include <stdlib.h>
 #include <string.h>
 
-enum { SPARE = 32, BUFFER = 24, MOST_CALLS = 60000, LETTERS = 13, NUMBERS = MAZE_BAD_SEND_LIST + 1, MOST_JOBS = 4000, LIST = 660 };
+enum { SPARE = 32, BUFFER = 24, MOST_CALLS = 60000, LETTERS = 15, NUMBERS = MAZE_BAD_SEND_LIST + 1, MOST_JOBS = 4000, LIST = 660 };
 enum { PORTS = MAZE_CIRCUITS_LARGEST + SPARE, INDEX = MAZE_BOOK_LINE_BYTES * MAZE_CIRCUITS_LARGEST + SPARE };
 
 static int one_in(unsigned count) {
@@ -24,7 +24,7 @@ static int one_in(unsigned count) {
 
 /* ---- calls, and both tables ---- */
 
-static const char letters[] = "FBESCRDTJKLWP";
+static const char letters[] = "FBESCRDTJKLGWVP";
 
 static size_t letter_place(char letter) {
     return (size_t)(strchr(letters, letter) - letters);
@@ -93,7 +93,12 @@ static struct answers run(const struct call *call, struct pair *on) {
         traced[0] = maze_book_lookup(on->ports[0], call->ports_len, on->index[0], call->index_len, a[1], a[2], a[0], on->buffer[0], call->buffer_len);
         traced[1] = ref_book_lookup(on->ports[1], call->ports_len, on->index[1], call->index_len, a[1], a[2], a[0], on->buffer[1], call->buffer_len);
         break;
+    case 'G':
+        number[0] = maze_judge(lib, length, on->ports[0], call->ports_len, on->index[0], call->index_len, a[0], a[1]);
+        number[1] = ref_judge(ref, length, on->ports[1], call->ports_len, on->index[1], call->index_len, a[0], a[1]);
+        break;
     case 'W': on->index[0][a[0]] = on->index[1][a[0]] = (uint8_t)a[1]; break;
+    case 'V': on->ports[0][a[0]] = on->ports[1][a[0]] = (uint8_t)a[1]; break;
     default: lib[a[0]] = ref[a[0]] = (uint8_t)a[1]; break; /* P */
     }
     for (int i = 0; i < 2; i++) {
@@ -126,7 +131,7 @@ static struct call list[MOST_CALLS];
 static size_t calls;
 
 static void print_call(const struct call *call) {
-    static const int arguments[LETTERS] = {1, 2, 2, 5, 2, 2, 2, 2, 0, 0, 3, 2, 2};
+    static const int arguments[LETTERS] = {1, 2, 2, 5, 2, 2, 2, 2, 0, 0, 3, 2, 2, 2, 2};
     int count = arguments[letter_place(call->letter)];
     printf("%c", call->letter);
     for (int i = 0; i < count; i++) printf(" %u", (unsigned)call->argument[i]);
@@ -134,7 +139,7 @@ static void print_call(const struct call *call) {
         printf("%s%u", i % 5 == 0 && i > 0 ? ", " : " ", lists[call->job][2 * i] + 256u * lists[call->job][2 * i + 1]);
     if (call->letter == 'J') printf(" / list of %u", (unsigned)call->buffer_len);
     if (call->table_len != MAZE_TABLE_BYTES) printf(" / table of %u", (unsigned)call->table_len);
-    if (call->letter == 'K' || call->letter == 'L') printf(" / ports of %u / index of %u", (unsigned)call->ports_len, (unsigned)call->index_len);
+    if (call->letter == 'K' || call->letter == 'L' || call->letter == 'G') printf(" / ports of %u / index of %u", (unsigned)call->ports_len, (unsigned)call->index_len);
     if ((call->letter == 'T' || call->letter == 'L') && call->buffer_len != BUFFER) printf(" / buffer of %u", (unsigned)call->buffer_len);
     printf("\n");
 }
@@ -207,6 +212,7 @@ static struct {
     unsigned long rejected[2][MAZE_TYPE_ALTERNATE_MAZE + 1], no_route_idle, no_route_unscouted, helped_past_blocked; /* 10 and then 22, by type */
     unsigned long book_empty, book_several, book_long, book_whole, book_exact, ports_short, index_short, number_wide, offset_wide;
     unsigned long looked_first, looked_last, looked_absent_short, damaged_books, damaged_formed, fault[FAULTS], laid_books, traced_alike;
+    unsigned long judged_several, judged_long, judged_beside, judged_open, judged_unarmed;
     unsigned long job_several, job_long, job_empty, job_first, job_middle, job_last;
     unsigned long helix_first, helix_later, helix_none, helix_received, helix_received_later, fixed_taken, fixed_rejected, fixed_received, partly_free;
 } seen;
@@ -271,6 +277,7 @@ static void tally(const struct call *call, const struct answers *answers, unsign
         }
         seen.looked_absent_short += number == MAZE_NO_CIRCUIT && call->buffer_len < MAZE_TRACE_BYTES;
     }
+    if (call->letter == 'G' && number == MAZE_ACCEPTED) seen.judged_several += a[0] > 1, seen.judged_long += a[0] > 64, seen.judged_beside += a[0] > 0 && held > 0;
     if (call->letter != 'S') return;
     if (!(number == MAZE_ACCEPTED || number == MAZE_ROUTE_REJECTED || number == MAZE_RECEIVE_REJECTED || number == MAZE_NO_ROUTE)) return;
     if (number == MAZE_ROUTE_REJECTED || number == MAZE_NO_ROUTE) {
@@ -330,6 +337,7 @@ static void make_call(struct call call) {
     if (differs || calls == MOST_CALLS) return;
     if (call.letter == 'S') count_held(&held, &links, &blocked);
     if (call.letter == 'K') held = booked_circuits(), links = booked_hops();
+    if (call.letter == 'G') held = booked_circuits();
     if ((call.letter == 'R' || call.letter == 'D') && call.argument[0] < MAZE_NODES && call.argument[1] < MAZE_CHANNELS)
         armed = MAZE_RECEIVE_ARMED(now.table[1], call.argument[0], call.argument[1]);
     list[calls++] = call;
@@ -345,7 +353,7 @@ static void make_call(struct call call) {
         seen.armed_held += MAZE_RECEIVE_CIRCUIT(now.table[1], call.argument[0], call.argument[1]) != 0;
     }
     seen.disarmed_again += call.letter == 'D' && last_number == MAZE_ACCEPTED && !armed;
-    if (call.letter != 'P' && call.letter != 'W') tally(&call, &answers, held, links, blocked);
+    if (call.letter != 'P' && call.letter != 'W' && call.letter != 'V') tally(&call, &answers, held, links, blocked);
 }
 
 /* ---- choosing calls ---- */
@@ -469,6 +477,16 @@ static struct call any_lookup(void) {
     return call;
 }
 
+/* A judging of the book that stands there, in most cases with its own counts and buffers that hold it. */
+static struct call any_judging(void) {
+    struct call call = plain('G', (unsigned)last_circuits, (unsigned)last_hops);
+    if (one_in(16)) call.argument[0] = (uint16_t)(one_in(4) ? odd_number(MAZE_CIRCUITS_LARGEST) : last_circuits + 2 - below(4));
+    if (one_in(16)) call.argument[1] = (uint16_t)(one_in(4) ? odd_number(MAZE_CIRCUITS_LARGEST) : last_hops + 2 - below(4));
+    if (one_in(12)) call.ports_len = near_length((unsigned)last_hops, PORTS);
+    if (one_in(12)) call.index_len = near_length(MAZE_BOOK_LINE_BYTES * (unsigned)last_circuits, INDEX);
+    return call;
+}
+
 /* A circuit that is open, by chance; or any node and channel. */
 static void any_circuit(unsigned dimension, unsigned *node, unsigned *channel) {
     for (int tries = 0; tries < 20; tries++) {
@@ -503,13 +521,15 @@ static struct call odd_call(unsigned dimension) {
     static const uint16_t lengths[] = {0, 1, 256, MAZE_ARMED_AT, MAZE_TABLE_BYTES - 1, MAZE_TABLE_BYTES + 1, MAZE_TABLE_BYTES + SPARE};
     static const unsigned types[] = {0, 4, 1, 2, 3, 5, 6, 7, 8, 256, 257, 259, 260, 65535};
     struct call call = any_send(dimension);
-    call.letter = "FBESSSCTRDJK"[below(12)];
+    call.letter = "FBESSSCTRDJKG"[below(13)];
     if (call.letter == 'F') {
         call.argument[0] = (uint16_t)(one_in(4) ? 256 + dimension : one_in(2) ? 0 : 9 + below(60000));
     } else if (call.letter == 'J') {
         call = any_job(dimension);
     } else if (call.letter == 'K') {
         call = any_book();
+    } else if (call.letter == 'G') {
+        call = any_judging();
     } else if (call.letter == 'S') {
         if (one_in(3)) call.argument[0] = (uint16_t)odd_number(1u << dimension);
         if (one_in(3)) call.argument[1] = (uint16_t)odd_number(8);
@@ -532,7 +552,7 @@ static struct call any_call(unsigned dimension) {
     struct call call;
     if (choice < 40) return any_send(dimension);
     if (choice < 43) return any_job(dimension);
-    if (choice < 44) return one_in(2) ? any_book() : any_lookup();
+    if (choice < 44) return one_in(2) ? any_book() : one_in(2) ? any_lookup() : any_judging();
     if (choice < 57) return on_circuit('C', dimension);
     if (choice < 69) {
         call = on_circuit('T', dimension);
@@ -926,13 +946,76 @@ static void booked(unsigned dimension) {
     }
 }
 
+static struct call own_judging(void) {
+    return plain('G', (unsigned)last_circuits, (unsigned)last_hops);
+}
+
+enum { ALL, SOME, NO_ARMING };
+
+/* Closes the circuits of the book that stands there and arms their channels again: of all of them, of all but some, or of none. */
+static void close_booked(unsigned how) {
+    for (unsigned line = 0; line < last_circuits; line++) {
+        const unsigned circuit = now.index[1][MAZE_BOOK_LINE_BYTES * line] + 256u * now.index[1][MAZE_BOOK_LINE_BYTES * line + 1];
+        const unsigned receive = maze_circuit_receive(now.table[1], circuit);
+        if (receive == 0 || (how == SOME && one_in(20))) continue;
+        make_call(plain('C', MAZE_CIRCUIT_NODE(circuit), MAZE_CIRCUIT_CHANNEL(circuit)));
+        if (how == ALL || (how == SOME && !one_in(10))) make_call(plain('R', MAZE_CIRCUIT_NODE(receive), MAZE_CIRCUIT_CHANNEL(receive)));
+    }
+}
+
+/* Books judged by the table that they were written of: while its circuits are open, once they are closed, and then with a byte of the book, a link, a channel or a
+ * circuit of the table changed. */
+static void judged(unsigned dimension) {
+    unsigned rounds = 3 + below(3);
+    for (unsigned round = 0; round < rounds && !differs; round++) {
+        unsigned sends = below(16 << round), how = below(3);
+        make_call(plain('F', dimension, 0));
+        if (!one_in(3)) arm_nodes(dimension, 1 + below(2));
+        else
+            for (unsigned node = 0; node < 1u << dimension; node++) make_call(plain('P', MAZE_ARMED_AT + node, 1u << below(8)));
+        for (unsigned i = 0; i < sends; i++) make_call(any_send(dimension));
+        make_call(plain('K', 0, 0));
+        if (last_number != MAZE_ACCEPTED) return;
+        make_call(own_judging());
+        seen.judged_open += last_number == MAZE_BAD_BOOK_CIRCUIT;
+        close_booked(how);
+        make_call(own_judging());
+        seen.judged_unarmed += last_number == MAZE_RECEIVE_REJECTED;
+        if (how == ALL && !differs && last_number != MAZE_ACCEPTED) {
+            printf("random: a book whose circuits are closed and armed again is refused as %lu, dimension %u\n0 passed, 1 failed\n", last_number, dimension);
+            exit(1);
+        }
+        for (unsigned i = 0; i < 12 && last_circuits > 0; i++) {
+            unsigned place = below((unsigned)last_hops), old = now.ports[1][place];
+            switch (below(7)) {
+            case 0: case 1:
+                make_call(plain('V', place, below(one_in(4) ? 256 : dimension)));
+                make_call(own_judging());
+                make_call(plain('V', place, old));
+                break;
+            case 2:
+                place = below(MAZE_BOOK_LINE_BYTES * (unsigned)last_circuits), old = now.index[1][place];
+                make_call(plain('W', place, one_in(2) ? old + 1 : below(256)));
+                make_call(own_judging());
+                make_call(plain('W', place, old));
+                break;
+            case 3: make_call(plain('B', any_node(dimension), below(dimension))); break;
+            case 4: make_call(on_receive('D', dimension)); break;
+            case 5: make_call(any_send(dimension)); break;
+            default: make_call(any_judging());
+            }
+            make_call(own_judging());
+        }
+    }
+}
+
 static const struct {
     const char *name;
     void (*run)(unsigned);
 } kinds[] = {
     {"mixed", mixed},     {"refusals", refusals},   {"filled", filled}, {"thinned", thinned},     {"walled", walled},
     {"damaged", damaged}, {"rewritten", rewritten}, {"laid", laid},     {"contended", contended}, {"stopped", stopped},
-    {"together", together}, {"booked", booked},
+    {"together", together}, {"booked", booked},     {"judged", judged},
 };
 
 static void print_seen(void) {
@@ -972,6 +1055,8 @@ static void print_seen(void) {
     printf("books with a byte of the index changed: %lu, still well formed: %lu; lookups in books written line by line: %lu\n25 of those with", seen.damaged_books,
            seen.damaged_formed, seen.laid_books);
     for (int fault = 1; fault < FAULTS; fault++) printf("%s %s: %lu", fault > 1 ? ";" : "", fault_names[fault], seen.fault[fault]);
+    printf("\njudged and accepted: books of several circuits: %lu, of more than 64: %lu, beside open circuits: %lu; refused with their circuits open: %lu; closed and not armed: %lu",
+           seen.judged_several, seen.judged_long, seen.judged_beside, seen.judged_open, seen.judged_unarmed);
     printf("\nrejected after 1,000 scouts or more: %lu; after 10,000 or more: %lu; most scouts of a send: %lu\n", seen.rejected_1000,
            seen.rejected_10000, seen.most_scouts);
     printf("opens with nine tenths of the links held: %lu, accepted: %lu; with all held: %lu; with all receive channels held: %lu\n",
@@ -1107,6 +1192,17 @@ int main(int count, char **arguments) {
             {fault_names[HOPS_PAST], seen.fault[HOPS_PAST]},
             {fault_names[PORTS_SHORT], seen.fault[PORTS_SHORT]},
             {fault_names[INDEX_SHORT], seen.fault[INDEX_SHORT]},
+            {"a judged book of several circuits, accepted", seen.judged_several},
+            {"a judged book of more than 64 circuits, accepted", seen.judged_long},
+            {"a judged book, accepted beside open circuits", seen.judged_beside},
+            {"a judged book whose circuits are open", seen.judged_open},
+            {"a judged book whose circuits are closed and not armed", seen.judged_unarmed},
+            {"a judged book that is not well formed", seen.answers[letter_place('G')][MAZE_BAD_BOOK]},
+            {"a judged book with a bad circuit", seen.answers[letter_place('G')][MAZE_BAD_BOOK_CIRCUIT]},
+            {"a judged book with a bad link", seen.answers[letter_place('G')][MAZE_BAD_BOOK_LINK]},
+            {"a judged book with too few channels", seen.answers[letter_place('G')][MAZE_RECEIVE_REJECTED]},
+            {"a book judged by a table that is not sound", seen.answers[letter_place('G')][MAZE_NOT_SOUND]},
+            {"a book judged by a table of a wrong length", seen.answers[letter_place('G')][MAZE_BAD_LENGTH]},
             {"a wrong length", seen.wrong_length},
             {"a short buffer", seen.short_buffer},
         };

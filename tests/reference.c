@@ -6,7 +6,9 @@
  * - A helix path is looked for in such a list, as the one path each of whose later hops is by the first uphill port: no uphill port is tried before it.
  * - Whether waiting helps is looked up in such lists once more, with every circuit taken out of the record.
  * - Soundness searches all the permitted paths that the links of a circuit allow, for one that uses them all.
- * - A book is gathered apart, from the path of each open circuit, and copied at the end. A lookup writes down to which circuit each place of the ports belongs. */
+ * - A book is gathered apart, from the path of each open circuit, and copied at the end. A lookup writes down to which circuit each place of the ports belongs.
+ * - To judge a book, each circuit's ports are tried with every target and with every send vector of one port; then the uses of each link are counted, those by
+ *   circuits of the table too, and the circuits that end at each node. */
 #include "reference.h"
 
 #include <stdlib.h>
@@ -603,4 +605,66 @@ maze_traced ref_book_lookup(const uint8_t *ports, size_t ports_len, const uint8_
         for (unsigned place = 0; place < hops; place++)
             if (owner[place] == circuit) buffer[answer.hops++] = ports[place];
     return answer;
+}
+
+/* Whether ports are a permitted path from a source to a target for a send vector, word by word. */
+static int is_permitted(unsigned source, unsigned vector, unsigned target, const struct path *path) {
+    unsigned node = source;
+    for (unsigned hop = 0; hop < path->hops; hop++) {
+        if (hop == 0 && !bit(vector, path->port[hop])) return 0; /* the first hop is over a port of the send vector */
+        if (hop > 0 && !uphill(node, target, path->port[hop])) return 0;
+        if (hop > 0 && node == target) return 0; /* it has arrived before */
+        node = across(node, path->port[hop]);
+    }
+    return path->hops > 0 && node == target;
+}
+
+/* Request (i). The ports of each circuit are those places of the book that belong to it. */
+uint16_t ref_judge(const uint8_t *table, size_t table_len, const uint8_t *ports, size_t ports_len, const uint8_t *index, size_t index_len, uint16_t circuits,
+                   uint16_t hops) {
+    static unsigned owner[65536];
+    static struct path path_of_number[2049];
+    struct call call;
+    unsigned uses[NODES][SLOTS], ending[NODES] = {0}, bad_circuits = 0, bad_links = 0, short_nodes = 0;
+    begin(&call, table, table_len);
+    test(&call, !read_book(owner, ports_len, index, index_len, circuits, hops), MAZE_BAD_BOOK);
+    if (call.number != MAZE_ACCEPTED) return (uint16_t)call.number;
+
+    memset(path_of_number, 0, sizeof path_of_number);
+    for (unsigned place = 0; place < hops; place++) {
+        struct path *path = &path_of_number[owner[place]];
+        path->port[path->hops++] = ports[place];
+    }
+    for (unsigned node = 0; node < NODES; node++)
+        for (unsigned slot = 0; slot < SLOTS; slot++) uses[node][slot] = call.cube.link[node][slot] != 0;
+    for (unsigned number = 1; number <= 2048; number++) {
+        const struct path *path = &path_of_number[number];
+        const unsigned source = (number - 1) / 8, nodes = power(call.cube.dimension);
+        unsigned outside = source >= nodes, ends_at = NODES, node = source;
+        if (path->hops == 0) continue;
+        for (unsigned hop = 0; hop < path->hops; hop++) outside += path->port[hop] >= call.cube.dimension;
+        for (unsigned target = 0; outside == 0 && target < nodes; target++)
+            for (unsigned port = 0; port < call.cube.dimension; port++)
+                if (is_permitted(source, power(port), target, path)) ends_at = target;
+        if (ends_at == NODES || is_open(&call.cube, number)) {
+            bad_circuits++;
+            continue;
+        }
+        for (unsigned hop = 0; hop < path->hops; hop++) {
+            uses[node][path->port[hop]]++;
+            bad_links += !bit(call.cube.enabled[node], path->port[hop]);
+            bad_links += uses[node][path->port[hop]] > 1;
+            node = across(node, path->port[hop]);
+        }
+        ending[ends_at]++;
+    }
+    for (unsigned node = 0; node < NODES; node++) {
+        unsigned available = 0;
+        for (unsigned channel = 0; channel < SLOTS; channel++) available += call.cube.armed[node][channel] && call.cube.receive[node][channel] == 0;
+        short_nodes += ending[node] > available;
+    }
+    test(&call, bad_circuits > 0, MAZE_BAD_BOOK_CIRCUIT);
+    test(&call, bad_links > 0, MAZE_BAD_BOOK_LINK);
+    test(&call, short_nodes > 0, MAZE_RECEIVE_REJECTED);
+    return (uint16_t)call.number;
 }

@@ -1,4 +1,4 @@
-/* The calls on a table once more, written for checking: an independent reading of document 01 with requests (a), (b), (c), (e), (f) and (j) of document 02, which
+/* The calls on a table once more, written for checking: an independent reading of document 01 with requests (a), (b), (c), (e), (f), (i) and (j) of document 02, which
  * shares nothing with the library but the header's names. Signatures and answers are those of maze.h. */
 #ifndef REFERENCE_H
 #define REFERENCE_H
@@ -17,6 +17,8 @@ maze_traced ref_trace(const uint8_t *table, size_t table_len, uint16_t node, uin
 maze_booked ref_book(const uint8_t *table, size_t table_len, uint8_t *ports, size_t ports_len, uint8_t *index, size_t index_len);
 maze_traced ref_book_lookup(const uint8_t *ports, size_t ports_len, const uint8_t *index, size_t index_len, uint16_t circuits, uint16_t hops, uint16_t circuit,
                            uint8_t *buffer, size_t buffer_len);
+uint16_t ref_judge(const uint8_t *table, size_t table_len, const uint8_t *ports, size_t ports_len, const uint8_t *index, size_t index_len, uint16_t circuits,
+                   uint16_t hops);
 
 /* What the last open that came to its search did; for counting which cases a test has seen. */
 struct ref_send {

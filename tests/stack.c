@@ -39,6 +39,9 @@ static void book(void) {
 static void lookup(void) {
     answer = maze_book_lookup(book_ports, sizeof book_ports, book_index, sizeof book_index, booked.circuits, booked.hops, 1, ports, sizeof ports).number;
 }
+static void judge(void) {
+    answer = maze_judge(table, sizeof table, book_ports, sizeof book_ports, book_index, sizeof book_index, booked.circuits, booked.hops);
+}
 static void word_read(void) { answer = maze_word_read(2437).number; }
 static void word_write(void) { answer = maze_word_write(6, 5).number; }
 static void arbitrate(void) { answer = maze_arbitrate(&arbiter, 0x3ffffffu).number; }
@@ -122,5 +125,7 @@ int main(void) {
     holds("maze_book_lookup", taken_by(lookup, MAZE_ACCEPTED, "maze_book_lookup"), OTHER_BYTES);
     holds("maze_trace", taken_by(trace, MAZE_ACCEPTED, "maze_trace"), OTHER_BYTES);
     expect(bytes_of(close_one) - bytes_of(nothing) < OTHER_BYTES && answer == MAZE_ACCEPTED, "maze_close", answer, 0);
+    maze_arm(table, sizeof table, 254, 0);
+    holds("maze_judge", taken_by(judge, MAZE_ACCEPTED, "maze_judge"), OTHER_BYTES);
     return verdict();
 }

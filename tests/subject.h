@@ -27,6 +27,7 @@
 #define maze_trace base_trace
 #define maze_book base_book
 #define maze_book_lookup base_book_lookup
+#define maze_judge base_judge
 #endif
 
 #ifdef SUBJECT_REFERENCE
@@ -42,6 +43,7 @@
 #define maze_trace ref_trace
 #define maze_book ref_book
 #define maze_book_lookup ref_book_lookup
+#define maze_judge ref_judge
 #endif
 
 #endif

@@ -56,7 +56,7 @@ impl BookLine {
     }
 
     // Its part of the ports of all circuits.
-    fn path(self, ports: &[u8]) -> &[u8]
+    pub fn path(self, ports: &[u8]) -> &[u8]
         requires { self.offset + self.hops ≤ length ports.now }
         ensures { result.now ≡ ports_of_line ports.now (line_is self) }
     {
@@ -80,7 +80,7 @@ impl BookLine {
 // The lines of an index that are left to read. `chunks_exact` with `map` gives the same lines, but the language cannot name that type as a result, so each function that goes over them would
 // have to build it.
 #[derive(Drop)]
-struct IndexLines<'a> {
+pub struct IndexLines<'a> {
     index: &'a [u8],
 }
 
@@ -143,7 +143,7 @@ pub struct Book<'a> {
 impl Book<'_> {
     // The lines of its index.
     #[tactic(auto, using(crate::proofs::Lines::lines_cut))]
-    fn lines(&self) -> IndexLines<'_>
+    pub fn lines(&self) -> IndexLines<'_>
         requires { 6 * self.now.circuits ≤ length self.now.index.now }
         ensures { lines_left result ≡ lines self.now.circuits self.now.index.now }
     {

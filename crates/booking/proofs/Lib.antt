@@ -1,2 +1,3 @@
--- What writing a book comes to.
+-- What writing a book and judging one come to.
 pub mod BookStep
+pub mod JudgeStep

@@ -5,9 +5,11 @@ use mathlib.Core.Logic.{⊎_elim}
 use mathlib.Core.Bool.{Bool, true, false, cond, ◌&&◌, not, and_comm, true≢false}
 use mathlib.Core.List.Memᴰ
 use mathlib.Core.List.{List, [], ◌∷◌, ◌++◌, map}
-use Prim.Native.Nat.{suc, ◌+◌, ◌≤◌, ◌<◌}
+use Prim.Native.Nat.{ℕ, zero, suc, ◌+◌, ◌≤◌, ◌<◌}
 use native.Mathlib.Omega.{arith}
-use lib.ListN.{length}
+use lib.Dec.{eqb}
+use lib.ListN.{length, get_or}
+use borrow.Author.Tests.{eq-eqb, ne_eqb}
 use Rattle.common.specs.Lists.{◌∈◌, keep, any, Pairwise}
 use Rattle.common.proofs.Tests.{clash, either, or_left, or_right}
 
@@ -177,3 +179,36 @@ keep_shorter f (y ∷ xs) x m e = go (f y) refl (keep_shorter f xs x)
     go : (b : Bool) → f y ≡ b → (x ∈ xs → f x ≡ false → length (keep f xs) < length xs) → length (keep f (y ∷ xs)) < suc (length xs)
     go false q ih = rw (keep_no f y xs q) (omega (arith, length_keep f xs))
     go true q ih = rw (keep_yes f y xs q) (⊎_elim (λ i. absurd (true≢false (sym q ∙ sym (ap f i) ∙ e))) (λ k. omega (arith, ih k e)) (Memᴰ.cases_cons m))
+
+-- Members of which each has a place of its own among numbers are at most as many as these.
+pub no_more_than_places : {A : Type 0} (At : A → ℕ → Type 0) (xs : List A) → Pairwise (λ x y. (k : ℕ) → At x k → At y k → ⊥) xs → (ks : List ℕ)
+    → ((x : A) → x ∈ xs → (k : ℕ) × (k ∈ ks) × At x k) → length xs ≤ length ks
+unfolding Pairwise
+no_more_than_places At [] own ks each = omega arith
+no_more_than_places {A = A} At (x ∷ xs) own ks each =
+    let mine = each x (Memᴰ.head refl) in
+    let fewer = keep_shorter (other mine.0) ks mine.0 mine.1 (ap not (eq-eqb mine.0 mine.0 refl)) in
+    omega (arith, fewer, no_more_than_places At xs own.1 (keep (other mine.0) ks) (λ y m. later mine.0 mine.2 y m (each y (Memᴰ.tail m))))
+  where
+    -- the places that are not a given one
+    other : ℕ → ℕ → Bool
+    other k n = not (eqb n k)
+
+    later : (k : ℕ) → At x k → (y : A) → y ∈ xs → (n : ℕ) × (n ∈ ks) × At y n → (n : ℕ) × (n ∈ keep (other k) ks) × At y n
+    later k here y m its = (its.0, mem_keep (other k) ks its.1 (ap not (ne_eqb its.0 k (λ e. own.0 y m k here (subst (At y) e its.2)))), its.2)
+
+-- Where no member passes both of two tests, those that pass the one and those that pass the other are together at most all.
+pub keep_either : {A : Type 0} (f g : A → Bool) (xs : List A) → ((x : A) → f x ≡ true → g x ≡ false) → length (keep f xs) + length (keep g xs) ≤ length xs
+keep_either f g xs apart =
+    let same = keep_keep g (λ x. not (f x)) xs ∙ keep_same _ g xs (λ x m. go (f x) (g x) (apart x)) in
+    omega (arith, length_parts f xs, ap length same, length_keep g (keep (λ x. not (f x)) xs))
+  where
+    go : (a b : Bool) → (a ≡ true → b ≡ false) → not a && b ≡ b
+    go true b h = sym (h refl)
+    go false b h = refl
+
+-- the member at a place
+pub at_member : (w : List ℕ) (i : ℕ) → i < length w → get_or w i 0 ∈ w
+at_member [] i h = absurd (omega arith)
+at_member (p ∷ w) zero h = Memᴰ.head refl
+at_member (p ∷ w) (suc i) h = Memᴰ.tail (at_member w i (omega arith))

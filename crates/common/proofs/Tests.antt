@@ -76,11 +76,15 @@ pub accepted : refusal [] ≡ 0
 unfolding refusal
 accepted = refl
 
--- An answer of 0 comes only where no test with another number applies: of one test and those behind it,
-pub first_passed : (b : Bool) (n : ℕ) (ts : List Test) → n ≢ 0 → refusal (test b n ∷ ts) ≡ 0 → (b ≡ false) × (refusal ts ≡ 0)
+-- An answer comes only where no test before it with another number applies: of one test and those behind it,
+pub other_passed : (b : Bool) (n m : ℕ) (ts : List Test) → n ≢ m → refusal (test b n ∷ ts) ≡ m → (b ≡ false) × (refusal ts ≡ m)
 unfolding refusal
-first_passed true n ts h e = absurd (h e)
-first_passed false n ts h e = (refl, e)
+other_passed true n m ts h e = absurd (h e)
+other_passed false n m ts h e = (refl, e)
+
+-- so for an answer of 0,
+pub first_passed : (b : Bool) (n : ℕ) (ts : List Test) → n ≢ 0 → refusal (test b n ∷ ts) ≡ 0 → (b ≡ false) × (refusal ts ≡ 0)
+first_passed b n = other_passed b n 0
 
 -- and of two lists one behind the other, where every test of the first has a number that is not 0. No test of a list has the number n:
 unfoldable pub Avoids : ℕ → List Test → Type 0

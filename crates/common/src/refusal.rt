@@ -39,6 +39,9 @@ pub enum Refusal {
     // A book of circuits (document 02): a buffer cannot hold its part; a book that is read is not well formed.
     BookShort = 23,
     Book = 25,
+    // A book that is judged: a circuit's source, path or send channel; a link that is blocked, taken or shared.
+    BookCircuit = 26,
+    BookLink = 27,
     // A job (document 02): a length that no list of sends has.
     SendList = 28,
     // A packet to a receive channel (document 02).

@@ -24,7 +24,8 @@ use Rattle.answers.specs.Opens.{opened_answer}
 use Rattle.std.proofs.Common.{Result, Ok, Err}
 use Rattle.answers.specs.SendAnswer.{MaySend, sent_on_bytes}
 use Rattle.ownership.specs.Sends.{Send, send_at, sends_in}
-use Rattle.ownership.specs.Calls.{Call, opening, opening_all, opening_of, call_tests, Job, After, one_more, ends_with, in_turn, after_job}
+use Rattle.ownership.specs.Calls.{Call, opening, opening_all, opening_of, call_tests, After}
+use Rattle.ownership.specs.InTurn.{Job, one_more, ends_with, in_turn, after_job}
 use Rattle.ownership.specs.OnTable.{facts_of, stopped_at, table_step, opens_on, done}
 use Rattle.ownership.proofs.InTurn.{turn_accepted, turn_refused}
 use Rattle.ownership.proofs.Steps.{table_step_lem}

@@ -5,7 +5,7 @@ use Rattle.common.specs.Tests.{refusal}
 use Rattle.answers.specs.declared.Opening.{Opening}
 use Rattle.soundness.specs.TableTests.{table_tests}
 use Rattle.ownership.specs.Sends.{Send, send_at}
-use Rattle.ownership.specs.Calls.{Job}
+use Rattle.ownership.specs.InTurn.{Job}
 use Rattle.ownership.specs.OnTable.{opens_on}
 
 -- one send of a list: the number that it answers, and the bytes that it leaves

@@ -11,7 +11,7 @@ use lib.ListN.{length, length-map}
 use borrow.Author.Rules.{rules}
 use borrow.Author.Tests.{le-ltb}
 use Rattle.common.specs.Lists.{from}
-use Rattle.ownership.specs.Calls.{Call, making, blocking, unblocking, opening, closing, tracing, arming, disarming, opening_all, booking, CallResult, After}
+use Rattle.ownership.specs.Calls.{Call, making, blocking, unblocking, opening, closing, tracing, arming, disarming, opening_all, booking, judging, CallResult, After}
 use Rattle.text.specs.Text.{newline, space}
 use Rattle.text.specs.Lines.{lines, cut, fields}
 use Rattle.text.specs.Row.{Field, nothing, shows, letter, path, field_bytes, Row, in_order, spaced, ended, row_text, rows_text}
@@ -60,6 +60,7 @@ above_eight n (arming m k) x way = (a_number _, (a_letter _ (lit< tt), (a_number
 above_eight n (disarming m k) x way = (a_number _, (a_letter _ (lit< tt), (a_number _, (a_number _, (a_number _, (a_dash, (a_dash, (a_dash, tt))))))))
 above_eight n (opening_all sends) x way = (a_number _, (a_dash, (a_number _, (a_dash, (a_dash, (a_dash, (a_dash, (a_dash, tt))))))))
 above_eight n (booking ports index) x way = (a_number _, (a_dash, (a_number _, (a_dash, (a_dash, (a_dash, (a_dash, (a_dash, tt))))))))
+above_eight n (judging ports index circuits hops) x way = (a_number _, (a_dash, (a_number _, (a_dash, (a_dash, (a_dash, (a_dash, (a_dash, tt))))))))
 
 above_unreadable : (n : ℕ) → AllAbove space (eight (unreadable n))
 unfolding AllAbove in_order unreadable
@@ -99,6 +100,7 @@ line_shown n (arming m k) x way = (refl, refl)
 line_shown n (disarming m k) x way = (refl, refl)
 line_shown n (opening_all sends) x way = (refl, refl)
 line_shown n (booking ports index) x way = (refl, refl)
+line_shown n (judging ports index circuits hops) x way = (refl, refl)
 
 module _ {S : Type 0} (makes : S → Call → After S) where
   above_row : (s : S) (n : ℕ) (a : Option Call) → AllAbove space (eight (row_for makes s n a))

@@ -22,7 +22,7 @@ use Rattle.table.specs.View.{view, shape_of, fresh}
 use Rattle.circuit_path.specs.PathOf.{path_of}
 use Rattle.circuit_path.specs.Traced.{traced_into}
 use Rattle.circuit_path.proofs.CircuitSound.{path_is}
-use Rattle.ownership.specs.Calls.{Call, making, blocking, unblocking, opening, closing, tracing, arming, disarming, opening_all, booking, CallResult, hops_of, receive_of, scouts_of, buffer_of, carries_scouts, result_of, After}
+use Rattle.ownership.specs.Calls.{Call, making, blocking, unblocking, opening, closing, tracing, arming, disarming, opening_all, booking, judging, CallResult, hops_of, receive_of, scouts_of, buffer_of, carries_scouts, result_of, After}
 use Rattle.ownership.specs.OnTable.{facts_of, stopped_at, table_step}
 use Rattle.ownership.specs.Allowed.{Allowed}
 use Rattle.ownership.proofs.Allowed.{allowed}
@@ -79,6 +79,7 @@ ArgumentsFit (arming n k) = (n < 65536) × (k < 65536)
 ArgumentsFit (disarming n k) = (n < 65536) × (k < 65536)
 ArgumentsFit (opening_all sends) = Unit
 ArgumentsFit (booking ports index) = Unit
+ArgumentsFit (judging ports index circuits hops) = Unit
 
 given_letter : (x : ℕ) (ns : List ℕ) → Small ns → IfRead ArgumentsFit (by_letter x ns)
 unfolding by_letter
@@ -191,6 +192,7 @@ module _ (b : List ℕ) (n : ℕ) (small : n < 65536) where
       rw row_length (omega (arith, five_digits n small, answer_digits (disarming m k), five_digits m g.0, five_digits k g.1))
   call_length (opening_all sends) g = rw row_length (omega (arith, five_digits n small, answer_digits (opening_all sends)))
   call_length (booking ports index) g = rw row_length (omega (arith, five_digits n small, answer_digits (booking ports index)))
+  call_length (judging ports index circuits hops) g = rw row_length (omega (arith, five_digits n small, answer_digits (judging ports index circuits hops)))
 
   unreadable_length : length (row_text (unreadable n)) ≤ 24
   unfolding unreadable field_bytes

@@ -15,7 +15,9 @@ use Rattle.paths.specs.Send.{Outcome, acknowledged, route_rejected, receive_reje
 use Rattle.table.specs.View.{View}
 use Rattle.answers.specs.SendOnTable.{send_in}
 use Rattle.soundness.specs.TableTests.{table_tests}
-use Rattle.ownership.specs.Calls.{Call, making, blocking, unblocking, opening, closing, tracing, arming, disarming, opening_all, booking, opening_of, answered, carries_scouts, call_tests, result_of, no_job, single_open, After}
+use Rattle.judging.specs.Judged.{judge_tests}
+use Rattle.ownership.specs.Calls.{Call, making, blocking, unblocking, opening, closing, tracing, arming, disarming, opening_all, booking, judging, opening_of, answered, carries_scouts, call_tests, result_of, no_job, After}
+use Rattle.ownership.specs.InTurn.{single_open}
 use Rattle.ownership.specs.Sends.{Send, sends_in}
 use Rattle.ownership.specs.TableFacts.{facts_with, opened, job_in}
 use Rattle.ownership.proofs.InTurn.{turn_number}
@@ -77,6 +79,7 @@ scouts_row makes state line (arming n k) = ((λ p. absurd p), (λ p. p.0))
 scouts_row makes state line (disarming n k) = ((λ p. absurd p), (λ p. p.0))
 scouts_row makes state line (opening_all sends) = ((λ p. absurd p), (λ p. p.0))
 scouts_row makes state line (booking ports index) = ((λ p. absurd p), (λ p. p.0))
+scouts_row makes state line (judging ports index circuits hops) = ((λ p. absurd p), (λ p. p.0))
 
 -- No call answers 20: only a line that cannot be read does. And every answer of a call has at most two digits. Both are one test of a number,
 abbrev is_answer : ℕ → Bool
@@ -105,6 +108,7 @@ stopped_by b (arming n k) = search (other, nil, rules) depth 12
 stopped_by b (disarming n k) = search (other, nil, rules) depth 12
 stopped_by b (opening_all sends) = search (other, nil, rules) depth 12
 stopped_by b (booking ports index) = search (other, nil, rules) depth 12
+stopped_by b (judging ports index circuits hops) = unfold judge_tests in search (other, nil, rules) depth 16
 
 -- and what a call answers that none of them stops
 sent_answer : (helps : Bool) (o : Outcome) (n : ℕ) → is_answer (answered helps o n).number ≡ true
@@ -139,6 +143,7 @@ result_answer v (arming n k) = refl
 result_answer v (disarming n k) = refl
 result_answer v (opening_all sends) = job_answer v (sends_in sends)
 result_answer v (booking ports index) = refl
+result_answer v (judging ports index circuits hops) = refl
 
 call_answer : (b : List ℕ) (a : Call) → is_answer (table_step b a).result.number ≡ true
 call_answer b a =

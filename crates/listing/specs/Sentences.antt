@@ -1,7 +1,7 @@
 -- What the theorems about the printed list say.
 -- Assumes nothing.
 use Rattle.std.specs.Prelude.{◌≡◌, ◌⊎◌}
-use Rattle.ownership.specs.Calls.{Call, making, blocking, unblocking, opening, closing, tracing, arming, disarming, opening_all, booking, CallResult}
+use Rattle.ownership.specs.Calls.{Call, making, blocking, unblocking, opening, closing, tracing, arming, disarming, opening_all, booking, judging, CallResult}
 use Rattle.text.specs.Row.{Field, nothing, shows, letter, path}
 
 -- a field that shows a number
@@ -23,6 +23,7 @@ IsOpen (arming n k) = ⊥
 IsOpen (disarming n k) = ⊥
 IsOpen (opening_all sends) = ⊥
 IsOpen (booking ports index) = ⊥
+IsOpen (judging ports index circuits hops) = ⊥
 
 -- "S answered 0, 10 or 11", and 22 of document 02, (c), "carrying and printing the same scouts"
 abbrev pub WasSent : Call → CallResult → Type 0

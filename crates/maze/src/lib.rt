@@ -6,7 +6,7 @@ mod structs;
 ghost use Rattle.std.specs.Prelude.{◌≡◌, [], ◌∷◌};
 ghost use Rattle.arbiter.specs.Arbiter.{arbitrated};
 ghost use Rattle.command_word.specs.Word.{read_word, write_word};
-ghost use Rattle.ownership.specs.Calls.{making, blocking, unblocking, opening, closing, tracing, arming, disarming, opening_all, booking};
+ghost use Rattle.ownership.specs.Calls.{making, blocking, unblocking, opening, closing, tracing, arming, disarming, opening_all, booking, judging};
 ghost use Rattle.book.specs.Lookup.{looked_up};
 ghost use Rattle.ownership.specs.OnTable.{table_step, done};
 ghost use Rattle.receiver.specs.Receive.{data_packet, command_word, started, received, overshoot};
@@ -104,6 +104,19 @@ pub extern "C" fn maze_book(table: &[u8], ports: &mut [u8], index: &mut [u8]) ->
     Booked::from(booking::book(table, ports, index))
 }
 
+// A book that C lends.
+fn lent_book<'a>(ports: &'a [u8], index: &'a [u8], circuits: u16, hops: u16) -> Book<'a>
+    ensures buffers { (result.ports.now ≡ ports.now) × (result.index.now ≡ index.now) }
+    ensures counts { (result.circuits ≡ circuits) × (result.hops ≡ hops) }
+{
+    Book {
+        ports,
+        index,
+        circuits,
+        hops,
+    }
+}
+
 #[unsafe(no_mangle)]
 pub extern "C" fn maze_book_lookup(
     ports: &[u8],
@@ -115,13 +128,21 @@ pub extern "C" fn maze_book_lookup(
 ) -> Traced
     ensures { record { number = result.number; hops = result.hops; buffer = buffer.new } ≡ looked_up ports.now index.now circuits hops circuit buffer.old }
 {
-    let book = Book {
-        ports,
-        index,
-        circuits,
-        hops,
-    };
-    Traced::from(book.lookup(Circuit(circuit), buffer))
+    Traced::from(lent_book(ports, index, circuits, hops).lookup(Circuit(circuit), buffer))
+}
+
+#[unsafe(no_mangle)]
+pub extern "C" fn maze_judge(
+    table: &[u8],
+    ports: &[u8],
+    index: &[u8],
+    circuits: u16,
+    hops: u16,
+) -> u16
+    ensures { done table.now result [] (ports.now ∷ index.now ∷ []) ≡ table_step table.now (judging ports.now index.now circuits hops) }
+{
+    let book = lent_book(ports, index, circuits, hops);
+    refusal::answer(booking::judge(table, &book))
 }
 
 #[unsafe(no_mangle)]

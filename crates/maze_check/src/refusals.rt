@@ -29,6 +29,8 @@ pub fn names(rt: &impl Print) -> io::Result<()> {
         ("no route", Refusal::NoRoute),
         ("book short", Refusal::BookShort),
         ("book", Refusal::Book),
+        ("book circuit", Refusal::BookCircuit),
+        ("book link", Refusal::BookLink),
         ("send list", Refusal::SendList),
         ("channel stopped", Refusal::ChannelStopped),
         ("requester", Refusal::Requester),

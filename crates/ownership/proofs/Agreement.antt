@@ -24,7 +24,8 @@ use Rattle.table.proofs.Encode.{encode_view}
 use Rattle.table.proofs.Encoded.{encode_bytes, view_encode}
 use Rattle.book.specs.Book.{BookCircuit, port_bytes, index_bytes, hop_count}
 use Rattle.book.specs.BookOf.{book_of}
-use Rattle.ownership.specs.Calls.{Call, making, blocking, unblocking, opening, closing, tracing, arming, disarming, opening_all, booking, CallResult, refused_with, answered, call_tests, result_of, Job}
+use Rattle.ownership.specs.Calls.{Call, making, blocking, unblocking, opening, closing, tracing, arming, disarming, opening_all, booking, judging, CallResult, refused_with, answered, call_tests, result_of}
+use Rattle.ownership.specs.InTurn.{Job}
 use Rattle.ownership.specs.Sends.{sends_in, JobResult}
 use Rattle.ownership.specs.TableFacts.{job_in}
 use Rattle.ownership.specs.Update.{updated}
@@ -50,7 +51,7 @@ use Rattle.ownership.proofs.Steps.{table_step_lem, history_step_lem}
 use Rattle.answers.specs.SendOnTable.{waiting_helps, send_in}
 
 -- The bytes of a valid history represent it.
-bytes_represent : (h : History) → Valid h → Represents (bytes_of h) h
+pub bytes_represent : (h : History) → Valid h → Represents (bytes_of h) h
 unfolding bytes_of
 bytes_represent h valid =
     let eight : (n k : ℕ) → (view_of h).armed n k ≡ true → k < channels = unfold view_of in λ n k e. (armed_inside h valid n k e).1 in
@@ -94,6 +95,7 @@ module _ (b : List ℕ) (h : History) (k : Represents b h) where
   results_alike (opening_all sends) e =
       ap (λ (j : JobResult). record { number = j.number; values = j.sends ∷ []; buffers = sends ∷ [] })
       (ap (λ u. (job_in u (sends_in sends)).result) k.shows ∙ ap (λ (j : Job View). j.result) (job_same h k.valid (sends_in sends)))
+  results_alike (judging ports index circuits hops) e = refl
   results_alike (booking ports index) e =
       ap (λ (xs : List BookCircuit). record { number = 0; values = length xs ∷ hop_count xs ∷ []; buffers = traced_into (port_bytes xs) ports ∷ traced_into (index_bytes xs) index ∷ [] })
       (ap book_of k.shows ∙ book_same h k.valid)

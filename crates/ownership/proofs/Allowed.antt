@@ -14,7 +14,8 @@ use Rattle.common.specs.Tests.{refusal}
 use Rattle.common.proofs.Tests.{neither, either, or_left, or_right, passed, accepted, first_passed, both}
 use Rattle.cube.proofs.Bits.{high_has, no_bit_above}
 use Rattle.book.specs.Book.{hop_count}
-use Rattle.ownership.specs.Calls.{Call, making, blocking, unblocking, opening, closing, tracing, arming, disarming, opening_all, booking, CallFacts, call_tests}
+use Rattle.judging.specs.Judged.{judge_tests}
+use Rattle.ownership.specs.Calls.{Call, making, blocking, unblocking, opening, closing, tracing, arming, disarming, opening_all, booking, judging, CallFacts, call_tests}
 use Rattle.ownership.specs.Allowed.{Allowed}
 use Rattle.ownership.specs.History.{History, held_on, taken_on, facts_on, stopped_on}
 
@@ -91,6 +92,13 @@ allowed a (opening_all sends) e =
 allowed a (booking ports index) e =
     let x = neither (ltb (length ports) (hop_count a.book)) _ (first_passed _ 23 _ (λ z. omega arith) e).0 in
     (ltb-false (length ports) (hop_count a.book) x.0, ltb-false (length index) (6 * length a.book) x.1)
+allowed a (judging ports index circuits hops) e =
+    unfold judge_tests in
+    let x = first_passed _ 25 _ (λ z. omega arith) e in
+    let y = first_passed _ 26 _ (λ z. omega arith) x.1 in
+    let z = first_passed _ 27 _ (λ z. omega arith) y.1 in
+    let u = first_passed _ 11 _ (λ z. omega arith) z.1 in
+    (not-false _ x.0, not-false _ y.0, not-false _ z.0, not-false _ u.0)
 
 -- and where they are allowed, no test of the call stops it
 pub allowed_passes : (a : CallFacts) (x : Call) → Allowed a x → refusal (call_tests a x) ≡ 0
@@ -109,6 +117,8 @@ allowed_passes a (disarming n k) h = passed 4 _ (is_below n _ h.0) ∙ passed 5 
 allowed_passes a (opening_all sends) h = passed 28 _ (ap₂ ◌||◌ (ap not (eq-eqb (length sends % 10) 0 h.0)) (le-ltb 640 (length sends) h.1)) ∙ accepted
 allowed_passes a (booking ports index) h =
     passed 23 _ (ap₂ ◌||◌ (le-ltb (length ports) (hop_count a.book) h.0) (le-ltb (length index) (6 * length a.book) h.1)) ∙ accepted
+allowed_passes a (judging ports index circuits hops) h =
+    unfold judge_tests in passed 25 _ (ap not h.0) ∙ passed 26 _ (ap not h.1) ∙ passed 27 _ (ap not h.2) ∙ passed 11 _ (ap not h.3) ∙ accepted
 
 -- the same of a call that no test stops in the history
 pub allowed_on : (h : History) (x : Call) → stopped_on h x ≡ 0 → Allowed (facts_on h) x

@@ -12,7 +12,8 @@ use Rattle.paths.specs.Send.{Outcome, acknowledged, route_rejected, receive_reje
 use Rattle.paths.specs.CubeNetwork.{Shape, network}
 use Rattle.table.specs.View.{View, set_at, set_owner, set_receiver, set_enabled, set_armed, without_circuit, fresh}
 use Rattle.ownership.specs.Sends.{Send, sends_in}
-use Rattle.ownership.specs.Calls.{Call, making, blocking, unblocking, opening, closing, tracing, arming, disarming, opening_all, booking, opening_of, answered, call_tests, result_of, no_job, single_open, after_job}
+use Rattle.ownership.specs.Calls.{Call, making, blocking, unblocking, opening, closing, tracing, arming, disarming, opening_all, booking, judging, opening_of, answered, call_tests, result_of, no_job}
+use Rattle.ownership.specs.InTurn.{single_open, after_job}
 use Rattle.ownership.specs.TableFacts.{facts_with, opened, job_in}
 use Rattle.ownership.specs.OnTable.{facts_of}
 use Rattle.ownership.specs.History.{Circuit, History, shape_on, net_on, holds_link, holds_receive, belongs, enabled_on, armed_on, stopped_on, send_on, facts_on, facts_on_with, with_opened, opened_on, job_on, applied, new_history}
@@ -146,3 +147,4 @@ module _ (h : History) (valid : Valid h) where
       }
   applied_view (opening_all sends) e = job_view h valid (sends_in sends)
   applied_view (booking ports index) e = refl
+  applied_view (judging ports index circuits hops) e = refl

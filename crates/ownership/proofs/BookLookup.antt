@@ -6,7 +6,7 @@ use mathlib.Core.List.{List, [], ◌∷◌}
 use Prim.Native.Nat.{ℕ, ◌*◌, ◌^◌, ◌≤◌, ◌<◌}
 use native.Mathlib.Omega.{arith}
 use lib.Dec.{eqb, ltb}
-use lib.ListN.{length, get_or}
+use lib.ListN.{length}
 use Rattle.common.specs.Tests.{test, refusal}
 use Rattle.common.proofs.Tests.{passed}
 use Rattle.cube.specs.Cube.{channels, circuit_of, NodeOf}
@@ -23,23 +23,11 @@ use Rattle.ownership.specs.Calls.{booking, tracing, CallResult, refused_with, ca
 use Rattle.ownership.specs.Allowed.{Allowed}
 use Rattle.ownership.specs.TableFacts.{open_in}
 use Rattle.ownership.specs.OnTable.{facts_of, stopped_at, table_step}
+use Rattle.ownership.specs.Judging.{book_ports, book_index, book_circuits, book_hops}
 use Rattle.ownership.proofs.Allowed.{allowed, is_below, channel_is}
 use Rattle.ownership.proofs.Stops.{none_stops, none_stops_lent, pass_tests, stopped_is}
 use Rattle.ownership.proofs.Steps.{table_step_lem}
 use Rattle.ownership.proofs.OnSound.{open_sound}
-
--- both buffers and both counts of a book that was written
-abbrev pub book_ports : CallResult → List ℕ
-book_ports g = get_or g.buffers 0 []
-
-abbrev pub book_index : CallResult → List ℕ
-book_index g = get_or g.buffers 1 []
-
-abbrev pub book_circuits : CallResult → ℕ
-book_circuits g = get_or g.values 0 0
-
-abbrev pub book_hops : CallResult → ℕ
-book_hops g = get_or g.values 1 0
 
 -- what a lookup answers, as a trace answers it
 abbrev pub as_trace : LookupResult → CallResult

@@ -17,7 +17,8 @@ use Rattle.table.proofs.Encode.{encode_view}
 use Rattle.table.proofs.Encoded.{encode_shown}
 use Rattle.table.proofs.Views.{view_put_enabled, view_put_armed}
 use Rattle.answers.specs.SendAnswer.{bytes_after_send}
-use Rattle.ownership.specs.Calls.{Call, making, blocking, unblocking, opening, closing, tracing, arming, disarming, opening_all, booking, form, after_job}
+use Rattle.ownership.specs.Calls.{Call, making, blocking, unblocking, opening, closing, tracing, arming, disarming, opening_all, booking, judging, form}
+use Rattle.ownership.specs.InTurn.{after_job}
 use Rattle.ownership.specs.TableFacts.{job_in}
 use Rattle.ownership.specs.Sends.{sends_in}
 use Rattle.ownership.specs.Allowed.{Allowed}
@@ -55,6 +56,7 @@ written_by b (arming n k) = put_armed b n k true
 written_by b (disarming n k) = put_armed b n k false
 written_by b (opening_all sends) = encode (after_job (view b) (job_in (view b) (sends_in sends)))
 written_by b (booking ports index) = b
+written_by b (judging ports index circuits hops) = b
 
 module _ (b : List ℕ) (small : AllBytes b) (a : Call) (e : stopped_at b a ≡ 0) where
   bytes : Bytes b
@@ -82,6 +84,7 @@ module _ (b : List ℕ) (small : AllBytes b) (a : Call) (e : stopped_at b a ≡ 
       armed_encoded b bytes n k false record { bytes = bytes.long; node = below_256 m r.0; port = r.1 }
   encoded (opening_all sends) most r = refl
   encoded (booking ports index) most r = sym (encode_view b bytes.long bytes.small)
+  encoded (judging ports index circuits hops) most r = sym (encode_view b bytes.long bytes.small)
 
   -- A call that no test stops leaves what they write.
   pub written_bytes : (table_step b a).state ≡ written_by b a

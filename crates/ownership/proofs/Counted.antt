@@ -9,7 +9,8 @@ use lib.Dec.{eqb}
 use borrow.Author.Tests.{eq-eqb, ne_eqb}
 use Rattle.common.proofs.Tests.{same?}
 use Rattle.ownership.specs.Sends.{Send, sends_in}
-use Rattle.ownership.specs.Calls.{Call, making, blocking, unblocking, opening, closing, tracing, arming, disarming, opening_all, booking, opening_of, call_tests, result_of, After, call_on, Job, in_turn, after_job}
+use Rattle.ownership.specs.Calls.{Call, making, blocking, unblocking, opening, closing, tracing, arming, disarming, opening_all, booking, judging, opening_of, call_tests, result_of, After, call_on}
+use Rattle.ownership.specs.InTurn.{Job, in_turn, after_job}
 use Rattle.ownership.specs.History.{History, facts_on, stopped_on, job_on, applied, history_step}
 use Rattle.ownership.specs.Agrees.{history_after, history_results, leaves, answers}
 use Rattle.ownership.specs.Closing.{Each, no_call, call_more}
@@ -32,6 +33,7 @@ single_or_job (tracing s c buffer) = inl (λ n. refl)
 single_or_job (arming m k) = inl (λ n. refl)
 single_or_job (disarming m k) = inl (λ n. refl)
 single_or_job (booking ports index) = inl (λ n. refl)
+single_or_job (judging ports index circuits hops) = inl (λ n. refl)
 single_or_job (opening_all sends) = inr (sends, refl)
 
 -- A job in the history is its single calls in turn.

@@ -9,7 +9,8 @@ use lib.Dec.{eqb}
 use borrow.Author.Tests.{eqb-true, eq-eqb, ne_eqb}
 use Rattle.common.proofs.Tests.{same?}
 use Rattle.ownership.specs.Sends.{Send}
-use Rattle.ownership.specs.Calls.{Call, CallResult, CallFacts, refused_with, result_of, After, call_on, Job, one_more, ends_with, in_turn, after_job}
+use Rattle.ownership.specs.Calls.{Call, CallResult, CallFacts, refused_with, result_of, After, call_on}
+use Rattle.ownership.specs.InTurn.{Job, one_more, ends_with, in_turn, after_job}
 
 module _ {S : Type 0} (opens : S → Send → After S) where
   -- the number that an open answers

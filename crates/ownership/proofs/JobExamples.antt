@@ -14,7 +14,8 @@ use Rattle.paths.specs.Send.{outcome_of_path, outcome, attempted, send_goes_on, 
 use Rattle.paths.specs.CubeNetwork.{network, ports, send_ports, other_ports, attempts, send}
 use Rattle.paths.specs.Waiting.{finds_path, some_attempt}
 use Rattle.ownership.specs.Sends.{send_at, sends_in}
-use Rattle.ownership.specs.Calls.{making, opening, arming, opening_all, CallResult, answered, call_tests, result_of, call_on, in_turn, after_job}
+use Rattle.ownership.specs.Calls.{making, opening, arming, opening_all, CallResult, answered, call_tests, result_of, call_on}
+use Rattle.ownership.specs.InTurn.{in_turn, after_job}
 use Rattle.ownership.specs.History.{History, holds_link, holds_receive, belongs, enabled_on, held_on, free_on, taken_on, open_on, armed_on, receive_on, waiting_on, facts_on, stopped_on, send_on, with_opened, job_on, applied, history_step, new_history}
 use Rattle.ownership.specs.OnTable.{lent_tests, stopped_at}
 use Rattle.ownership.specs.Agrees.{history_after, history_results, leaves, answers}

@@ -19,7 +19,8 @@ use Rattle.table.specs.Encode.{AllBytes}
 use Rattle.table.proofs.Encode.{encode_view}
 use Rattle.soundness.specs.TableTests.{table_tests}
 use Rattle.ownership.specs.Sends.{Send, send_at, sends_in, JobResult}
-use Rattle.ownership.specs.Calls.{Call, opening_all, opening_of, CallResult, refused_with, call_tests, result_of, no_job, After, call_on, Job, one_more, in_turn, single_open, after_job}
+use Rattle.ownership.specs.Calls.{Call, opening_all, opening_of, CallResult, refused_with, call_tests, result_of, no_job, After, call_on}
+use Rattle.ownership.specs.InTurn.{Job, one_more, in_turn, single_open, after_job}
 use Rattle.ownership.specs.TableFacts.{facts_with, opened, job_in}
 use Rattle.ownership.specs.Update.{updated}
 use Rattle.ownership.specs.OnTable.{facts_of, stopped_at, table_step, opens_on, done}

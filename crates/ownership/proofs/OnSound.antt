@@ -27,7 +27,8 @@ use Rattle.answers.specs.SendOnTable.{pass_answer, answer_of_outcome}
 use Rattle.answers.specs.SendAnswer.{send_answer, sent_on_bytes, MaySend}
 use Rattle.answers.specs.SendSays.{SendSays}
 use Rattle.answers.proofs.SendSays.{demand_2}
-use Rattle.ownership.specs.Calls.{Call, making, blocking, unblocking, opening, closing, tracing, arming, disarming, opening_all, booking, call_tests, CallResult, hops_of, receive_of, scouts_of, only, answered, result_of}
+use Rattle.judging.specs.Judged.{judge_tests}
+use Rattle.ownership.specs.Calls.{Call, making, blocking, unblocking, opening, closing, tracing, arming, disarming, opening_all, booking, judging, call_tests, CallResult, hops_of, receive_of, scouts_of, only, answered, result_of}
 use Rattle.ownership.specs.TableFacts.{open_in, taken_in}
 use Rattle.ownership.specs.OnTable.{facts_of, lent_tests, stopped_at, table_step, done}
 use Rattle.ownership.specs.Allowed.{Allowed}
@@ -106,6 +107,7 @@ no_three b a = never_answered 3 (call_tests (facts_of (view b)) a) (others a) (�
     others (disarming n k) = avoiding 3 _ refl
     others (opening_all sends) = avoiding 3 _ refl
     others (booking ports index) = avoiding 3 _ refl
+    others (judging ports index circuits hops) = unfold judge_tests in avoiding 3 _ refl
 
 pub stopped_three : (b : List ℕ) (a : Call) → stopped_at b a ≡ 3 → Sound (view b) → ⊥
 unfolding stopped_at avoids

@@ -1,4 +1,4 @@
--- The number that a call answers for its arguments is the lowest whose reason holds.
+-- The number that a call answers for its arguments is the first by rank whose reason holds.
 -- Assumes nothing.
 use mathlib.Core.Path.{◌≡◌, refl, ap, sym}
 use mathlib.Core.Logic.{◌⊎◌, inl, inr, ⊎_elim, ◌≢◌, ◌↔◌}
@@ -11,16 +11,21 @@ use lib.ListN.{length}
 use lib.Pow.{pow_mono}
 use borrow.Author.Tests.{eqb-true, eqb-false, ne_eqb, ltb-true, ltb-false, lt-ltb, le-ltb, leb-false, lt-leb, not-true}
 use Rattle.common.specs.Tests.{Test, test, refusal}
-use Rattle.common.proofs.Tests.{both, and, same?}
+use Rattle.common.proofs.Tests.{both, and, same?, clash, is_false}
 use Rattle.cube.specs.Bits.{has}
 use Rattle.cube.proofs.Bits.{has_room, has_bit_above}
 use Rattle.ownership.proofs.Allowed.{one_of, equals}
 use Rattle.book.specs.Book.{BookCircuit, hop_count, line_length}
-use Rattle.ownership.specs.Calls.{Call, making, blocking, unblocking, opening, closing, tracing, arming, disarming, opening_all, booking, CallFacts, call_tests}
-use Rattle.ownership.specs.Reasons.{Reason, making_dimension, blocking_node, blocking_port, blocking_held, unblocking_node, unblocking_port}
+use Rattle.book.specs.Lookup.{well_formed}
+use Rattle.book.specs.WellFormed.{WellFormed}
+use Rattle.book.proofs.WellFormedBook.{well_formed_exactly}
+use Rattle.judging.specs.Judged.{judge_tests}
+use Rattle.ownership.specs.Calls.{Call, making, blocking, unblocking, opening, closing, tracing, arming, disarming, opening_all, booking, judging, CallFacts, call_tests}
+use Rattle.ownership.specs.Reasons.{Reason, rank, making_dimension, blocking_node, blocking_port, blocking_held, unblocking_node, unblocking_port}
 use Rattle.ownership.specs.Reasons.{opening_node, opening_channel, opening_type, opening_vector, opening_in_use}
 use Rattle.ownership.specs.Reasons.{closing_node, closing_channel, closing_none, tracing_node, tracing_channel, tracing_none, tracing_short}
 use Rattle.ownership.specs.Reasons.{arming_node, arming_channel, disarming_node, disarming_channel, disarming_held, job_length, booking_short}
+use Rattle.ownership.specs.Reasons.{judging_book, judging_circuit, judging_link, judging_receive}
 
 -- Of any list of tests: where each test that applies has a reason, the number answered has one.
 data Explained (R : ℕ → Type 0) : List Test → Type 0 where
@@ -39,28 +44,32 @@ answer_explained R (t ∷ ts) (next why more) f = go t.when why (answer_explaine
     go true h rest g = h refl
     go false h rest g = rest g
 
--- And where their numbers rise, from above k on, and the one with number n applies, the number answered is above k and at most n.
-abbrev rise : ℕ → List Test → Bool
-rise k [] = true
-rise k (t ∷ ts) = ltb k t.number && rise t.number ts
-
+-- And where their numbers rise in rank, from above k on, and the one with number n applies, the number answered has a rank above k and at most that of n.
 abbrev applies : ℕ → List Test → Bool
 applies n [] = false
 applies n (t ∷ ts) = cond (eqb t.number n) t.when (applies n ts)
 
-answer_lowest : (k n : ℕ) (ts : List Test) → rise k ts ≡ true → applies n ts ≡ true → (k < refusal ts) × (refusal ts ≤ n)
+abbrev rise : ℕ → List Test → Bool
+rise k [] = true
+rise k (t ∷ ts) = ltb k (rank t.number) && rise (rank t.number) ts
+
+answer_lowest : (k n : ℕ) (ts : List Test) → rise k ts ≡ true → applies n ts ≡ true → (k < rank (refusal ts)) × (rank (refusal ts) ≤ rank n)
 unfolding refusal
 answer_lowest k n [] e h = absurd (true≢false (sym h))
 answer_lowest k n (t ∷ ts) e h =
-    let r = both (ltb k t.number) _ e in
-    go t.when (eqb t.number n) refl (ltb-true k t.number r.0) (answer_lowest t.number n ts r.1) h
+    let r = both (ltb k (rank t.number)) _ e in
+    go t.when (eqb t.number n) refl (ltb-true k (rank t.number) r.0) (answer_lowest (rank t.number) n ts r.1) h
   where
-    go : (w same : Bool) → eqb t.number n ≡ same → k < t.number → (applies n ts ≡ true → (t.number < refusal ts) × (refusal ts ≤ n))
-        → cond same w (applies n ts) ≡ true → (k < cond w t.number (refusal ts)) × (cond w t.number (refusal ts) ≤ n)
-    go true true q l more f = (l, omega (arith, eqb-true t.number n q))
+    go : (w same : Bool) → eqb t.number n ≡ same → k < rank t.number → (applies n ts ≡ true → (rank t.number < rank (refusal ts)) × (rank (refusal ts) ≤ rank n))
+        → cond same w (applies n ts) ≡ true → (k < rank (cond w t.number (refusal ts))) × (rank (cond w t.number (refusal ts)) ≤ rank n)
+    go true true q l more f = (l, omega (arith, ap rank (eqb-true t.number n q)))
     go false true q l more f = absurd (true≢false (sym f))
     go true false q l more f = (l, omega (arith, more f))
     go false false q l more f = (omega (arith, more f), (more f).1)
+
+-- a number other than 11 is its own rank
+ranked : (n : ℕ) → n ≢ 11 → rank n ≡ n
+ranked n f = ap (λ (b : Bool). cond b 32 n) (ne_eqb n 11 f)
 
 -- what each test says: of two numbers, of a channel with no circuit, of a test that is its own reason, of two tests joined
 not_below : (n m : ℕ) → (not (ltb n m) ≡ true) ↔ (m ≤ n)
@@ -124,6 +133,13 @@ no_list sends = one_of _ _ (differs (length sends % 10) 0) (below 640 (length se
 no_room : (xs : List BookCircuit) (ports index : List ℕ) → (ltb (length ports) (hop_count xs) || ltb (length index) (line_length * length xs) ≡ true) ↔ ((length ports < hop_count xs) ⊎ (length index < 6 * length xs))
 no_room xs ports index = one_of _ _ (below (length ports) (hop_count xs)) (below (length index) (6 * length xs))
 
+-- a book that is not well formed
+no_book : (ports index : List ℕ) (circuits hops : ℕ) → (not (well_formed ports index circuits hops) ≡ true) ↔ (WellFormed ports index circuits hops → ⊥)
+no_book ports index circuits hops = (
+  (λ e w. clash ((well_formed_exactly ports index circuits hops).1 w) (not-true _ e)),
+  λ h. ap not (is_false _ (λ e. h ((well_formed_exactly ports index circuits hops).0 e))),
+)
+
 module _ (a : CallFacts) where
   absent : (s t : ℕ) → (not (ltb s (2 ^ a.dimension)) || not (ltb t (2 ^ a.dimension)) ≡ true) ↔ ((2 ^ a.dimension ≤ s) ⊎ (2 ^ a.dimension ≤ t))
   absent s t = one_of _ _ (not_below s _) (not_below t _)
@@ -145,6 +161,9 @@ module _ (a : CallFacts) where
   explained (disarming n k) = row (not_below n _) disarming_node (row (below 7 k) disarming_channel (row itself disarming_held no_more))
   explained (opening_all sends) = row (no_list sends) job_length no_more
   explained (booking ports index) = row (no_room a.book ports index) booking_short no_more
+  explained (judging ports index circuits hops) =
+      unfold judge_tests in
+      row (no_book ports index circuits hops) judging_book (row (closed _) judging_circuit (row (closed _) judging_link (row (closed _) judging_receive no_more)))
 
   -- and where a reason holds its test applies
   reason_applies : (x : Call) {n : ℕ} → Reason a x n → applies n (call_tests a x) ≡ true
@@ -174,10 +193,14 @@ module _ (a : CallFacts) where
   reason_applies (disarming n k) (disarming_held h) = h
   reason_applies (opening_all sends) (job_length h) = (no_list sends).1 h
   reason_applies (booking ports index) (booking_short h) = (no_room a.book ports index).1 h
+  reason_applies (judging ports index circuits hops) (judging_book h) = unfold judge_tests in (no_book ports index circuits hops).1 h
+  reason_applies (judging ports index circuits hops) (judging_circuit h) = unfold judge_tests in ap not h
+  reason_applies (judging ports index circuits hops) (judging_link h) = unfold judge_tests in ap not h
+  reason_applies (judging ports index circuits hops) (judging_receive h) = unfold judge_tests in ap not h
 
-  -- "Within one call the tests run in rising order of number."
+  -- "Within one call the tests run in rising order of number", those of judging too but for the last, whose rank is above theirs.
   rising : (x : Call) → rise 0 (call_tests a x) ≡ true
-  unfolding call_tests
+  unfolding call_tests judge_tests
   rising (making D) = refl
   rising (blocking n p) = refl
   rising (unblocking n p) = refl
@@ -188,11 +211,19 @@ module _ (a : CallFacts) where
   rising (disarming n k) = refl
   rising (opening_all sends) = refl
   rising (booking ports index) = refl
+  rising (judging ports index circuits hops) = refl
 
   -- "A test that does not apply never refuses": the number answered has its reason.
   pub refused_for : (x : Call) → refusal (call_tests a x) ≢ 0 → Reason a x (refusal (call_tests a x))
   refused_for x f = answer_explained (Reason a x) (call_tests a x) (explained x) f
 
-  -- "The first that applies is the answer": whatever reason holds, the call is refused, with its number or a lower one.
-  pub lowest_reason : (x : Call) {n : ℕ} → Reason a x n → (0 < refusal (call_tests a x)) × (refusal (call_tests a x) ≤ n)
-  lowest_reason x {n} r = answer_lowest 0 n (call_tests a x) (rising x) (reason_applies x r)
+  -- "The first that applies is the answer": whatever reason holds, the call is refused, with its number or with one that comes before it.
+  pub first_reason : (x : Call) {n : ℕ} → Reason a x n → (0 < rank (refusal (call_tests a x))) × (rank (refusal (call_tests a x)) ≤ rank n)
+  first_reason x {n} r = answer_lowest 0 n (call_tests a x) (rising x) (reason_applies x r)
+
+  -- So where the reason of a number other than 11 holds, it is refused with that number or a lower one.
+  pub lowest_reason : (x : Call) {n : ℕ} → n ≢ 11 → n < 32 → Reason a x n → (0 < refusal (call_tests a x)) × (refusal (call_tests a x) ≤ n)
+  lowest_reason x {n} other small r =
+      let h = first_reason x r in
+      ⊎_elim (λ e. absurd (omega (arith, h.1, ranked n other, ap rank e))) (λ f. let same = ranked _ f in (omega (arith, h.0, same), omega (arith, h.1, same, ranked n other)))
+      (same? (refusal (call_tests a x)) 11)

@@ -15,7 +15,8 @@ use Rattle.table.specs.View.{View, view, receive, shape_of}
 use Rattle.soundness.specs.Sound.{Sound}
 use Rattle.soundness.specs.TableTests.{table_tests}
 use Rattle.answers.specs.SendOnTable.{free_in}
-use Rattle.ownership.specs.Calls.{Call, making, blocking, unblocking, opening, closing, tracing, arming, disarming, opening_all, booking, opening_of, answered, call_tests, result_of, no_job, After, Job, single_open}
+use Rattle.ownership.specs.Calls.{Call, making, blocking, unblocking, opening, closing, tracing, arming, disarming, opening_all, booking, judging, opening_of, answered, call_tests, result_of, no_job, After}
+use Rattle.ownership.specs.InTurn.{Job, single_open}
 use Rattle.ownership.specs.Sends.{Send, sends_in}
 use Rattle.ownership.specs.TableFacts.{facts_with, opened, job_in}
 use Rattle.ownership.specs.History.{History, armed_on, facts_on_with, with_opened, opened_on, job_on}
@@ -35,20 +36,27 @@ use Rattle.ownership.specs.Allowed.{Allowed}
 use Rattle.ownership.proofs.Allowed.{allowed}
 use Rattle.ownership.proofs.Stops.{none_stops, none_stops_lent, pass_tests}
 use Rattle.ownership.proofs.LinksInto.{send_receives}
+use Rattle.ownership.proofs.ArmedBooks.{judging_otherwise}
 
--- no test has the number 11
-stopped_otherwise : (b : List ℕ) (a : Call) → stopped_at b a ≢ 11
+-- no test of an open has the number 11
+open_tests : (b : List ℕ) (s c t y v : ℕ) → stopped_at b (opening s c t y v) ≢ 11
 unfolding stopped_at lent_tests table_tests call_tests avoids
-stopped_otherwise b (making D) = never_answered 11 _ (avoiding 11 _ refl) (λ z. omega arith)
-stopped_otherwise b (blocking n p) = never_answered 11 _ (avoiding 11 _ refl) (λ z. omega arith)
-stopped_otherwise b (unblocking n p) = never_answered 11 _ (avoiding 11 _ refl) (λ z. omega arith)
-stopped_otherwise b (opening s c t y v) = never_answered 11 _ (avoiding 11 _ refl) (λ z. omega arith)
-stopped_otherwise b (closing s c) = never_answered 11 _ (avoiding 11 _ refl) (λ z. omega arith)
-stopped_otherwise b (tracing s c buffer) = never_answered 11 _ (avoiding 11 _ refl) (λ z. omega arith)
-stopped_otherwise b (arming n k) = never_answered 11 _ (avoiding 11 _ refl) (λ z. omega arith)
-stopped_otherwise b (disarming n k) = never_answered 11 _ (avoiding 11 _ refl) (λ z. omega arith)
-stopped_otherwise b (opening_all sends) = never_answered 11 _ (avoiding 11 _ refl) (λ z. omega arith)
-stopped_otherwise b (booking ports index) = never_answered 11 _ (avoiding 11 _ refl) (λ z. omega arith)
+open_tests b s c t y v = never_answered 11 _ (avoiding 11 _ refl) (λ z. omega arith)
+
+-- and none of another call but judging, which does not answer it where the receive channels of all nodes of the cube are armed
+stopped_otherwise : (b : List ℕ) → CubeArmed b → (a : Call) → stopped_at b a ≢ 11
+unfolding stopped_at lent_tests table_tests call_tests avoids
+stopped_otherwise b armed (making D) = never_answered 11 _ (avoiding 11 _ refl) (λ z. omega arith)
+stopped_otherwise b armed (blocking n p) = never_answered 11 _ (avoiding 11 _ refl) (λ z. omega arith)
+stopped_otherwise b armed (unblocking n p) = never_answered 11 _ (avoiding 11 _ refl) (λ z. omega arith)
+stopped_otherwise b armed (opening s c t y v) = open_tests b s c t y v
+stopped_otherwise b armed (closing s c) = never_answered 11 _ (avoiding 11 _ refl) (λ z. omega arith)
+stopped_otherwise b armed (tracing s c buffer) = never_answered 11 _ (avoiding 11 _ refl) (λ z. omega arith)
+stopped_otherwise b armed (arming n k) = never_answered 11 _ (avoiding 11 _ refl) (λ z. omega arith)
+stopped_otherwise b armed (disarming n k) = never_answered 11 _ (avoiding 11 _ refl) (λ z. omega arith)
+stopped_otherwise b armed (opening_all sends) = never_answered 11 _ (avoiding 11 _ refl) (λ z. omega arith)
+stopped_otherwise b armed (booking ports index) = never_answered 11 _ (avoiding 11 _ refl) (λ z. omega arith)
+stopped_otherwise b armed (judging ports index circuits hops) = judging_otherwise b armed ports index circuits hops
 
 -- the outcome of which an open answers 11
 rejected : (helps : Bool) (o : Outcome) (n : ℕ) → (answered helps o n).number ≡ 11 → o ≡ receive_rejected
@@ -63,7 +71,7 @@ sent_otherwise : (w : View) → Sound w → w.dimension ≤ largest_dimension �
     → (result_of (facts_of w) (opening s c t y v)).number ≢ 11
 unfolding Allowed facts_of result_of
 sent_otherwise w sound most s c t y v armed r e =
-    send_receives w sound most t armed s r.0 y v _ _ (send_says (shape_of w) (free_in w) (receive w t) s v t y most r.0 r.1) (rejected _ _ _ e)
+    send_receives w sound most t armed s y v _ _ (send_says (shape_of w) (free_in w) (receive w t) s v t y most r.0 r.1) (rejected _ _ _ e)
 
 open_otherwise : (b : List ℕ) (s c t y v : ℕ) → AllArmed b t → stopped_at b (opening s c t y v) ≡ 0
     → (table_step b (opening s c t y v)).result.number ≢ 11
@@ -111,15 +119,15 @@ table_armed : (b : List ℕ) → CubeArmed b → view b ≡ view_of (history_of 
 unfolding history_of view_of view
 table_armed b armed shows valid = record { valid = valid; armed = λ n k i l. sym (ap (λ (v : View). v.armed n k) shows) ∙ armed n i k l }
 
--- a call that some test stops answers another number
-never_stopped : (b : List ℕ) (a : Call) → (stopped_at b a ≡ 0 → (table_step b a).result.number ≢ 11) → (table_step b a).result.number ≢ 11
-never_stopped b a h e = ⊎_elim (λ z. h z e) (λ z. stopped_otherwise b a (rw ((table_step_lem b a).stopped z) at e)) (same? (stopped_at b a) 0)
+-- a call whose tests do not answer 11 answers another number where one of them stops it
+never_stopped : (b : List ℕ) (a : Call) → stopped_at b a ≢ 11 → (stopped_at b a ≡ 0 → (table_step b a).result.number ≢ 11) → (table_step b a).result.number ≢ 11
+never_stopped b a f h e = ⊎_elim (λ z. h z e) (λ z. f (rw ((table_step_lem b a).stopped z) at e)) (same? (stopped_at b a) 0)
 
 -- No open answers 11 where the receive channels of its target are all armed, whatever the bytes of the table are.
 pub never_full : (b : List ℕ) (s c t y v : ℕ) → AllArmed b t → (table_step b (opening s c t y v)).result.number ≢ 11
-never_full b s c t y v armed = never_stopped b (opening s c t y v) (open_otherwise b s c t y v armed)
+never_full b s c t y v armed = never_stopped b (opening s c t y v) (open_tests b s c t y v) (open_otherwise b s c t y v armed)
 
--- Where the receive channels of all nodes of the cube are armed, no call answers 11.
+-- Where the receive channels of all nodes of the cube are armed, no call that no test stops answers 11,
 passed_otherwise : (b : List ℕ) → CubeArmed b → (a : Call) → stopped_at b a ≡ 0 → (table_step b a).result.number ≢ 11
 unfolding Allowed facts_of view result_of
 passed_otherwise b armed (making D) z e = omega (arith, rw ((table_step_lem b (making D)).result z) at e)
@@ -132,6 +140,7 @@ passed_otherwise b armed (closing s c) z e = omega (arith, rw ((table_step_lem b
 passed_otherwise b armed (tracing s c buffer) z e = omega (arith, rw ((table_step_lem b (tracing s c buffer)).result z) at e)
 passed_otherwise b armed (arming n k) z e = omega (arith, rw ((table_step_lem b (arming n k)).result z) at e)
 passed_otherwise b armed (disarming n k) z e = omega (arith, rw ((table_step_lem b (disarming n k)).result z) at e)
+passed_otherwise b armed (judging ports index circuits hops) z e = omega (arith, rw ((table_step_lem b (judging ports index circuits hops)).result z) at e)
 passed_otherwise b armed (booking ports index) z e = omega (arith, rw ((table_step_lem b (booking ports index)).result z) at e)
 passed_otherwise b armed (opening_all sends) z e =
     let p = pass_tests b (none_stops_lent b (opening_all sends) refl z) in
@@ -141,5 +150,6 @@ passed_otherwise b armed (opening_all sends) z e =
     let eleven : (job_in (view b) (sends_in sends)).result.number ≡ 11 = rw ((table_step_lem b (opening_all sends)).result z) at e in
     job_otherwise h (table_armed b armed shows valid) (sends_in sends) (sym (ap (λ (j : Job View). j.result.number) (ap (λ v. job_in v (sends_in sends)) shows ∙ job_same h valid (sends_in sends))) ∙ eleven)
 
+-- and so no call at all, whatever the bytes of the table are.
 pub armed_never_full : (b : List ℕ) → CubeArmed b → (a : Call) → (table_step b a).result.number ≢ 11
-armed_never_full b armed a = never_stopped b a (passed_otherwise b armed a)
+armed_never_full b armed a = never_stopped b a (stopped_otherwise b armed a) (passed_otherwise b armed a)

@@ -8,7 +8,7 @@ use lib.ListN.{replicate}
 use Rattle.common.proofs.Tests.{same?}
 use Rattle.paths.specs.Send.{Outcome, acknowledged, route_rejected, receive_rejected}
 use Rattle.table.specs.View.{view}
-use Rattle.ownership.specs.Calls.{Call, making, blocking, unblocking, opening, closing, tracing, arming, disarming, opening_all, booking, form, lent}
+use Rattle.ownership.specs.Calls.{Call, making, blocking, unblocking, opening, closing, tracing, arming, disarming, opening_all, booking, judging, form, lent}
 use Rattle.ownership.specs.Sends.{sends_in}
 use Rattle.ownership.specs.Calls.{CallResult, scouts_of, answered, CallFacts, result_of}
 use Rattle.ownership.specs.OnTable.{facts_of, stopped_at, table_step}
@@ -41,6 +41,7 @@ result_refused f (tracing s c buffer) h = absurd (h refl)
 result_refused f (arming n k) h = absurd (h refl)
 result_refused f (disarming n k) h = absurd (h refl)
 result_refused f (booking ports index) h = absurd (h refl)
+result_refused f (judging ports index circuits hops) h = absurd (h refl)
 result_refused f (opening_all sends) h = (refl, inr (inr (sends, (f.job (sends_in sends)).sends, refl, refl)))
 
 module _ (b : List ℕ) (a : Call) (f : (table_step b a).result.number ≢ 0) where

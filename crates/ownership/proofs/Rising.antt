@@ -6,7 +6,8 @@ use Prim.Native.Nat.{ℕ}
 use Rattle.common.specs.Tests.{Test}
 use Rattle.soundness.specs.TableTests.{table_tests}
 use Rattle.table.specs.View.{view}
-use Rattle.ownership.specs.Calls.{Call, making, blocking, unblocking, opening, closing, tracing, arming, disarming, opening_all, booking, call_tests}
+use Rattle.ownership.specs.Calls.{Call, making, blocking, unblocking, opening, closing, tracing, arming, disarming, opening_all, booking, judging, call_tests}
+use Rattle.judging.specs.Judged.{judge_tests}
 use Rattle.ownership.specs.OnTable.{facts_of, lent_tests}
 
 abbrev numbers : List ℕ → Call → List ℕ
@@ -54,3 +55,8 @@ module _ (b : List ℕ) where
   booking_numbers : (ports index : List ℕ) → numbers b (booking ports index) ≡ 1 ∷ 2 ∷ 3 ∷ 23 ∷ []
   unfolding lent_tests table_tests call_tests
   booking_numbers ports index = refl
+
+  -- document 02, (i): "After 1 to 3", 25, 26, 27 and 11, "tried in that order"
+  judging_numbers : (ports index : List ℕ) (circuits hops : ℕ) → numbers b (judging ports index circuits hops) ≡ 1 ∷ 2 ∷ 3 ∷ 25 ∷ 26 ∷ 27 ∷ 11 ∷ []
+  unfolding lent_tests table_tests call_tests judge_tests
+  judging_numbers ports index circuits hops = refl

@@ -10,7 +10,7 @@ use Rattle.table.specs.View.{held_in, available, receive}
 use Rattle.paths.specs.Send.{lowest_of}
 use Rattle.answers.specs.SendOnTable.{free_in, state_in, waiting_helps, send_in}
 use Rattle.ownership.specs.TableFacts.{taken_in}
-use Rattle.ownership.specs.History.{History, shape_on, net_on, holds_link, holds_receive, enabled_on, held_on, free_on, taken_on, armed_on, receive_on, send_on, waiting_on}
+use Rattle.ownership.specs.History.{History, shape_on, net_on, holds_link, holds_receive, enabled_on, held_on, free_on, taken_on, armed_on, available_on, receive_on, send_on, waiting_on}
 use Rattle.ownership.specs.HistoryView.{view_of}
 use Rattle.ownership.proofs.Circuits.{number_any}
 
@@ -36,6 +36,9 @@ module _ (h : History) where
   available_same t =
       fun_ext (λ k.
       ap (armed_on h t k &&◌) (sym (not-not (eqb ((view_of h).receiver t k) 0)) ∙ ap (λ (f : ℕ → ℕ → Bool). not (f t k)) taken_same))
+
+  pub available_alike : available (view_of h) ≡ available_on h
+  available_alike = fun_ext available_same
 
   pub receive_same : (t : ℕ) → receive (view_of h) t ≡ receive_on h t
   unfolding receive receive_on

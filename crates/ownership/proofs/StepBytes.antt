@@ -16,7 +16,8 @@ use Rattle.table.specs.Encode.{encode, Bytes}
 use Rattle.table.proofs.Encode.{encode_view}
 use Rattle.table.proofs.Encoded.{encode_bytes, view_encode}
 use Rattle.soundness.proofs.Soundness.{fresh_sound}
-use Rattle.ownership.specs.Calls.{Call, making, blocking, unblocking, opening, closing, tracing, arming, disarming, opening_all, booking, CallResult, answered, result_of, after_job}
+use Rattle.ownership.specs.Calls.{Call, making, blocking, unblocking, opening, closing, tracing, arming, disarming, opening_all, booking, judging, CallResult, answered, result_of}
+use Rattle.ownership.specs.InTurn.{after_job}
 use Rattle.ownership.specs.Allowed.{Allowed}
 use Rattle.ownership.specs.Update.{updated}
 use Rattle.answers.specs.SendOnTable.{view_after_send, waiting_helps, send_in}
@@ -44,6 +45,7 @@ rejected_same v (arming n k) f = absurd (f refl)
 rejected_same v (disarming n k) f = absurd (f refl)
 rejected_same v (opening_all sends) f = unfold after_job in rw (ne_eqb _ 0 f)
 rejected_same v (booking ports index) f = refl
+rejected_same v (judging ports index circuits hops) f = refl
 
 module _ (b : List ℕ) (bytes : Bytes b) (a : Call) where
   -- so a call that no test stops leaves the bytes that show the update, also where its search is rejected
@@ -111,7 +113,8 @@ armed_already v n k on e = λ i.
       armed = λ m q. set_already v.armed n k on e m q i;
     }
 
--- Blocking a blocked link and unblocking an enabled one change no byte, nor do arming an armed channel and disarming an unarmed one, and no trace does.
+-- Blocking a blocked link and unblocking an enabled one change no byte, nor do arming an armed channel and disarming an unarmed one, and no trace and no judging
+-- does.
 pub blocking_again : (b : List ℕ) → Bytes b → (n p : ℕ) → enabled_at b n p ≡ false → (table_step b (blocking n p)).state ≡ b
 blocking_again b bytes n p e = step_same b bytes (blocking n p) (unfold updated in enabled_already (view b) n p false (unfold view in e))
 
@@ -126,3 +129,6 @@ disarming_again b bytes n k e = step_same b bytes (disarming n k) (unfold update
 
 pub trace_leaves : (b : List ℕ) → Bytes b → (s c : ℕ) (buffer : List ℕ) → (table_step b (tracing s c buffer)).state ≡ b
 trace_leaves b bytes s c buffer = step_same b bytes (tracing s c buffer) (unfold updated in refl)
+
+pub judging_leaves : (b : List ℕ) → Bytes b → (ports index : List ℕ) (circuits hops : ℕ) → (table_step b (judging ports index circuits hops)).state ≡ b
+judging_leaves b bytes ports index circuits hops = step_same b bytes (judging ports index circuits hops) (unfold updated in refl)

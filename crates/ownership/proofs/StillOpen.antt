@@ -14,7 +14,7 @@ use Rattle.common.specs.Lists.{any, keep}
 use Rattle.common.proofs.Tests.{same?, clash, is_false, both, and, either, or_left, or_right}
 use Rattle.common.proofs.Lists.{keep_mem, mem_keep, any_some, some_any}
 use Rattle.paths.specs.Send.{Outcome, acknowledged, route_rejected, receive_rejected}
-use Rattle.ownership.specs.Calls.{Call, making, blocking, unblocking, opening, closing, tracing, arming, disarming, opening_all, booking, CallResult, answered, result_of}
+use Rattle.ownership.specs.Calls.{Call, making, blocking, unblocking, opening, closing, tracing, arming, disarming, opening_all, booking, judging, CallResult, answered, result_of}
 use Rattle.ownership.specs.History.{Circuit, History, belongs, open_on, facts_on, stopped_on, send_on, with_opened, applied, history_step, waiting_on, new_history}
 use Rattle.ownership.specs.Agrees.{history_after, history_results, leaves, answers}
 use Rattle.ownership.specs.StillOpen.{counts_as, numbered, Ends, Lasts, StillOpen}
@@ -111,6 +111,8 @@ module _ (s c : ℕ) where
       step_same h _ (arming m k) 0 refl (λ o. let u : ◌≡◌ {A = ℕ} 0 1 = cc o.3 in absurd (omega arith)) (λ z ends. absurd ends)
   step_accepted h (disarming m k) single e =
       step_same h _ (disarming m k) 0 refl (λ o. let u : ◌≡◌ {A = ℕ} 0 1 = cc o.3 in absurd (omega arith)) (λ z ends. absurd ends)
+  step_accepted h (judging ports index circuits hops) single e =
+      step_same h h (judging ports index circuits hops) 0 refl (λ o. let u : ◌≡◌ {A = ℕ} 0 1 = cc o.3 in absurd (omega arith)) (λ z ends. absurd ends)
   step_accepted h (booking ports index) single e =
       step_same h h (booking ports index) 0 refl (λ o. let u : ◌≡◌ {A = ℕ} 0 1 = cc o.3 in absurd (omega arith)) (λ z ends. absurd ends)
   step_accepted h (opening_all sends) single e = let u : ◌≡◌ {A = ℕ} 0 1 = cc (single 1) in absurd (omega arith)

@@ -1,23 +1,27 @@
 -- The tests of a call read off a table that agrees with a valid history answer what they answer when read off the history.
 -- Assumes nothing.
-use mathlib.Core.Path.{◌≡◌, refl, sym, ◌∙◌, ap}
-use mathlib.Core.Bool.{◌||◌, Bool, true, false, not}
-use mathlib.Core.List.{List, [], ◌∷◌}
+use mathlib.Core.Path.{◌≡◌, refl, sym, ◌∙◌, ap, fun_ext}
+use mathlib.Core.Bool.{◌&&◌, ◌||◌, Bool, true, false, not}
+use mathlib.Core.List.{List, [], ◌∷◌, map}
 use Prim.Native.Nat.{◌*◌, ℕ, ◌<◌}
 use lib.Dec.{ltb}
 use lib.ListN.{length}
 use Rattle.common.specs.Tests.{Test, test, refusal}
 use Rattle.common.proofs.Tests.{refused, passed}
-use Rattle.cube.specs.Cube.{channels}
+use Rattle.std.specs.List.{list_all}
+use Rattle.cube.specs.Cube.{channels, source_of, channel_of}
+use Rattle.cube.proofs.Circuits.{channel_below}
 use Rattle.paths.specs.CubeNetwork.{ports}
-use Rattle.ownership.specs.Calls.{Call, making, blocking, unblocking, opening, closing, tracing, arming, disarming, opening_all, booking, channel_number, call_tests}
+use Rattle.ownership.specs.Calls.{Call, making, blocking, unblocking, opening, closing, tracing, arming, disarming, opening_all, booking, judging, channel_number, judged_by, call_tests}
 use Rattle.ownership.specs.OnTable.{facts_of}
-use Rattle.ownership.specs.History.{History, facts_on, stopped_on}
+use Rattle.ownership.specs.History.{History, net_on, facts_on, stopped_on}
 use Rattle.ownership.specs.Invariant.{Valid}
 use Rattle.ownership.specs.HistoryView.{view_of}
 use Rattle.ownership.proofs.Allowed.{channel_small}
-use Rattle.ownership.proofs.Sameness.{held_same, taken_same}
+use Rattle.ownership.proofs.Sameness.{held_same, free_same, taken_same, available_alike}
 use Rattle.book.specs.Book.{BookCircuit, hop_count, line_length}
+use Rattle.book.specs.Lookup.{well_formed}
+use Rattle.judging.specs.Judged.{judge_tests, circuits_in, in_cube, is_permitted, circuit_fits, links_fit, all_links, targets_fit, target_in}
 use Rattle.ownership.proofs.OpenSame.{open_same}
 use Rattle.ownership.proofs.BookSame.{book_same}
 
@@ -33,6 +37,26 @@ past_channel c ts us h = go (ltb 7 c) refl
     go true e = refused 5 ts refl ∙ sym (refused 5 us refl)
     go false e = passed 5 ts refl ∙ h (channel_small c e) ∙ sym (passed 5 us refl)
 
+-- So do those of judging: of each circuit of a book, and of free links and available channels.
+module _ (h : History) (valid : Valid h) where
+  circuits_same : circuit_fits (judged_by (facts_of (view_of h))) ≡ circuit_fits (judged_by (facts_on h))
+  unfolding circuit_fits in_cube facts_of facts_on view_of
+  circuits_same =
+      fun_ext (λ x.
+      ap (λ (o : Bool). in_cube (judged_by (facts_on h)) x && (is_permitted (net_on h) (source_of x.number) (target_in (net_on h) x) x.ports && not o))
+      (open_same h valid (source_of x.number) (channel_of x.number) (channel_below x.number)))
+
+  judged_same : (ports index : List ℕ) (circuits hops : ℕ)
+      → refusal (judge_tests (judged_by (facts_of (view_of h))) ports index circuits hops) ≡ refusal (judge_tests (judged_by (facts_on h)) ports index circuits hops)
+  unfolding judge_tests facts_of facts_on view_of
+  judged_same ports index circuits hops = λ i.
+      let xs = circuits_in ports index circuits in
+      refusal (
+      test (not (well_formed ports index circuits hops)) 25 ∷ test (not (list_all (circuits_same i) xs)) 26
+      ∷ test (not (links_fit (free_same h i) [] (all_links (net_on h) xs))) 27
+      ∷ test (not (targets_fit (available_alike h i) [] (map (target_in (net_on h)) xs))) 11 ∷ []
+      )
+
 -- The tests of a call answer the same on both.
 pub stopped_same : (h : History) → Valid h → (a : Call) → refusal (call_tests (facts_of (view_of h)) a) ≡ stopped_on h a
 unfolding stopped_on call_tests facts_of facts_on view_of
@@ -47,4 +71,5 @@ stopped_same h valid (tracing s c buffer) =
 stopped_same h valid (arming n k) = refl
 stopped_same h valid (disarming n k) = past _ _ _ (past _ _ _ (ap (λ (f : ℕ → ℕ → Bool). refusal (test (f n k) 21 ∷ [])) (taken_same h)))
 stopped_same h valid (opening_all sends) = refl
+stopped_same h valid (judging ports index circuits hops) = judged_same h valid ports index circuits hops
 stopped_same h valid (booking ports index) = ap (λ (xs : List BookCircuit). refusal (test (ltb (length ports) (hop_count xs) || ltb (length index) (line_length * length xs)) 23 ∷ [])) (book_same h valid)

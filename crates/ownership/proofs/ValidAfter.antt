@@ -18,7 +18,8 @@ use Rattle.paths.specs.Send.{Outcome, acknowledged, route_rejected, receive_reje
 use Rattle.paths.proofs.Words.{free_link}
 use Rattle.table.specs.View.{set_at}
 use Rattle.ownership.specs.Sends.{Send, sends_in}
-use Rattle.ownership.specs.Calls.{Call, making, blocking, unblocking, opening, closing, tracing, arming, disarming, opening_all, booking, opening_of, call_tests, no_job, single_open, after_job}
+use Rattle.ownership.specs.Calls.{Call, making, blocking, unblocking, opening, closing, tracing, arming, disarming, opening_all, booking, judging, opening_of, call_tests, no_job}
+use Rattle.ownership.specs.InTurn.{single_open, after_job}
 use Rattle.ownership.specs.History.{Circuit, History, shape_on, net_on, links_of, holds_link, holds_receive, belongs, enabled_on, held_on, free_on, taken_on, open_on, armed_on, receive_on, facts_on, facts_on_with, stopped_on, send_on, with_blocked, with_circuits, with_armed, without_entry, with_opened, opened_on, job_on, applied, new_history}
 use Rattle.ownership.specs.Invariant.{CircuitValid, Disjoint, Valid}
 use Rattle.ownership.proofs.Circuits.{parts_belong, belongs_number}
@@ -33,11 +34,11 @@ use Rattle.ownership.proofs.Enabled.{block_enabled, unblock_enabled}
 use Rattle.ownership.proofs.Armed.{arm_armed, disarm_armed, close_armed}
 
 -- a listed circuit holds its links and its receive channel and makes its send channel open, in the words of the history
-held_link : (h : History) (x : Circuit) → x ∈ h.circuits → (n p : ℕ) → (n, p) ∈ links_of (net_on h) x → held_on h n p ≡ true
+pub held_link : (h : History) (x : Circuit) → x ∈ h.circuits → (n p : ℕ) → (n, p) ∈ links_of (net_on h) x → held_on h n p ≡ true
 unfolding held_on
 held_link h x m n p l = some_any (holds_link (net_on h) n p) h.circuits m (link_holds (net_on h) n p x l)
 
-taken_receive : (h : History) (x : Circuit) → x ∈ h.circuits → (n k : ℕ) → n ≡ x.target → k ≡ x.receive → taken_on h n k ≡ true
+pub taken_receive : (h : History) (x : Circuit) → x ∈ h.circuits → (n k : ℕ) → n ≡ x.target → k ≡ x.receive → taken_on h n k ≡ true
 unfolding taken_on
 taken_receive h x m n k e f = some_any (holds_receive n k) h.circuits m (receive_holds n k x e f)
 
@@ -97,7 +98,7 @@ module _ (h : History) (valid : Valid h) where
       }
 
   -- other circuits and other armed channels: each circuit as it stood before, and its receive channel still armed
-  circuits_valid : (xs : List Circuit) (ls : List (ℕ × ℕ)) → ((l : ℕ × ℕ) → l ∈ ls → (l.0 < 2 ^ h.dimension) × (l.1 < 8))
+  pub circuits_valid : (xs : List Circuit) (ls : List (ℕ × ℕ)) → ((l : ℕ × ℕ) → l ∈ ls → (l.0 < 2 ^ h.dimension) × (l.1 < 8))
       → ((x : Circuit) → x ∈ xs → CircuitValid h x × (armed_on (with_armed h ls) x.target x.receive ≡ true)) → Pairwise (Disjoint (net_on h)) xs
       → Valid (with_armed (with_circuits h xs) ls)
   unfolding enabled_on armed_on
@@ -211,3 +212,4 @@ module _ (h : History) (valid : Valid h) where
       (s, disarm_armed h n k _ _ ∙ other_cleared (armed_on h) n k _ _ s.armed other)) valid.apart
   applied_valid (opening_all sends) e = job_valid h valid (sends_in sends)
   applied_valid (booking ports index) e = valid
+  applied_valid (judging ports index circuits hops) e = valid

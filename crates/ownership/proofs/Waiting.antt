@@ -26,13 +26,14 @@ use Rattle.answers.specs.SendOnTable.{state_in, free_in, hold_links, view_after_
 use Rattle.answers.specs.SendSays.{SomeRoute, CouldRoute, BlockedRoutes, Available}
 use Rattle.circuit_path.specs.OpenCircuit.{is_open_in}
 use Rattle.book.specs.BookOf.{open_numbers}
-use Rattle.ownership.specs.Calls.{Call, opening, opening_of, call_tests, no_job, single_open, after_job}
+use Rattle.ownership.specs.Calls.{Call, opening, opening_of, call_tests, no_job}
+use Rattle.ownership.specs.InTurn.{single_open, after_job}
 use Rattle.ownership.specs.Sends.{Send, sends_in}
 use Rattle.ownership.specs.Update.{updated}
 use Rattle.ownership.specs.TableFacts.{open_in, taken_in, facts_with, opened, job_in}
 use Rattle.ownership.specs.OnTable.{facts_of, lent_tests, stopped_at, table_step}
 use Rattle.ownership.specs.Agrees.{table_after, leaves}
-use Rattle.ownership.specs.Closing.{Each, no_call, call_more, ClosesOrArms, closes, arms, RepairsNothing, a_block, an_open, a_close, a_trace, an_arming, a_disarming, a_job, a_book, NoLinkHeld}
+use Rattle.ownership.specs.Closing.{Each, no_call, call_more, ClosesOrArms, closes, arms, RepairsNothing, a_block, an_open, a_close, a_trace, an_arming, a_disarming, a_job, a_book, a_judging, NoLinkHeld}
 use Rattle.ownership.specs.Allowed.{Allowed}
 use Rattle.ownership.proofs.Allowed.{allowed, allowed_passes}
 use Rattle.ownership.proofs.Stops.{none_stops, none_stops_lent, pass_tests, stopped_is}
@@ -218,6 +219,7 @@ updated_fewer v _ a_trace = record { dimension = refl; fewer = λ m q e. e }
 updated_fewer v _ an_arming = record { dimension = refl; fewer = λ m q e. e }
 updated_fewer v _ a_disarming = record { dimension = refl; fewer = λ m q e. e }
 updated_fewer v _ a_book = fewer_self v
+updated_fewer v _ a_judging = fewer_self v
 updated_fewer v _ (a_job {sends}) = job_fewer v (sends_in sends)
 
 -- "The shift retries sends that can't succeed until a link is repaired": answered 22, a send stays so, or is stopped by an earlier test, after any list of calls

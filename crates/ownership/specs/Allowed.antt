@@ -1,10 +1,13 @@
 -- The other side of the table of refusals: what has to hold of the arguments of each call for no test of the call to stop it.
 -- That this is exactly when none does is proved (Allowed).
 -- Assumes nothing.
-use Rattle.std.specs.Prelude.{◌≡◌, ◌⊎◌, ◌≢◌, true, false, ℕ, ◌*◌, ◌^◌, ◌%◌, ◌≤◌, ◌<◌, length}
+use Rattle.std.specs.Prelude.{◌≡◌, ◌⊎◌, ◌≢◌, true, false, [], map, ℕ, ◌*◌, ◌^◌, ◌%◌, ◌≤◌, ◌<◌, length}
 use Rattle.cube.specs.Bits.{has}
+use Rattle.std.specs.List.{list_all}
 use Rattle.book.specs.Book.{hop_count}
-use Rattle.ownership.specs.Calls.{Call, making, blocking, unblocking, opening, closing, tracing, arming, disarming, opening_all, booking, CallFacts}
+use Rattle.book.specs.Lookup.{well_formed}
+use Rattle.judging.specs.Judged.{judge_net, circuits_in, circuit_fits, links_fit, all_links, targets_fit, target_in}
+use Rattle.ownership.specs.Calls.{Call, making, blocking, unblocking, opening, closing, tracing, arming, disarming, opening_all, booking, judging, CallFacts, judged_by}
 
 unfoldable pub Allowed : CallFacts → Call → Type 0
 Allowed a (making D) = (1 ≤ D) × (D ≤ 8)
@@ -19,3 +22,9 @@ Allowed a (arming n k) = (n < 2 ^ a.dimension) × (k < 8)
 Allowed a (disarming n k) = (n < 2 ^ a.dimension) × (k < 8) × (a.is_taken n k ≡ false)
 Allowed a (opening_all sends) = (length sends % 10 ≡ 0) × (length sends ≤ 640)
 Allowed a (booking ports index) = (hop_count a.book ≤ length ports) × (6 * length a.book ≤ length index)
+-- These are the four tests themselves, and so no second statement of what they ask; that is judging/Loadable.
+Allowed a (judging ports index circuits hops) =
+    let xs = circuits_in ports index circuits in
+    let N = judge_net (judged_by a) in
+    (well_formed ports index circuits hops ≡ true) × (list_all (circuit_fits (judged_by a)) xs ≡ true) × (links_fit a.free [] (all_links N xs) ≡ true)
+    × (targets_fit a.available [] (map (target_in N) xs) ≡ true)

@@ -1,16 +1,17 @@
 -- The calls of document 01 and of document 02: what each is lent, how it is tested, and what it gives.
 -- Assumes nothing.
-use Rattle.std.specs.Prelude.{Bool, true, false, cond, not, ◌||◌, List, [], ◌∷◌, ℕ, suc, ◌*◌, ◌^◌, ◌%◌, eqb, ltb, length, get_or, replicate}
-use Rattle.common.specs.Tests.{Test, test, refusal}
+use Rattle.std.specs.Prelude.{Bool, true, false, cond, not, ◌||◌, List, [], ◌∷◌, ℕ, ◌*◌, ◌^◌, ◌%◌, eqb, ltb, length, get_or, replicate}
+use Rattle.common.specs.Tests.{Test, test}
 use Rattle.paths.specs.Network.{Path}
 use Rattle.paths.specs.Send.{Outcome, acknowledged, route_rejected, receive_rejected, SendResult}
 use Rattle.circuit_path.specs.Traced.{traced_into}
 use Rattle.cube.specs.Cube.{cube_nodes}
 use Rattle.soundness.specs.TableTests.{dimension_test}
 use Rattle.book.specs.Book.{BookCircuit, port_bytes, index_bytes, hop_count, line_length}
+use Rattle.judging.specs.Judged.{JudgeFacts, judge_tests}
 use Rattle.ownership.specs.Sends.{Send, send_bytes, sends_in, JobResult}
 
--- A call with its arguments. A trace is lent a buffer, which comes with its bytes, a book two of them, and a job its list of sends; the table is not an argument.
+-- A call with its arguments. A trace is lent a buffer, which comes with its bytes, a book and a judging two of them, and a job its list of sends; the table is not an argument.
 pub data Call : Type 0 where
   making : (dimension : ℕ) → Call
   blocking : (node port : ℕ) → Call
@@ -22,6 +23,7 @@ pub data Call : Type 0 where
   disarming : (node channel : ℕ) → Call
   opening_all : (sends : List ℕ) → Call
   booking : (ports index : List ℕ) → Call
+  judging : (ports index : List ℕ) → (circuits hops : ℕ) → Call
 
 -- a send of a job as the single open that it asks for
 abbrev pub opening_of : Send → Call
@@ -54,6 +56,8 @@ form (disarming n k) = plain
 form (opening_all sends) = record { is_making = false; value_count = 1; buffers = sends ∷ [] }
 -- document 02, (e): "Both counts, circuits and hops, are answered"; both buffers are lent
 form (booking ports index) = record { is_making = false; value_count = 2; buffers = ports ∷ index ∷ [] }
+-- document 02, (i): "Judge any two buffers, with both counts"
+form (judging ports index circuits hops) = record { is_making = false; value_count = 0; buffers = ports ∷ index ∷ [] }
 
 abbrev pub lent : Call → List (List ℕ)
 lent a = (form a).buffers
@@ -114,6 +118,9 @@ pub record CallFacts : Type 0 where
   pub path : ℕ → ℕ → Path
   -- document 02, (e): "all open circuits .. in order of circuit number", each with the ports of its path
   pub book : List BookCircuit
+  -- document 02, (i): whether a link is free, by node and port, and whether a receive channel is armed and not held, by node and channel
+  pub free : ℕ → ℕ → Bool
+  pub available : ℕ → ℕ → Bool
   -- document 02, (j): what sends opened one after another come to
   pub job : List Send → JobResult
 
@@ -169,7 +176,11 @@ list_length sends = test (not (eqb (length sends % send_bytes) 0) || ltb 640 (le
 abbrev pub book_short : CallFacts → List ℕ → List ℕ → Test
 book_short a ports index = test (ltb (length ports) (hop_count a.book) || ltb (length index) (line_length * length a.book)) 23
 
--- "Within one call the tests run in rising order of number." Those of each call behind the tests of the lent table:
+-- document 02, (i): what judging a book asks
+abbrev pub judged_by : CallFacts → JudgeFacts
+judged_by a = record { dimension = a.dimension; is_open = a.is_open; free = a.free; available = a.available }
+
+-- "Within one call the tests run in rising order of number." Those of each call behind the tests of the lent table; of judging alone the last has a lower number:
 unfoldable pub call_tests : CallFacts → Call → List Test
 call_tests a (making D) = dimension_test D ∷ []
 call_tests a (blocking n p) = node a n ∷ port a p ∷ link_held a n p ∷ []
@@ -184,6 +195,8 @@ call_tests a (disarming n k) = node a n ∷ channel_number k ∷ channel_held a 
 call_tests a (opening_all sends) = list_length sends ∷ []
 -- "after 3"
 call_tests a (booking ports index) = book_short a ports index ∷ []
+-- "After 1 to 3, a book not well formed is 25, .."
+call_tests a (judging ports index circuits hops) = judge_tests (judged_by a) ports index circuits hops
 
 -- what a call gives where no test applies
 unfoldable pub result_of : CallFacts → Call → CallResult
@@ -205,6 +218,8 @@ result_of a (booking ports index) =
       values = length a.book ∷ hop_count a.book ∷ [];
       buffers = traced_into (port_bytes a.book) ports ∷ traced_into (index_bytes a.book) index ∷ [];
     }
+-- a yes is the number 0 alone
+result_of a (judging ports index circuits hops) = record { number = 0; values = []; buffers = ports ∷ index ∷ [] }
 
 -- what a call leaves of what it is made on, the bytes of a table or the history, and what it gives
 pub record After (S : Type 0) : Type 0 where
@@ -216,31 +231,3 @@ pub record After (S : Type 0) : Type 0 where
 unfoldable pub call_on : {S : Type 0} → S → S → CallFacts → ℕ → Call → After S
 call_on before after a n call =
     let g = cond (eqb n 0) (result_of a call) (refused_with n call) in record { state = cond (eqb g.number 0) after before; result = g }
-
--- Document 02, (j). A job from a state on: what its sends come to, and the state that those before the first refused one leave.
-pub record Job (S : Type 0) : Type 0 where
-  pub result : JobResult
-  pub state : S
-
--- one send more in front, which was acknowledged
-abbrev pub one_more : {S : Type 0} → Job S → Job S
-one_more j = record { result = record { number = j.result.number; sends = suc j.result.sends }; state = j.state }
-
--- no send more is opened: the number of one that is refused, or 0 where none is left
-abbrev pub ends_with : {S : Type 0} → S → ℕ → Job S
-ends_with s n = record { result = record { number = n; sends = 0 }; state = s }
-
--- "opening them one after another", up to the first refusal, where `opens` is a single open
-module _ {S : Type 0} (opens : S → Send → After S) where
-  unfoldable pub in_turn : S → List Send → Job S
-  in_turn s [] = ends_with s 0
-  in_turn s (x ∷ more) =
-      let y = opens s x in cond (eqb y.result.number 0) (one_more (in_turn y.state more)) (ends_with s y.result.number)
-
--- a single open on a state, from what a call asks of the state and what the open makes of it
-abbrev pub single_open : {S : Type 0} → (S → CallFacts) → (S → Send → S) → S → Send → After S
-single_open facts opened s x = call_on s (opened s x) (facts s) (refusal (call_tests (facts s) (opening_of x))) (opening_of x)
-
--- "The outcome equals opening them one after another if all are acknowledged; at the first refusal the table is as before"
-unfoldable pub after_job : {S : Type 0} → S → Job S → S
-after_job before j = cond (eqb j.result.number 0) j.state before

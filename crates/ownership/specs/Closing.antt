@@ -3,7 +3,7 @@
 -- Assumes nothing.
 use Rattle.std.specs.Prelude.{◌≡◌, false, List, [], ◌∷◌, ℕ}
 use Rattle.table.specs.View.{View, held_in}
-use Rattle.ownership.specs.Calls.{Call, blocking, unblocking, opening, closing, tracing, arming, disarming, opening_all, booking}
+use Rattle.ownership.specs.Calls.{Call, blocking, unblocking, opening, closing, tracing, arming, disarming, opening_all, booking, judging}
 
 -- each call of a list is such a call
 pub data Each (P : Call → Type 0) : List Call → Type 0 where
@@ -24,6 +24,7 @@ pub data RepairsNothing : Call → Type 0 where
   a_disarming : {n k : ℕ} → RepairsNothing (disarming n k)
   a_job : {sends : List ℕ} → RepairsNothing (opening_all sends)
   a_book : {ports index : List ℕ} → RepairsNothing (booking ports index)
+  a_judging : {ports index : List ℕ} {circuits hops : ℕ} → RepairsNothing (judging ports index circuits hops)
 
 -- Calls that give more freedom and take none: document 02, (n), names closing; repairing a link and arming a channel are such calls too.
 pub data GivesFreedom : Call → Type 0 where

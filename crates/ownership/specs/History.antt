@@ -10,7 +10,8 @@ use Rattle.paths.specs.CubeNetwork.{Shape, network, attempts, send, unfolded, is
 use Rattle.cube.specs.Cube.{source_of, channel_of}
 use Rattle.book.specs.Book.{BookCircuit}
 use Rattle.ownership.specs.Sends.{Send, sends_in, JobResult}
-use Rattle.ownership.specs.Calls.{Call, making, blocking, unblocking, opening, closing, tracing, arming, disarming, opening_all, booking, CallFacts, no_job, call_tests, After, call_on, Job, in_turn, single_open, after_job}
+use Rattle.ownership.specs.Calls.{Call, making, blocking, unblocking, opening, closing, tracing, arming, disarming, opening_all, booking, judging, CallFacts, no_job, call_tests, After, call_on}
+use Rattle.ownership.specs.InTurn.{Job, in_turn, single_open, after_job}
 
 -- "each open circuit with the links and receive channel it holds": its source and send channel, its path, and the receive channel at the path's end
 pub record Circuit : Type 0 where
@@ -133,6 +134,8 @@ facts_on_with job h =
       waiting = waiting_on h;
       path = listed h.circuits;
       book = book_on h;
+      free = free_on h;
+      available = available_on h;
       job = job;
     }
 
@@ -166,8 +169,9 @@ applied h (arming n k) = with_armed h ((n, k) ∷ h.armed)
 applied h (disarming n k) = with_armed h (without_entry n k h.armed)
 -- document 02, (j): "The ownership history counts such a call as its single opens, or as nothing."
 applied h (opening_all sends) = after_job h (job_on h (sends_in sends))
--- document 02, (e): a book changes nothing
+-- document 02, (e) and (i): a book and a judging change nothing
 applied h (booking ports index) = h
+applied h (judging ports index circuits hops) = h
 
 -- a call entered in the history; "A refused call and a trace change nothing."
 unfoldable pub history_step : History → Call → After History

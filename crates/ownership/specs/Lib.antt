@@ -1,6 +1,7 @@
 -- The calls: what each does to the bytes of a table, what the ownership history makes of it, and what it is for both to agree.
 pub mod Sends
 pub mod Calls
+pub mod InTurn
 pub mod Allowed
 pub mod Reasons
 pub mod TableFacts
@@ -16,4 +17,6 @@ pub mod StillOpen
 pub mod AllArmed
 pub mod Closing
 pub mod SameOpen
+pub mod Judging
+pub mod LoadedBook
 pub mod FreedomExamples

@@ -18,7 +18,7 @@ facts_of v = facts_with (λ xs. (job_in v xs).result) v
 unfoldable pub lent_tests : List ℕ → Call → List Test
 lent_tests b a = cond (form a).is_making (length_test b ∷ []) (table_tests b)
 
--- all tests of a call, in rising order of number. "The first that applies is the answer": its number, 0 where none does
+-- all tests of a call, in the order in which they are made. "The first that applies is the answer": its number, 0 where none does
 unfoldable pub stopped_at : List ℕ → Call → ℕ
 stopped_at b a = refusal (lent_tests b a ++ call_tests (facts_of (view b)) a)
 

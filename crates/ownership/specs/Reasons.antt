@@ -1,12 +1,16 @@
--- Why a call is stopped: each number of document 01's table of refusals, and 21, 23 and 28 of document 02, that a call can answer for its arguments, with the reason in the
--- words of the papers.
--- What these tests answer is the lowest number whose reason holds (proved: Reasons), and 0 where none does. The lent table's numbers, 1 to 3, come before them
--- (OnTable); 10, 11 and 22 are the search's.
+-- Why a call is stopped: each number of document 01's table of refusals, and 21, 23, 25 to 28 and, of judging, 11 of document 02, that a call can answer for its
+-- arguments, with the reason in the words of the papers.
+-- What these tests answer is the first number by rank whose reason holds, and 0 where none does (proved: Reasons.refused_for, first_reason). The lent table's
+-- numbers, 1 to 3, come before them (OnTable); of an open, 10, 11 and 22 are the search's.
+-- Of judging, the reasons of 26, 27 and 11 stand here by its tests; in words they are in Judging.JudgingSays.
 -- Assumes nothing.
-use Rattle.std.specs.Prelude.{◌≡◌, ◌⊎◌, ◌≢◌, true, false, List, ℕ, ◌*◌, ◌^◌, ◌%◌, ◌≤◌, ◌<◌, length}
+use Rattle.std.specs.Prelude.{◌≡◌, ◌⊎◌, ◌≢◌, cond, true, false, List, [], map, ℕ, ◌*◌, ◌^◌, ◌%◌, ◌≤◌, ◌<◌, eqb, length}
+use Rattle.std.specs.List.{list_all}
 use Rattle.cube.specs.Bits.{has}
 use Rattle.book.specs.Book.{hop_count}
-use Rattle.ownership.specs.Calls.{Call, making, blocking, unblocking, opening, closing, tracing, arming, disarming, opening_all, booking, CallFacts}
+use Rattle.book.specs.WellFormed.{WellFormed}
+use Rattle.judging.specs.Judged.{judge_net, circuits_in, circuit_fits, links_fit, all_links, targets_fit, target_in}
+use Rattle.ownership.specs.Calls.{Call, making, blocking, unblocking, opening, closing, tracing, arming, disarming, opening_all, booking, judging, CallFacts, judged_by}
 
 pub data Reason (a : CallFacts) : Call → ℕ → Type 0 where
   -- make, 2: "D outside 1 to 8: the one given when making"
@@ -56,3 +60,18 @@ pub data Reason (a : CallFacts) : Call → ℕ → Type 0 where
   job_length : {sends : List ℕ} → (length sends % 10 ≢ 0) ⊎ (640 < length sends) → Reason a (opening_all sends) 28
   -- a book, 23: "A buffer that cannot hold its part is refused as 23"
   booking_short : {ports index : List ℕ} → (length ports < hop_count a.book) ⊎ (length index < 6 * length a.book) → Reason a (booking ports index) 23
+  -- judging, 25: "a book not well formed"
+  judging_book : {ports index : List ℕ} {circuits hops : ℕ} → (WellFormed ports index circuits hops → ⊥) → Reason a (judging ports index circuits hops) 25
+  -- judging, 26: "a bad source, path or send channel"
+  judging_circuit : {ports index : List ℕ} {circuits hops : ℕ} → list_all (circuit_fits (judged_by a)) (circuits_in ports index circuits) ≡ false
+      → Reason a (judging ports index circuits hops) 26
+  -- judging, 27: "a blocked, taken or shared link"
+  judging_link : {ports index : List ℕ} {circuits hops : ℕ} → links_fit a.free [] (all_links (judge_net (judged_by a)) (circuits_in ports index circuits)) ≡ false
+      → Reason a (judging ports index circuits hops) 27
+  -- judging, 11: "too few receive channels"
+  judging_receive : {ports index : List ℕ} {circuits hops : ℕ} → targets_fit a.available [] (map (target_in (judge_net (judged_by a))) (circuits_in ports index circuits)) ≡ false
+      → Reason a (judging ports index circuits hops) 11
+
+-- the order of a call's tests: by number, and 11, which of all tests only judging has, behind all others (32 is above every number)
+abbrev pub rank : ℕ → ℕ
+rank n = cond (eqb n 11) 32 n

@@ -4,7 +4,7 @@ use Rattle.std.specs.Prelude.{◌≡◌, cond, List, [], ◌∷◌, ◌++◌, ma
 use Rattle.common.specs.Lists.{◌∈◌}
 use Rattle.paths.specs.Send.{acknowledged}
 use Rattle.ownership.specs.Sends.{sends_in}
-use Rattle.ownership.specs.Calls.{Call, making, blocking, unblocking, opening, closing, tracing, arming, disarming, opening_all, booking, opening_of, CallResult}
+use Rattle.ownership.specs.Calls.{Call, making, blocking, unblocking, opening, closing, tracing, arming, disarming, opening_all, booking, judging, opening_of, CallResult}
 use Rattle.ownership.specs.History.{Circuit, History, stopped_on, send_on, history_step}
 use Rattle.ownership.specs.Agrees.{history_after, history_results}
 
@@ -20,6 +20,7 @@ counts_as (tracing s c buffer) n = tracing s c buffer ∷ []
 counts_as (arming m k) n = arming m k ∷ []
 counts_as (disarming m k) n = disarming m k ∷ []
 counts_as (booking ports index) n = booking ports index ∷ []
+counts_as (judging ports index circuits hops) n = judging ports index circuits hops ∷ []
 counts_as (opening_all sends) n = cond (eqb n 0) (map opening_of (sends_in sends)) []
 
 -- the calls of a list so counted, each with the number that it answered; "Success is 0", and an accepted open is an acknowledged one
@@ -45,6 +46,7 @@ Ends s c (arming n k) = ⊥
 Ends s c (disarming n k) = ⊥
 Ends s c (opening_all sends) = ⊥
 Ends s c (booking ports index) = ⊥
+Ends s c (judging ports index circuits hops) = ⊥
 
 -- no accepted call of a list ends it
 unfoldable pub Lasts : ℕ → ℕ → List (Call × ℕ) → Type 0

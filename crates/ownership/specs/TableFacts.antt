@@ -2,13 +2,14 @@
 -- Assumes nothing.
 use Rattle.std.specs.Prelude.{Bool, not, List, ℕ, eqb}
 use Rattle.cube.specs.Cube.{circuit_of}
-use Rattle.table.specs.View.{View, held_in}
+use Rattle.table.specs.View.{View, held_in, available}
 use Rattle.circuit_path.specs.OpenCircuit.{is_open_in}
 use Rattle.circuit_path.specs.PathOf.{path_of}
 use Rattle.book.specs.BookOf.{book_of}
-use Rattle.answers.specs.SendOnTable.{waiting_helps, send_in, view_after_send}
+use Rattle.answers.specs.SendOnTable.{free_in, waiting_helps, send_in, view_after_send}
 use Rattle.ownership.specs.Sends.{Send, JobResult}
-use Rattle.ownership.specs.Calls.{CallFacts, no_job, Job, in_turn, single_open}
+use Rattle.ownership.specs.Calls.{CallFacts, no_job}
+use Rattle.ownership.specs.InTurn.{Job, in_turn, single_open}
 
 -- "this send channel has an open circuit"
 unfoldable pub open_in : View → ℕ → ℕ → Bool
@@ -30,6 +31,8 @@ facts_with job v =
       waiting = waiting_helps v;
       path = λ s c. path_of v (circuit_of s c);
       book = book_of v;
+      free = free_in v;
+      available = available v;
       job = job;
     }
 

@@ -4,7 +4,8 @@ use Rattle.std.specs.Prelude.{true, false}
 use Rattle.cube.specs.Cube.{circuit_of}
 use Rattle.table.specs.View.{View, set_enabled, set_armed, without_circuit, fresh}
 use Rattle.ownership.specs.Sends.{sends_in}
-use Rattle.ownership.specs.Calls.{Call, making, blocking, unblocking, opening, closing, tracing, arming, disarming, opening_all, booking, after_job}
+use Rattle.ownership.specs.Calls.{Call, making, blocking, unblocking, opening, closing, tracing, arming, disarming, opening_all, booking, judging}
+use Rattle.ownership.specs.InTurn.{after_job}
 use Rattle.ownership.specs.TableFacts.{opened, job_in}
 
 unfoldable pub updated : View → Call → View
@@ -24,5 +25,6 @@ updated v (arming n k) = set_armed v n k true
 updated v (disarming n k) = set_armed v n k false
 -- document 02, (j): "opening them one after another if all are acknowledged; at the first refusal the table is as before"
 updated v (opening_all sends) = after_job v (job_in v (sends_in sends))
--- document 02, (e): a book only reads
+-- document 02, (e) and (i): a book and a judging only read
 updated v (booking ports index) = v
+updated v (judging ports index circuits hops) = v

@@ -7,7 +7,7 @@ use lib.Dec.{lit≤}
 use lib.ListN.{length}
 use Rattle.cube.specs.Cube.{largest_dimension}
 use Rattle.layout.specs.Layout.{table_length}
-use Rattle.ownership.specs.Calls.{making, blocking, unblocking, opening, closing, tracing, arming, disarming, opening_all, booking}
+use Rattle.ownership.specs.Calls.{making, blocking, unblocking, opening, closing, tracing, arming, disarming, opening_all, booking, judging}
 use Rattle.ownership.specs.Agrees.{table_results}
 use Rattle.ownership.proofs.Agreement.{making_accepted, demand_3}
 use Rattle.paper_examples.specs.Examples.{Input, calls, read, write, before, shown, result, inputs, results, examples}
@@ -31,6 +31,7 @@ Begins (calls (arming n k ∷ cs)) = ⊥
 Begins (calls (disarming n k ∷ cs)) = ⊥
 Begins (calls (opening_all sends ∷ cs)) = ⊥
 Begins (calls (booking ports index ∷ cs)) = ⊥
+Begins (calls (judging ports index circuits hops ∷ cs)) = ⊥
 Begins (read w) = Unit
 Begins (write c k) = Unit
 
@@ -50,6 +51,7 @@ same b e (calls (arming node channel ∷ cs)) h = elim h [ ]
 same b e (calls (disarming node channel ∷ cs)) h = elim h [ ]
 same b e (calls (opening_all sends ∷ cs)) h = elim h [ ]
 same b e (calls (booking ports index ∷ cs)) h = elim h [ ]
+same b e (calls (judging ports index circuits hops ∷ cs)) h = elim h [ ]
 same b e (calls (making D ∷ cs)) h = ap (map shown) (demand_3 b before D (making_accepted b D e h.0 h.1) cs).results
 same b e (read w) h = refl
 same b e (write c k) h = refl

@@ -3,7 +3,7 @@
 -- Assumes nothing.
 use Rattle.std.specs.Prelude.{Bool, cond, List, ℕ, eqb, take, replicate}
 use Rattle.std.proofs.Math.Option.{Option, none, some}
-use Rattle.ownership.specs.Calls.{Call, making, blocking, unblocking, opening, closing, tracing, arming, disarming, opening_all, booking, CallResult, hops_of, receive_of, scouts_of, buffer_of, carries_scouts, After}
+use Rattle.ownership.specs.Calls.{Call, making, blocking, unblocking, opening, closing, tracing, arming, disarming, opening_all, booking, judging, CallResult, hops_of, receive_of, scouts_of, buffer_of, carries_scouts, After}
 use Rattle.text.specs.Row.{Field, nothing, shows, path, Row, row, answer_alone}
 use Rattle.input_line.specs.Line.{letter_b, letter_c, letter_d, letter_e, letter_f, letter_r, letter_s}
 
@@ -33,6 +33,7 @@ call_row n (disarming m k) x way = row n letter_d x.number (shows m) (shows k) n
 call_row n (tracing s c buffer) x way = answer_alone n x.number
 call_row n (opening_all sends) x way = answer_alone n x.number
 call_row n (booking ports index) x way = answer_alone n x.number
+call_row n (judging ports index circuits hops) x way = answer_alone n x.number
 
 -- "For number 20 every field but line and answer is `-`."
 unfoldable pub unreadable : ℕ → Row

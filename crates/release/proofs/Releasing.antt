@@ -4,9 +4,8 @@
 use mathlib.Core.Path.{◌≡◌, refl, ap, sym, ◌∙◌, subst}
 use mathlib.Core.Logic.{⊎_elim}
 use mathlib.Core.Bool.{Bool, true, false, cond, ◌&&◌}
-use mathlib.Core.List.Memᴰ
-use mathlib.Core.List.{List, [], ◌∷◌}
-use Prim.Native.Nat.{ℕ, zero, suc, ◌+◌, ◌/◌, ◌%◌, ◌^◌, ◌≤◌, ◌<◌}
+use mathlib.Core.List.{List, ◌∷◌}
+use Prim.Native.Nat.{ℕ, suc, ◌+◌, ◌/◌, ◌%◌, ◌^◌, ◌≤◌, ◌<◌}
 use native.Mathlib.Omega.{arith}
 use native.Mathlib.Numerals.{add-one}
 use lib.Dec.{eqb, lit<}
@@ -15,6 +14,7 @@ use lib.Seq.{drop-cons}
 use borrow.Author.Tests.{eqb-true, eqb-false, eq-eqb}
 use Rattle.common.specs.Lists.{◌∈◌, lowest}
 use Rattle.common.proofs.Tests.{below_or, clash, is_false, both, and}
+use Rattle.common.proofs.Lists.{at_member}
 use Rattle.common.proofs.Lowest.{lowest_passes, lowest_before}
 use Rattle.cube.specs.Cube.{port_count, channels, NodeOf, next, source_of}
 use Rattle.cube.proofs.Axes.{next_inside}
@@ -63,12 +63,6 @@ module _ {b path : List ℕ} {s : ℕ} where
   pub freed_bytes_are : {now : List ℕ} {at i : ℕ} → Freeing b path s now at i → length path ≤ i → now ≡ hold_path b 0 s path
   freed_bytes_are {now} {at} {i} f h =
       sym (ap (hold_path now 0 at) (drop_of_length-le path h) ∙ (unfold hold_path in refl)) ∙ f.holds
-
--- the member at a place
-at_member : (w : List ℕ) (i : ℕ) → i < length w → get_or w i 0 ∈ w
-at_member [] i h = absurd (omega arith)
-at_member (x ∷ w) zero h = Memᴰ.head refl
-at_member (x ∷ w) (suc i) h = Memᴰ.tail (at_member w i (omega arith))
 
 receiver_length : (b : List ℕ) (n k c : ℕ) → length (put_receiver b n k c) ≡ length b
 unfolding put_receiver put_entry

@@ -1,7 +1,7 @@
 -- The row of a node: what its entries, found as a vector or counted, say of links and receive channels, and how many links nobody holds.
 -- `port_count` stands for the entries of either.
 -- Assumes nothing.
-use mathlib.Core.Path.{◌≡◌, ap, ap₂, sym, ◌∙◌}
+use mathlib.Core.Path.{◌≡◌, refl, ap, ap₂, sym, ◌∙◌}
 use mathlib.Core.Logic.{◌≢◌}
 use mathlib.Core.Bool.{true, ◌&&◌, and_comm}
 use mathlib.Core.List.{List}
@@ -10,10 +10,12 @@ use native.Mathlib.Omega.{arith}
 use lib.Dec.{eqb}
 use lib.ListN.{length, get_or}
 use lib.Bits.{bit_and}
-use borrow.Author.Tests.{eq-eqb, ne_eqb}
+use lib.Count.{ones}
+use borrow.Author.Tests.{eqb-true, eq-eqb, ne_eqb}
 use Rattle.common.specs.Decides.{Decides}
-use Rattle.common.specs.Lists.{from, lowest}
+use Rattle.common.specs.Lists.{keep, from, lowest}
 use Rattle.common.proofs.Lists.{keep_same}
+use Rattle.common.proofs.Every.{at}
 use Rattle.common.proofs.From.{from_below, count_yes, count_no}
 use Rattle.common.proofs.Lowest.{lowest_same}
 use Rattle.cube.specs.Bits.{has}
@@ -22,7 +24,7 @@ use Rattle.cube.proofs.Bits.{has_and}
 use Rattle.layout.specs.Layout.{entry_place, link_part, receive_part, mask_place, arm_part, arm_place, word_at, entry_at, mask_at, owner_at, receiver_at, armed_at}
 use Rattle.layout.specs.LayoutContracts.{node_rows, RowVector, row_count}
 use Rattle.layout.proofs.Entries.{entry_is, mask_has, rows_word, row_entry}
-use Rattle.table.specs.View.{view, available}
+use Rattle.table.specs.View.{View, view, available}
 use Rattle.table.specs.TableContracts.{HeldBy, links_held, link_count, free_count, lowest_channel}
 
 -- the row of a node, in the part of links or in that of receive channels
@@ -42,15 +44,28 @@ module _ (b : List ℕ) (n c : ℕ) {row : List ℕ} (h : n < 256) where
   unfolding receiver_at
   channels_lowest vector e r = lowest_same (has vector) _ 8 0 (λ k g l. r.bits k l ∙ entry_test receive_part k e l)
 
-  -- the channels that nobody holds, and of them those that a mask has
-  pub channels_available : (free armed : ℕ) → c ≡ 0 → row ≡ node_rows receive_part b n 1 → RowVector row c free → armed ≡ get_or b (arm_place n) 0
-      → lowest (has (bit_and free armed)) channels 0 ≡ lowest_channel (view b) n
-  unfolding lowest_channel available view receiver_at armed_at
-  channels_available free armed z e r a =
-      lowest_same (has (bit_and free armed)) _ 8 0 (λ k g l.
-      has_and free armed k ∙ and_comm (has free k) (has armed k)
-      ∙ ap₂ ◌&&◌ (ap (λ x. has x k) a ∙ sym (mask_has b n k h l arm_part))
-      (r.bits k l ∙ entry_test receive_part k e l ∙ ap (eqb (entry_at receive_part b n k)) z))
+  -- the channels that nobody holds, and of them those that a mask has: these are available
+  module _ (free armed : ℕ) (z : c ≡ 0) (e : row ≡ node_rows receive_part b n 1) (r : RowVector row c free) (a : armed ≡ get_or b (arm_place n) 0) where
+    pub channel_available : (k : ℕ) → k < channels → has (bit_and free armed) k ≡ available (view b) n k
+    unfolding available view receiver_at armed_at
+    channel_available k l =
+        has_and free armed k ∙ and_comm (has free k) (has armed k)
+        ∙ ap₂ ◌&&◌ (ap (λ x. has x k) a ∙ sym (mask_has b n k h l arm_part))
+        (r.bits k l ∙ entry_test receive_part k e l ∙ ap (eqb (entry_at receive_part b n k)) z)
+
+-- a vector of the available channels of a node: the lowest of its bits is the lowest of them, and its bits are as many
+module _ (v : View) (n x : ℕ) (bits : (k : ℕ) → k < channels → has x k ≡ available v n k) where
+  pub lowest_bit : lowest (has x) channels 0 ≡ lowest_channel v n
+  unfolding lowest_channel
+  lowest_bit = lowest_same (has x) _ 8 0 (λ k g l. bits k l)
+
+  pub available_count : length (keep (has x) (from 0 channels)) ≡ length (keep (available v n) (from 0 channels))
+  available_count = ap length (keep_same _ _ (from 0 8) (λ k m. bits k (from_below 8 k m)))
+
+-- the bits of a byte counted
+pub ones_kept : (x : ℕ) → x < 256 → ones x ≡ length (keep (has x) (from 0 8))
+unfolding ones has keep from
+ones_kept x small = eqb-true (ones x) _ (at 256 (λ x. eqb (ones x) (length (keep (has x) (from 0 8)))) refl x small)
 
 -- a mask that has every entry of a row that is not zero: of a node's entries in one part and its mask in another
 pub covers_node : (b : List ℕ) (n part masks j : ℕ) {row : List ℕ} {answer : _} → n < 256 → row ≡ node_rows part b n 1 → j ≡ mask_place masks n

@@ -37,6 +37,11 @@ free_count b i = link_count (λ n p. eqb (owner_at b n p) 0) i
 unfoldable pub links_held : View → ℕ → ℕ → ℕ
 links_held v c n = length (keep (λ p. eqb (v.owner n p) c) (from 0 port_count))
 
+-- the available receive channels of a node as a vector
+pub record AvailableVector (v : View) (n vector : ℕ) : Type 0 where
+  pub small : vector < 256
+  pub bits : (k : ℕ) → k < channels → has vector k ≡ available v n k
+
 -- "its lowest channel that is armed and not held"; the number of channels where there is none
 unfoldable pub lowest_channel : View → ℕ → ℕ
 lowest_channel v n = lowest (available v n) channels 0

@@ -7,13 +7,13 @@ mod cube_table;
 
 ghost use Rattle.std.specs.Prelude.{◌≡◌, ◌≢◌, true, ℕ, ◌+◌, ◌*◌, ◌<◌, ◌≤◌, eqb, length};
 ghost use Rattle.common.specs.Decides.{Decides};
-ghost use Rattle.common.specs.Lists.{lowest, some_below};
+ghost use Rattle.common.specs.Lists.{keep, from, lowest, some_below};
 ghost use Rattle.cube.specs.Cube.{largest_dimension, port_count, channels};
 ghost use Rattle.layout.specs.Layout.{table_length, receiver_at};
 ghost use Rattle.entries.specs.EntryContracts.{Within};
-ghost use Rattle.table.specs.View.{view, fresh};
+ghost use Rattle.table.specs.View.{view, available, fresh};
 ghost use Rattle.table.specs.Encode.{encode};
-ghost use Rattle.table.specs.TableContracts.{HeldBy, links_held, EnablesFit, ArmsFit, free_count, lowest_channel};
+ghost use Rattle.table.specs.TableContracts.{HeldBy, links_held, EnablesFit, ArmsFit, free_count, AvailableVector, lowest_channel};
 
 use cube::{Circuit, Node};
 pub use cube_table::CubeTable;
@@ -102,8 +102,24 @@ pub fn free_channel(t: &[u8], n: Node) -> Option<u16>
     requires { Within t.now n.0 0 }
     ensures { result ≡ some_below channels (lowest_channel (view t.now) n.0) }
 {
+    cube::lowest_of(available(t, n))
+}
+
+// How many receive channels of a node are armed and not held.
+pub fn available_count(t: &[u8], n: Node) -> u32
+    requires { Within t.now n.0 0 }
+    ensures { result ≡ length (keep (available (view t.now) n.0) (from 0 channels)) }
+{
+    available(t, n).count_ones()
+}
+
+// Which are, as a vector.
+fn available(t: &[u8], n: Node) -> u16
+    requires { Within t.now n.0 0 }
+    ensures { AvailableVector (view t.now) n.0 result }
+{
     let free = layout::row_vector(layout::node_row::<Channels>(t, n), Circuit(0));
-    cube::lowest_of(free & u16::from(t[layout::mask_place::<Channels>(n)]))
+    free & u16::from(t[layout::mask_place::<Channels>(n)])
 }
 
 // Writes a table of a dimension: all its links enabled, nothing held, no channel armed.

@@ -1,0 +1,84 @@
+// Whether all links that the circuits of a book use are free, and no two circuits share one.
+ghost use Rattle.std.specs.Prelude.{◌≡◌, true, not, [], map, ℕ, ◌<◌, length, get_or, replicate};
+ghost use Rattle.cube.specs.Bits.{has};
+ghost use Rattle.cube.specs.Cube.{port_count, NodeOf};
+ghost use Rattle.paths.specs.Network.{links};
+ghost use Rattle.layout.specs.Layout.{dimension_at};
+ghost use Rattle.table.specs.View.{view, net};
+ghost use Rattle.answers.specs.SendOnTable.{free_in};
+ghost use Rattle.book.specs.BookContracts.{lines_left};
+ghost use Rattle.judging.specs.Judged.{circuit_on, links_fit, all_links};
+ghost use Rattle.judging.specs.JudgeContracts.{LinesInCube, UsesLinks, marks_with};
+
+use book::IndexLines;
+use cube::{Circuit, Node, Port};
+use table::{CubeTable, Links};
+
+// A byte for each node, with bit p set where a circuit of the book uses the link out of port p.
+#[derive(Clone, Copy)]
+struct UsedLinks {
+    of_node: [u8; 256],
+}
+
+impl UsedLinks {
+    fn new() -> UsedLinks
+        ensures { result.of_node ≡ replicate 256 0 }
+    {
+        UsedLinks { of_node: [0; 256] }
+    }
+
+    // Marks a link as used, if no circuit of the book used it before.
+    fn use_link(&mut self, n: Node, p: Port) -> bool
+        requires { (n.0 < 256) × (p.0 < port_count) }
+        ensures is_new { result ≡ not (has (get_or self.old.of_node n.0 0) p.0) }
+        ensures used { result ≡ true → self.new.of_node ≡ marks_with self.old.of_node n.0 p.0 }
+    {
+        let at = usize::from(n.0);
+        if layout::bit(&self.of_node, at, p.0) {
+            return false;
+        }
+        layout::put_bit(&mut self.of_node, at, p.0, true);
+        true
+    }
+}
+
+// Whether the link out of a port is free.
+#[tactic(auto, using(crate::proofs::FreeLinks::free_is), unfolding(table::specs::View::view))]
+fn is_free(table: CubeTable, n: Node, p: Port) -> bool
+    requires { NodeOf (dimension_at table.bytes.now) n.0 × (p.0 < dimension_at table.bytes.now) }
+    ensures { result ≡ free_in (view table.entry.bytes.now) n.0 p.0 }
+{
+    table::enabled::<Links>(table.bytes, n, p) && table::owner::<Links>(table.bytes, n, p).0 == 0
+}
+
+// Uses the links of a path one after another; false where one is not free or was used before.
+fn use_path(table: CubeTable, used: &mut UsedLinks, source: Node, path: &[u8]) -> bool
+    requires inside { NodeOf (dimension_at table.bytes.now) source.0 }
+    requires below { (i : ℕ) → i < length path.now → get_or path.now i 0 < dimension_at table.bytes.now }
+    ensures { UsesLinks (free_in (view table.entry.bytes.now)) used.old.of_node used.new.of_node (links (net (view table.entry.bytes.now)) source.0 path.now) result }
+{
+    let mut at = source;
+    for port in path {
+        let p = Port(u16::from(*port));
+        if !is_free(table, at, p) || !used.use_link(at, p) {
+            return false;
+        }
+        at = cube::neighbour(at, p);
+    }
+    true
+}
+
+// Whether the links of all circuits of a book can be used, each once.
+pub fn links_fit(table: CubeTable, lines: IndexLines, ports: &[u8]) -> bool
+    requires { LinesInCube (dimension_at table.bytes.now) ports.now (lines_left lines) }
+    ensures { result ≡ links_fit (free_in (view table.entry.bytes.now)) [] (all_links (net (view table.entry.bytes.now)) (map (circuit_on ports.now) (lines_left lines.entry))) }
+{
+    let mut used = UsedLinks::new();
+    for line in lines {
+        let source = cube::source_of(Circuit(line.number));
+        if !use_path(table, &mut used, source, line.path(ports)) {
+            return false;
+        }
+    }
+    true
+}
