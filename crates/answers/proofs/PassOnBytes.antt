@@ -31,8 +31,8 @@ use Rattle.layout.proofs.Entries.{within}
 use Rattle.table.proofs.Views.{view_put_owner}
 use Rattle.answers.specs.declared.LinkState as State
 use Rattle.answers.specs.declared.LinkState.TheVariants.{Free, Held, Blocked}
-use Rattle.answers.specs.SendOnTable.{state_in, free_in, PassAnswer, pass_answer, state_of}
-use Rattle.answers.specs.PassOnBytes.{hold_path, answer_of_pass, arrival_after}
+use Rattle.answers.specs.SendOnTable.{state_in, free_in, AnswerOnBytes, answer_on_bytes}
+use Rattle.answers.specs.PassOnBytes.{hold_path, answer_of_pass, arrival_after, state_of}
 
 -- A hop held and given back leaves each byte as it was.
 given_word : (b : List ℕ) (i c : ℕ) → word_at b i ≡ 0 → put_word (put_word b i c) i 0 ≡ b
@@ -123,17 +123,17 @@ module _ (N : Network) (t : ℕ) (near : Nearing N t) (b : List ℕ) (n p c : �
       ∙ holding_after near (free_in (view b)) k n p s
 
 -- the parts of an answer
-refused_of : PassAnswer → ℕ
-refused_of (pass_answer r h k s b) = r
+refused_of : AnswerOnBytes → ℕ
+refused_of (answer_on_bytes r h k s b) = r
 
-scouts_of : PassAnswer → ℕ
-scouts_of (pass_answer r h k s b) = s
+scouts_of : AnswerOnBytes → ℕ
+scouts_of (answer_on_bytes r h k s b) = s
 
-bytes_in : PassAnswer → List ℕ
-bytes_in (pass_answer r h k s b) = b
+bytes_in : AnswerOnBytes → List ℕ
+bytes_in (answer_on_bytes r h k s b) = b
 
-with_bytes : List ℕ → PassAnswer → PassAnswer
-with_bytes x (pass_answer r h k s b) = pass_answer r h k s x
+with_bytes : List ℕ → AnswerOnBytes → AnswerOnBytes
+with_bytes x (answer_on_bytes r h k s b) = answer_on_bytes r h k s x
 
 ten≢zero : (x : ◌≡◌ {A = ℕ} 10 0) → ⊥
 ten≢zero x = omega arith
@@ -159,8 +159,8 @@ module _ (free : ℕ → Bool) (on : ℕ → ℕ → PassResult) (b : List ℕ) 
   tried e = trying_cons free on p ps s ∙ (rw e)
 
   -- acknowledged: the answer stands, with the hop before its path
-  pub port_acknowledged : free p ≡ true → (k hops d : ℕ) (b' : List ℕ) → pass_answer 0 hops k d b' ≡ answer_of_pass (put_owner b n p c) c (next n p) (h + 1) r (on p (suc s))
-      → pass_answer 0 hops k d b' ≡ answer_of_pass b c n h r (trying free on (p ∷ ps) s)
+  pub port_acknowledged : free p ≡ true → (k hops d : ℕ) (b' : List ℕ) → answer_on_bytes 0 hops k d b' ≡ answer_of_pass (put_owner b n p c) c (next n p) (h + 1) r (on p (suc s))
+      → answer_on_bytes 0 hops k d b' ≡ answer_of_pass b c n h r (trying free on (p ∷ ps) s)
   unfolding refused_of
   port_acknowledged e k hops d b' q = q ∙ go r (on p (suc s)) (ap refused_of (sym q)) ∙ ap (answer_of_pass b c n h r) (sym (tried e))
     where
@@ -169,41 +169,41 @@ module _ (free : ℕ → Bool) (on : ℕ → ℕ → PassResult) (b : List ℕ) 
       go r (none d) z = absurd (ten≢zero (unfold answer_of_pass refused_of in z))
       go none_available (found w d) z = absurd (eleven≢zero (unfold answer_of_pass refused_of in z))
       go (lowest_available k) (found w d) z =
-          unfold answer_of_pass hop_or hold_path in ap (λ x. pass_answer 0 x k d (hold_path (put_owner b n p c) c (next n p) w)) (one_longer h p w)
+          unfold answer_of_pass hop_or hold_path in ap (λ x. answer_on_bytes 0 x k d (hold_path (put_owner b n p c) c (next n p) w)) (one_longer h p w)
 
   -- receive rejected: the hop is given back, and no other port is tried
-  pub port_receive_rejected : free p ≡ true → (k hops d : ℕ) (b' : List ℕ) → pass_answer 11 hops k d b' ≡ answer_of_pass (put_owner b n p c) c (next n p) (h + 1) r (on p (suc s))
-      → (b' ≡ put_owner b n p c) × (pass_answer 11 hops k d b ≡ answer_of_pass b c n h r (trying free on (p ∷ ps) s))
+  pub port_receive_rejected : free p ≡ true → (k hops d : ℕ) (b' : List ℕ) → answer_on_bytes 11 hops k d b' ≡ answer_of_pass (put_owner b n p c) c (next n p) (h + 1) r (on p (suc s))
+      → (b' ≡ put_owner b n p c) × (answer_on_bytes 11 hops k d b ≡ answer_of_pass b c n h r (trying free on (p ∷ ps) s))
   port_receive_rejected e k hops d b' q =
       let g = go r (on p (suc s)) q in (g.0, g.1 ∙ ap (answer_of_pass b c n h r) (sym (tried e)))
     where
-      go : (r : Receive) (a : PassResult) → pass_answer 11 hops k d b' ≡ answer_of_pass (put_owner b n p c) c (next n p) (h + 1) r a
-          → (b' ≡ put_owner b n p c) × (pass_answer 11 hops k d b ≡ answer_of_pass b c n h r (hop_or p a (trying free on ps)))
+      go : (r : Receive) (a : PassResult) → answer_on_bytes 11 hops k d b' ≡ answer_of_pass (put_owner b n p c) c (next n p) (h + 1) r a
+          → (b' ≡ put_owner b n p c) × (answer_on_bytes 11 hops k d b ≡ answer_of_pass b c n h r (hop_or p a (trying free on ps)))
       go r (none d) z = absurd (ten≢eleven (sym (unfold answer_of_pass refused_of in ap refused_of z)))
       go (lowest_available k) (found w d) z = absurd (eleven≢zero (unfold answer_of_pass refused_of in ap refused_of z))
       go none_available (found w d) z = (unfold answer_of_pass bytes_in in ap bytes_in z, unfold answer_of_pass hop_or with_bytes in ap (with_bytes b) z)
 
   -- route rejected: the hop is given back, and the next port is tried with the scouts sent by then
-  pub port_route_rejected : free p ≡ true → (k hops d : ℕ) (b' : List ℕ) → pass_answer 10 hops k d b' ≡ answer_of_pass (put_owner b n p c) c (next n p) (h + 1) r (on p (suc s))
+  pub port_route_rejected : free p ≡ true → (k hops d : ℕ) (b' : List ℕ) → answer_on_bytes 10 hops k d b' ≡ answer_of_pass (put_owner b n p c) c (next n p) (h + 1) r (on p (suc s))
       → (b' ≡ put_owner b n p c) × (answer_of_pass b c n h r (trying free on ps d) ≡ answer_of_pass b c n h r (trying free on (p ∷ ps) s))
   port_route_rejected e k hops d b' q =
       let g = go r (on p (suc s)) q in (g.0, ap (answer_of_pass b c n h r) (g.1 ∙ sym (tried e)))
     where
-      go : (r : Receive) (a : PassResult) → pass_answer 10 hops k d b' ≡ answer_of_pass (put_owner b n p c) c (next n p) (h + 1) r a
+      go : (r : Receive) (a : PassResult) → answer_on_bytes 10 hops k d b' ≡ answer_of_pass (put_owner b n p c) c (next n p) (h + 1) r a
           → (b' ≡ put_owner b n p c) × (trying free on ps d ≡ hop_or p a (trying free on ps))
       go r (none d) z = (unfold answer_of_pass bytes_in in ap bytes_in z, unfold answer_of_pass hop_or scouts_of in ap (λ x. trying free on ps (scouts_of x)) z)
       go (lowest_available k) (found w d) z = absurd (ten≢zero (unfold answer_of_pass refused_of in ap refused_of z))
       go none_available (found w d) z = absurd (ten≢eleven (unfold answer_of_pass refused_of in ap refused_of z))
 
 -- the scouts of an answer are those of the pass
-pub answer_scouts : (b : List ℕ) (c n h : ℕ) (r : Receive) (a : PassResult) (x k hops s : ℕ) (b' : List ℕ) → pass_answer x hops k s b' ≡ answer_of_pass b c n h r a → s ≡ scouts a
+pub answer_scouts : (b : List ℕ) (c n h : ℕ) (r : Receive) (a : PassResult) (x k hops s : ℕ) (b' : List ℕ) → answer_on_bytes x hops k s b' ≡ answer_of_pass b c n h r a → s ≡ scouts a
 unfolding answer_of_pass scouts_of scouts
 answer_scouts b c n h r (none d) x k hops s b' e = ap scouts_of e
 answer_scouts b c n h (lowest_available j) (found w d) x k hops s b' e = ap scouts_of e
 answer_scouts b c n h none_available (found w d) x k hops s b' e = ap scouts_of e
 
 -- no port left
-pub ports_over : (free : ℕ → Bool) (on : ℕ → ℕ → PassResult) (b : List ℕ) (c n h : ℕ) (r : Receive) (s : ℕ) → pass_answer 10 0 0 s b ≡ answer_of_pass b c n h r (trying free on [] s)
+pub ports_over : (free : ℕ → Bool) (on : ℕ → ℕ → PassResult) (b : List ℕ) (c n h : ℕ) (r : Receive) (s : ℕ) → answer_on_bytes 10 0 0 s b ≡ answer_of_pass b c n h r (trying free on [] s)
 unfolding trying answer_of_pass
 ports_over free on b c n h r s = refl
 

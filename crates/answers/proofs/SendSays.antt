@@ -19,7 +19,7 @@ use Rattle.table.specs.View.{View, view, receive, available, net, shape_of}
 use Rattle.table.proofs.Receives.{chosen, none_chosen}
 use Rattle.paths.proofs.Words.{free_link}
 use Rattle.paths.proofs.Waiting.{waiting_exactly, blocked_exactly, found_waits}
-use Rattle.answers.specs.SendOnTable.{state_in, free_in, pass_answer, waiting_helps, answer_of_outcome, send_in}
+use Rattle.answers.specs.SendOnTable.{state_in, free_in, answer_on_bytes, waiting_helps, answer_of_outcome, send_in}
 use Rattle.answers.specs.SendAnswer.{bytes_after_send, send_answer, sent_on_bytes, MaySend}
 use Rattle.answers.specs.SendSays.{SomeRoute, CouldRoute, BlockedRoutes, Available, Lowest, SendSays}
 use Rattle.answers.proofs.SendAnswer.{sent_leaves, sent_bytes, sent_numbers, sent_scouts}
@@ -42,14 +42,14 @@ not_zero false e z = omega (arith, e, z)
 
 module _ (b : List ℕ) (c s t : ℕ) (helps : Bool) where
   acknowledged_number : (o : Outcome) (m x h k n : ℕ) (b' : List ℕ)
-      → pass_answer x h k n b' ≡ send_answer helps b c s t (record { outcome = o; scouts = m }) → Acknowledged o → x ≡ 0
+      → answer_on_bytes x h k n b' ≡ send_answer helps b c s t (record { outcome = o; scouts = m }) → Acknowledged o → x ≡ 0
   unfolding send_answer bytes_after_send answer_of_outcome Acknowledged
   acknowledged_number route_rejected m x h k n b' q z = elim z [ ]
   acknowledged_number receive_rejected m x h k n b' q z = elim z [ ]
   acknowledged_number (acknowledged w j) m x h k n b' q z = cc
 
   number_acknowledged : (o : Outcome) (m x h k n : ℕ) (b' : List ℕ)
-      → pass_answer x h k n b' ≡ send_answer helps b c s t (record { outcome = o; scouts = m }) → x ≡ 0 → (w : Path) × (o ≡ acknowledged w k)
+      → answer_on_bytes x h k n b' ≡ send_answer helps b c s t (record { outcome = o; scouts = m }) → x ≡ 0 → (w : Path) × (o ≡ acknowledged w k)
   unfolding send_answer bytes_after_send answer_of_outcome
   number_acknowledged (acknowledged w j) m x h k n b' q z = let y : j ≡ k = cc in (w, ap (acknowledged w) y)
   number_acknowledged route_rejected m x h k n b' q z = let y : x ≡ cond helps 10 22 = cc in absurd (not_zero helps y z)
@@ -80,7 +80,7 @@ module _ (b : List ℕ) (c s t : ℕ) (tried : List Attempt) (helps : Bool) (cou
   )
 
   rejections : (o : Outcome) (m x h k n : ℕ) (b' : List ℕ) → (o ≢ route_rejected → helps ≡ true)
-      → pass_answer x h k n b' ≡ send_answer helps b c s t (record { outcome = o; scouts = m }) → Said o m → Rejections x
+      → answer_on_bytes x h k n b' ≡ send_answer helps b c s t (record { outcome = o; scouts = m }) → Said o m → Rejections x
   unfolding send_answer bytes_after_send answer_of_outcome
   rejections (acknowledged w j) m x h k n b' found q said =
       let y : x ≡ 0 = cc in
@@ -124,7 +124,7 @@ module _ (b : List ℕ) (s t type vector : ℕ) (fits : (shape_of (view b)).dime
 
 -- The users' second demand: of any answer that the contract of `send::send` allows.
 pub demand_2 : (b : List ℕ) (s t c type vector : ℕ) → MaySend b s t c vector → (x h k n : ℕ) (b' : List ℕ)
-    → pass_answer x h k n b' ≡ sent_on_bytes b s t c type vector → SendSays b s t c type vector x h k n b'
+    → answer_on_bytes x h k n b' ≡ sent_on_bytes b s t c type vector → SendSays b s t c type vector x h k n b'
 unfolding sent_on_bytes
 demand_2 b s t c type vector may x h k n b' q =
     record {

@@ -4,7 +4,6 @@ use Rattle.std.specs.Prelude.{ℕ, List, [], ◌∷◌, Result, Ok, Err}
 use Rattle.common.specs.Refusals.{number_of}
 use Rattle.answers.specs.declared.Acknowledged.{Acknowledged}
 use Rattle.answers.specs.declared.Rejected.{Rejected}
-use Rattle.answers.specs.SendOnTable.{PassAnswer, pass_answer}
 
 -- "Success is 0", and a refusal its number
 abbrev pub opened_number : Result Acknowledged Rejected → ℕ
@@ -15,8 +14,3 @@ opened_number (Err r) = number_of r.refusal
 abbrev pub opened_values : Result Acknowledged Rejected → List ℕ
 opened_values (Ok a) = a.hops ∷ a.receive ∷ a.scouts ∷ []
 opened_values (Err r) = 0 ∷ 0 ∷ r.scouts ∷ []
-
--- the same as a send's answer, with the bytes after it
-abbrev pub opened_answer : Result Acknowledged Rejected → List ℕ → PassAnswer
-opened_answer (Ok a) b = pass_answer 0 a.hops a.receive a.scouts b
-opened_answer (Err r) b = pass_answer (number_of r.refusal) 0 0 r.scouts b

@@ -7,7 +7,7 @@ use Rattle.paths.specs.Send.{Outcome, acknowledged, route_rejected, receive_reje
 use Rattle.layout.specs.Layout.{table_length, dimension_at}
 use Rattle.entries.specs.EntryContracts.{put_receiver}
 use Rattle.table.specs.View.{view}
-use Rattle.answers.specs.SendOnTable.{waiting_helps, send_in, PassAnswer, answer_of_outcome}
+use Rattle.answers.specs.SendOnTable.{waiting_helps, send_in, AnswerOnBytes, answer_of_outcome}
 use Rattle.answers.specs.PassOnBytes.{hold_path}
 
 -- the entries of an acknowledged send, written one after another: the circuit is c, its source s, its target t
@@ -16,14 +16,14 @@ bytes_after_send b c s t (acknowledged w k) = put_receiver (hold_path b c s w) t
 bytes_after_send b c s t route_rejected = b
 bytes_after_send b c s t receive_rejected = b
 
-unfoldable pub send_answer : (helps : Bool) → List ℕ → ℕ → ℕ → ℕ → SendResult → PassAnswer
+unfoldable pub send_answer : (helps : Bool) → List ℕ → ℕ → ℕ → ℕ → SendResult → AnswerOnBytes
 send_answer helps b c s t x = answer_of_outcome helps x.outcome x.scouts (bytes_after_send b c s t x.outcome)
 
 -- What it answers on the bytes of a table, and the bytes afterwards; and what the search alone answers, before it is asked whether waiting helps
-unfoldable pub sent_on_bytes : List ℕ → ℕ → ℕ → ℕ → ℕ → ℕ → PassAnswer
+unfoldable pub sent_on_bytes : List ℕ → ℕ → ℕ → ℕ → ℕ → ℕ → AnswerOnBytes
 sent_on_bytes b s t c type vector = send_answer (waiting_helps (view b) s t type vector) b c s t (send_in (view b) s t type vector)
 
-unfoldable pub searched : List ℕ → ℕ → ℕ → ℕ → ℕ → ℕ → PassAnswer
+unfoldable pub searched : List ℕ → ℕ → ℕ → ℕ → ℕ → ℕ → AnswerOnBytes
 searched b s t c type vector = send_answer true b c s t (send_in (view b) s t type vector)
 
 -- what a send asks: a table of a cube up to dimension 8, a source and a target of it, a vector of its ports, a circuit

@@ -3,27 +3,19 @@
 -- Assumes nothing.
 use Rattle.std.specs.Prelude.{Bool, cond, List, [], ◌∷◌, ℕ, length}
 use Rattle.cube.specs.Cube.{next}
-use Rattle.paths.specs.Network.{Path, LinkState, link_free, link_held, link_blocked, is_free, link_state}
-use Rattle.answers.specs.declared.LinkState as State
-use Rattle.answers.specs.declared.LinkState.TheVariants.{Free, Held, Blocked}
+use Rattle.paths.specs.Network.{Path, LinkState, is_free, link_state}
 use Rattle.paths.specs.Send.{Outcome, acknowledged, route_rejected, receive_rejected, SendResult}
 use Rattle.paths.specs.Waiting.{some_attempt}
 use Rattle.paths.specs.CubeNetwork.{attempts, send}
 use Rattle.table.specs.View.{View, held_in, set_owner, set_receiver, receive, net, shape_of}
 
--- what a table shows of a link: free, held or blocked
+-- what a table shows of a link. Document 02, (c): "The smallest question, whether one link is free, shall answer one of three: free, held or blocked."
 unfoldable pub state_in : View → ℕ → ℕ → LinkState
 state_in v n p = link_state (v.enabled n p) (held_in v n p)
 
 -- "A link is free if enabled and held by nobody."
 unfoldable pub free_in : View → ℕ → ℕ → Bool
 free_in v n p = is_free (state_in v n p)
-
--- document 02, (c): "The smallest question, whether one link is free, shall answer one of three: free, held or blocked." Its three answers in the code:
-abbrev pub state_of : State.LinkState → LinkState
-state_of Free = link_free
-state_of Held = link_held
-state_of Blocked = link_blocked
 
 -- the send of a routing type from s to t over the ports of a vector, read on what a table shows
 abbrev pub send_in : View → ℕ → ℕ → ℕ → ℕ → SendResult
@@ -46,12 +38,12 @@ unfoldable pub waiting_helps : View → ℕ → ℕ → ℕ → ℕ → Bool
 waiting_helps v s t type vector = some_attempt (net v) v.enabled s t (attempts (shape_of v) type vector)
 
 -- what a send answers: the number, the hops, the receive channel, the scouts, and the bytes afterwards
-pub data PassAnswer : Type 0 where
-  pass_answer : (number hops receive scouts : ℕ) → List ℕ → PassAnswer
+pub data AnswerOnBytes : Type 0 where
+  answer_on_bytes : (number hops receive scouts : ℕ) → List ℕ → AnswerOnBytes
 
 -- the answer of an outcome, with the scouts that were sent and the bytes after it: a route rejection is 10, or "22, beside 10 after the search, carrying ..
 -- the same scouts", where waiting does not help
-unfoldable pub answer_of_outcome : (helps : Bool) → Outcome → ℕ → List ℕ → PassAnswer
-answer_of_outcome helps (acknowledged w k) n b = pass_answer 0 (length w) k n b
-answer_of_outcome helps route_rejected n b = pass_answer (cond helps 10 22) 0 0 n b
-answer_of_outcome helps receive_rejected n b = pass_answer 11 0 0 n b
+unfoldable pub answer_of_outcome : (helps : Bool) → Outcome → ℕ → List ℕ → AnswerOnBytes
+answer_of_outcome helps (acknowledged w k) n b = answer_on_bytes 0 (length w) k n b
+answer_of_outcome helps route_rejected n b = answer_on_bytes (cond helps 10 22) 0 0 n b
+answer_of_outcome helps receive_rejected n b = answer_on_bytes 11 0 0 n b

@@ -9,7 +9,7 @@ use Rattle.paths.specs.Waiting.{EveryPathBlocked, SomePathEnabled}
 use Rattle.paths.specs.CubeNetwork.{attempts}
 use Rattle.table.specs.View.{View, view, receive, available, net, shape_of}
 use Rattle.table.specs.Encode.{encode, AllBytes}
-use Rattle.answers.specs.SendOnTable.{free_in, view_after_send, waiting_helps, pass_answer, answer_of_outcome}
+use Rattle.answers.specs.SendOnTable.{free_in, view_after_send, waiting_helps, answer_on_bytes, answer_of_outcome}
 use Rattle.cube.specs.Cube.{channels}
 
 -- a path from s to t that an attempt tries, free in what a table shows
@@ -44,7 +44,7 @@ pub record SendSays (b : List ℕ) (s t c type vector : ℕ) (number hops receiv
   -- paths the first that is free and the free hops at the front of each path tried
   pub says : AttemptsSay (net (view b)) s t (free_in (view b)) (receive (view b) t) (attempts (shape_of (view b)) type vector) outcome scouts
   -- the number, the hops and the receive channel are those of that outcome
-  pub answer : pass_answer number hops receives scouts after ≡ answer_of_outcome (waiting_helps (view b) s t type vector) outcome scouts after
+  pub answer : answer_on_bytes number hops receives scouts after ≡ answer_of_outcome (waiting_helps (view b) s t type vector) outcome scouts after
   -- what the table shows afterwards is what that outcome makes of it: an acknowledged path's links and its receive channel are held, nothing else changes; and,
   -- where each number of the list is a byte, as in every lent table, its bytes are those that show it
   pub shows : view after ≡ view_after_send (view b) c s t outcome

@@ -5,7 +5,8 @@ ghost use Rattle.std.specs.Prelude.{◌≡◌, ◌<◌};
 ghost use Rattle.cube.specs.Cube.{channels, circuit_of};
 ghost use Rattle.entries.specs.EntryContracts.{Within};
 ghost use Rattle.table.specs.View.{view};
-ghost use Rattle.answers.specs.SendOnTable.{state_in, state_of};
+ghost use Rattle.answers.specs.SendOnTable.{state_in};
+ghost use Rattle.answers.specs.PassOnBytes.{state_of};
 
 use common::refusal::Refusal;
 use cube::{Circuit, Node, Port};

@@ -14,7 +14,7 @@ use Rattle.common.specs.Tests.{refusal}
 use Rattle.common.proofs.Lists.{keep_none}
 use Rattle.common.proofs.Tests.{refused, passed, accepted, or_left, or_right, neither, below_or, clash}
 use Rattle.arbiter.specs.Arbiter as A
-use Rattle.arbiter.specs.Arbiter.{Choice, asks, order, chosen, arbiter_tests, arbitrated, choice, last_after}
+use Rattle.arbiter.specs.Arbiter.{Choice, is_asking, order, chosen, arbiter_tests, arbitrated, choice, last_after}
 use Rattle.arbiter.specs.ArbiterContracts.{Requested}
 use Rattle.arbiter.specs.Chosen.{Chosen, CallSays, bad_request, bad_record, nobody_asks, one_served}
 use Rattle.arbiter.proofs.Order.{chosen_says, chosen_is}
@@ -25,21 +25,21 @@ use Rattle.arbiter.proofs.Requests.{asks_zero, asks_high, asks_below, asks_some,
 
 module _ (last requests : ℕ) where
   -- a call is refused where its one test applies, and accepted where it does not
-  stopped : leb (2 ^ 26) requests || ltb 25 last ≡ true → arbitrated last requests ≡ A.refused last 31
+  stopped : leb (2 ^ 26) requests || ltb 25 last ≡ true → arbitrated last requests ≡ A.refused_choice last 31
   unfolding arbitrated
   stopped e = let number : refusal (arbiter_tests last requests) ≡ 31 = unfold arbiter_tests in refused 31 [] e in rw number
 
-  goes_on : leb (2 ^ 26) requests || ltb 25 last ≡ false → arbitrated last requests ≡ A.accepted last (chosen last requests)
+  goes_on : leb (2 ^ 26) requests || ltb 25 last ≡ false → arbitrated last requests ≡ A.accepted_choice last (chosen last requests)
   unfolding arbitrated
   goes_on e = let number : refusal (arbiter_tests last requests) ≡ 0 = unfold arbiter_tests in passed 31 [] e ∙ accepted in rw number
 
-  pub refused_requests : 2 ^ 26 ≤ requests → arbitrated last requests ≡ A.refused last 31
+  pub refused_requests : 2 ^ 26 ≤ requests → arbitrated last requests ≡ A.refused_choice last 31
   refused_requests h = stopped (or_left (ltb 25 last) (le-leb (2 ^ 26) requests h))
 
-  pub refused_record : 25 < last → arbitrated last requests ≡ A.refused last 31
+  pub refused_record : 25 < last → arbitrated last requests ≡ A.refused_choice last 31
   refused_record h = stopped (or_right (leb (2 ^ 26) requests) (lt-ltb 25 last h))
 
-  pub allowed : last < 26 → requests < 2 ^ 26 → arbitrated last requests ≡ A.accepted last (chosen last requests)
+  pub allowed : last < 26 → requests < 2 ^ 26 → arbitrated last requests ≡ A.accepted_choice last (chosen last requests)
   allowed h l = goes_on (rw (lt-leb (2 ^ 26) requests l, le-ltb 25 last (omega arith)))
 
   -- the number is 0 exactly for a stored requester and requests of requesters
@@ -51,30 +51,30 @@ module _ (last requests : ℕ) where
       go false q = let r = neither (leb (2 ^ 26) requests) (ltb 25 last) q in let a = leb-false (2 ^ 26) requests r.0 in let b = ltb-false 25 last r.1 in (omega arith, omega arith)
 
   -- any other number is 31, and the record stays
-  pub refused_else : (arbitrated last requests).number ≢ 0 → arbitrated last requests ≡ A.refused last 31
+  pub refused_else : (arbitrated last requests).number ≢ 0 → arbitrated last requests ≡ A.refused_choice last 31
   refused_else e = go (leb (2 ^ 26) requests || ltb 25 last) refl
     where
-      go : (b : Bool) → leb (2 ^ 26) requests || ltb 25 last ≡ b → arbitrated last requests ≡ A.refused last 31
+      go : (b : Bool) → leb (2 ^ 26) requests || ltb 25 last ≡ b → arbitrated last requests ≡ A.refused_choice last 31
       go true q = stopped q
-      go false q = absurd (e (ap (λ (c : Choice). c.number) (goes_on q) ∙ (unfold A.accepted in refl)))
+      go false q = absurd (e (ap (λ (c : Choice). c.number) (goes_on q) ∙ (unfold A.accepted_choice in refl)))
 
 -- with no request nobody is served
 pub nobody : (last : ℕ) → last < 26 → arbitrated last 0 ≡ record { number = 0; requester = 26; last = last }
 nobody last h =
-    let none : chosen last 0 ≡ 26 = unfold chosen in ap (λ xs. get_or xs 0 26) (keep_none (asks 0) (order last) (λ y m. asks_zero y)) in
-    allowed last 0 h (omega arith) ∙ rw none (unfold A.accepted in refl)
+    let none : chosen last 0 ≡ 26 = unfold chosen in ap (λ xs. get_or xs 0 26) (keep_none (is_asking 0) (order last) (λ y m. asks_zero y)) in
+    allowed last 0 h (omega arith) ∙ rw none (unfold A.accepted_choice in refl)
 
 -- with some, one of them is
 pub served : (last requests : ℕ) → Requested last requests → Chosen last requests (chosen last requests)
 served last requests h =
-    let on : asks requests (count_trailing_zeros 26 requests) ≡ true = unfold asks in lowest_set 26 requests (λ e. omega (arith, h.some)) h.inside in
+    let on : is_asking requests (count_trailing_zeros 26 requests) ≡ true = unfold is_asking in lowest_set 26 requests (λ e. omega (arith, h.some)) h.inside in
     chosen_says last h.stored requests (count_trailing_zeros 26 requests) (asks_below 26 requests _ h.inside on) on
 
 -- the record is then the requester
 pub recorded : (last requests : ℕ) → Requested last requests → arbitrated last requests ≡ record { number = 0; requester = chosen last requests; last = chosen last requests }
 recorded last requests h =
     let below = (served last requests h).requester in
-    allowed last requests h.stored h.inside ∙ (unfold A.accepted in rw (ne_eqb (chosen last requests) 26 (λ e. omega arith)))
+    allowed last requests h.stored h.inside ∙ (unfold A.accepted_choice in rw (ne_eqb (chosen last requests) 26 (λ e. omega arith)))
 
 -- what the code answers: the first bit after the record, if there is one
 pub answered : (last requests : ℕ) → last < 26 → requests < 2 ^ 26 → (first : Option ℕ) → MatchOption first (requests ≡ 0) (FirstAfter requests last)

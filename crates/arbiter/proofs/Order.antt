@@ -13,7 +13,7 @@ use Rattle.common.specs.Lists.{◌∈◌, keep, from, Pairwise}
 use Rattle.common.proofs.Lists.{keep_yes, keep_no, pairwise_append, pairwise_imp}
 use Rattle.common.proofs.From.{from_mem, mem_from, from_pairwise}
 use Rattle.common.proofs.Tests.{below_or, clash}
-use Rattle.arbiter.specs.Arbiter.{asks, order, chosen}
+use Rattle.arbiter.specs.Arbiter.{is_asking, order, chosen}
 use Rattle.arbiter.specs.Chosen.{steps, Chosen}
 
 -- the places after a record, above it and up to it
@@ -99,15 +99,15 @@ module _ (last : ℕ) (stored : last < 26) where
 
   module _ (requests : ℕ) where
     -- where somebody asks, the choice is as the plain words say
-    pub chosen_says : (r : ℕ) → r < 26 → asks requests r ≡ true → Chosen last requests (chosen last requests)
+    pub chosen_says : (r : ℕ) → r < 26 → is_asking requests r ≡ true → Chosen last requests (chosen last requests)
     unfolding chosen
     chosen_says r h e =
-        let f = first_says (steps last) (asks requests) 26 (order last) r order_pairwise (order_mem r h) e in
+        let f = first_says (steps last) (is_asking requests) 26 (order last) r order_pairwise (order_mem r h) e in
         record { requester = order_below _ f.member; requested = f.passes; nearest = λ j l t. f.least j (order_mem j l) t }
 
     -- and nobody else is as they say
     pub chosen_is : (r : ℕ) → Chosen last requests r → chosen last requests ≡ r
     unfolding chosen
     chosen_is r c =
-        first_is (steps last) (asks requests) 26 (order last) r order_pairwise
+        first_is (steps last) (is_asking requests) 26 (order last) r order_pairwise
         (record { member = order_mem r c.requester; passes = c.requested; least = λ j m t. c.nearest j (order_below j m) t })

@@ -11,24 +11,24 @@ use lib.Count.{count_trailing_zeros}
 use Rattle.common.specs.FirstAfter.{FirstAfter, above, round}
 use Rattle.common.proofs.Tests.{below_or, clash}
 use Rattle.common.proofs.LowestBit.{bit_after, no_bit_at, lowest_set}
-use Rattle.arbiter.specs.Arbiter.{asks}
+use Rattle.arbiter.specs.Arbiter.{is_asking}
 use Rattle.arbiter.specs.Chosen.{Chosen}
 use Rattle.arbiter.proofs.Order.{steps_above, steps_round}
 
 -- nobody at k or above asks in a number below 2 ^ k, so nobody in 0
-pub asks_high : (k q j : ℕ) → q < 2 ^ k → k ≤ j → asks q j ≡ false
-unfolding asks
+pub asks_high : (k q j : ℕ) → q < 2 ^ k → k ≤ j → is_asking q j ≡ false
+unfolding is_asking
 asks_high = no_bit_at
 
-pub asks_zero : (j : ℕ) → asks 0 j ≡ false
+pub asks_zero : (j : ℕ) → is_asking 0 j ≡ false
 asks_zero j = asks_high 0 0 j (omega arith) (omega arith)
 
 -- where somebody asks the number is not 0
-pub asks_some : (q r : ℕ) → asks q r ≡ true → 0 < q
+pub asks_some : (q r : ℕ) → is_asking q r ≡ true → 0 < q
 asks_some q r e = ⊎_elim (λ l. l) (λ l. absurd (let z : q ≡ 0 = omega arith in clash (rw z at e) (asks_zero r))) (below_or q 0)
 
 -- whoever asks in a number below 2 ^ k is below k
-pub asks_below : (k q j : ℕ) → q < 2 ^ k → asks q j ≡ true → j < k
+pub asks_below : (k q j : ℕ) → q < 2 ^ k → is_asking q j ≡ true → j < k
 asks_below k q j h e = ⊎_elim (λ l. l) (λ l. absurd (clash e (asks_high k q j h l))) (below_or k j)
 
 -- a number of 2 ^ k or more has a request at k or above
@@ -36,21 +36,21 @@ power_above : (n : ℕ) → n < 2 ^ n
 power_above zero = omega arith
 power_above (suc n) = omega (arith, power_above n, pow-succ' 2 n)
 
-pub high_asks : (k q : ℕ) → 2 ^ k ≤ q → (r : ℕ) × (k ≤ r) × (asks q r ≡ true)
+pub high_asks : (k q : ℕ) → 2 ^ k ≤ q → (r : ℕ) × (k ≤ r) × (is_asking q r ≡ true)
 high_asks k q h =
     let t : ℕ = count_trailing_zeros (q / 2 ^ k) (q / 2 ^ k) in
     let some : 1 ≤ q / 2 ^ k = (le-div_iff_mul-le (pow_pos k)).1 (omega arith) in
-    (k + t, omega arith, unfold asks in sym (bit_after q k t) ∙ lowest_set (q / 2 ^ k) (q / 2 ^ k) (λ e. omega arith) (power_above (q / 2 ^ k)))
+    (k + t, omega arith, unfold is_asking in sym (bit_after q k t) ∙ lowest_set (q / 2 ^ k) (q / 2 ^ k) (λ e. omega arith) (power_above (q / 2 ^ k)))
 
 -- a number with no request is 0
-pub none_asks : (q : ℕ) → ((r : ℕ) → asks q r ≡ false) → q ≡ 0
-unfolding asks
+pub none_asks : (q : ℕ) → ((r : ℕ) → is_asking q r ≡ false) → q ≡ 0
+unfolding is_asking
 none_asks q h = ⊎_elim (λ l. absurd (let a = lowest_set q q (λ e. omega arith) (power_above q) in clash a (h (count_trailing_zeros q q)))) (λ l. omega arith) (below_or q 0)
 
 -- The first bit after the record is the choice in plain words.
 module _ (last q : ℕ) (stored : last < 26) (inside : q < 2 ^ 26) where
   pub found : {r : ℕ} → FirstAfter q last r → Chosen last q r
-  unfolding asks
+  unfolding is_asking
   found {r} (above on past least) = record {
     requester = asks_below 26 q r inside on;
     requested = on;

@@ -16,10 +16,10 @@ use Rattle.common.specs.Tests.{refusal}
 use Rattle.common.proofs.Every.{at}
 use Rattle.common.proofs.Lists.{keep_yes, keep_no}
 use Rattle.common.proofs.Tests.{both, neither, clash, same?, below_or}
-use Rattle.arbiter.specs.Arbiter.{Choice, asks, order, chosen, arbiter_tests, accepted, arbitrated}
+use Rattle.arbiter.specs.Arbiter.{Choice, is_asking, order, chosen, arbiter_tests, accepted_choice, arbitrated}
 use Rattle.arbiter.specs.ArbiterContracts.{Requested}
 use Rattle.arbiter.specs.Chosen.{steps}
-use Rattle.arbiter.specs.Calls.{Call, call_made, calls, accepted_calls, served_by, KeepsAsking, ServedWithin, ServedLast, limit}
+use Rattle.arbiter.specs.Calls.{ArbiterCall, call_made, calls, accepted_calls, served_by, KeepsAsking, ServedWithin, ServedLast, limit}
 use Rattle.arbiter.proofs.Order.{steps_above, steps_round}
 use Rattle.arbiter.proofs.Requests.{asks_below, asks_some}
 use Rattle.arbiter.proofs.Answers.{accepted_for, refused_else, served, recorded}
@@ -52,12 +52,12 @@ no_calls : (last : ℕ) → accepted_calls last [] ≡ []
 unfolding keep accepted_calls calls
 no_calls last = refl
 
-not_none : (n : ℕ) → 0 < n → length (take {A = Call} n []) ≡ n → ⊥
+not_none : (n : ℕ) → 0 < n → length (take {A = ArbiterCall} n []) ≡ n → ⊥
 not_none zero some e = omega arith
 not_none (suc n) some e = omega arith
 
 -- Of n calls that a requester asks in, it asks in the first and in the others.
-asks_first : {m r : ℕ} {c : Call} {cs : List Call} → KeepsAsking (suc m) r (c ∷ cs) → (asks c.requests r ≡ true) × KeepsAsking m r cs
+asks_first : {m r : ℕ} {c : ArbiterCall} {cs : List ArbiterCall} → KeepsAsking (suc m) r (c ∷ cs) → (is_asking c.requests r ≡ true) × KeepsAsking m r cs
 asks_first k = (k.asking _ (Memᴰ.head refl), record { count = (let e = k.count in omega arith); asking = λ c i. k.asking c (Memᴰ.tail i) })
 
 -- A requester that asks in n accepted calls, and comes at most n places after the record, is served by one of them.
@@ -92,7 +92,7 @@ one_more q more ih (suc m) r last some near k = go (same? (arbitrated last q).nu
     go (inr e) = rw (left_out last q more e) (ih (suc m) r last some near (rw (left_out last q more e) at k))
 
 waiting : (list : List ℕ) → Waits list
-waiting [] = λ n r last some near k. absurd (let z : length (take {A = Call} n []) ≡ n = rw (no_calls last) at k.count in not_none n some z)
+waiting [] = λ n r last some near k. absurd (let z : length (take {A = ArbiterCall} n []) ≡ n = rw (no_calls last) at k.count in not_none n some z)
 waiting (q ∷ more) = one_more q more (waiting more)
 
 -- "A requester that keeps asking is served within 26 accepted calls, however others ask"
@@ -113,7 +113,7 @@ everybody = replicate limit (2 ^ 26 - 1)
 last_served : ℕ → Bool
 last_served r =
     eqb (length (take limit (accepted_calls r everybody))) limit
-    && (not (any (λ c. not (asks c.requests r)) (take limit (accepted_calls r everybody))) && not (any (λ c. eqb (served_by c) r) (take (limit - 1) (accepted_calls r everybody))))
+    && (not (any (λ c. not (is_asking c.requests r)) (take limit (accepted_calls r everybody))) && not (any (λ c. eqb (served_by c) r) (take (limit - 1) (accepted_calls r everybody))))
 
 last_of_all : every 26 last_served ≡ true → (r : ℕ) → r < 26 → ServedLast limit r
 unfolding last_served
@@ -123,11 +123,11 @@ last_of_all all r h =
     record {
       last = r;
       list = everybody;
-      asked = record { count = eqb-true _ _ t.0; asking = λ c m. not-false _ (none_of (λ c. not (asks c.requests r)) _ (not-true _ s.0) c m) };
+      asked = record { count = eqb-true _ _ t.0; asking = λ c m. not-false _ (none_of (λ c. not (is_asking c.requests r)) _ (not-true _ s.0) c m) };
       not_before = λ m. let o = Memᴰ.of_map served_by (take (limit - 1) (accepted_calls r everybody)) m in clash (eq-eqb _ _ o.2) (none_of (λ c. eqb (served_by c) r) _ (not-true _ s.1) o.0 o.1);
     }
 
 -- the test computes to true for each of the 26
 pub limit_reached : (r : ℕ) → r < 26 → ServedLast limit r
-unfolding keep from any refusal asks order chosen arbiter_tests accepted arbitrated calls accepted_calls everybody last_served
+unfolding keep from any refusal is_asking order chosen arbiter_tests accepted_choice arbitrated calls accepted_calls everybody last_served
 limit_reached = last_of_all refl

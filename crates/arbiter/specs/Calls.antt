@@ -2,33 +2,33 @@
 -- Assumes nothing.
 use Rattle.std.specs.Prelude.{◌≡◌, true, List, [], ◌∷◌, map, ℕ, ◌-◌, eqb, length, take}
 use Rattle.common.specs.Lists.{◌∈◌, keep}
-use Rattle.arbiter.specs.Arbiter.{Choice, asks, arbitrated}
+use Rattle.arbiter.specs.Arbiter.{Choice, is_asking, arbitrated}
 
 -- a call that was made: its requests, and what it gave
-pub record Call : Type 0 where
+pub record ArbiterCall : Type 0 where
   pub requests : ℕ
   pub gave : Choice
 
-abbrev pub call_made : ℕ → ℕ → Call
+abbrev pub call_made : ℕ → ℕ → ArbiterCall
 call_made last requests = record { requests = requests; gave = arbitrated last requests }
 
 -- the calls of a list, from a record on: the record after each is the record before the next
-unfoldable pub calls : ℕ → List ℕ → List Call
+unfoldable pub calls : ℕ → List ℕ → List ArbiterCall
 calls last [] = []
 calls last (requests ∷ more) = call_made last requests ∷ calls (arbitrated last requests).last more
 
 -- those of them that were accepted, in their order: refused ones may stand anywhere between
-unfoldable pub accepted_calls : ℕ → List ℕ → List Call
+unfoldable pub accepted_calls : ℕ → List ℕ → List ArbiterCall
 accepted_calls last list = keep (λ c. eqb c.gave.number 0) (calls last list)
 
 -- whom a call served, 26 for nobody
-abbrev pub served_by : Call → ℕ
+abbrev pub served_by : ArbiterCall → ℕ
 served_by c = c.gave.requester
 
 -- In n calls that were accepted r asks, each time.
-pub record KeepsAsking (n r : ℕ) (cs : List Call) : Type 0 where
+pub record KeepsAsking (n r : ℕ) (cs : List ArbiterCall) : Type 0 where
   pub count : length cs ≡ n
-  pub asking : (c : Call) → c ∈ cs → asks c.requests r ≡ true
+  pub asking : (c : ArbiterCall) → c ∈ cs → is_asking c.requests r ≡ true
 
 -- "A requester that keeps asking is served within 26 accepted calls, however others ask", with n for 26: from any record and in any list of calls, where r asks
 -- in each of the first n that are accepted, one of these serves r

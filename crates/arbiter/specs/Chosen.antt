@@ -1,7 +1,7 @@
 -- A call a second time, in plain words and with no list: who is chosen asks, and nobody who asks comes sooner after the record.
 -- Assumes nothing.
 use Rattle.std.specs.Prelude.{◌≡◌, cond, true, false, ℕ, ◌+◌, ◌-◌, ◌≤◌, ◌<◌, ltb}
-use Rattle.arbiter.specs.Arbiter.{Choice, asks}
+use Rattle.arbiter.specs.Arbiter.{Choice, is_asking}
 
 -- how many places after the record a requester comes, round the 26: 1 for the next one, 26 for the record itself
 unfoldable pub steps : ℕ → ℕ → ℕ
@@ -9,16 +9,16 @@ steps last r = cond (ltb last r) (r - last) (r + 26 - last)
 
 pub record Chosen (last requests r : ℕ) : Type 0 where
   pub requester : r < 26
-  pub requested : asks requests r ≡ true
-  pub nearest : (j : ℕ) → j < 26 → asks requests j ≡ true → steps last r ≤ steps last j
+  pub requested : is_asking requests r ≡ true
+  pub nearest : (j : ℕ) → j < 26 → is_asking requests j ≡ true → steps last r ≤ steps last j
 
 -- what a call gives, case by case: its number, the requester, and the record after it
 pub data CallSays (last requests : ℕ) : Choice → Type 0 where
   -- "A request bit at 26 or above"
-  bad_request : (r : ℕ) → 26 ≤ r → asks requests r ≡ true → CallSays last requests (record { number = 31; requester = 0; last = last })
+  bad_request : (r : ℕ) → 26 ≤ r → is_asking requests r ≡ true → CallSays last requests (record { number = 31; requester = 0; last = last })
   -- "a stored record above 25"
   bad_record : 25 < last → CallSays last requests (record { number = 31; requester = 0; last = last })
   -- "with no request nobody is served, the answer is 0 and 26, and the record is unchanged"
-  nobody_asks : last ≤ 25 → ((r : ℕ) → asks requests r ≡ false) → CallSays last requests (record { number = 0; requester = 26; last = last })
+  nobody_asks : last ≤ 25 → ((r : ℕ) → is_asking requests r ≡ false) → CallSays last requests (record { number = 0; requester = 26; last = last })
   -- "A choice answers 0 and the requester", who is then "the last requester served"
-  one_served : (r : ℕ) → last ≤ 25 → ((j : ℕ) → 26 ≤ j → asks requests j ≡ false) → Chosen last requests r → CallSays last requests (record { number = 0; requester = r; last = r })
+  one_served : (r : ℕ) → last ≤ 25 → ((j : ℕ) → 26 ≤ j → is_asking requests j ≡ false) → Chosen last requests r → CallSays last requests (record { number = 0; requester = r; last = r })

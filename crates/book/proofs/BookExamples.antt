@@ -5,7 +5,7 @@ use Rattle.common.specs.Lists.{any}
 use Rattle.common.specs.Tests.{refusal}
 use Rattle.circuit_path.specs.Traced.{traced_into}
 use Rattle.book.specs.Book.{BookCircuit, port_bytes, word_bytes, index_from, index_bytes}
-use Rattle.book.specs.Lookup.{lines, line_fits, lines_fit, well_formed, is_listed, line_of, lookup_tests, LookupResult, looked_up}
+use Rattle.book.specs.Lookup.{index_lines, line_fits, lines_fit, well_formed, is_listed, listed_line, lookup_tests, LookupResult, looked_up}
 
 -- circuit 1 over ports 0 and 1, and circuit 300 over port 2
 abbrev two_circuits : List BookCircuit
@@ -55,7 +55,7 @@ books =
     ∷ []
 
 well_formed_books : books ≡ (true ∷ true ∷ true ∷ false ∷ false ∷ false ∷ false ∷ false ∷ false ∷ false ∷ false ∷ false ∷ false ∷ false ∷ true ∷ false ∷ true ∷ false ∷ [])
-unfolding well_formed lines line_fits lines_fit
+unfolding well_formed index_lines line_fits lines_fit
 well_formed_books = refl
 
 -- a lookup of a circuit, with a buffer of so many bytes, each 7
@@ -68,5 +68,5 @@ lookups = look 1 10 ∷ look 9 9 ∷ look 2 9 ∷ look 2 8 ∷ look 1 8 ∷ look
 found_ports : lookups
     ≡ (record { number = 0; hops = 2; buffer = 0 ∷ 1 ∷ replicate 8 7 } ∷ record { number = 0; hops = 1; buffer = 2 ∷ replicate 8 7 } ∷ record { number = 12; hops = 0; buffer = replicate 9 7 }
     ∷ record { number = 12; hops = 0; buffer = replicate 8 7 } ∷ record { number = 14; hops = 0; buffer = replicate 8 7 } ∷ record { number = 25; hops = 0; buffer = [] } ∷ [])
-unfolding looked_up lookup_tests refusal well_formed lines line_fits lines_fit is_listed any line_of traced_into
+unfolding looked_up lookup_tests refusal well_formed index_lines line_fits lines_fit is_listed any listed_line traced_into
 found_ports = refl

@@ -18,7 +18,7 @@ use Rattle.std.specs.Prelude.{option_map}
 use Rattle.std.specs.List.{find}
 use Rattle.book.specs.declared.BookLine.{BookLine}
 use Rattle.book.specs.BookContracts.{lines_in, line_is, line_if}
-use Rattle.book.specs.Lookup.{IndexLine, first_line, lines, line_fits, lines_fit, is_listed, line_of, well_formed}
+use Rattle.book.specs.Lookup.{IndexLine, first_line, index_lines, line_fits, lines_fit, is_listed, listed_line, well_formed}
 
 module _ (above at : ℕ) (x : IndexLine) where
   -- what it says that a line fits
@@ -57,28 +57,28 @@ line_taken n b h =
     ) refl
 
 -- n lines are those of their bytes
-pub lines_taken : (n : ℕ) (b : List ℕ) → lines n (take (6 * n) b) ≡ lines n b
-unfolding lines
+pub lines_taken : (n : ℕ) (b : List ℕ) → index_lines n (take (6 * n) b) ≡ index_lines n b
+unfolding index_lines
 lines_taken zero b = refl
 lines_taken (suc n) b =
     let e : 6 * suc n ≡ 6 + 6 * n = omega arith in
     rw (e, line_taken (6 + 6 * n) b (omega arith), drop-take 6 (6 * n) b, lines_taken n (drop 6 b)) refl
 
 -- the lines of as many bytes as there are
-pub lines_cut : (n : ℕ) (b : List ℕ) → 6 * n ≤ length b → lines_in (take (6 * n) b) ≡ lines n b
+pub lines_cut : (n : ℕ) (b : List ℕ) → 6 * n ≤ length b → lines_in (take (6 * n) b) ≡ index_lines n b
 unfolding lines_in
 lines_cut n b h =
-    ap (λ (m : ℕ). lines (m / 6) (take (6 * n) b)) (length-take-le (6 * n) b h) ∙ ap (λ (m : ℕ). lines m (take (6 * n) b)) (mul-div_cancel_left n (omega arith)) ∙ lines_taken n b
+    ap (λ (m : ℕ). index_lines (m / 6) (take (6 * n) b)) (length-take-le (6 * n) b h) ∙ ap (λ (m : ℕ). index_lines m (take (6 * n) b)) (mul-div_cancel_left n (omega arith)) ∙ lines_taken n b
 
 pub lines_end : (b : List ℕ) → length b < 6 → lines_in b ≡ []
-unfolding lines_in lines
-lines_end b h = ap (λ (m : ℕ). lines m b) (div-eq_of_lt h)
+unfolding lines_in index_lines
+lines_end b h = ap (λ (m : ℕ). index_lines m b) (div-eq_of_lt h)
 
 pub lines_next : (b : List ℕ) → 6 ≤ length b → lines_in b ≡ first_line (take 6 b) ∷ lines_in (drop 6 b)
-unfolding lines_in lines
+unfolding lines_in index_lines
 lines_next b h =
     let e : length b / 6 ≡ suc (length (drop 6 b) / 6) = div-eq-sub-div (omega arith) h ∙ add-one _ ∙ ap (λ (m : ℕ). suc (m / 6)) (sym (length-drop 6 b)) in
-    ap (λ (m : ℕ). lines m b) e ∙ ap (λ (x : IndexLine). x ∷ lines_in (drop 6 b)) (sym (line_taken 6 b (omega arith)))
+    ap (λ (m : ℕ). index_lines m b) e ∙ ap (λ (x : IndexLine). x ∷ lines_in (drop 6 b)) (sym (line_taken 6 b (omega arith)))
 
 -- The line of a circuit that is listed where all lines fit: it has 1 to 9 hops, and they end before the count.
 pub record LineFound (x : IndexLine) (total : ℕ) : Type 0 where
@@ -91,23 +91,23 @@ unfolding lines_fit
 at_most above at [] total e = let q = eqb-true at total e in omega arith
 at_most above at (x ∷ xs) total e = let r = both (line_fits above at x) _ e in let h = at_most x.number (at + x.hops) xs total r.1 in omega arith
 
-pub line_found : (c above at : ℕ) (xs : List IndexLine) (total : ℕ) → lines_fit above at xs total ≡ true → is_listed c xs ≡ true → LineFound (line_of c xs) total
-unfolding lines_fit is_listed any line_of
+pub line_found : (c above at : ℕ) (xs : List IndexLine) (total : ℕ) → lines_fit above at xs total ≡ true → is_listed c xs ≡ true → LineFound (listed_line c xs) total
+unfolding lines_fit is_listed any listed_line
 line_found c above at [] total e l = absurd (clash l refl)
 line_found c above at (x ∷ xs) total e l =
     let r = both (line_fits above at x) _ e in go (eqb x.number c) refl (line_fits_lem above at x r.0) (at_most x.number (at + x.hops) xs total r.1) (line_found c x.number (at + x.hops) xs total r.1)
   where
-    go : (b : Bool) → eqb x.number c ≡ b → Fits above at x → at + x.hops ≤ total → (is_listed c xs ≡ true → LineFound (line_of c xs) total) → LineFound (cond b x (line_of c xs)) total
+    go : (b : Bool) → eqb x.number c ≡ b → Fits above at x → at + x.hops ≤ total → (is_listed c xs ≡ true → LineFound (listed_line c xs) total) → LineFound (cond b x (listed_line c xs)) total
     go true q f m ih = record { some = f.some; few = f.few; inside = omega (arith, m, f.begins) }
     go false q f m ih = ih (rw q at l)
 
 -- and where it is not listed, its line is zeros
-pub line_none : (c : ℕ) (xs : List IndexLine) → is_listed c xs ≡ false → (line_of c xs).hops ≡ 0
-unfolding is_listed any line_of
+pub line_none : (c : ℕ) (xs : List IndexLine) → is_listed c xs ≡ false → (listed_line c xs).hops ≡ 0
+unfolding is_listed any listed_line
 line_none c [] l = refl
 line_none c (x ∷ xs) l = go (eqb x.number c) refl (line_none c xs)
   where
-    go : (b : Bool) → eqb x.number c ≡ b → (is_listed c xs ≡ false → (line_of c xs).hops ≡ 0) → (cond b x (line_of c xs)).hops ≡ 0
+    go : (b : Bool) → eqb x.number c ≡ b → (is_listed c xs ≡ false → (listed_line c xs).hops ≡ 0) → (cond b x (listed_line c xs)).hops ≡ 0
     go true q ih = absurd (clash (rw q) l)
     go false q ih = ih (rw q at l)
 
@@ -115,10 +115,10 @@ line_none c (x ∷ xs) l = go (eqb x.number c) refl (line_none c xs)
 module _ (c : ℕ) where
   abbrev found : List IndexLine → Option IndexLine → Type 0
   found xs None = is_listed c xs ≡ false
-  found xs (Some x) = (is_listed c xs ≡ true) × (x ≡ line_of c xs)
+  found xs (Some x) = (is_listed c xs ≡ true) × (x ≡ listed_line c xs)
 
   first_found : (xs : List IndexLine) → found xs (find (λ x. eqb x.number c) xs)
-  unfolding is_listed any line_of
+  unfolding is_listed any listed_line
   first_found [] = refl
   first_found (x ∷ xs) = go (eqb x.number c) refl (first_found xs)
     where
@@ -136,12 +136,12 @@ module _ (c : ℕ) where
 
 -- A book whose counts do not fit their buffers is not well formed; where they fit, its lines decide.
 module _ (ports index : List ℕ) (circuits hops : ℕ) where
-  pub lines_decide : 6 * circuits ≤ length index → hops ≤ length ports → well_formed ports index circuits hops ≡ lines_fit 0 0 (lines circuits index) hops
+  pub lines_decide : 6 * circuits ≤ length index → hops ≤ length ports → well_formed ports index circuits hops ≡ lines_fit 0 0 (index_lines circuits index) hops
   unfolding well_formed
   lines_decide h k = rw (le-leb (6 * circuits) (length index) h, le-leb hops (length ports) k)
 
   -- what a well-formed book has
-  pub formed : well_formed ports index circuits hops ≡ true → (6 * circuits ≤ length index) × (hops ≤ length ports) × (lines_fit 0 0 (lines circuits index) hops ≡ true)
+  pub formed : well_formed ports index circuits hops ≡ true → (6 * circuits ≤ length index) × (hops ≤ length ports) × (lines_fit 0 0 (index_lines circuits index) hops ≡ true)
   unfolding well_formed
   formed e =
       let a = both (leb (6 * circuits) (length index)) _ e in

@@ -12,12 +12,12 @@ use borrow.Author.Tests.{lt-ltb, le-ltb}
 use Rattle.common.specs.Tests.{refusal}
 use Rattle.common.proofs.Tests.{is_false}
 use Rattle.circuit_path.specs.Traced.{traced_into}
-use Rattle.book.specs.Lookup.{IndexLine, lines, is_listed, line_of, ports_of_line, well_formed, lookup_tests, LookupResult, looked_up}
+use Rattle.book.specs.Lookup.{IndexLine, index_lines, is_listed, listed_line, ports_of_line, well_formed, lookup_tests, LookupResult, looked_up}
 use Rattle.book.proofs.Lines.{formed, LineFound, line_found, line_none}
 
 module _ (ports index : List ℕ) (circuits hops c : ℕ) (buffer : List ℕ) where
   abbrev the_line : IndexLine
-  the_line = line_of c (lines circuits index)
+  the_line = listed_line c (index_lines circuits index)
 
   abbrev refused_as : ℕ → LookupResult
   refused_as n = record { number = n; hops = 0; buffer = buffer }
@@ -31,14 +31,14 @@ module _ (ports index : List ℕ) (circuits hops c : ℕ) (buffer : List ℕ) wh
 
   module _ (well : well_formed ports index circuits hops ≡ true) where
     -- by whether the circuit is listed
-    pub unlisted_refused : is_listed c (lines circuits index) ≡ false → refused_as 12 ≡ answer
+    pub unlisted_refused : is_listed c (index_lines circuits index) ≡ false → refused_as 12 ≡ answer
     unfolding looked_up lookup_tests refusal
     unlisted_refused e = rw (well, e)
 
     -- a circuit whose line is x
-    module _ (x : IndexLine) (listed : is_listed c (lines circuits index) ≡ true) (is : x ≡ the_line) where
+    module _ (x : IndexLine) (listed : is_listed c (index_lines circuits index) ≡ true) (is : x ≡ the_line) where
       pub its_line : LineFound x hops
-      its_line = rw is (line_found c 0 0 (lines circuits index) hops (formed ports index circuits hops well).2 listed)
+      its_line = rw is (line_found c 0 0 (index_lines circuits index) hops (formed ports index circuits hops well).2 listed)
 
       pub listed_short : length buffer < 9 → refused_as 14 ≡ answer
       unfolding looked_up lookup_tests refusal
@@ -62,15 +62,15 @@ module _ (ports index : List ℕ) (circuits hops c : ℕ) (buffer : List ℕ) wh
     -- the same by the hops of its line: no line of a well-formed book has none
     pub looked_none : the_line.hops ≡ 0 → refused_as 12 ≡ answer
     looked_none z =
-        unlisted_refused (is_false _ (λ l. let f = line_found c 0 0 (lines circuits index) hops (formed ports index circuits hops well).2 l in omega (arith, f.some, z)))
+        unlisted_refused (is_false _ (λ l. let f = line_found c 0 0 (index_lines circuits index) hops (formed ports index circuits hops well).2 l in omega (arith, f.some, z)))
 
     module _ (x : IndexLine) (is : x ≡ the_line) (some : x.hops ≢ 0) where
-      is_in : is_listed c (lines circuits index) ≡ true
-      is_in = go (is_listed c (lines circuits index)) refl
+      is_in : is_listed c (index_lines circuits index) ≡ true
+      is_in = go (is_listed c (index_lines circuits index)) refl
         where
-          go : (b : Bool) → is_listed c (lines circuits index) ≡ b → b ≡ true
+          go : (b : Bool) → is_listed c (index_lines circuits index) ≡ b → b ≡ true
           go true e = refl
-          go false e = absurd (some (ap (λ (y : IndexLine). y.hops) is ∙ line_none c (lines circuits index) e))
+          go false e = absurd (some (ap (λ (y : IndexLine). y.hops) is ∙ line_none c (index_lines circuits index) e))
 
       pub looked_short : length buffer < 9 → refused_as 14 ≡ answer
       looked_short h = listed_short x is_in is h

@@ -11,13 +11,13 @@ use lib.Seq.{get_or-drop}
 use borrow.Author.Tests.{eqb-true, eq-eqb, lt-ltb, le-leb}
 use Rattle.common.proofs.Tests.{both, and}
 use Rattle.layout.specs.Layout.{word_at}
-use Rattle.book.specs.Lookup.{IndexLine, lines, line_fits, lines_fit, well_formed}
-use Rattle.book.specs.WellFormed.{number_at, offset_at, length_at, WellFormed}
+use Rattle.book.specs.Lookup.{IndexLine, index_lines, line_fits, lines_fit, well_formed}
+use Rattle.book.specs.WellFormed.{circuit_number_at, offset_at, length_at, WellFormed}
 use Rattle.book.proofs.Lines.{Fits, line_fits_lem, formed, lines_decide}
 
 -- line i of an index, by its places
 abbrev line_at : List ℕ → ℕ → IndexLine
-line_at b i = record { number = number_at b i; offset = offset_at b i; hops = length_at b i }
+line_at b i = record { number = circuit_number_at b i; offset = offset_at b i; hops = length_at b i }
 
 -- the first n of a sequence of lines
 abbrev first_of : (ℕ → IndexLine) → ℕ → List IndexLine
@@ -32,14 +32,14 @@ next_word b i j e =
 
 next_line : (b : List ℕ) (i : ℕ) → line_at (drop 6 b) i ≡ line_at b (suc i)
 next_line b i =
-    let number : number_at (drop 6 b) i ≡ number_at b (suc i) = next_word b (6 * i) (6 * suc i) (omega arith) in
+    let number : circuit_number_at (drop 6 b) i ≡ circuit_number_at b (suc i) = next_word b (6 * i) (6 * suc i) (omega arith) in
     let offset : offset_at (drop 6 b) i ≡ offset_at b (suc i) = next_word b (6 * i + 2) (6 * suc i + 2) (omega arith) in
     let hops : length_at (drop 6 b) i ≡ length_at b (suc i) = next_word b (6 * i + 4) (6 * suc i + 4) (omega arith) in
     λ k. record { number = number k; offset = offset k; hops = hops k }
 
 -- the lines of an index are those at its places
-lines_at : (n : ℕ) (b : List ℕ) → lines n b ≡ first_of (line_at b) n
-unfolding lines
+lines_at : (n : ℕ) (b : List ℕ) → index_lines n b ≡ first_of (line_at b) n
+unfolding index_lines
 lines_at zero b = refl
 lines_at (suc n) b = ap (line_at b 0 ∷◌) (lines_at n (drop 6 b) ∙ ap (λ (x : ℕ → IndexLine). first_of x n) (fun_ext (next_line b)))
 

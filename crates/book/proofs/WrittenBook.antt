@@ -16,7 +16,7 @@ use Rattle.common.specs.Lists.{◌∈◌, any, Pairwise}
 use Rattle.common.proofs.Tests.{clash, and}
 use Rattle.circuit_path.specs.Traced.{traced_into}
 use Rattle.book.specs.Book.{BookCircuit, port_bytes, word_bytes, index_from, index_bytes, hop_count}
-use Rattle.book.specs.Lookup.{IndexLine, lines, lines_fit, well_formed, is_listed, line_of, ports_of_line, lookup_tests, LookupResult, looked_up}
+use Rattle.book.specs.Lookup.{IndexLine, index_lines, lines_fit, well_formed, is_listed, listed_line, ports_of_line, lookup_tests, LookupResult, looked_up}
 use Rattle.book.proofs.Lines.{lines_decide}
 use Rattle.book.proofs.WellFormedBook.{fits_line}
 
@@ -30,8 +30,8 @@ pub word_back : (n : ℕ) → n % 256 + 256 * (n / 256) ≡ n
 word_back n = omega (arith, div-add-mod n 256)
 
 -- and each line from its six
-pub lines_written : (at : ℕ) (es : List BookCircuit) (rest : List ℕ) → lines (length es) (index_from at es ++ rest) ≡ lines_of at es
-unfolding lines index_from word_bytes lines_of
+pub lines_written : (at : ℕ) (es : List BookCircuit) (rest : List ℕ) → index_lines (length es) (index_from at es ++ rest) ≡ lines_of at es
+unfolding index_lines index_from word_bytes lines_of
 lines_written at [] rest = refl
 lines_written at (x ∷ xs) rest =
     ap₂ (λ (n : ℕ) (ys : List IndexLine). record { number = n; offset = at % 256 + 256 * (at / 256); hops = length x.ports % 256 + 256 * (length x.ports / 256) } ∷ ys)
@@ -94,18 +94,18 @@ module _ (f : ℕ → List ℕ) where
 
   -- and its line gives its ports, whatever stands before and behind the ports of all.
   pub written_line : (c : ℕ) (before rest : List ℕ) (ns : List ℕ) → any (λ m. eqb m c) ns ≡ true
-      → ((line_of c (lines_of (length before) (circuits_of ns))).hops ≡ length (f c))
-      × (ports_of_line (before ++ (port_bytes (circuits_of ns) ++ rest)) (line_of c (lines_of (length before) (circuits_of ns))) ≡ f c)
-  unfolding any lines_of line_of port_bytes
+      → ((listed_line c (lines_of (length before) (circuits_of ns))).hops ≡ length (f c))
+      × (ports_of_line (before ++ (port_bytes (circuits_of ns) ++ rest)) (listed_line c (lines_of (length before) (circuits_of ns))) ≡ f c)
+  unfolding any lines_of listed_line port_bytes
   written_line c before rest [] e = absurd (clash e refl)
   written_line c before rest (n ∷ ns) e = go (eqb n c) refl (written_line c (before ++ f n) rest ns)
     where
       go : (b : Bool) → eqb n c ≡ b
           → (any (λ m. eqb m c) ns ≡ true
-          → ((line_of c (lines_of (length (before ++ f n)) (circuits_of ns))).hops ≡ length (f c))
-          × (ports_of_line ((before ++ f n) ++ (port_bytes (circuits_of ns) ++ rest)) (line_of c (lines_of (length (before ++ f n)) (circuits_of ns))) ≡ f c))
-          → ((line_of c (lines_of (length before) (circuits_of (n ∷ ns)))).hops ≡ length (f c))
-          × (ports_of_line (before ++ (port_bytes (circuits_of (n ∷ ns)) ++ rest)) (line_of c (lines_of (length before) (circuits_of (n ∷ ns)))) ≡ f c)
+          → ((listed_line c (lines_of (length (before ++ f n)) (circuits_of ns))).hops ≡ length (f c))
+          × (ports_of_line ((before ++ f n) ++ (port_bytes (circuits_of ns) ++ rest)) (listed_line c (lines_of (length (before ++ f n)) (circuits_of ns))) ≡ f c))
+          → ((listed_line c (lines_of (length before) (circuits_of (n ∷ ns)))).hops ≡ length (f c))
+          × (ports_of_line (before ++ (port_bytes (circuits_of (n ∷ ns)) ++ rest)) (listed_line c (lines_of (length before) (circuits_of (n ∷ ns)))) ≡ f c)
       go true q ih =
           let same : n ≡ c = eqb-true n c q in
           rw q (
@@ -123,7 +123,7 @@ module _ (f : ℕ → List ℕ) where
     abbrev es : List BookCircuit
     es = circuits_of ns
 
-    its_lines : lines (length es) (traced_into (index_bytes es) index) ≡ lines_of 0 es
+    its_lines : index_lines (length es) (traced_into (index_bytes es) index) ≡ lines_of 0 es
     unfolding traced_into
     its_lines = lines_written 0 es (drop (length (index_bytes es)) index)
 
@@ -136,7 +136,7 @@ module _ (f : ℕ → List ℕ) where
 
     -- the line of a circuit that is among them gives its ports,
     pub written_ports : (c : ℕ) → any (λ m. eqb m c) ns ≡ true
-        → ((line_of c (lines_of 0 es)).hops ≡ length (f c)) × (ports_of_line (traced_into (port_bytes es) ports) (line_of c (lines_of 0 es)) ≡ f c)
+        → ((listed_line c (lines_of 0 es)).hops ≡ length (f c)) × (ports_of_line (traced_into (port_bytes es) ports) (listed_line c (lines_of 0 es)) ≡ f c)
     unfolding traced_into
     written_ports c e = written_line c [] (drop (length (port_bytes es)) ports) ns e
 

@@ -4,7 +4,7 @@ use Rattle.std.specs.Prelude.{◌≡◌, true, false, ℕ, List, ◌/◌, length
 use Rattle.std.specs.Result.{result_unwrap_or}
 use Rattle.common.specs.declared.refusal.Refusal.{Refusal}
 use Rattle.common.specs.Refusals.{answer_of}
-use Rattle.book.specs.Lookup.{IndexLine, lines, is_listed, line_of, LookupResult}
+use Rattle.book.specs.Lookup.{IndexLine, index_lines, is_listed, listed_line, LookupResult}
 use Rattle.book.specs.declared.BookLine.{BookLine}
 use Rattle.book.specs.declared.IndexLines.{IndexLines}
 
@@ -14,7 +14,7 @@ line_is x = record { number = x.number; offset = x.offset; hops = x.hops }
 
 -- the lines of as many bytes as there are, and those that are left to read
 unfoldable pub lines_in : List ℕ → List IndexLine
-lines_in b = lines (length b / 6) b
+lines_in b = index_lines (length b / 6) b
 
 abbrev pub lines_left : IndexLines → List IndexLine
 lines_left s = lines_in s.index.now
@@ -22,7 +22,7 @@ lines_left s = lines_in s.index.now
 -- the line of a circuit where lines have one
 abbrev pub line_if : ℕ → List IndexLine → Option BookLine → Type 0
 line_if c xs None = is_listed c xs ≡ false
-line_if c xs (Some x) = (is_listed c xs ≡ true) × (line_is x ≡ line_of c xs)
+line_if c xs (Some x) = (is_listed c xs ≡ true) × (line_is x ≡ listed_line c xs)
 
 -- what a lookup answers: the hops, or the refusal; with the bytes of its buffer afterwards
 abbrev pub lookup_result : Result ℕ Refusal → List ℕ → LookupResult

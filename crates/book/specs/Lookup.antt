@@ -17,9 +17,9 @@ pub record IndexLine : Type 0 where
 abbrev pub first_line : List ℕ → IndexLine
 first_line b = record { number = word_at b 0; offset = word_at b 2; hops = word_at b 4 }
 
-unfoldable pub lines : ℕ → List ℕ → List IndexLine
-lines zero b = []
-lines (suc n) b = first_line b ∷ lines n (drop line_length b)
+unfoldable pub index_lines : ℕ → List ℕ → List IndexLine
+index_lines zero b = []
+index_lines (suc n) b = first_line b ∷ index_lines n (drop line_length b)
 
 -- "circuit numbers rise within 1 to 2,048, lengths are 1 to 9, and the pairs run from 0 to the hop count without gap or overlap": a line behind one with the
 -- number `above`, where its ports should begin at `at`; and all lines from there on
@@ -32,15 +32,15 @@ lines_fit above at (x ∷ xs) total = line_fits above at x && lines_fit x.number
 
 -- "A book is well formed if both counts fit their buffers", and its lines fit
 unfoldable pub well_formed : (ports index : List ℕ) (circuits hops : ℕ) → Bool
-well_formed ports index circuits hops = leb (line_length * circuits) (length index) && (leb hops (length ports) && lines_fit 0 0 (lines circuits index) hops)
+well_formed ports index circuits hops = leb (line_length * circuits) (length index) && (leb hops (length ports) && lines_fit 0 0 (index_lines circuits index) hops)
 
 -- whether a circuit is in a book; its line, or zeros where it has none; and the ports that a line gives
 unfoldable pub is_listed : ℕ → List IndexLine → Bool
 is_listed c xs = any (λ x. eqb x.number c) xs
 
-unfoldable pub line_of : ℕ → List IndexLine → IndexLine
-line_of c [] = record { number = 0; offset = 0; hops = 0 }
-line_of c (x ∷ xs) = cond (eqb x.number c) x (line_of c xs)
+unfoldable pub listed_line : ℕ → List IndexLine → IndexLine
+listed_line c [] = record { number = 0; offset = 0; hops = 0 }
+listed_line c (x ∷ xs) = cond (eqb x.number c) x (listed_line c xs)
 
 abbrev pub ports_of_line : List ℕ → IndexLine → List ℕ
 ports_of_line ports x = take x.hops (drop x.offset ports)
@@ -48,7 +48,7 @@ ports_of_line ports x = take x.hops (drop x.offset ports)
 -- "a lookup gives 25 for a book not well formed, then 12, then 14"
 unfoldable pub lookup_tests : (ports index : List ℕ) (circuits hops c : ℕ) (buffer : List ℕ) → List Test
 lookup_tests ports index circuits hops c buffer =
-    test (not (well_formed ports index circuits hops)) 25 ∷ test (not (is_listed c (lines circuits index))) 12 ∷ test (ltb (length buffer) 9) 14 ∷ []
+    test (not (well_formed ports index circuits hops)) 25 ∷ test (not (is_listed c (index_lines circuits index))) 12 ∷ test (ltb (length buffer) 9) 14 ∷ []
 
 -- what a lookup answers, and the bytes of its buffer afterwards
 pub record LookupResult : Type 0 where
@@ -60,5 +60,5 @@ pub record LookupResult : Type 0 where
 unfoldable pub looked_up : (ports index : List ℕ) (circuits hops c : ℕ) (buffer : List ℕ) → LookupResult
 looked_up ports index circuits hops c buffer =
     let n = refusal (lookup_tests ports index circuits hops c buffer) in
-    let x = line_of c (lines circuits index) in
+    let x = listed_line c (index_lines circuits index) in
     cond (eqb n 0) (record { number = 0; hops = x.hops; buffer = traced_into (ports_of_line ports x) buffer }) (record { number = n; hops = 0; buffer = buffer })

@@ -4,8 +4,8 @@ use Rattle.std.specs.Prelude.{◌≡◌, List, ℕ, suc, ◌+◌, ◌*◌, ◌�
 use Rattle.layout.specs.Layout.{word_at}
 
 -- line i of the index: number, offset and length, two bytes each
-abbrev pub number_at : List ℕ → ℕ → ℕ
-number_at index i = word_at index (6 * i)
+abbrev pub circuit_number_at : List ℕ → ℕ → ℕ
+circuit_number_at index i = word_at index (6 * i)
 
 abbrev pub offset_at : List ℕ → ℕ → ℕ
 offset_at index i = word_at index (6 * i + 2)
@@ -18,9 +18,9 @@ pub record WellFormed (ports index : List ℕ) (circuits hops : ℕ) : Type 0 wh
   pub index_fits : 6 * circuits ≤ length index
   pub ports_fit : hops ≤ length ports
   -- circuit numbers rise within 1 to 2,048,
-  pub least : (i : ℕ) → i < circuits → 1 ≤ number_at index i
-  pub most : (i : ℕ) → i < circuits → number_at index i ≤ 2048
-  pub rise : (i : ℕ) → suc i < circuits → number_at index i < number_at index (suc i)
+  pub least : (i : ℕ) → i < circuits → 1 ≤ circuit_number_at index i
+  pub most : (i : ℕ) → i < circuits → circuit_number_at index i ≤ 2048
+  pub rise : (i : ℕ) → suc i < circuits → circuit_number_at index i < circuit_number_at index (suc i)
   -- lengths are 1 to 9,
   pub lengths : (i : ℕ) → i < circuits → (1 ≤ length_at index i) × (length_at index i ≤ 9)
   -- and the pairs run from 0 to the hop count without gap or overlap"

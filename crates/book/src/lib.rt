@@ -5,7 +5,7 @@
 ghost use Rattle.std.specs.Prelude.{◌≡◌, ◌+◌, ◌*◌, ◌^◌, ◌≤◌, ◌<◌, length};
 ghost use Rattle.std.proofs.lemmas.List.Edits.{sets};
 ghost use Rattle.std.specs.Iterator.{YieldsFirstBy, item_count};
-ghost use Rattle.book.specs.Lookup.{first_line, lines, line_fits, lines_fit, ports_of_line, well_formed, looked_up};
+ghost use Rattle.book.specs.Lookup.{first_line, index_lines, line_fits, lines_fit, ports_of_line, well_formed, looked_up};
 ghost use Rattle.book.specs.BookContracts.{line_is, lines_left, line_if, lookup_result};
 
 use common::refusal::Refusal;
@@ -65,7 +65,7 @@ impl BookLine {
 
     // Whether a line may stand behind another.
     #[tactic(auto, unfolding(crate::specs::Lookup::line_fits))]
-    fn follows(self, last: BookLine) -> bool
+    fn fits(self, last: BookLine) -> bool
         requires { last.offset + last.hops < 2 ^ 16 }
         ensures { result ≡ line_fits last.number (last.offset + last.hops) (line_is self) }
     {
@@ -106,7 +106,7 @@ fn lines_fit(lines: IndexLines, hops: u16) -> bool
 {
     let mut last = BEFORE_FIRST;
     for line in lines {
-        if !line.follows(last) {
+        if !line.fits(last) {
             return false;
         }
         last = line;
@@ -115,7 +115,7 @@ fn lines_fit(lines: IndexLines, hops: u16) -> bool
 }
 
 // The line of a circuit, where an index has one. It is looked for from the front: the lines are bytes, and the library's binary search wants a slice of them read.
-fn line_of(mut lines: IndexLines, c: Circuit) -> Option<BookLine>
+fn listed_line(mut lines: IndexLines, c: Circuit) -> Option<BookLine>
     ensures { line_if c.0 (lines_left lines.entry) result }
 {
     lines.find(|x| x.number == c.0)
@@ -145,7 +145,7 @@ impl Book<'_> {
     #[tactic(auto, using(crate::proofs::Lines::lines_cut))]
     pub fn lines(&self) -> IndexLines<'_>
         requires { 6 * self.now.circuits ≤ length self.now.index.now }
-        ensures { lines_left result ≡ lines self.now.circuits self.now.index.now }
+        ensures { lines_left result ≡ index_lines self.now.circuits self.now.index.now }
     {
         IndexLines {
             index: &self.index[..LINE * usize::from(self.circuits)],
@@ -169,7 +169,7 @@ impl Book<'_> {
         if !self.well_formed() {
             return Err(Refusal::Book);
         }
-        let x = line_of(self.lines(), c).ok_or(Refusal::NoCircuit)?;
+        let x = listed_line(self.lines(), c).ok_or(Refusal::NoCircuit)?;
         if buffer.len() < usize::from(LONGEST_PATH) {
             return Err(Refusal::BufferShort);
         }

@@ -21,7 +21,7 @@ use Rattle.book.specs.Book.{port_bytes, index_bytes, hop_count}
 use Rattle.book.specs.BookOf.{book_of}
 use Rattle.ownership.specs.Calls.{booking, call_tests, result_of}
 use Rattle.ownership.specs.OnTable.{facts_of, lent_tests, stopped_at, table_step, done}
-use Rattle.ownership.proofs.BytesAfter.{written_by}
+use Rattle.ownership.proofs.BytesAfter.{bytes_written}
 use Rattle.ownership.proofs.Stops.{pass_tests}
 use Rattle.call_tests.proofs.Stopping.{table_stops as lent_stops, table_passes}
 use Rattle.router.proofs.TableStep.{call_stopped, call_passed}
@@ -57,7 +57,7 @@ module _ (b ports index : List ℕ) where
     pub book_written : AllBytes b → hop_count (book_of (view b)) ≤ length ports → 6 * length (book_of (view b)) ≤ length index → {circuits hops : ℕ} {p i : List ℕ}
         → circuits ≡ length (book_of (view b)) → hops ≡ hop_count (book_of (view b)) → p ≡ traced_into (port_bytes (book_of (view b))) ports → i ≡ traced_into (index_bytes (book_of (view b))) index
         → done b 0 (circuits ∷ hops ∷ []) (p ∷ i ∷ []) ≡ table_step b (booking ports index)
-    unfolding stopped_at lent_tests call_tests facts_of result_of written_by
+    unfolding stopped_at lent_tests call_tests facts_of result_of bytes_written
     book_written small h k c d q r =
         call_passed b (booking ports index)
         (sym (table_passes b _ (sym z) ∙ passed 23 [] (ap₂ ◌||◌ (le-ltb (length ports) (hop_count (book_of (view b))) h) (le-ltb (length index) (6 * length (book_of (view b))) k)) ∙ accepted))

@@ -10,10 +10,10 @@ use Rattle.table.specs.View.{view}
 use Rattle.table.specs.Encode.{AllBytes}
 use Rattle.soundness.specs.TableTests.{table_tests}
 use Rattle.judging.specs.Judged.{judge_facts, judge_tests}
-use Rattle.ownership.specs.Calls.{judging, judged_by, call_tests, result_of}
+use Rattle.ownership.specs.Calls.{judging, call_tests, result_of}
 use Rattle.ownership.specs.TableFacts.{open_in}
 use Rattle.ownership.specs.OnTable.{facts_of, lent_tests, stopped_at, table_step, done}
-use Rattle.ownership.proofs.BytesAfter.{written_by}
+use Rattle.ownership.proofs.BytesAfter.{bytes_written}
 use Rattle.call_tests.proofs.Stopping.{table_stops as lent_stops, table_passes}
 use Rattle.router.proofs.TableStep.{call_stopped, call_passed}
 
@@ -30,6 +30,6 @@ module _ (b ports index : List ℕ) (circuits hops : ℕ) where
     stopped_is = q ∙ sym (table_passes b _ (sym z))
 
     pub book_judged : AllBytes b → done b n [] (ports ∷ index ∷ []) ≡ table_step b (judging ports index circuits hops)
-    unfolding result_of written_by
+    unfolding result_of bytes_written
     book_judged small =
         ⊎_elim (λ e. rw e (call_passed b (judging ports index circuits hops) (sym e ∙ stopped_is) small refl refl)) (call_stopped b (judging ports index circuits hops) stopped_is) (same? n 0)

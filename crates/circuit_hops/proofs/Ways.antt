@@ -140,7 +140,7 @@ pub one_nearer : (v : View) (t n p : ℕ) → p ∈ offered (net v) t n → (net
 unfolding network
 one_nearer v t n p m = let near = (cube_nearing (shape_of v) t).nearer n p m in omega arith
 
--- what a turn of the walk finds at node n, towards t: the port of the one link held that is uphill, and the node that it leads to
+-- what one hop of the walk finds at node n, towards t: the port of the one link held that is uphill, and the node that it leads to
 pub record WalkStep (b : List ℕ) (c n t to : ℕ) : Type 0 where
   pub port : ℕ
   pub sole : Sole (view b) c t n port
@@ -168,8 +168,8 @@ module _ (b : List ℕ) (c n t hops : ℕ) (d : dimension_at b ≤ largest_dimen
   unfolding uphill
   uphill_below h l p u = ⊎_elim (λ k. k) (λ k. absurd (clash u (rw (bit_high _ n p h k, bit_high _ t p l k)))) (below_or (dimension_at b) p)
 
-  pub turn : {on : ℕ} → SoleUphill (view b) c t n (Some on) → NodeOf (dimension_at b) n → NodeOf (dimension_at b) t → WalkStep b c n t (bit_xor n on)
-  turn {on} one i j =
+  pub walk_hop : {on : ℕ} → SoleUphill (view b) c t n (Some on) → NodeOf (dimension_at b) n → NodeOf (dimension_at b) t → WalkStep b c n t (bit_xor n on)
+  walk_hop {on} one i j =
       let p = one.0 in
       let low : p < dimension_at b = uphill_below i j p one.4 in
       let to : bit_xor n on ≡ next n p = ap (bit_xor n) one.2 ∙ flip_xor n p ∙ ap (flip n) (sym (axis_low p (omega arith))) in

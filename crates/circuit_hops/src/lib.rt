@@ -34,7 +34,7 @@ fn walk(table: CubeTable, c: Circuit, from: Node, end: Node) -> Option<u32>
     // No iterator of nodes: each step may fail, and the order of its tests decides the speed.
     while at != end {
         // The row is read for the vector and for the count here, and `on` is tested after both: the compiler then reads it in one go, as it does not where a function answers the link.
-        let held = table::held_by(table.bytes, c, at);
+        let held = table::ports_held(table.bytes, c, at);
         let on = held & cube::uphill_vector(at, end);
         if table::links_held(table.bytes, c, at) > 1 {
             if !one_at_most(on) {
@@ -86,7 +86,7 @@ pub fn hops_to(table: CubeTable, c: Circuit, end: Node, seen: &mut Marks) -> Opt
         return None;
     }
     let source = cube::source_of(c);
-    let held = table::held_by(table.bytes, c, source);
+    let held = table::ports_held(table.bytes, c, source);
     let first = first_link(table, c, held, end)?;
     if !seen.mark(source, held) {
         return None;

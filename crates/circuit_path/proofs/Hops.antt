@@ -25,7 +25,7 @@ use Rattle.paths.specs.Recover.{drop_axis, walk_from, way_back, first_hop_choice
 use Rattle.paths.proofs.Recover.{first_choice}
 use Rattle.paths.proofs.Walks.{walk_none, walk_some, drop_port, way_back_one}
 use Rattle.table.specs.View.{View, net, held_by}
-use Rattle.circuit_path.specs.Follow.{takes, comes_back, links_followed, first_hop, port_is}
+use Rattle.circuit_path.specs.Follow.{holds_port, comes_back, links_followed, first_hop, port_is}
 
 -- a port found below p is the lowest that passes; where none was, the lowest from p on is
 abbrev pub Found : (ℕ → Bool) → ℕ → Option Port → Type 0
@@ -42,7 +42,7 @@ module _ (f : ℕ → Bool) (p : Port) (h : p.0 < port_count) where
   found_past e (Some q) g = g
 
 -- a port that is not taken does not come back
-pub no_back : (v : View) (c n vector p : ℕ) → takes v c n vector p ≡ false → comes_back v c n vector p ≡ false
+pub no_back : (v : View) (c n vector p : ℕ) → holds_port v c n vector p ≡ false → comes_back v c n vector p ≡ false
 unfolding comes_back
 no_back v c n vector p e = rw e
 
@@ -81,13 +81,13 @@ module _ (v : View) (c n vector : ℕ) where
   back : List ℕ
   back = keep (λ a. held_by v c (next n a) a) ports_held
 
-  takes_kept : keep (takes v c n vector) (from 0 port_count) ≡ ports_held
-  unfolding ports_held ports_of takes
+  takes_kept : keep (holds_port v c n vector) (from 0 port_count) ≡ ports_held
+  unfolding ports_held ports_of holds_port
   takes_kept = sym (keep_keep (held_by v c n) (has vector) (from 0 8))
 
   back_kept : keep (comes_back v c n vector) (from 0 port_count) ≡ back
   unfolding back comes_back
-  back_kept = sym (ap (keep (λ a. held_by v c (next n a) a)) (sym takes_kept) ∙ keep_keep (λ a. held_by v c (next n a) a) (takes v c n vector) (from 0 8))
+  back_kept = sym (ap (keep (λ a. held_by v c (next n a) a)) (sym takes_kept) ∙ keep_keep (λ a. held_by v c (next n a) a) (holds_port v c n vector) (from 0 8))
 
   taken_port : (p : ℕ) → p ∈ ports_held → (p < port_count) × (has vector p ≡ true)
   unfolding ports_held
@@ -97,8 +97,8 @@ module _ (v : View) (c n vector : ℕ) where
   unfolding back
   back_port p m = (taken_port p (keep_mem _ ports_held m).0).0
 
-  lowest_taken : lowest (takes v c n vector) port_count 0 ≡ first_or no_port ports_held
-  lowest_taken = lowest_from (takes v c n vector) 8 0 ∙ ap (first_or 8) takes_kept
+  lowest_taken : lowest (holds_port v c n vector) port_count 0 ≡ first_or no_port ports_held
+  lowest_taken = lowest_from (holds_port v c n vector) 8 0 ∙ ap (first_or 8) takes_kept
 
   lowest_back : lowest (comes_back v c n vector) port_count 0 ≡ first_or no_port back
   lowest_back = lowest_from (comes_back v c n vector) 8 0 ∙ ap (first_or 8) back_kept
@@ -114,22 +114,22 @@ module _ (v : View) (c n vector : ℕ) where
   pub first_back : (p : ℕ) → p ≡ lowest (comes_back v c n vector) port_count 0 → p < port_count → p ≡ first_hop v c n vector
   first_back p e h = let q : p ≡ first_or 8 back = e ∙ lowest_back in q ∙ sym (hop_is ∙ first_some back ports_held (omega arith))
 
-  first_taken : (p q : ℕ) → p ≡ lowest (comes_back v c n vector) port_count 0 → port_count ≤ p → q ≡ lowest (takes v c n vector) port_count 0 → q ≡ first_hop v c n vector
+  first_taken : (p q : ℕ) → p ≡ lowest (comes_back v c n vector) port_count 0 → port_count ≤ p → q ≡ lowest (holds_port v c n vector) port_count 0 → q ≡ first_hop v c n vector
   first_taken p q e h f =
       let z : p ≡ first_or 8 back = e ∙ lowest_back in
       let none : back ≡ [] = first_none back back_port (omega arith) in
       f ∙ lowest_taken ∙ sym (hop_is ∙ ap (λ xs. first_or 8 (xs ++ ports_held)) none)
 
   -- none is taken before the lowest of the vector
-  pub vector_first : lowest (has vector) port_count 0 ≤ lowest (takes v c n vector) port_count 0
-  unfolding takes
+  pub vector_first : lowest (has vector) port_count 0 ≤ lowest (holds_port v c n vector) port_count 0
+  unfolding holds_port
   vector_first =
-      ⊎_elim (λ l. lowest_found (has vector) 8 0 _ (omega arith) (both (has vector (lowest (takes v c n vector) 8 0)) _ (lowest_passes (takes v c n vector) 8 0 l)).0)
-      (λ l. omega (arith, lowest_most (has vector) 8 0)) (below_or 8 (lowest (takes v c n vector) 8 0))
+      ⊎_elim (λ l. lowest_found (has vector) 8 0 _ (omega arith) (both (has vector (lowest (holds_port v c n vector) 8 0)) _ (lowest_passes (holds_port v c n vector) 8 0 l)).0)
+      (λ l. omega (arith, lowest_most (has vector) 8 0)) (below_or 8 (lowest (holds_port v c n vector) 8 0))
 
   -- where the way back is not held at any port, the first hop is the lowest that was found
   pub first_found : (p : ℕ) → p ≡ port_count → lowest (comes_back v c n vector) (port_count - p) p ≡ lowest (comes_back v c n vector) port_count 0
-      → (found : Option Port) → Found (takes v c n vector) p found → port_is (first_hop v c n vector) found
+      → (found : Option Port) → Found (holds_port v c n vector) p found → port_is (first_hop v c n vector) found
   first_found p z e None g =
       let low = sym (lowest_end _ 8 p z) ∙ e in
       let hop = first_taken p p low (omega arith) (sym (lowest_end _ 8 p z) ∙ g) in
@@ -137,17 +137,17 @@ module _ (v : View) (c n vector : ℕ) where
   first_found p z e (Some q) g = (first_taken p q.0 (sym (lowest_end _ 8 p z) ∙ e) (omega arith) g.0, g.1)
 
   -- following: on by the lowest port, or no further
-  pub follow_port : (q : ℕ) → q ≡ lowest (takes v c n vector) port_count 0 → q < port_count → has vector q ≡ true
+  pub follow_port : (q : ℕ) → q ≡ lowest (holds_port v c n vector) port_count 0 → q < port_count → has vector q ≡ true
   follow_port q e h = let r = first_is ports_held q (sym (e ∙ lowest_taken)) h in (taken_port q (rw r.1 (Memᴰ.head refl))).1
 
-  pub follow_on : (q rest : ℕ) → q ≡ lowest (takes v c n vector) port_count 0 → q < port_count → Without vector q rest → links_followed v c n vector ≡ q ∷ links_followed v c (next n q) rest
+  pub follow_on : (q rest : ℕ) → q ≡ lowest (holds_port v c n vector) port_count 0 → q < port_count → Without vector q rest → links_followed v c n vector ≡ q ∷ links_followed v c (next n q) rest
   unfolding links_followed ports_held network
   follow_on q rest e h w =
       let r = first_is ports_held q (sym (e ∙ lowest_taken)) h in
       let drop : drop_axis q (ports_of port_count vector) ≡ ports_of port_count rest = drop_port 8 vector q rest (omega arith) (omega arith) w in
       walk_some (net v) (held_by v c) 8 (ports_of port_count vector) n q r.0 (length_ports 8 vector) r.1 ∙ ap (λ l. q ∷ walk_from 8 (net v) l (held_by v c) (next n q)) drop
 
-  pub follow_end : port_count ≤ lowest (takes v c n vector) port_count 0 → links_followed v c n vector ≡ []
+  pub follow_end : port_count ≤ lowest (holds_port v c n vector) port_count 0 → links_followed v c n vector ≡ []
   unfolding links_followed ports_held
   follow_end h =
       let z = lowest_taken in

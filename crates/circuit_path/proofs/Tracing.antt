@@ -24,7 +24,7 @@ use Rattle.circuit_path.specs.CircuitSound.{end_for}
 use Rattle.circuit_path.specs.PathOf.{path_of}
 use Rattle.circuit_path.specs.OpenCircuit.{is_open_in}
 use Rattle.circuit_path.specs.Traced.{traced_into}
-use Rattle.circuit_path.specs.Follow.{takes, links_followed, first_hop, port_is, HasSource}
+use Rattle.circuit_path.specs.Follow.{holds_port, links_followed, first_hop, port_is, HasSource}
 use Rattle.std.specs.Prelude.{Option, None, Some}
 use Rattle.std.specs.Option.{IsSome}
 use Rattle.cube.specs.declared.kinds.Port.{Port}
@@ -63,7 +63,7 @@ pub record Tracing (v : View) (c : ℕ) (buffer₀ : List ℕ) (left₀ n₀ : �
   pub long : length buffer ≡ length buffer₀
 
 -- one turn at node n: on by port q
-module _ {v : View} {c left₀ n₀ left n hops q : ℕ} {buffer₀ buffer : List ℕ} (inv : Tracing v c buffer₀ left₀ n₀ buffer left n hops) (e : q ≡ lowest (takes v c n left) port_count 0) (h : q < port_count) where
+module _ {v : View} {c left₀ n₀ left n hops q : ℕ} {buffer₀ buffer : List ℕ} (inv : Tracing v c buffer₀ left₀ n₀ buffer left n hops) (e : q ≡ lowest (holds_port v c n left) port_count 0) (h : q < port_count) where
   pub port_left : has left q ≡ true
   port_left = follow_port v c n left q e h
 
@@ -115,7 +115,7 @@ module _ {b : List ℕ} {c D nodes s : ℕ} (known : HasSource b c) (d : D ≡ d
 
     -- no hop is left
     pub end_tracing : (buffer : List ℕ) {after : List ℕ} {left n hops : ℕ} → 9 ≤ length buffer → Tracing (view b) c (set buffer 0 a) (nodes - 1) start after left n hops
-        → port_count ≤ lowest (takes (view b) c n left) port_count 0
+        → port_count ≤ lowest (holds_port (view b) c n left) port_count 0
         → (hops ≡ length (path_of (view b) c)) × (hops ≤ 9) × ((n ≡ end_for (view b) c (path_of (view b) c)) × (after ≡ traced_into (path_of (view b) c) buffer))
     unfolding end network
     end_tracing buffer {after} {left} {n} {hops} room inv l =

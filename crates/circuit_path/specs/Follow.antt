@@ -11,12 +11,12 @@ use Rattle.layout.specs.Layout.{table_length, dimension_at}
 use Rattle.table.specs.View.{View, net, held_by}
 
 -- port p is in the vector, and circuit c holds the link out of it
-unfoldable pub takes : View → ℕ → ℕ → ℕ → ℕ → Bool
-takes v c n vector p = has vector p && held_by v c n p
+unfoldable pub holds_port : View → ℕ → ℕ → ℕ → ℕ → Bool
+holds_port v c n vector p = has vector p && held_by v c n p
 
 -- and holds the way back too
 unfoldable pub comes_back : View → ℕ → ℕ → ℕ → ℕ → Bool
-comes_back v c n vector p = takes v c n vector p && held_by v c (next n p) p
+comes_back v c n vector p = holds_port v c n vector p && held_by v c (next n p) p
 
 -- the way that the code follows from a node, over the ports of a vector
 unfoldable pub links_followed : View → ℕ → ℕ → ℕ → Path

@@ -10,7 +10,7 @@ ghost use Rattle.circuit_path.specs.CircuitSound.{end_for};
 ghost use Rattle.circuit_path.specs.PathOf.{path_of};
 ghost use Rattle.circuit_path.specs.OpenCircuit.{is_open_in};
 ghost use Rattle.circuit_path.specs.Traced.{traced_into};
-ghost use Rattle.circuit_path.specs.Follow.{takes, comes_back, first_hop, port_is, HasSource};
+ghost use Rattle.circuit_path.specs.Follow.{holds_port, comes_back, first_hop, port_is, HasSource};
 
 use cube::{Circuit, Node, Port};
 use table::Links;
@@ -39,10 +39,10 @@ fn holds(t: &[u8], c: Circuit, n: Node, p: Port) -> bool
 }
 
 // Whether a port is in a vector and a circuit holds the link out of it.
-#[tactic(auto, unfolding(crate::specs::Follow::takes, cube::specs::Bits::has, cube::specs::Bits::bit_at))]
-fn takes(t: &[u8], c: Circuit, n: Node, vector: u16, p: Port) -> bool
+#[tactic(auto, unfolding(crate::specs::Follow::holds_port, cube::specs::Bits::has, cube::specs::Bits::bit_at))]
+fn holds_port(t: &[u8], c: Circuit, n: Node, vector: u16, p: Port) -> bool
     requires { Within t.now n.0 p.0 }
-    ensures { result ≡ takes (view t.now) c.0 n.0 vector p.0 }
+    ensures { result ≡ holds_port (view t.now) c.0 n.0 vector p.0 }
 {
     let q = p.0;
     (vector >> q) % 2 == 1 && holds(t, c, n, p)
@@ -54,18 +54,18 @@ fn comes_back(t: &[u8], c: Circuit, n: Node, vector: u16, p: Port) -> bool
     requires { Within t.now n.0 p.0 }
     ensures { result ≡ comes_back (view t.now) c.0 n.0 vector p.0 }
 {
-    takes(t, c, n, vector, p) && holds(t, c, cube::neighbour(n, p), p)
+    holds_port(t, c, n, vector, p) && holds(t, c, cube::neighbour(n, p), p)
 }
 
 // The lowest port of a vector whose link a circuit holds at a node. No port below the lowest of the vector is looked at.
 fn held_port(t: &[u8], c: Circuit, n: Node, vector: u16) -> Option<Port>
     requires { Within t.now n.0 0 × (vector < 256) }
-    ensures { port_is (lowest (takes (view t.now) c.0 n.0 vector) port_count 0) result }
+    ensures { port_is (lowest (holds_port (view t.now) c.0 n.0 vector) port_count 0) result }
 {
     let first = cube::lowest_of(vector)?;
     // Tried with `find` and `map`, speed: the book of a full table takes 30 % more time.
     for p in first..cube::PORTS {
-        if takes(t, c, n, vector, Port(p)) {
+        if holds_port(t, c, n, vector, Port(p)) {
             return Some(Port(p));
         }
     }
@@ -80,7 +80,7 @@ fn first_hop(t: &[u8], c: Circuit, s: Node, vector: u16) -> Option<Port>
 {
     let mut found = None;
     for p in 0..cube::PORTS {
-        if takes(t, c, s, vector, Port(p)) {
+        if holds_port(t, c, s, vector, Port(p)) {
             if comes_back(t, c, s, vector, Port(p)) {
                 return Some(Port(p));
             }
@@ -97,7 +97,7 @@ pub fn is_open(t: &[u8], c: Circuit) -> bool
     ensures { result ≡ is_open_in (view t.now) c.0 }
 {
     let nodes = cube::node_count(table::dimension(t));
-    table::held_by(t, c, cube::source_of(c)) & (nodes - 1) != 0
+    table::ports_held(t, c, cube::source_of(c)) & (nodes - 1) != 0
 }
 
 // Writes the ports of an open circuit from the start of a buffer, one byte a hop in path order.

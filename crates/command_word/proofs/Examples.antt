@@ -37,7 +37,7 @@ unfolding keep from commands values_in values reserved
 reserved_commands = refl
 
 -- What a caller sees of a command by reading and writing words, with no look at the list of commands.
-record Seen : Type 0 where
+record FieldsSeen : Type 0 where
   -- what reading answers for the command in packet types 0, 1, 2 and 3
   types : List ℕ
   -- with which of the numbers 0 to 99 it is written, and what writing answers to the next number and to 65,535
@@ -48,7 +48,7 @@ record Seen : Type 0 where
   -- which numbers are read from the statuses 0, 1, 62 and 63, in the packet type of that word
   reads : List ℕ
 
-abbrev seen : ℕ → Seen
+abbrev seen : ℕ → FieldsSeen
 seen c =
     let word = (write_word c 0).word in
     let carries = keep (λ k. eqb (write_word c k).number 0) (from 0 100) in
@@ -69,20 +69,20 @@ abbrev type3 : List ℕ
 type3 = 16 ∷ 16 ∷ 17 ∷ 0 ∷ []
 
 -- "Reserved": 18, in the type that the command goes with
-abbrev reserved2 : Seen
+abbrev reserved2 : FieldsSeen
 reserved2 = record { types = 16 ∷ 16 ∷ 18 ∷ 17 ∷ []; carries = []; above = 18 ∷ 18 ∷ []; word = 0; reads = 0 ∷ 0 ∷ 0 ∷ 0 ∷ [] }
 
-abbrev reserved3 : Seen
+abbrev reserved3 : FieldsSeen
 reserved3 = record { types = 16 ∷ 16 ∷ 17 ∷ 18 ∷ []; carries = []; above = 18 ∷ 18 ∷ []; word = 0; reads = 0 ∷ 0 ∷ 0 ∷ 0 ∷ [] }
 
 -- "carry 0 or 1", "carry 0 to 63", "the others carry 0": any other number is refused with 19, and other status bits are ignored
-abbrev carrying0 : List ℕ → ℕ → Seen
+abbrev carrying0 : List ℕ → ℕ → FieldsSeen
 carrying0 types word = record { types = types; carries = 0 ∷ []; above = 19 ∷ 19 ∷ []; word = word; reads = 0 ∷ 0 ∷ 0 ∷ 0 ∷ [] }
 
-abbrev carrying1 : List ℕ → ℕ → Seen
+abbrev carrying1 : List ℕ → ℕ → FieldsSeen
 carrying1 types word = record { types = types; carries = 0 ∷ 1 ∷ []; above = 19 ∷ 19 ∷ []; word = word; reads = 0 ∷ 1 ∷ 0 ∷ 1 ∷ [] }
 
-abbrev carrying63 : List ℕ → ℕ → Seen
+abbrev carrying63 : List ℕ → ℕ → FieldsSeen
 carrying63 types word = record { types = types; carries = from 0 64; above = 19 ∷ 19 ∷ []; word = word; reads = 0 ∷ 1 ∷ 62 ∷ 63 ∷ [] }
 
 -- Commands 0 to 15 in turn, as document 01 has them.

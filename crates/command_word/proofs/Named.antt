@@ -9,7 +9,7 @@ use borrow.Author.Tests.{ne_eqb}
 use Rattle.common.proofs.Tests.{below_or}
 use Rattle.command_word.specs.declared.kinds.PacketType.{PacketType}
 use Rattle.command_word.specs.declared.kinds.PacketType.TheVariants.{Address, Data, BackTrack, Forward}
-use Rattle.command_word.specs.Kinds.{type_number}
+use Rattle.command_word.specs.Kinds.{packet_type_number}
 use Rattle.command_word.specs.Commands.{commands, values_in, values}
 
 -- no two packet types have one number
@@ -19,13 +19,13 @@ type_with (suc zero) = Data
 type_with (suc (suc zero)) = BackTrack
 type_with (suc (suc (suc n))) = Forward
 
-with_number : (t : PacketType) → type_with (type_number t) ≡ t
+with_number : (t : PacketType) → type_with (packet_type_number t) ≡ t
 with_number Address = refl
 with_number Data = refl
 with_number BackTrack = refl
 with_number Forward = refl
 
-pub same_number : {s t : PacketType} → type_number s ≡ type_number t → s ≡ t
+pub same_number : {s t : PacketType} → packet_type_number s ≡ packet_type_number t → s ≡ t
 same_number {s} {t} e = sym (with_number s) ∙ ap type_with e ∙ with_number t
 
 -- a number that no command has is reserved

@@ -10,11 +10,11 @@ use Rattle.command_word.specs.declared.kinds.Command.TheVariants.{PacketAcknowle
 use Rattle.command_word.specs.Commands.{packet_acknowledge, route_acknowledge, route_rejected, receive_rejected, forwarded_route_rejected, end_to_end_acknowledge, end_to_end_not_acknowledged, end_of_message, end_of_transmission, reset_cpu, reset_node, flush_path, values}
 
 -- "packet type: 0 address, 1 data, 2 back-track, 3 forward"
-abbrev pub type_number : PacketType → ℕ
-type_number Address = 0
-type_number Data = 1
-type_number BackTrack = 2
-type_number Forward = 3
+abbrev pub packet_type_number : PacketType → ℕ
+packet_type_number Address = 0
+packet_type_number Data = 1
+packet_type_number BackTrack = 2
+packet_type_number Forward = 3
 
 abbrev pub command_number : Command → ℕ
 command_number PacketAcknowledge = packet_acknowledge

@@ -1,7 +1,7 @@
 // What a command word names: its packet type and its command.
 ghost use Rattle.std.specs.Prelude.{◌≡◌, ◌↔◌, ◌<◌, IsTrue};
 ghost use Rattle.command_word.specs.Commands.{type_for, values};
-ghost use Rattle.command_word.specs.Kinds.{command_number, type_number, NamedBy};
+ghost use Rattle.command_word.specs.Kinds.{command_number, packet_type_number, NamedBy};
 
 use common::refusal::Refusal;
 
@@ -20,7 +20,7 @@ impl PacketType {
 
     // The packet type that goes with a command number, reserved or not.
     pub fn of_command(command: u16) -> PacketType
-        ensures { type_number result ≡ type_for command }
+        ensures { packet_type_number result ≡ type_for command }
     {
         if command < PacketType::FIRST_FORWARD {
             PacketType::BackTrack
@@ -30,13 +30,13 @@ impl PacketType {
     }
 
     pub fn carries_commands(self) -> bool
-        ensures { IsTrue result ↔ (1 < type_number self) }
+        ensures { IsTrue result ↔ (1 < packet_type_number self) }
     {
         matches!(self, PacketType::BackTrack | PacketType::Forward)
     }
 
     pub fn number(self) -> u16
-        ensures { result ≡ type_number self }
+        ensures { result ≡ packet_type_number self }
     {
         self as u16 // only a cast reads the number of a variant
     }

@@ -3,7 +3,7 @@
 
 ghost use Rattle.std.specs.Prelude.{◌≡◌, ◌≤◌, ◌<◌};
 ghost use Rattle.command_word.specs.Commands.{word_of, type_of, command_of, status_of, type_for};
-ghost use Rattle.command_word.specs.Kinds.{command_number, type_number};
+ghost use Rattle.command_word.specs.Kinds.{command_number, packet_type_number};
 ghost use Rattle.command_word.specs.Word.{read_word, write_word, read_answer, write_answer};
 
 use common::refusal::Refusal;
@@ -77,7 +77,7 @@ impl CommandWord {
     // The fields of a word. Document 01's list of forms asks for readers without self. No `TryFrom`: a word up to 4,095 has one of four types, and none can fail.
     fn packet_type(word: CommandWord) -> PacketType
         requires { word.0 ≤ 4095 }
-        ensures { type_number result ≡ type_of word.0 }
+        ensures { packet_type_number result ≡ type_of word.0 }
     {
         match word.0 / CommandWord::TYPE_PLACE {
             0 => PacketType::Address,

@@ -8,7 +8,8 @@ use native.Mathlib.Omega.{arith}
 use lib.Dec.{ltb}
 use borrow.Author.Tests.{ltb-true, ltb-false}
 use Rattle.std.specs.Prelude.{Some, None}
-use Rattle.common.specs.Lists.{lowest, some_below}
+use Rattle.common.specs.Lists.{lowest}
+use Rattle.common.specs.SomeBelow.{some_below}
 use Rattle.common.proofs.Tests.{same?, clash, below_or}
 
 module _ (f : ℕ → Bool) (n k : ℕ) (h : k < n) where

@@ -2,7 +2,7 @@
 -- Assumes nothing.
 use mathlib.Core.Logic.{◌≢◌}
 use Rattle.common.specs.declared.refusal.Refusal.{Refusal}
-use Rattle.common.specs.declared.refusal.Refusal.TheVariants.{TableLength, Dimension, NotSound, Node, Channel, Port, RoutingType, SendVector, ChannelInUse, RouteRejected, ReceiveRejected, NoCircuit, LinkHeld, BufferShort, WordTooLarge, NotACommand, WrongType, ReservedCommand, CarriedTooLarge, UnreadableLine, ChannelHeld, NoRoute, BookShort, Book, BookCircuit, BookLink, SendList, ChannelStopped, Requester}
+use Rattle.common.specs.declared.refusal.Refusal.TheVariants.{TableLength, Dimension, NotSound, Node, Channel, Port, RoutingType, SendVector, ChannelInUse, RouteRejected, ReceiveRejected, NoCircuit, LinkHeld, BufferShort, WordTooLarge, NotACommand, WrongType, ReservedCommand, CarriedTooLarge, UnreadableLine, ChannelHeld, NoRoute, BookShort, Book, BookCircuit, BookLink, SendList, Halves, ChannelStopped, Requester}
 use Rattle.common.specs.Refusals.{number_of}
 use Rattle.std.proofs.Common.{arith}
 
@@ -34,5 +34,6 @@ refused Book = λ h. omega (arith, h)
 refused BookCircuit = λ h. omega (arith, h)
 refused BookLink = λ h. omega (arith, h)
 refused SendList = λ h. omega (arith, h)
+refused Halves = λ h. omega (arith, h)
 refused ChannelStopped = λ h. omega (arith, h)
 refused Requester = λ h. omega (arith, h)

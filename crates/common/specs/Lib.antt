@@ -4,3 +4,4 @@ pub mod Lists
 pub mod Decides
 pub mod Refusals
 pub mod FirstAfter
+pub mod SomeBelow

@@ -1,6 +1,6 @@
 -- Lists, and the first number that passes a test, as the definitions of the other crates use them.
 -- Assumes nothing.
-use Rattle.std.specs.Prelude.{Bool, cond, true, false, ◌&&◌, ◌||◌, ℕ, zero, suc, ◌+◌, ltb, Option, Some, None}
+use Rattle.std.specs.Prelude.{Bool, cond, true, false, ◌&&◌, ◌||◌, ℕ, zero, suc, ◌+◌}
 use mathlib.Core.List.{List, [], ◌∷◌, Memᴰ}
 
 infix 40 ◌∈◌
@@ -37,7 +37,3 @@ every (suc n) f = f n && every n f
 unfoldable pub lowest : (ℕ → Bool) → ℕ → ℕ → ℕ
 lowest f zero i = i
 lowest f (suc k) i = cond (f i) i (lowest f k (i + 1))
-
--- k where it is below n; else nothing, which is how a number stands for "none" in tables and answers
-abbrev pub some_below : ℕ → ℕ → Option ℕ
-some_below n k = cond (ltb k n) (Some k) None

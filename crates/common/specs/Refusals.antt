@@ -2,7 +2,7 @@
 -- Assumes nothing.
 use Rattle.std.specs.Prelude.{ℕ, Result, Ok, Err}
 use Rattle.common.specs.declared.refusal.Refusal.{Refusal}
-use Rattle.common.specs.declared.refusal.Refusal.TheVariants.{TableLength, Dimension, NotSound, Node, Channel, Port, RoutingType, SendVector, ChannelInUse, RouteRejected, ReceiveRejected, NoCircuit, LinkHeld, BufferShort, WordTooLarge, NotACommand, WrongType, ReservedCommand, CarriedTooLarge, UnreadableLine, ChannelHeld, NoRoute, BookShort, Book, BookCircuit, BookLink, SendList, ChannelStopped, Requester}
+use Rattle.common.specs.declared.refusal.Refusal.TheVariants.{TableLength, Dimension, NotSound, Node, Channel, Port, RoutingType, SendVector, ChannelInUse, RouteRejected, ReceiveRejected, NoCircuit, LinkHeld, BufferShort, WordTooLarge, NotACommand, WrongType, ReservedCommand, CarriedTooLarge, UnreadableLine, ChannelHeld, NoRoute, BookShort, Book, BookCircuit, BookLink, SendList, Halves, ChannelStopped, Requester}
 
 -- documents 01 and 02, the tables of refusals: "No."
 abbrev pub number_of : Refusal → ℕ
@@ -33,6 +33,7 @@ number_of Book = 25
 number_of BookCircuit = 26
 number_of BookLink = 27
 number_of SendList = 28
+number_of Halves = 29
 number_of ChannelStopped = 30
 number_of Requester = 31
 

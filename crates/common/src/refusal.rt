@@ -44,6 +44,8 @@ pub enum Refusal {
     BookLink = 27,
     // A job (document 02): a length that no list of sends has.
     SendList = 28,
+    // Two half cabinets (document 02): tables that cannot be joined.
+    Halves = 29,
     // A packet to a receive channel (document 02).
     ChannelStopped = 30,
     // The arbiter: a request or a record that is no requester.

@@ -12,7 +12,8 @@ use lib.Dec.{eqb, lit<}
 use lib.Bits.{bit_xor}
 use lib.Pow.{shl_exact, pow_mono}
 use borrow.Author.Tests.{eqb-true, eqb-false, lt-ltb}
-use Rattle.common.specs.Lists.{lowest, some_below}
+use Rattle.common.specs.Lists.{lowest}
+use Rattle.common.specs.SomeBelow.{some_below}
 use Rattle.common.proofs.Lowest.{lowest_here, lowest_skip}
 use Rattle.common.proofs.LowestBit.{lowest_set, lowest_least}
 use Rattle.common.proofs.Tests.{below_or, clash, is_false}

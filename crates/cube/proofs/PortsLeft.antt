@@ -8,7 +8,8 @@ use Prim.Native.Nat.{ℕ, ◌-◌, ◌^◌, ◌<◌}
 use native.Mathlib.Omega.{arith}
 use Rattle.std.specs.Prelude.{Some, None}
 use Rattle.common.specs.FirstAfter.{FirstAfter, round}
-use Rattle.common.specs.Lists.{keep, from, lowest, some_below}
+use Rattle.common.specs.Lists.{keep, from, lowest}
+use Rattle.common.specs.SomeBelow.{some_below}
 use Rattle.common.proofs.Lowest.{lowest_passes, lowest_before, lowest_found, some_is, none_is}
 use Rattle.common.proofs.Tests.{clash}
 use Rattle.cube.specs.Bits.{bit_at, has}

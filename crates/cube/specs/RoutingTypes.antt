@@ -7,19 +7,19 @@ use Rattle.cube.specs.declared.routing_type.RoutingType.{RoutingType}
 use Rattle.cube.specs.declared.routing_type.RoutingType.TheVariants.{Maze, Helix, Fixed, AlternateMaze}
 
 -- documents 01 and 02: the number of each type
-abbrev pub type_number : RoutingType → ℕ
-type_number Maze = 0
-type_number Helix = 1
-type_number Fixed = 3
-type_number AlternateMaze = 4
+abbrev pub routing_number : RoutingType → ℕ
+routing_number Maze = 0
+routing_number Helix = 1
+routing_number Fixed = 3
+routing_number AlternateMaze = 4
 
 -- a number read as a type: "routing type neither 0 nor 4", and since document 02, (b), neither 1 nor 3, is refused
 abbrev pub ReadsType : ℕ → Result RoutingType Refusal → Type 0
-ReadsType n (Ok type) = n ≡ type_number type
+ReadsType n (Ok type) = n ≡ routing_number type
 ReadsType n (Err e) = (e ≡ Refused.RoutingType) × (n ≢ 0) × (n ≢ 1) × (n ≢ 3) × (n ≢ 4)
 
 -- the type as which a number is sent: a number that is none of 1, 3 and 4 is sent as type 0
 pub record SentAs (n : ℕ) (type : RoutingType) : Type 0 where
-  pub fixed : eqb n 3 ≡ eqb (type_number type) 3
-  pub helix : eqb n 1 ≡ eqb (type_number type) 1
-  pub alternate : eqb n 4 ≡ eqb (type_number type) 4
+  pub fixed : eqb n 3 ≡ eqb (routing_number type) 3
+  pub helix : eqb n 1 ≡ eqb (routing_number type) 1
+  pub alternate : eqb n 4 ≡ eqb (routing_number type) 4

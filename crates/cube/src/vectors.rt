@@ -1,7 +1,8 @@
 // Where a port leads, and vectors of ports: bit p of a vector stands for port p. A vector, as a dimension, is a plain number whose bound stands in the contracts: the papers name three kinds,
 // nodes, ports and circuits.
 ghost use Rattle.std.specs.Prelude.{◌≡◌, true, ◌≤◌, ◌<◌};
-ghost use Rattle.common.specs.Lists.{lowest, some_below};
+ghost use Rattle.common.specs.Lists.{lowest};
+ghost use Rattle.common.specs.SomeBelow.{some_below};
 ghost use Rattle.cube.specs.Bits.{has};
 ghost use Rattle.cube.specs.Axes.{own_axes};
 ghost use Rattle.cube.specs.CubeContracts.{NodeCount, UphillVector, Without};

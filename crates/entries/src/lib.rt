@@ -7,7 +7,7 @@ ghost use Rattle.layout.specs.Layout.{table_length, dimension_at};
 ghost use Rattle.entries.specs.EntryContracts.{Within, enable_bits};
 
 use cube::{Circuit, Node};
-use layout::{Half, Links};
+use layout::{Links, Resource};
 
 #[tactic(auto, unfolding(layout::specs::Layout::dimension_at))]
 pub fn dimension(t: &[u8]) -> u16
@@ -19,7 +19,7 @@ pub fn dimension(t: &[u8]) -> u16
 
 // Whether a link is enabled, or a receive channel armed.
 #[tactic(auto, using(layout::proofs::Entries::within), unfolding(layout::specs::Layout::mask_at))]
-pub fn enabled<H: Half>(t: &[u8], n: Node, place: H::Place) -> bool
+pub fn enabled<H: Resource>(t: &[u8], n: Node, place: H::Place) -> bool
     requires { Within t.now n.0 (H.index place) }
     ensures { result ≡ H.enabled t.now n.0 (H.index place) }
 {
@@ -27,7 +27,7 @@ pub fn enabled<H: Half>(t: &[u8], n: Node, place: H::Place) -> bool
 }
 
 #[tactic(auto, unfolding(layout::specs::LayoutContracts::put_mask))]
-pub fn set_enabled<H: Half>(t: &mut [u8], n: Node, place: H::Place, on: bool)
+pub fn set_enabled<H: Resource>(t: &mut [u8], n: Node, place: H::Place, on: bool)
     requires { Within t.old n.0 (H.index place) }
     ensures { t.new ≡ H.put_enabled t.old n.0 (H.index place) on }
 {
@@ -45,7 +45,7 @@ pub fn enable_bits(t: &[u8], n: Node) -> u16
 
 // The circuit that holds a link or a receive channel: 0 where nobody does, as the bytes have it. An Option would be made of it here and taken apart at each comparison.
 #[tactic(auto, using(layout::proofs::Entries::within), unfolding(layout::specs::Layout::entry_at))]
-pub fn owner<H: Half>(t: &[u8], n: Node, place: H::Place) -> Circuit
+pub fn owner<H: Resource>(t: &[u8], n: Node, place: H::Place) -> Circuit
     requires { Within t.now n.0 (H.index place) }
     ensures { result.0 ≡ H.owner t.now n.0 (H.index place) }
 {
@@ -53,7 +53,7 @@ pub fn owner<H: Half>(t: &[u8], n: Node, place: H::Place) -> Circuit
 }
 
 #[tactic(auto, unfolding(layout::specs::LayoutContracts::put_entry))]
-pub fn set_owner<H: Half>(t: &mut [u8], n: Node, place: H::Place, c: Circuit)
+pub fn set_owner<H: Resource>(t: &mut [u8], n: Node, place: H::Place, c: Circuit)
     requires { Within t.old n.0 (H.index place) }
     ensures { t.new ≡ H.put_owner t.old n.0 (H.index place) c.0 }
 {

@@ -19,7 +19,7 @@ use Rattle.entries.specs.EntryContracts.{put_owner}
 use Rattle.table.specs.View.{view, net, shape_of}
 use Rattle.answers.specs.SendOnTable.{free_in}
 use Rattle.answers.specs.PassOnBytes.{hold_path}
-use Rattle.helix.specs.HelixContracts.{MayFollow, front_in, free_all, helix_in, link_free, hold_link, FreeFrontOf}
+use Rattle.helix.specs.HelixContracts.{MayFollow, front_in, free_all, helix_in, link_is_free, hold_link, FreeFrontOf}
 
 hold_links : (S : Shape) (c : ℕ) (b : List ℕ) (n : ℕ) (w : Path) → hold_path b c n w ≡ fold (hold_link c) b (links (network S) n w)
 unfolding hold_path links network
@@ -41,11 +41,11 @@ module _ {b : List ℕ} {s t p : ℕ} (may : MayFollow b s t p) where
   pub few_links : length (helix_links s t p) ≤ 9
   few_links = let long = ap length (sym its_links) ∙ length_links (net (view b)) s (helix_in b s t p) in omega (arith, long, few_path)
 
-  pub front : front_in b s (helix_in b s t p) ≡ prefix_len (link_free b) (helix_links s t p)
-  front = front_links (net (view b)) (free_in (view b)) s (helix_in b s t p) ∙ ap (prefix_len (link_free b)) its_links
+  pub front : front_in b s (helix_in b s t p) ≡ prefix_len (link_is_free b) (helix_links s t p)
+  front = front_links (net (view b)) (free_in (view b)) s (helix_in b s t p) ∙ ap (prefix_len (link_is_free b)) its_links
 
-  pub whole : free_all b s (helix_in b s t p) ≡ list_all (link_free b) (helix_links s t p)
-  whole = free_path_test (net (view b)) (free_in (view b)) s (helix_in b s t p) ∙ ap (list_all (link_free b)) its_links
+  pub whole : free_all b s (helix_in b s t p) ≡ list_all (link_is_free b) (helix_links s t p)
+  whole = free_path_test (net (view b)) (free_in (view b)) s (helix_in b s t p) ∙ ap (list_all (link_is_free b)) its_links
 
   pub held : (c : ℕ) → hold_path b c s (helix_in b s t p) ≡ fold (hold_link c) b (helix_links s t p)
   held c = hold_links (shape_of (view b)) c b s (helix_in b s t p) ∙ ap (fold (hold_link c) b) its_links
@@ -53,8 +53,8 @@ module _ {b : List ℕ} {s t p : ℕ} (may : MayFollow b s t p) where
 -- What holds while the front of a path is looked at, with some free hops behind it: the links still to come give the whole.
 pub record Looking (b : List ℕ) (links left : List Link) (hops : ℕ) : Type 0 where
   pub few : hops + length left ≤ 9
-  pub count : hops + prefix_len (link_free b) left ≡ prefix_len (link_free b) links
-  pub all : list_all (link_free b) left ≡ list_all (link_free b) links
+  pub count : hops + prefix_len (link_is_free b) left ≡ prefix_len (link_is_free b) links
+  pub all : list_all (link_is_free b) left ≡ list_all (link_is_free b) links
 
 pub looking_first : {b : List ℕ} {links left : List Link} → length links ≤ 9 → left ≡ links → Looking b links left 0
 looking_first few e = rw e (record { few = omega (arith, few); count = omega arith; all = refl })
@@ -68,12 +68,12 @@ module _ {b : List ℕ} {links left : List Link} {hops : ℕ} (inv : Looking b l
 
   -- the next one is free or not
   module _ {l : Link} {ls : List Link} (e : left ≡ l ∷ ls) where
-    pub looking_stopped : link_free b l ≡ false → FreeFrontOf b links hops false
+    pub looking_stopped : link_is_free b l ≡ false → FreeFrontOf b links hops false
     looking_stopped off =
         let inv : Looking b links (l ∷ ls) hops = rw (← e) inv in
         record { count = (let e = rw off at inv.count in omega arith); all = rw off at inv.all }
 
-    pub looking_on : link_free b l ≡ true → Looking b links ls (hops + 1)
+    pub looking_on : link_is_free b l ≡ true → Looking b links ls (hops + 1)
     looking_on on =
         let inv : Looking b links (l ∷ ls) hops = rw (← e) inv in
         record { few = (let few = inv.few in omega arith); count = (let e = rw on at inv.count in omega arith); all = rw on at inv.all }

@@ -28,10 +28,10 @@ use Rattle.layout.specs.Layout.{dimension_at}
 use Rattle.entries.specs.EntryContracts.{put_receiver}
 use Rattle.table.specs.View.{view, net, shape_of, receive}
 use Rattle.table.specs.TableContracts.{lowest_channel}
-use Rattle.answers.specs.SendOnTable.{free_in, pass_answer, answer_of_outcome}
+use Rattle.answers.specs.SendOnTable.{free_in, answer_on_bytes, answer_of_outcome}
 use Rattle.answers.specs.PassOnBytes.{hold_path}
 use Rattle.answers.specs.SendAnswer.{bytes_after_send, send_answer, searched, MaySend}
-use Rattle.helix.specs.HelixContracts.{MayFollow, front_in, free_all, helix_in, link_free, hold_link, FreeFrontOf, tried_in, MayTryPaths, FreePathFound}
+use Rattle.helix.specs.HelixContracts.{MayFollow, front_in, free_all, helix_in, link_is_free, hold_link, FreeFrontOf, tried_in, MayTryPaths, FreePathFound}
 use Rattle.answers.proofs.PassOnBytes.{receive_small}
 use Rattle.answers.proofs.SendAnswer.{ports_in_turn}
 use Rattle.helix.proofs.Following.{few_links, few_path, front, whole, held}
@@ -89,10 +89,10 @@ module _ {b : List ℕ} {s t vector sent : ℕ} {left : List ℕ} (inv : PathsTr
 
       module _ {hops : ℕ} {free : Bool} (looked : FreeFrontOf b links hops free) where
         hops_are : hops ≡ front_in b s (helix_in b s t p)
-        hops_are = looked.count ∙ ap (prefix_len (link_free b)) path ∙ sym (front port_follows)
+        hops_are = looked.count ∙ ap (prefix_len (link_is_free b)) path ∙ sym (front port_follows)
 
         all_are : free_all b s (helix_in b s t p) ≡ free
-        all_are = whole port_follows ∙ ap (list_all (link_free b)) (sym path) ∙ sym looked.all
+        all_are = whole port_follows ∙ ap (list_all (link_is_free b)) (sym path) ∙ sym looked.all
 
         whole_order : tried_after b s t sent (p ∷ ps) ≡ tried_in b s t vector
         whole_order = ap (tried_after b s t sent) (sym e) ∙ inv.rest
@@ -129,7 +129,7 @@ module _ {b : List ℕ} {s t c vector : ℕ} (may : MaySend b s t c vector) wher
   helix_send x e = ap (send_answer true b c s t) (helix_answers_lem (shape_of (view b)) (free_in (view b)) (receive (view b) t) s vector t ∙ ap (one_result (receive (view b) t)) e)
 
   -- none is free
-  pub helix_none : {sent : ℕ} → tried_in b s t vector ≡ none sent → pass_answer 10 0 0 sent b ≡ searched b s t c 1 vector
+  pub helix_none : {sent : ℕ} → tried_in b s t vector ≡ none sent → answer_on_bytes 10 0 0 sent b ≡ searched b s t c 1 vector
   unfolding send_answer bytes_after_send answer_of_outcome outcome scouts
   helix_none {sent} e = sym (helix_send (none sent) e)
 
@@ -145,7 +145,7 @@ module _ {b : List ℕ} {s t c vector : ℕ} (may : MaySend b s t c vector) wher
     unfolding r receive lowest_of lowest_channel
     none_there z = rw (← low, eq-eqb k 8 z)
 
-    pub helix_full : k ≡ channels → pass_answer 11 0 0 sent b ≡ searched b s t c 1 vector
+    pub helix_full : k ≡ channels → answer_on_bytes 11 0 0 sent b ≡ searched b s t c 1 vector
     unfolding send_answer bytes_after_send answer_of_outcome outcome outcome_of_path scouts
     helix_full z = sym (path_sent ∙ rw (none_there z))
 
@@ -157,7 +157,7 @@ module _ {b : List ℕ} {s t c vector : ℕ} (may : MaySend b s t c vector) wher
       pub channel_small : k < channels
       channel_small = receive_small (view b) t k (unfold r in channel_is)
 
-      pub helix_taken : {b₁ b₂ : List ℕ} → b₁ ≡ fold (hold_link c) b links → b₂ ≡ put_receiver b₁ t k c → pass_answer 0 hops k sent b₂ ≡ searched b s t c 1 vector
+      pub helix_taken : {b₁ b₂ : List ℕ} → b₁ ≡ fold (hold_link c) b links → b₂ ≡ put_receiver b₁ t k c → answer_on_bytes 0 hops k sent b₂ ≡ searched b s t c 1 vector
       unfolding send_answer bytes_after_send answer_of_outcome outcome outcome_of_path scouts
       helix_taken {b₁} now taken =
           let path : b₁ ≡ hold_path b c s (helix_in b s t got.port) = now ∙ ap (fold (hold_link c) b) got.links_of ∙ sym (held path_follows c) in

@@ -37,16 +37,16 @@ abbrev pub helix_in : List ℕ → ℕ → ℕ → ℕ → Path
 helix_in b n t p = helix_path (net (view b)) n t p
 
 -- whether a link is free, and the bytes after it is given to circuit c
-abbrev pub link_free : List ℕ → Link → Bool
-link_free b l = free_in (view b) l.0 l.1
+abbrev pub link_is_free : List ℕ → Link → Bool
+link_is_free b l = free_in (view b) l.0 l.1
 
 abbrev pub hold_link : ℕ → List ℕ → Link → List ℕ
 hold_link c b l = put_owner b l.0 l.1 c
 
 -- how many links of a path are free at its front, and whether all of them are
 pub record FreeFrontOf (b : List ℕ) (links : List Link) (hops : ℕ) (whole : Bool) : Type 0 where
-  pub count : hops ≡ prefix_len (link_free b) links
-  pub all : whole ≡ list_all (link_free b) links
+  pub count : hops ≡ prefix_len (link_is_free b) links
+  pub all : whole ≡ list_all (link_is_free b) links
 
 -- what going along it answers: its hops where it is free, and else the free hops at its front
 abbrev pub FrontLooked : List ℕ → List Link → Result ℕ ℕ → Type 0

@@ -6,7 +6,7 @@ ghost use Rattle.std.specs.Prelude.{◌≡◌, ◌≢◌, ◌≤◌, length};
 ghost use Rattle.std.specs.List.{fold};
 ghost use Rattle.layout.specs.Layout.{table_length};
 ghost use Rattle.paths.specs.LinksLeft.{links_left};
-ghost use Rattle.answers.specs.Opens.{opened_answer};
+ghost use Rattle.answers.specs.PassOnBytes.{opened_answer};
 ghost use Rattle.answers.specs.SendAnswer.{MaySend, searched};
 ghost use Rattle.helix.specs.HelixContracts.{hold_link, FrontLooked, MayTryPaths, FirstFree};
 
@@ -90,7 +90,7 @@ pub fn try_each(
     ensures { opened_answer result t.new ≡ searched t.old request.source.0 request.target.0 request.circuit.0 1 request.vector }
 {
     let free = first_free(t, request, first)?;
-    let receive = table::free_channel(t, request.target).ok_or(Rejected {
+    let receive = table::available_channel(t, request.target).ok_or(Rejected {
         refusal: Refusal::ReceiveRejected,
         scouts: free.scouts,
     })?;

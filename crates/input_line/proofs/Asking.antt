@@ -15,7 +15,7 @@ use lib.Seq.{drop-cons}
 use borrow.Author.Tests.{eq-eqb, ne_eqb, le-leb, lt-leb}
 use Rattle.common.proofs.Tests.{same?}
 use Rattle.ownership.specs.Calls.{Call, making, blocking, unblocking, opening, closing, arming, disarming}
-use Rattle.text.specs.Text.{space, number}
+use Rattle.text.specs.Text.{space, field_number}
 use Rattle.text.specs.Lines.{on_first, cut, fields}
 use Rattle.input_line.specs.Line.{letter_b, letter_c, letter_d, letter_e, letter_f, letter_r, letter_s, in_front, numbers, numbers_of, asked, by_letter, with_numbers, of_fields, longest, asks}
 use Rattle.text.proofs.Reading.{IfRead, number_small}
@@ -38,11 +38,11 @@ joined_more ns n (some ms) = ap some (sym (append_assoc ns (n ∷ []) ms))
 
 -- a field that is no number, one that is, and none
 module _ (fs : List (List ℕ)) (ns : List ℕ) (k : ℕ) (inside : k < length fs) where
-  pub numbers_none : number (get_or fs k []) ≡ none → joined ns (numbers (drop k fs)) ≡ none
+  pub numbers_none : field_number (get_or fs k []) ≡ none → joined ns (numbers (drop k fs)) ≡ none
   unfolding numbers in_front joined
   numbers_none e = rw (drop-cons fs k [] inside, e)
 
-  pub numbers_more : (n : ℕ) → number (get_or fs k []) ≡ some n → joined ns (numbers (drop k fs)) ≡ joined (ns ++ n ∷ []) (numbers (drop (k + 1) fs))
+  pub numbers_more : (n : ℕ) → field_number (get_or fs k []) ≡ some n → joined ns (numbers (drop k fs)) ≡ joined (ns ++ n ∷ []) (numbers (drop (k + 1) fs))
   unfolding numbers
   numbers_more n e = rw (add-one k, drop-cons fs k [] inside, e) (joined_more ns n (numbers (drop (suc k) fs)))
 
@@ -91,7 +91,7 @@ pub numbers_hold : (P : List (List ℕ) → List ℕ → Type 0) → P [] []
     → (fs : List (List ℕ)) → IfRead (P fs) (numbers fs)
 unfolding numbers in_front
 numbers_hold P nil more [] = nil
-numbers_hold P nil more (f ∷ fs) = go (number f) (numbers fs) (number_small f) (numbers_hold P nil more fs)
+numbers_hold P nil more (f ∷ fs) = go (field_number f) (numbers fs) (number_small f) (numbers_hold P nil more fs)
   where
     go : (o : Option ℕ) (m : Option (List ℕ)) → IfRead (λ n. n < 65536) o → IfRead (P fs) m → IfRead (P (f ∷ fs)) (in_front o m)
     go none m h p = tt

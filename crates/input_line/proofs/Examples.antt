@@ -3,7 +3,7 @@
 use Rattle.std.specs.Prelude.{◌≡◌, refl, [], ◌∷◌, map}
 use Rattle.std.proofs.Math.Option.{some}
 use Rattle.ownership.specs.Calls.{making, blocking, unblocking, opening, closing, arming, disarming}
-use Rattle.text.specs.Text.{all_digits, value, leading_zero, number}
+use Rattle.text.specs.Text.{all_digits, value, leading_zero, field_number}
 use Rattle.text.specs.Lines.{on_first, cut, fields}
 use Rattle.input_line.specs.Line.{in_front, numbers, numbers_of, asked, by_letter, with_numbers, of_fields, asks}
 
@@ -28,5 +28,5 @@ letters_asked :
     ∷ [])
     ≡ some (making 10) ∷ some (blocking 11 12) ∷ some (unblocking 13 14) ∷ some (opening 1 2 3 4 5) ∷ some (closing 15 16) ∷ some (arming 17 18)
     ∷ some (disarming 19 20) ∷ []
-unfolding all_digits value leading_zero number on_first cut fields in_front numbers numbers_of asked by_letter with_numbers of_fields asks
+unfolding all_digits value leading_zero field_number on_first cut fields in_front numbers numbers_of asked by_letter with_numbers of_fields asks
 letters_asked = refl

@@ -14,7 +14,7 @@ use Rattle.text.specs.Text.{space, decimal}
 use Rattle.input_line.specs.Line.{in_front, numbers, numbers_of, asked, by_letter, with_numbers, of_fields, longest, asks}
 use Rattle.text.specs.Row.{spaced}
 use Rattle.text.specs.Above.{Above, AllAbove}
-use Rattle.input_line.specs.Sentences.{line_of, CanBeGiven}
+use Rattle.input_line.specs.Sentences.{call_line, CanBeGiven}
 use Rattle.text.proofs.Fields.{five_digits}
 use Rattle.text.proofs.ReadBack.{reads_back}
 use Rattle.text.proofs.Separated.{fields_spaced, above_decimal}
@@ -39,8 +39,8 @@ line_length_lem f (n ∷ ns) h =
     (let l = line_length_lem (decimal n) ns h.1 in let d = five_digits n (let p = h.0 in omega arith) in omega arith)
 
 -- a line of a letter and at most five numbers asks for the call of that letter with these numbers
-line_asks : (x : ℕ) (ns : List ℕ) → space < x → length ns ≤ 5 → CanBeGiven ns → asks (line_of x ns) ≡ by_letter x ns
-unfolding AllAbove line_of asks of_fields with_numbers
+line_asks : (x : ℕ) (ns : List ℕ) → space < x → length ns ≤ 5 → CanBeGiven ns → asks (call_line x ns) ≡ by_letter x ns
+unfolding AllAbove call_line asks of_fields with_numbers
 line_asks x ns a h g =
     let short : length (spaced ((x ∷ []) ∷ map decimal ns)) ≤ longest = let l = line_length_lem (x ∷ []) ns g in omega arith in
     rw (le-leb _ longest short, fields_spaced (x ∷ []) (map decimal ns) (above, above_given ns), numbers_given ns g)
@@ -49,32 +49,32 @@ line_asks x ns a h g =
     above = unfold Above in (a, tt)
 
 -- "`F D` make, `B node port` block, `E node port` unblock, `S node channel target type vector` open, `C node channel` close"
-pub asks_make : (D : ℕ) → CanBeGiven (D ∷ []) → asks (line_of 70 (D ∷ [])) ≡ some (making D)
+pub asks_make : (D : ℕ) → CanBeGiven (D ∷ []) → asks (call_line 70 (D ∷ [])) ≡ some (making D)
 unfolding numbers_of asked by_letter
 asks_make D h = line_asks 70 (D ∷ []) (lit< tt) (lit≤ tt) h
 
-pub asks_block : (node port : ℕ) → CanBeGiven (node ∷ port ∷ []) → asks (line_of 66 (node ∷ port ∷ [])) ≡ some (blocking node port)
+pub asks_block : (node port : ℕ) → CanBeGiven (node ∷ port ∷ []) → asks (call_line 66 (node ∷ port ∷ [])) ≡ some (blocking node port)
 unfolding numbers_of asked by_letter
 asks_block node port h = line_asks 66 (node ∷ port ∷ []) (lit< tt) (lit≤ tt) h
 
-pub asks_unblock : (node port : ℕ) → CanBeGiven (node ∷ port ∷ []) → asks (line_of 69 (node ∷ port ∷ [])) ≡ some (unblocking node port)
+pub asks_unblock : (node port : ℕ) → CanBeGiven (node ∷ port ∷ []) → asks (call_line 69 (node ∷ port ∷ [])) ≡ some (unblocking node port)
 unfolding numbers_of asked by_letter
 asks_unblock node port h = line_asks 69 (node ∷ port ∷ []) (lit< tt) (lit≤ tt) h
 
 pub asks_open : (node channel target type vector : ℕ) → CanBeGiven (node ∷ channel ∷ target ∷ type ∷ vector ∷ [])
-    → asks (line_of 83 (node ∷ channel ∷ target ∷ type ∷ vector ∷ [])) ≡ some (opening node channel target type vector)
+    → asks (call_line 83 (node ∷ channel ∷ target ∷ type ∷ vector ∷ [])) ≡ some (opening node channel target type vector)
 unfolding numbers_of asked by_letter
 asks_open node channel target type vector h = line_asks 83 (node ∷ channel ∷ target ∷ type ∷ vector ∷ []) (lit< tt) (lit≤ tt) h
 
-pub asks_close : (node channel : ℕ) → CanBeGiven (node ∷ channel ∷ []) → asks (line_of 67 (node ∷ channel ∷ [])) ≡ some (closing node channel)
+pub asks_close : (node channel : ℕ) → CanBeGiven (node ∷ channel ∷ []) → asks (call_line 67 (node ∷ channel ∷ [])) ≡ some (closing node channel)
 unfolding numbers_of asked by_letter
 asks_close node channel h = line_asks 67 (node ∷ channel ∷ []) (lit< tt) (lit≤ tt) h
 
 -- document 02, (a): "`R node channel` arm and `D node channel` disarm"
-pub asks_arm : (node channel : ℕ) → CanBeGiven (node ∷ channel ∷ []) → asks (line_of 82 (node ∷ channel ∷ [])) ≡ some (arming node channel)
+pub asks_arm : (node channel : ℕ) → CanBeGiven (node ∷ channel ∷ []) → asks (call_line 82 (node ∷ channel ∷ [])) ≡ some (arming node channel)
 unfolding numbers_of asked by_letter
 asks_arm node channel h = line_asks 82 (node ∷ channel ∷ []) (lit< tt) (lit≤ tt) h
 
-pub asks_disarm : (node channel : ℕ) → CanBeGiven (node ∷ channel ∷ []) → asks (line_of 68 (node ∷ channel ∷ [])) ≡ some (disarming node channel)
+pub asks_disarm : (node channel : ℕ) → CanBeGiven (node ∷ channel ∷ []) → asks (call_line 68 (node ∷ channel ∷ [])) ≡ some (disarming node channel)
 unfolding numbers_of asked by_letter
 asks_disarm node channel h = line_asks 68 (node ∷ channel ∷ []) (lit< tt) (lit≤ tt) h

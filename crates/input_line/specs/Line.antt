@@ -3,7 +3,7 @@
 use Rattle.std.specs.Prelude.{cond, List, [], ◌∷◌, ℕ, eqb, leb, length, get_or}
 use Rattle.std.proofs.Math.Option.{Option, none, some}
 use Rattle.ownership.specs.Calls.{Call, making, blocking, unblocking, opening, closing, arming, disarming}
-use Rattle.text.specs.Text.{number}
+use Rattle.text.specs.Text.{field_number}
 use Rattle.text.specs.Lines.{fields}
 
 -- the call letters
@@ -36,7 +36,7 @@ in_front (some n) (some ns) = some (n ∷ ns)
 
 unfoldable pub numbers : List (List ℕ) → Option (List ℕ)
 numbers [] = some []
-numbers (f ∷ fs) = in_front (number f) (numbers fs)
+numbers (f ∷ fs) = in_front (field_number f) (numbers fs)
 
 -- "`F D` make, `B node port` block, `E node port` unblock, `S node channel target type vector` open, `C node channel` close"; document 02, (a):
 -- "`R node channel` arm and `D node channel` disarm". How many numbers stand behind a call letter, 0 behind another byte, and the call that a letter

@@ -20,13 +20,14 @@ use Rattle.answers.specs.declared.Acknowledged.{Acknowledged}
 use Rattle.answers.specs.declared.Rejected.{Rejected}
 use Rattle.answers.specs.declared.Opening.{Opening}
 use Rattle.common.specs.declared.refusal.Refusal.{Refusal}
-use Rattle.answers.specs.Opens.{opened_answer}
+use Rattle.answers.specs.PassOnBytes.{opened_answer}
 use Rattle.std.proofs.Common.{Result, Ok, Err}
 use Rattle.answers.specs.SendAnswer.{MaySend, sent_on_bytes}
 use Rattle.ownership.specs.Sends.{Send, send_at, sends_in}
 use Rattle.ownership.specs.Calls.{Call, opening, opening_all, opening_of, call_tests, After}
 use Rattle.ownership.specs.InTurn.{Job, one_more, ends_with, in_turn, after_job}
-use Rattle.ownership.specs.OnTable.{facts_of, stopped_at, table_step, opens_on, done}
+use Rattle.ownership.specs.OnTable.{facts_of, stopped_at, table_step, done}
+use Rattle.ownership.specs.JobSays.{opens_on}
 use Rattle.ownership.proofs.InTurn.{turn_accepted, turn_refused}
 use Rattle.ownership.proofs.Steps.{table_step_lem}
 use Rattle.ownership.proofs.FromTable.{keeps_sound}

@@ -6,7 +6,7 @@ use Rattle.answers.specs.declared.Opening.{Opening}
 use Rattle.soundness.specs.TableTests.{table_tests}
 use Rattle.ownership.specs.Sends.{Send, send_at}
 use Rattle.ownership.specs.InTurn.{Job}
-use Rattle.ownership.specs.OnTable.{opens_on}
+use Rattle.ownership.specs.JobSays.{opens_on}
 
 -- one send of a list: the number that it answers, and the bytes that it leaves
 pub record OpenedAt (b sends : List ℕ) (i number : ℕ) (after : List ℕ) : Type 0 where

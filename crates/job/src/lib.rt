@@ -8,7 +8,8 @@ ghost use Rattle.soundness.specs.TableTests.{table_tests};
 ghost use Rattle.ownership.specs.Sends.{send_at, sends_in};
 ghost use Rattle.ownership.specs.Calls.{opening_all};
 ghost use Rattle.ownership.specs.InTurn.{in_turn};
-ghost use Rattle.ownership.specs.OnTable.{table_step, opens_on, done};
+ghost use Rattle.ownership.specs.OnTable.{table_step, done};
+ghost use Rattle.ownership.specs.JobSays.{opens_on};
 ghost use Rattle.job.specs.JobValues.{job_number, job_sends};
 ghost use Rattle.job.specs.JobContracts.{MayOpen, OpenedAt, job_of, read_as};
 

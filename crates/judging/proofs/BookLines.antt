@@ -15,7 +15,7 @@ use Rattle.std.proofs.lemmas.List.Folds.{list_all-map}
 use Rattle.common.specs.Lists.{◌∈◌}
 use Rattle.common.proofs.Tests.{both}
 use Rattle.cube.specs.Cube.{source_of}
-use Rattle.book.specs.Lookup.{IndexLine, lines, line_fits, lines_fit, well_formed, ports_of_line}
+use Rattle.book.specs.Lookup.{IndexLine, index_lines, line_fits, lines_fit, well_formed, ports_of_line}
 use Rattle.book.proofs.Lines.{line_fits_lem, at_most, formed}
 use Rattle.judging.specs.Judged.{JudgeFacts, circuit_on, in_cube, circuit_fits}
 use Rattle.judging.specs.JudgeContracts.{LineInside, LinesInside, LineInCube, LinesInCube}
@@ -40,8 +40,8 @@ module _ (ports : List ℕ) where
       ⊎_elim (λ q. subst (LineInside ports) (sym q) here) (all_inside y.number (at + y.hops) total xs r.1 h x) (Memᴰ.cases_cons m)
 
   -- so it is with a well-formed book
-  pub lines_inside : (index : List ℕ) (circuits hops : ℕ) → well_formed ports index circuits hops ≡ true → LinesInside ports (lines circuits index)
-  lines_inside index circuits hops e = let f = formed ports index circuits hops e in all_inside 0 0 hops (lines circuits index) f.2 f.1
+  pub lines_inside : (index : List ℕ) (circuits hops : ℕ) → well_formed ports index circuits hops ≡ true → LinesInside ports (index_lines circuits index)
+  lines_inside index circuits hops e = let f = formed ports index circuits hops e in all_inside 0 0 hops (index_lines circuits index) f.2 f.1
 
   -- a circuit that fits has its source and its ports in the cube,
   line_in_cube : (a : JudgeFacts) (x : IndexLine) → LineInside ports x → circuit_fits a (circuit_on ports x) ≡ true → LineInCube a.dimension ports x

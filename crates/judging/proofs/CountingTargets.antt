@@ -36,14 +36,14 @@ counts_more counts before t small k =
     go u l (inr f) = rw (get_or-set_other counts t u (get_or counts t 0 + 1) 0 f, keep_no (eqb u) t before (ne_eqb u t f)) (k.count u l)
 
 -- The counts are those of some targets, behind which the targets left fit where all fit.
-pub record Counting (available : ℕ → ℕ → Bool) (counts left all : List ℕ) : Type 0 where
+pub record CountingLeft (available : ℕ → ℕ → Bool) (counts left all : List ℕ) : Type 0 where
   pub before : List ℕ
   pub counted : CountsTargets counts before
   pub fits : targets_fit available before left ≡ targets_fit available [] all
 
 module _ {available : ℕ → ℕ → Bool} {counts all : List ℕ} where
   -- before the first target all counts are zero
-  pub counting_none : counts ≡ replicate 256 0 → Counting available counts all all
+  pub counting_none : counts ≡ replicate 256 0 → CountingLeft available counts all all
   unfolding keep
   counting_none e =
       record {
@@ -52,14 +52,14 @@ module _ {available : ℕ → ℕ → Bool} {counts all : List ℕ} where
         fits = refl;
       }
 
-  module _ {t c : ℕ} {rest : List ℕ} (small : t < 256) (room : c ≡ length (keep (available t) (from 0 channels))) (k : Counting available counts (t ∷ rest) all) where
+  module _ {t c : ℕ} {rest : List ℕ} (small : t < 256) (room : c ≡ length (keep (available t) (from 0 channels))) (k : CountingLeft available counts (t ∷ rest) all) where
     -- the next target fits where fewer were counted there than it has room for, and then the others decide
     next_fits : targets_fit available [] all ≡ (ltb (get_or counts t 0) c && targets_fit available (t ∷ k.before) rest)
     unfolding targets_fit
     next_fits = sym k.fits ∙ rw (k.counted.count t small, room)
 
     -- a target with room for a circuit more is counted
-    pub counting_next : {after : List ℕ} → true ≡ ltb (get_or counts t 0) c → after ≡ set counts t (get_or counts t 0 + 1) → Counting available after rest all
+    pub counting_next : {after : List ℕ} → true ≡ ltb (get_or counts t 0) c → after ≡ set counts t (get_or counts t 0 + 1) → CountingLeft available after rest all
     counting_next h e =
         record {
           before = t ∷ k.before;
@@ -72,7 +72,7 @@ module _ {available : ℕ → ℕ → Bool} {counts all : List ℕ} where
     counting_full h = sym (next_fits ∙ rw (← h))
 
   -- Where none is left, all fit.
-  pub counting_all : {left : List ℕ} → left ≡ [] → Counting available counts left all → true ≡ targets_fit available [] all
+  pub counting_all : {left : List ℕ} → left ≡ [] → CountingLeft available counts left all → true ≡ targets_fit available [] all
   unfolding targets_fit
   counting_all e k = (rw e at k.fits)
 

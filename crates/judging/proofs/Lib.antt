@@ -6,7 +6,6 @@ pub mod BookLines
 pub mod Judging
 pub mod LeadsTo
 pub mod CubeLines
-pub mod FreeLinks
 pub mod UsingLinks
 pub mod CountingTargets
 pub mod PermittedTest

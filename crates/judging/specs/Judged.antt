@@ -12,7 +12,7 @@ use Rattle.table.specs.View.{View, available}
 use Rattle.answers.specs.SendOnTable.{free_in}
 use Rattle.circuit_path.specs.OpenCircuit.{is_open_in}
 use Rattle.book.specs.Book.{BookCircuit}
-use Rattle.book.specs.Lookup.{IndexLine, lines, ports_of_line, well_formed}
+use Rattle.book.specs.Lookup.{IndexLine, index_lines, ports_of_line, well_formed}
 
 -- what judging asks of whatever a book is judged against
 pub record JudgeFacts : Type 0 where
@@ -41,7 +41,7 @@ abbrev pub circuit_on : List ℕ → IndexLine → BookCircuit
 circuit_on ports x = record { number = x.number; ports = ports_of_line ports x }
 
 abbrev pub circuits_in : (ports index : List ℕ) (circuits : ℕ) → List BookCircuit
-circuits_in ports index circuits = map (circuit_on ports) (lines circuits index)
+circuits_in ports index circuits = map (circuit_on ports) (index_lines circuits index)
 
 -- the links of a circuit's path, and its target, the node where its ports lead
 abbrev pub links_in : Network → BookCircuit → List Link
@@ -55,7 +55,7 @@ unfoldable pub goes_on : Network → ℕ → ℕ → Path → Bool
 goes_on N t n [] = eqb n t
 goes_on N t n (p ∷ w) = not (eqb n t) && (N.offers t n p && goes_on N t (N.next n p) w)
 
--- behind a first hop over whatever port, as a path is permitted for some send vector
+-- "a permitted path for some send vector": the first hop may be over any port, since some send vector has it
 unfoldable pub is_permitted : Network → ℕ → ℕ → Path → Bool
 is_permitted N s t [] = false
 is_permitted N s t (p ∷ w) = goes_on N t (N.next s p) w

@@ -10,6 +10,7 @@ ghost use Rattle.book.specs.BookContracts.{lines_left};
 ghost use Rattle.judging.specs.Judged.{circuit_on, links_fit, all_links};
 ghost use Rattle.judging.specs.JudgeContracts.{LinesInCube, UsesLinks, marks_with};
 
+use answers::LinkState;
 use book::IndexLines;
 use cube::{Circuit, Node, Port};
 use table::{CubeTable, Links};
@@ -42,15 +43,6 @@ impl UsedLinks {
     }
 }
 
-// Whether the link out of a port is free.
-#[tactic(auto, using(crate::proofs::FreeLinks::free_is), unfolding(table::specs::View::view))]
-fn is_free(table: CubeTable, n: Node, p: Port) -> bool
-    requires { NodeOf (dimension_at table.bytes.now) n.0 × (p.0 < dimension_at table.bytes.now) }
-    ensures { result ≡ free_in (view table.entry.bytes.now) n.0 p.0 }
-{
-    table::enabled::<Links>(table.bytes, n, p) && table::owner::<Links>(table.bytes, n, p).0 == 0
-}
-
 // Uses the links of a path one after another; false where one is not free or was used before.
 fn use_path(table: CubeTable, used: &mut UsedLinks, source: Node, path: &[u8]) -> bool
     requires inside { NodeOf (dimension_at table.bytes.now) source.0 }
@@ -60,7 +52,11 @@ fn use_path(table: CubeTable, used: &mut UsedLinks, source: Node, path: &[u8]) -
     let mut at = source;
     for port in path {
         let p = Port(u16::from(*port));
-        if !is_free(table, at, p) || !used.use_link(at, p) {
+        let enabled = table::enabled::<Links>(table.bytes, at, p);
+        let LinkState::Free = answers::link_state(table.bytes, at, p, enabled) else {
+            return false;
+        };
+        if !used.use_link(at, p) {
             return false;
         }
         at = cube::neighbour(at, p);

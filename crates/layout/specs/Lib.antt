@@ -1,4 +1,4 @@
 -- The bytes of a table: where each value lies in them, and how it is read there.
 pub mod Layout
 pub mod LayoutContracts
-pub mod Halves
+pub mod Resources

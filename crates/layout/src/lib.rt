@@ -7,7 +7,7 @@ ghost use Rattle.cube.specs.Bits.{has, with_bit};
 ghost use Rattle.cube.specs.Cube.{port_count};
 ghost use Rattle.layout.specs.Layout.{table_length, word_at, mask_place, enable_part, arm_part, entry_place, link_part, receive_part, enabled_at, armed_at, owner_at, receiver_at};
 ghost use Rattle.layout.specs.LayoutContracts.{put_word, put_enabled, put_armed, put_owner, put_receiver, node_rows, RunOr, RowVector, row_count};
-ghost use Rattle.layout.specs.Halves.{HalfLaws, links_laws, channels_laws};
+ghost use Rattle.layout.specs.Resources.{ResourceLaws, links_laws, channels_laws};
 
 use cube::{Circuit, Node, Port};
 
@@ -64,9 +64,9 @@ pub fn put_bit(t: &mut [u8], at: usize, k: u16, on: bool)
     }
 }
 
-// The two halves of a table: links, and receive channels. Each has a byte for each node that says which of its eight may be taken (links enabled, channels armed), and a row
+// What circuits hold: links, and receive channels. Each has a byte for each node that says which of its eight may be taken (links enabled, channels armed), and a row
 // for each node that says which circuit holds each of them (0: nobody).
-pub trait Half {
+pub trait Resource {
     // One of a node's eight: a port, or the number of a receive channel.
     type Place: Copy;
 
@@ -93,12 +93,12 @@ pub trait Half {
     fn index(place: Self::Place) -> u16
         ensures { result ≡ index place };
 
-    ghost laws: { HalfLaws MASKS ROWS enabled owner put_enabled put_owner };
+    ghost laws: { ResourceLaws MASKS ROWS enabled owner put_enabled put_owner };
 }
 
 pub struct Links;
 
-impl Half for Links {
+impl Resource for Links {
     type Place = Port;
 
     const MASKS: usize = ENABLE;
@@ -128,7 +128,7 @@ impl Half for Links {
 
 pub struct Channels;
 
-impl Half for Channels {
+impl Resource for Channels {
     type Place = u16;
 
     const MASKS: usize = ARMS;
@@ -156,14 +156,14 @@ impl Half for Channels {
     }
 }
 
-pub fn mask_place<H: Half>(n: Node) -> usize
+pub fn mask_place<H: Resource>(n: Node) -> usize
     requires { n.0 < 256 }
     ensures { (result ≡ mask_place H.MASKS n.0) × (result < table_length) }
 {
     H::MASKS + usize::from(n.0)
 }
 
-pub fn entry_place<H: Half>(n: Node, place: H::Place) -> usize
+pub fn entry_place<H: Resource>(n: Node, place: H::Place) -> usize
     requires { (n.0 < 256) × (H.index place < port_count) }
     ensures { (result ≡ entry_place H.ROWS n.0 (H.index place)) × (result + 1 < table_length) }
 {
@@ -171,7 +171,7 @@ pub fn entry_place<H: Half>(n: Node, place: H::Place) -> usize
 }
 
 // The rows of so many nodes from one on.
-pub fn node_rows<H: Half>(t: &[u8], n: Node, nodes: u16) -> &[u8]
+pub fn node_rows<H: Resource>(t: &[u8], n: Node, nodes: u16) -> &[u8]
     requires { (length t.now ≡ table_length) × (n.0 + nodes ≤ 256) × (0 < nodes) }
     ensures { result.now ≡ node_rows H.ROWS t.now n.0 nodes }
 {
@@ -180,7 +180,7 @@ pub fn node_rows<H: Half>(t: &[u8], n: Node, nodes: u16) -> &[u8]
 }
 
 // The row of one node.
-pub fn node_row<H: Half>(t: &[u8], n: Node) -> &[u8; ROW]
+pub fn node_row<H: Resource>(t: &[u8], n: Node) -> &[u8; ROW]
     requires { (length t.now ≡ table_length) × (n.0 < 256) }
     ensures { result.now ≡ node_rows H.ROWS t.now n.0 1 }
 {

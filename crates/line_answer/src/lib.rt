@@ -4,18 +4,18 @@
 ghost use Rattle.std.specs.Prelude.{◌≡◌, List, ℕ, ◌+◌, ◌≤◌, length};
 ghost use Rattle.ownership.specs.OnTable.{table_step};
 ghost use Rattle.text.specs.Row.{nothing, shows, row, row_text};
-ghost use Rattle.text.specs.Written.{row_of};
+ghost use Rattle.text.specs.Written.{Wrote, row_of};
 ghost use Rattle.input_line.specs.Line.{asks};
 ghost use Rattle.input_line.specs.ReadLine.{call_of};
-ghost use Rattle.printed_line.specs.PrintedLine.{zero_buffer, row_for};
+ghost use Rattle.printed_line.specs.PrintedLine.{unreadable, zero_buffer, row_for};
 ghost use Rattle.printed_line.specs.LineContracts.{Answered};
 ghost use Rattle.line_answer.specs.LineWritten.{WroteLine};
 
-use common::refusal::{self, Refusal};
+use common::refusal;
 use cube::{Node, Port};
 use input_line::Asked;
-use text::row;
 use text::row::{Field, Row};
+use text::{put, row};
 
 // The line of a call that shows a node and a port.
 fn of_port(line: u16, letter: u8, answer: u16, node: Node, port: Port) -> Row
@@ -30,13 +30,10 @@ fn of_port(line: u16, letter: u8, answer: u16, node: Node, port: Port) -> Row
 }
 
 // Carries out what a line asks, and gives the fields of its printed line; the ports of a path are left in the buffer.
-fn carry_out(t: &mut [u8], line: u16, asked: Option<Asked>, ports: &mut [u8]) -> Row
+fn carry_out(t: &mut [u8], line: u16, asked: Asked, ports: &mut [u8]) -> Row
     requires { ports.old ≡ zero_buffer }
-    ensures { Answered t.old line (call_of asked) ports.new result t.new }
+    ensures { Answered t.old line (call_of (Some asked)) ports.new result t.new }
 {
-    let Some(asked) = asked else {
-        return row::answer_alone(line, Refusal::UnreadableLine.number());
-    };
     match asked {
         Asked::Make(dimension) => {
             let answer = refusal::answer(router::make(t, dimension));
@@ -69,12 +66,26 @@ fn carry_out(t: &mut [u8], line: u16, asked: Option<Asked>, ports: &mut [u8]) ->
     }
 }
 
+// Writes the printed line of an input line that cannot be read. Behind its number it is the same for each, so it is not put together field by field.
+// Not inlined, for speed: written within `answer` it costs each line of a call three to five instructions more.
+#[inline(never)]
+fn unreadable(out: &mut [u8], at: usize, line: u16) -> usize
+    requires { at + length (row_text (unreadable line)) ≤ length out.old }
+    ensures { Wrote out.old at (row_text (unreadable line)) out.new result }
+{
+    let end = put::decimal(out, at, u32::from(line));
+    put::text(out, end, b" - 20 - - - - -\n")
+}
+
 // Reads an input line, carries it out, and writes its printed line from a place on; the answer is the place behind it.
 pub fn answer(t: &mut [u8], out: &mut [u8], at: usize, line: u16, text: &[u8]) -> usize
     requires { at + length (row_text (row_for table_step t.old line (asks text.now))) ≤ length out.old }
     ensures { WroteLine t.old line (asks text.now) out.old at t.new out.new result }
 {
+    let Some(asked) = input_line::read(text) else {
+        return unreadable(out, at, line);
+    };
     let mut ports = [0u8; 9];
-    let row = carry_out(t, line, input_line::read(text), &mut ports);
+    let row = carry_out(t, line, asked, &mut ports);
     row::write(out, at, row, &ports)
 }

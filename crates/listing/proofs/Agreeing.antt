@@ -21,12 +21,12 @@ use Rattle.listing.specs.Examples.{input, output, printed_example}
 use Rattle.text.specs.Lines.{lines}
 use Rattle.input_line.specs.Line.{asks}
 use Rattle.text.specs.Row.{Row, rows_text}
-use Rattle.printed_line.specs.PrintedLine.{call_row, traced, row_for, state_after, zero_buffer}
+use Rattle.printed_line.specs.PrintedLine.{call_row, traced_ports, row_for, state_after, zero_buffer}
 use Rattle.listing.specs.Listing.{rows, header, input_limit, too_long, listing, printed, recorded}
 
 -- The list says what the ownership history says: on a table that represents a history, the printed lines are those of the history.
-traced_alike : (b : List ℕ) (h : History) → Represents b h → (n c : ℕ) → traced table_step b n c ≡ traced history_step h n c
-unfolding traced
+traced_alike : (b : List ℕ) (h : History) → Represents b h → (n c : ℕ) → traced_ports table_step b n c ≡ traced_ports history_step h n c
+unfolding traced_ports
 traced_alike b h k n c =
     ap (λ (g : CallResult). take (hops_of g) (buffer_of g)) (represents_step b h k (tracing n c zero_buffer)).result
 

@@ -16,7 +16,7 @@ use Rattle.text.specs.Text.{newline, space}
 use Rattle.text.specs.Lines.{lines, cut, fields}
 use Rattle.text.specs.Row.{Field, nothing, shows, letter, path, field_bytes, Row, in_order, spaced, ended, row_text, rows_text}
 use Rattle.input_line.specs.Line.{asks}
-use Rattle.printed_line.specs.PrintedLine.{call_row, unreadable, traced, row_for, state_after}
+use Rattle.printed_line.specs.PrintedLine.{call_row, unreadable, traced_ports, row_for, state_after}
 use Rattle.listing.specs.Listing.{rows, header_words, header, input_limit, listing}
 use Rattle.text.specs.Above.{Above, AllAbove}
 use Rattle.text.proofs.Separated.{fields_spaced, above_decimal, above_turn, ended_line}
@@ -106,7 +106,7 @@ module _ {S : Type 0} (makes : S → Call → After S) where
   above_row : (s : S) (n : ℕ) (a : Option Call) → AllAbove space (eight (row_for makes s n a))
   unfolding row_for
   above_row s n none = above_unreadable n
-  above_row s n (some a) = above_eight n a (makes s a).result (traced makes (makes s a).state)
+  above_row s n (some a) = above_eight n a (makes s a).result (traced_ports makes (makes s a).state)
 
   -- Every printed line has eight fields with one space between: cut at the newlines and then at the spaces, the printed lines are the eight fields of
   -- each row, no more and no fewer. (That each ends in a newline is `row_ends`.)

@@ -33,8 +33,8 @@ use Rattle.ownership.proofs.OnSound.{open_answers, open_stands}
 use Rattle.text.specs.Text.{newline, decimal}
 use Rattle.text.specs.Lines.{on_first, cut, lines, fields}
 use Rattle.input_line.specs.Line.{numbers, numbers_of, by_letter, with_numbers, of_fields, longest, asks}
-use Rattle.text.specs.Row.{Field, nothing, shows, path, in_turn, field_bytes, spaced, ended, row_text, rows_text}
-use Rattle.printed_line.specs.PrintedLine.{accepted, call_row, unreadable, zero_buffer, traced, row_for, state_after}
+use Rattle.text.specs.Row.{Field, nothing, shows, path, path_digits, field_bytes, spaced, ended, row_text, rows_text}
+use Rattle.printed_line.specs.PrintedLine.{is_accepted, call_row, unreadable, zero_buffer, traced_ports, row_for, state_after}
 use Rattle.listing.specs.Listing.{rows, header, input_limit, too_long, listing, printed}
 use Rattle.listing.specs.Printed.{output_bytes}
 use Rattle.text.specs.Written.{width}
@@ -103,14 +103,14 @@ arguments_fit l = if_read ArgumentsFit (leb (length l) longest) (of_fields (fiel
     of ((x ∷ y ∷ xs) ∷ fs) = unfold of_fields in tt
 
 -- A path that a trace tells: at most nine ports, of one digit each.
-turn_length : (D : ℕ) (w : Path) → D ≤ 10 → PortsBelow D w → length (in_turn w) ≤ length w
-unfolding in_turn PortsBelow
+turn_length : (D : ℕ) (w : Path) → D ≤ 10 → PortsBelow D w → length (path_digits w) ≤ length w
+unfolding path_digits PortsBelow
 turn_length D [] h b = omega arith
 turn_length D (p ∷ w) h b =
     let l = b p (Memᴰ.head refl) in
-    omega (arith, length-append (decimal p) (in_turn w), decimal_length 0 p (omega arith), turn_length D w h (λ q m. b q (Memᴰ.tail m)))
+    omega (arith, length-append (decimal p) (path_digits w), decimal_length 0 p (omega arith), turn_length D w h (λ q m. b q (Memᴰ.tail m)))
 
-path_width : (w : Path) → length w ≤ 9 → length (in_turn w) ≤ length w → width (path w) ≤ 9
+path_width : (w : Path) → length w ≤ 9 → length (path_digits w) ≤ length w → width (path w) ≤ 9
 unfolding field_bytes
 path_width [] h l = lit≤ tt
 path_width (p ∷ w) h l = omega arith
@@ -119,14 +119,14 @@ module _ (b : List ℕ) (s c : ℕ) where
   abbrev trace : Call
   trace = tracing s c zero_buffer
 
-  history_step_path : stopped_at b trace ≡ 0 → traced table_step b s c ≡ path_of (view b) (circuit_of s c)
-  unfolding traced result_of facts_of traced_into
+  history_step_path : stopped_at b trace ≡ 0 → traced_ports table_step b s c ≡ path_of (view b) (circuit_of s c)
+  unfolding traced_ports result_of facts_of traced_into
   history_step_path e =
       ap (λ (x : CallResult). take (hops_of x) (buffer_of x)) ((table_step_lem b trace).result e)
       ∙ take-append_seam (path_of (view b) (circuit_of s c)) (drop (length (path_of (view b) (circuit_of s c))) zero_buffer)
 
-  no_path : stopped_at b trace ≢ 0 → traced table_step b s c ≡ []
-  unfolding traced
+  no_path : stopped_at b trace ≢ 0 → traced_ports table_step b s c ≡ []
+  unfolding traced_ports
   no_path e = rw ((table_step_lem b trace).stopped e)
 
   found_path : stopped_at b trace ≡ 0 → width (path (path_of (view b) (circuit_of s c))) ≤ 9
@@ -139,7 +139,7 @@ module _ (b : List ℕ) (s c : ℕ) where
       rw (path_is (view b) (circuit_of s c) stands)
       (path_width stands.path (omega arith) (turn_length (view b).dimension stands.path (omega arith) below))
 
-  traced_width : width (path (traced table_step b s c)) ≤ 9
+  traced_width : width (path (traced_ports table_step b s c)) ≤ 9
   unfolding field_bytes
   traced_width = ⊎_elim (λ e. rw (history_step_path e) (found_path e)) (λ e. rw (no_path e) (lit≤ tt)) (same? (stopped_at b trace) 0)
 
@@ -173,13 +173,13 @@ module _ (b : List ℕ) (n : ℕ) (small : n < 65536) where
   call_length (opening s c t y v) g =
       let x = (table_step b (opening s c t y v)).result in
       let receive =
-      if_fits 1 (accepted x) (shows (receive_of x)) (lit≤ tt)
+      if_fits 1 (is_accepted x) (shows (receive_of x)) (lit≤ tt)
       (λ e. decimal_length 0 (receive_of x) (let l = open_receive b s c t y v (eqb-true _ 0 e) in omega arith)) in
       let scouts =
       if_fits 6 (carries_scouts x.number) (shows (scouts_of x)) (lit≤ tt)
       (λ e. decimal_length 5 (scouts_of x) (let l = open_scouts b s c t y v in omega arith)) in
       let ports =
-      if_fits 9 (accepted x) (path (traced table_step (table_step b (opening s c t y v)).state s c)) (lit≤ tt)
+      if_fits 9 (is_accepted x) (path (traced_ports table_step (table_step b (opening s c t y v)).state s c)) (lit≤ tt)
       (λ e. traced_width (table_step b (opening s c t y v)).state s c) in
       rw row_length
       (omega (arith, five_digits n small, answer_digits (opening s c t y v), five_digits s g.0, five_digits c g.1, receive, scouts, ports))

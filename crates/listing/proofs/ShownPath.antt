@@ -19,7 +19,7 @@ use Rattle.ownership.specs.History.{Circuit, History, belongs, open_on, listed, 
 use Rattle.ownership.proofs.Allowed.{allowed_on, allowed_passes}
 use Rattle.ownership.proofs.Steps.{history_step_lem}
 use Rattle.text.specs.Row.{path}
-use Rattle.printed_line.specs.PrintedLine.{call_row, zero_buffer, traced, row_for}
+use Rattle.printed_line.specs.PrintedLine.{call_row, zero_buffer, traced_ports, row_for}
 
 module _ (h : History) (s c t y v : ℕ) (w : Path) (k : ℕ) (passes : stopped_on h (opening s c t y v) ≡ 0) (sends : (send_on h s t y v).outcome ≡ acknowledged w k) where
   new : Circuit
@@ -50,8 +50,8 @@ module _ (h : History) (s c t y v : ℕ) (w : Path) (k : ℕ) (passes : stopped_
       let r = allowed_on h (opening s c t y v) passes in
       allowed_passes (facts_on after) (tracing s c zero_buffer) (r.0, r.2, ap (◌|| any (belongs s c) h.circuits) its_own, lit≤ tt)
 
-  traced_path : traced history_step after s c ≡ w
-  unfolding traced result_of facts_on traced_into
+  traced_path : traced_ports history_step after s c ≡ w
+  unfolding traced_ports result_of facts_on traced_into
   traced_path =
       ap (λ (x : CallResult). take (hops_of x) (buffer_of x)) ((history_step_lem after (tracing s c zero_buffer)).result trace_passes)
       ∙ ap (λ u. take (length u) (u ++ drop (length u) zero_buffer)) listed_path ∙ take-append_seam w (drop (length w) zero_buffer)
@@ -59,4 +59,4 @@ module _ (h : History) (s c t y v : ℕ) (w : Path) (k : ℕ) (passes : stopped_
   -- "ports in path order": those of the path with which the open was acknowledged
   pub shows_path : (n : ℕ) → (row_for history_step h n (some (opening s c t y v))).ports ≡ path w
   unfolding row_for call_row
-  shows_path n = rw (eq-eqb (history_step h (opening s c t y v)).result.number 0 accepted_number) (ap path (ap (λ x. traced history_step x s c) opened ∙ traced_path))
+  shows_path n = rw (eq-eqb (history_step h (opening s c t y v)).result.number 0 accepted_number) (ap path (ap (λ x. traced_ports history_step x s c) opened ∙ traced_path))

@@ -14,11 +14,11 @@ use Rattle.paths.specs.CubeNetwork.{network, ports, send_ports, other_ports, att
 use Rattle.circuit_path.specs.Traced.{traced_into}
 use Rattle.ownership.specs.Calls.{answered, carries_scouts, call_tests, result_of, call_on}
 use Rattle.ownership.specs.History.{holds_link, holds_receive, belongs, enabled_on, held_on, free_on, taken_on, open_on, armed_on, receive_on, listed, facts_on, stopped_on, send_on, with_opened, applied, history_step}
-use Rattle.text.specs.Text.{digits, decimal, all_digits, value, leading_zero, number}
+use Rattle.text.specs.Text.{digits, decimal, all_digits, value, leading_zero, field_number}
 use Rattle.text.specs.Lines.{on_first, cut, lines, fields}
 use Rattle.input_line.specs.Line.{in_front, numbers, numbers_of, asked, by_letter, with_numbers, of_fields, asks}
-use Rattle.text.specs.Row.{in_turn, field_bytes, in_order, spaced, ended, row_text, rows_text}
-use Rattle.printed_line.specs.PrintedLine.{call_row, unreadable, traced, row_for, state_after}
+use Rattle.text.specs.Row.{path_digits, field_bytes, in_order, spaced, ended, row_text, rows_text}
+use Rattle.printed_line.specs.PrintedLine.{call_row, unreadable, traced_ports, row_for, state_after}
 use Rattle.listing.specs.Listing.{rows, header, too_long, listing, recorded}
 
 abbrev pub input : List ℕ
@@ -60,5 +60,5 @@ output =
     []
 
 pub printed_example : recorded input ≡ output
-unfolding history_step stopped_on call_tests refusal facts_on open_on held_on taken_on any holds_link holds_receive belongs enabled_on free_on link_state is_free armed_on receive_on lowest_of lowest listed send_on with_opened applied result_of call_on carries_scouts traced_into send attempts attempted network ports send_ports other_ports present axis keep from has flip uphill helical offered end links has_link free_path over ways beginnings scan whole pass scouts outcome_of_path outcome send_goes_on runs answered digits decimal all_digits value leading_zero number on_first cut lines fields in_front numbers numbers_of asked by_letter with_numbers of_fields asks in_turn field_bytes in_order spaced ended row_text rows_text call_row unreadable traced row_for state_after rows header too_long listing recorded
+unfolding history_step stopped_on call_tests refusal facts_on open_on held_on taken_on any holds_link holds_receive belongs enabled_on free_on link_state is_free armed_on receive_on lowest_of lowest listed send_on with_opened applied result_of call_on carries_scouts traced_into send attempts attempted network ports send_ports other_ports present axis keep from has flip uphill helical offered end links has_link free_path over ways beginnings scan whole pass scouts outcome_of_path outcome send_goes_on runs answered digits decimal all_digits value leading_zero field_number on_first cut lines fields in_front numbers numbers_of asked by_letter with_numbers of_fields asks path_digits field_bytes in_order spaced ended row_text rows_text call_row unreadable traced_ports row_for state_after rows header too_long listing recorded
 printed_example = refl

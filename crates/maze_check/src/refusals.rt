@@ -32,6 +32,7 @@ pub fn names(rt: &impl Print) -> io::Result<()> {
         ("book circuit", Refusal::BookCircuit),
         ("book link", Refusal::BookLink),
         ("send list", Refusal::SendList),
+        ("halves", Refusal::Halves),
         ("channel stopped", Refusal::ChannelStopped),
         ("requester", Refusal::Requester),
     ] {

@@ -31,7 +31,7 @@ use Rattle.ownership.specs.TableFacts.{job_in}
 use Rattle.ownership.specs.Update.{updated}
 use Rattle.ownership.specs.OnTable.{facts_of, stopped_at, table_step}
 use Rattle.ownership.specs.History.{History, facts_on, stopped_on, listed, applied, history_step, new_history}
-use Rattle.ownership.specs.Agrees.{table_after, table_results, history_after, history_results, Agrees, Accepted, leaves, answers}
+use Rattle.ownership.specs.Agrees.{table_after, table_results, history_after, history_results, Agrees, Accepted, after_calls, call_results}
 use Rattle.ownership.specs.Invariant.{Valid, Represents}
 use Rattle.ownership.specs.HistoryView.{view_of, bytes_of}
 use Rattle.ownership.specs.Allowed.{Allowed}
@@ -141,12 +141,12 @@ represents_bytes b h k = sym (encode_view b k.bytes.long k.bytes.small) ∙ ap e
 
 -- From any table that represents a history, a list of calls agrees with the history, and the table represents it afterwards.
 pub represents_run : (calls : List Call) (b : List ℕ) (h : History) → Represents b h → Represents (table_after b calls) (history_after h calls)
-unfolding leaves
+unfolding after_calls
 represents_run [] b h k = k
 represents_run (a ∷ more) b h k = represents_run more (table_step b a).state (history_step h a).state (represents_step b h k a).represented
 
 pub represents_results : (calls : List Call) (b : List ℕ) (h : History) → Represents b h → table_results b calls ≡ history_results h calls
-unfolding answers
+unfolding call_results
 represents_results [] b h k = refl
 represents_results (a ∷ more) b h k = let s = represents_step b h k a in ap₂ ◌∷◌ s.result (represents_results more (table_step b a).state (history_step h a).state s.represented)
 
@@ -185,7 +185,7 @@ module _ (b : List ℕ) (h : History) (D : ℕ) (e : Accepted b (making D)) wher
 
 -- The users' third demand. From any bytes, after an accepted making and any list of calls, refused ones included.
 pub demand_3 : (b : List ℕ) (h : History) (D : ℕ) → Accepted b (making D) → (calls : List Call) → Agrees b h (making D ∷ calls)
-unfolding leaves answers
+unfolding after_calls call_results
 demand_3 b h D e calls =
     let r = represents_agrees calls (table_step b (making D)).state (history_step h (making D)).state (made_represents b h D e) in
     record { bytes = r.bytes; results = ap₂ ◌∷◌ (made_result b h D e) r.results; valid = r.valid; refused = λ before a more e. refused_within before b a }

@@ -18,7 +18,7 @@ use Rattle.ownership.specs.TableFacts.{facts_with, opened, job_in}
 use Rattle.ownership.specs.OnTable.{facts_of}
 use Rattle.ownership.specs.History.{Circuit, History, shape_on, net_on, holds_link, holds_receive, belongs, enabled_on, armed_on, stopped_on, send_on, facts_on, facts_on_with, with_opened, opened_on, job_on, applied, new_history}
 use Rattle.ownership.specs.Invariant.{Valid}
-use Rattle.ownership.specs.HistoryView.{number_of, view_of}
+use Rattle.ownership.specs.HistoryView.{first_circuit, view_of}
 use Rattle.answers.specs.SendOnTable.{hold_links, view_after_send}
 use Rattle.ownership.specs.Update.{updated}
 use Rattle.ownership.proofs.Circuits.{Once, number_drop}
@@ -33,7 +33,7 @@ use Rattle.ownership.proofs.Armed.{arm_armed, disarm_armed, close_armed}
 
 -- a made table shows the history that a making begins
 pub made_view : (D : ℕ) → view_of (new_history D) ≡ fresh D
-unfolding view_of fresh number_of enabled_on armed_on has_link
+unfolding view_of fresh first_circuit enabled_on armed_on has_link
 made_view D = λ i.
     record { dimension = D; enabled = λ n p. and-true (ltb n (2 ^ D) && ltb p D) i; owner = λ n p. 0; receiver = λ n k. 0; armed = λ n k. false }
 
@@ -67,7 +67,7 @@ held_path v S c n (p ∷ w) =
 
 module _ (h : History) where
   added_view : (s c t : ℕ) (o : Outcome) → view_of (with_opened h s c t o) ≡ view_after_send (view_of h) (circuit_of s c) s t o
-  unfolding with_opened view_after_send view_of number_of holds_link holds_receive enabled_on armed_on set_receiver set_at
+  unfolding with_opened view_after_send view_of first_circuit holds_link holds_receive enabled_on armed_on set_receiver set_at
   added_view s c t (acknowledged w k) = sym (ap (λ (v : View). set_receiver v t k (circuit_of s c)) (held_path (view_of h) (shape_on h) (circuit_of s c) s w))
   added_view s c t route_rejected = refl
   added_view s c t receive_rejected = refl
@@ -126,7 +126,7 @@ module _ (h : History) (valid : Valid h) where
       }
     where
       drops : (f : Circuit → Bool) → Once f h.circuits
-          → number_of f (keep (λ x. not (belongs s c x)) h.circuits) ≡ cond (eqb (number_of f h.circuits) (circuit_of s c)) 0 (number_of f h.circuits)
+          → first_circuit f (keep (λ x. not (belongs s c x)) h.circuits) ≡ cond (eqb (first_circuit f h.circuits) (circuit_of s c)) 0 (first_circuit f h.circuits)
       drops f o = number_drop f s c (close_facts h s c e) h.circuits (λ x m. (valid.every_circuit x m).channel) o
   applied_view (tracing s c buffer) e = refl
   applied_view (arming n k) e = λ i. unfold set_armed enabled_on in

@@ -19,7 +19,7 @@ use Rattle.paths.specs.CubeNetwork.{ports, send_ports}
 use Rattle.paths.proofs.Sentences.{permitted_end}
 use Rattle.paths.proofs.Apart.{permitted_below}
 use Rattle.book.specs.Book.{BookCircuit}
-use Rattle.book.specs.Lookup.{IndexLine, lines, line_fits, lines_fit}
+use Rattle.book.specs.Lookup.{IndexLine, index_lines, line_fits, lines_fit}
 use Rattle.book.specs.WellFormed.{WellFormed}
 use Rattle.book.proofs.Lines.{line_fits_lem, formed}
 use Rattle.book.proofs.WellFormedBook.{well_formed_exactly}
@@ -48,9 +48,9 @@ lines_rise above at (x ∷ xs) total e =
 pub numbers_rise : (ports index : List ℕ) (circuits hops : ℕ) → WellFormed ports index circuits hops
     → ((x : BookCircuit) → x ∈ circuits_in ports index circuits → 0 < x.number) × Pairwise (λ x y. x.number < y.number) (circuits_in ports index circuits)
 numbers_rise ports index circuits hops w =
-    let r = lines_rise 0 0 (lines circuits index) hops (formed ports index circuits hops ((well_formed_exactly ports index circuits hops).1 w)).2 in (
-      all_map (λ x. 0 < x.number) (circuit_on ports) (lines circuits index) r.0,
-      pairwise_map (λ x y. x.number < y.number) (λ x y. x.number < y.number) (circuit_on ports) (lines circuits index) (λ x y l. l) r.1,
+    let r = lines_rise 0 0 (index_lines circuits index) hops (formed ports index circuits hops ((well_formed_exactly ports index circuits hops).1 w)).2 in (
+      all_map (λ x. 0 < x.number) (circuit_on ports) (index_lines circuits index) r.0,
+      pairwise_map (λ x y. x.number < y.number) (λ x y. x.number < y.number) (circuit_on ports) (index_lines circuits index) (λ x y l. l) r.1,
     )
 
 -- A path that is permitted where some of the ports may come first is so where all may, to its own end.

@@ -16,7 +16,7 @@ use Rattle.circuit_path.specs.Traced.{traced_into}
 use Rattle.book.specs.Book.{port_bytes, word_bytes, index_from}
 use Rattle.ownership.specs.Calls.{making, opening, arming, booking, CallResult, answered, call_tests, result_of, call_on}
 use Rattle.ownership.specs.History.{History, holds_link, holds_receive, belongs, enabled_on, held_on, free_on, taken_on, open_on, armed_on, receive_on, listed, waiting_on, book_on, facts_on, stopped_on, send_on, with_opened, applied, history_step, new_history}
-use Rattle.ownership.specs.Agrees.{history_after, history_results, leaves, answers}
+use Rattle.ownership.specs.Agrees.{history_after, history_results, after_calls, call_results}
 
 -- Dimension 2: send channel 1 of node 0, circuit 2, to node 3 by way of node 2, and after it channel 0, circuit 1, to node 1.
 abbrev opened : History
@@ -37,10 +37,10 @@ two_circuits_lem : books
     ∷ record { number = 23; values = 0 ∷ 0 ∷ []; buffers = replicate 3 9 ∷ replicate 11 9 ∷ [] }
     ∷ record { number = 23; values = 0 ∷ 0 ∷ []; buffers = replicate 2 9 ∷ replicate 12 9 ∷ [] }
     ∷ []
-unfolding leaves answers history_step stopped_on call_tests refusal facts_on open_on held_on taken_on armed_on any holds_link holds_receive belongs enabled_on free_on link_state is_free receive_on lowest_of lowest send_on waiting_on some_attempt finds_path with_opened applied result_of call_on send attempts attempted network ports send_ports other_ports present axis keep from has flip uphill helical offered end links has_link free_path over ways beginnings scan whole pass scouts outcome_of_path outcome send_goes_on runs answered book_on listed port_bytes word_bytes index_from traced_into
+unfolding after_calls call_results history_step stopped_on call_tests refusal facts_on open_on held_on taken_on armed_on any holds_link holds_receive belongs enabled_on free_on link_state is_free receive_on lowest_of lowest send_on waiting_on some_attempt finds_path with_opened applied result_of call_on send attempts attempted network ports send_ports other_ports present axis keep from has flip uphill helical offered end links has_link free_path over ways beginnings scan whole pass scouts outcome_of_path outcome send_goes_on runs answered book_on listed port_bytes word_bytes index_from traced_into
 two_circuits_lem = refl
 
 -- with no circuit nothing is written, and no buffer is too short
 no_circuit_lem : history_results (new_history 1) (booking [] [] ∷ []) ≡ record { number = 0; values = 0 ∷ 0 ∷ []; buffers = [] ∷ [] ∷ [] } ∷ []
-unfolding answers history_step stopped_on call_tests refusal facts_on open_on any result_of call_on applied keep from book_on port_bytes index_from traced_into
+unfolding call_results history_step stopped_on call_tests refusal facts_on open_on any result_of call_on applied keep from book_on port_bytes index_from traced_into
 no_circuit_lem = refl

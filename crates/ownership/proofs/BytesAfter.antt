@@ -45,25 +45,25 @@ module _ (b : List ℕ) (bytes : Bytes b) where
       encode_shown (put_armed b n k on) _ (unfold put_armed in mask_bytes_lem _ b n k on bytes w.port) (view_put_armed b n k on w)
 
 -- What the functions below leave of the bytes: `table::make`, `table::set_enabled` of both halves, `send::send`, `release::release`.
-unfoldable pub written_by : List ℕ → Call → List ℕ
-written_by b (making D) = encode (fresh D)
-written_by b (blocking n p) = put_enabled b n p false
-written_by b (unblocking n p) = put_enabled b n p true
-written_by b (opening s c t y v) = bytes_after_send b (circuit_of s c) s t (send_in (view b) s t y v).outcome
-written_by b (closing s c) = encode (without_circuit (view b) (circuit_of s c))
-written_by b (tracing s c buffer) = b
-written_by b (arming n k) = put_armed b n k true
-written_by b (disarming n k) = put_armed b n k false
-written_by b (opening_all sends) = encode (after_job (view b) (job_in (view b) (sends_in sends)))
-written_by b (booking ports index) = b
-written_by b (judging ports index circuits hops) = b
+unfoldable pub bytes_written : List ℕ → Call → List ℕ
+bytes_written b (making D) = encode (fresh D)
+bytes_written b (blocking n p) = put_enabled b n p false
+bytes_written b (unblocking n p) = put_enabled b n p true
+bytes_written b (opening s c t y v) = bytes_after_send b (circuit_of s c) s t (send_in (view b) s t y v).outcome
+bytes_written b (closing s c) = encode (without_circuit (view b) (circuit_of s c))
+bytes_written b (tracing s c buffer) = b
+bytes_written b (arming n k) = put_armed b n k true
+bytes_written b (disarming n k) = put_armed b n k false
+bytes_written b (opening_all sends) = encode (after_job (view b) (job_in (view b) (sends_in sends)))
+bytes_written b (booking ports index) = b
+bytes_written b (judging ports index circuits hops) = b
 
 module _ (b : List ℕ) (small : AllBytes b) (a : Call) (e : stopped_at b a ≡ 0) where
   bytes : Bytes b
   bytes = record { long = none_stops_length b a e; small = small }
 
-  encoded : (x : Call) → ((form x).is_making ≡ false → dimension_at b ≤ largest_dimension) → Allowed (facts_of (view b)) x → written_by b x ≡ encode (updated (view b) x)
-  unfolding written_by updated Allowed facts_of view
+  encoded : (x : Call) → ((form x).is_making ≡ false → dimension_at b ≤ largest_dimension) → Allowed (facts_of (view b)) x → bytes_written b x ≡ encode (updated (view b) x)
+  unfolding bytes_written updated Allowed facts_of view
   encoded (making D) most r = refl
   encoded (blocking n p) most r =
       let m = most refl in
@@ -87,7 +87,7 @@ module _ (b : List ℕ) (small : AllBytes b) (a : Call) (e : stopped_at b a ≡ 
   encoded (judging ports index circuits hops) most r = sym (encode_view b bytes.long bytes.small)
 
   -- A call that no test stops leaves what they write.
-  pub written_bytes : (table_step b a).state ≡ written_by b a
+  pub written_bytes : (table_step b a).state ≡ bytes_written b a
   written_bytes =
       step_encoded b bytes a e
       ∙ sym (encoded a (λ other. (pass_tests b (none_stops_lent b a other e)).2) (allowed (facts_of (view b)) a (none_stops b a e)))

@@ -24,7 +24,7 @@ use Rattle.soundness.specs.Sound.{Nowhere, Sound}
 use Rattle.ownership.specs.History.{Circuit, History, shape_on, net_on, links_of, holds_link, holds_receive, enabled_on, armed_on}
 use Rattle.ownership.specs.Invariant.{Disjoint, Valid}
 use Rattle.ownership.specs.HistoryView.{view_of}
-use Rattle.ownership.proofs.Circuits.{pairwise_one, number_for, circuit_parts, Once, number_some, number_circuit, number_at}
+use Rattle.ownership.proofs.Circuits.{pairwise_one, number_for, circuit_parts, Once, number_some, number_circuit, number_found}
 
 -- what it is for a circuit to hold a link, or a receive channel
 pub holds_link_lem : (N : Network) (n p : ℕ) (x : Circuit) → holds_link N n p x ≡ true → (n, p) ∈ links_of N x
@@ -65,12 +65,12 @@ module _ (h : History) (valid : Valid h) where
   -- a listed circuit holds its links and its receive channel
   pub owner_of : (x : Circuit) → x ∈ h.circuits → (n p : ℕ) → (n, p) ∈ links_of N x → (view_of h).owner n p ≡ number_for x
   unfolding view_of
-  owner_of x m n p l = number_at (holds_link N n p) h.circuits (links_once N n p h.circuits valid.apart) x m (link_holds N n p x l)
+  owner_of x m n p l = number_found (holds_link N n p) h.circuits (links_once N n p h.circuits valid.apart) x m (link_holds N n p x l)
 
   pub receiver_of : (x : Circuit) → x ∈ h.circuits → (view_of h).receiver x.target x.receive ≡ number_for x
   unfolding view_of
   receiver_of x m =
-      number_at (holds_receive x.target x.receive) h.circuits (receives_once N x.target x.receive h.circuits valid.apart) x m
+      number_found (holds_receive x.target x.receive) h.circuits (receives_once N x.target x.receive h.circuits valid.apart) x m
       (receive_holds x.target x.receive x refl refl)
 
   -- A link, or a receive channel, is a send channel's exactly where the circuit listed for that channel holds it.

@@ -15,7 +15,7 @@ use Rattle.common.proofs.Lists.{keep_nil, keep_yes, keep_no, any_some, some_any}
 use Rattle.cube.specs.Cube.{channels, circuit_of, source_of, channel_of}
 use Rattle.cube.proofs.Circuits.{source_of_circuit, channel_of_circuit}
 use Rattle.ownership.specs.History.{Circuit, belongs}
-use Rattle.ownership.specs.HistoryView.{number_of}
+use Rattle.ownership.specs.HistoryView.{first_circuit}
 
 -- two members of which neither stands in the relation to the other are one
 pub pairwise_one : {A : Type 0} (R : A → A → Type 0) (xs : List A) → Pairwise R xs → (x y : A) → x ∈ xs → y ∈ xs → (R x y → ⊥) → (R y x → ⊥) → x ≡ y
@@ -60,49 +60,49 @@ cond_same true n = refl
 cond_same false n = refl
 
 module _ (f : Circuit → Bool) where
-  number_nil : number_of f [] ≡ 0
-  unfolding number_of
+  number_nil : first_circuit f [] ≡ 0
+  unfolding first_circuit
   number_nil = refl
 
-  pub number_yes : (x : Circuit) (xs : List Circuit) → f x ≡ true → number_of f (x ∷ xs) ≡ number_for x
-  unfolding number_of
+  pub number_yes : (x : Circuit) (xs : List Circuit) → f x ≡ true → first_circuit f (x ∷ xs) ≡ number_for x
+  unfolding first_circuit
   number_yes x xs e = rw e
 
-  pub number_no : (x : Circuit) (xs : List Circuit) → f x ≡ false → number_of f (x ∷ xs) ≡ number_of f xs
-  unfolding number_of
+  pub number_no : (x : Circuit) (xs : List Circuit) → f x ≡ false → first_circuit f (x ∷ xs) ≡ first_circuit f xs
+  unfolding first_circuit
   number_no x xs e = rw e
 
   -- it is 0 exactly where none passes
-  pub number_any : (xs : List Circuit) → not (eqb (number_of f xs) 0) ≡ any f xs
+  pub number_any : (xs : List Circuit) → not (eqb (first_circuit f xs) 0) ≡ any f xs
   unfolding any
   number_any [] = rw number_nil
   number_any (x ∷ xs) = go (f x) refl (number_any xs)
     where
-      go : (b : Bool) → f x ≡ b → not (eqb (number_of f xs) 0) ≡ any f xs → not (eqb (number_of f (x ∷ xs)) 0) ≡ b || any f xs
+      go : (b : Bool) → f x ≡ b → not (eqb (first_circuit f xs) 0) ≡ any f xs → not (eqb (first_circuit f (x ∷ xs)) 0) ≡ b || any f xs
       go true e ih = rw (number_yes x xs e) (ap not (ne_eqb (number_for x) 0 (λ z. omega arith)))
       go false e ih = rw (number_no x xs e) ih
 
-  pub number_zero : (xs : List Circuit) → (number_of f xs ≡ 0) ↔ (any f xs ≡ false)
-  number_zero xs = ((λ z. sym (number_any xs) ∙ ap not (eq-eqb (number_of f xs) 0 z)), λ e. eqb-true (number_of f xs) 0 (not-false _ (number_any xs ∙ e)))
+  pub number_zero : (xs : List Circuit) → (first_circuit f xs ≡ 0) ↔ (any f xs ≡ false)
+  number_zero xs = ((λ z. sym (number_any xs) ∙ ap not (eq-eqb (first_circuit f xs) 0 z)), λ e. eqb-true (first_circuit f xs) 0 (not-false _ (number_any xs ∙ e)))
 
   -- where it is not 0, a circuit that passes has it
-  pub number_some : (xs : List Circuit) → number_of f xs ≢ 0 → (x : Circuit) × (x ∈ xs) × (f x ≡ true) × (number_of f xs ≡ number_for x)
+  pub number_some : (xs : List Circuit) → first_circuit f xs ≢ 0 → (x : Circuit) × (x ∈ xs) × (f x ≡ true) × (first_circuit f xs ≡ number_for x)
   number_some [] h = absurd (h number_nil)
   number_some (x ∷ xs) h = go (f x) refl (number_some xs)
     where
-      go : (b : Bool) → f x ≡ b → (number_of f xs ≢ 0 → (y : Circuit) × (y ∈ xs) × (f y ≡ true) × (number_of f xs ≡ number_for y))
-          → (y : Circuit) × (y ∈ (x ∷ xs)) × (f y ≡ true) × (number_of f (x ∷ xs) ≡ number_for y)
+      go : (b : Bool) → f x ≡ b → (first_circuit f xs ≢ 0 → (y : Circuit) × (y ∈ xs) × (f y ≡ true) × (first_circuit f xs ≡ number_for y))
+          → (y : Circuit) × (y ∈ (x ∷ xs)) × (f y ≡ true) × (first_circuit f (x ∷ xs) ≡ number_for y)
       go true e ih = (x, Memᴰ.head refl, e, number_yes x xs e)
       go false e ih = let r = ih (λ z. h (number_no x xs e ∙ z)) in (r.0, Memᴰ.tail r.1, r.2, number_no x xs e ∙ r.3)
 
-  pub number_circuit : (s c : ℕ) → c < channels → (xs : List Circuit) → ((x : Circuit) → x ∈ xs → x.channel < channels) → number_of f xs ≡ circuit_of s c
+  pub number_circuit : (s c : ℕ) → c < channels → (xs : List Circuit) → ((x : Circuit) → x ∈ xs → x.channel < channels) → first_circuit f xs ≡ circuit_of s c
       → (x : Circuit) × (x ∈ xs) × (f x ≡ true) × (x.source ≡ s) × (x.channel ≡ c)
   number_circuit s c h xs l e =
       let r = number_some xs (λ z. omega (arith, e, z)) in
       let q = circuit_parts r.0.source r.0.channel s c (l r.0 r.1) h (sym r.3 ∙ e) in
       (r.0, r.1, r.2, q.0, q.1)
 
-  pub number_none : (xs : List Circuit) → ((x : Circuit) → x ∈ xs → f x ≡ true → ⊥) → number_of f xs ≡ 0
+  pub number_none : (xs : List Circuit) → ((x : Circuit) → x ∈ xs → f x ≡ true → ⊥) → first_circuit f xs ≡ 0
   number_none [] h = number_nil
   number_none (x ∷ xs) h = number_no x xs (is_false (f x) (h x (Memᴰ.head refl))) ∙ number_none xs (λ y m. h y (Memᴰ.tail m))
 
@@ -111,30 +111,30 @@ module _ (f : Circuit → Bool) where
   Once = Pairwise (λ x y. f x ≡ true → f y ≡ true → ⊥)
 
   -- then one that passes has it
-  pub number_at : (xs : List Circuit) → Once xs → (x : Circuit) → x ∈ xs → f x ≡ true → number_of f xs ≡ number_for x
+  pub number_found : (xs : List Circuit) → Once xs → (x : Circuit) → x ∈ xs → f x ≡ true → first_circuit f xs ≡ number_for x
   unfolding Pairwise
-  number_at [] o x x5 e = elim x5 [ ]
-  number_at (y ∷ xs) o x (Memᴰ.head h) e = number_yes y xs (sym (ap f h) ∙ e) ∙ ap number_for (sym h)
-  number_at (y ∷ xs) o x (Memᴰ.tail m) e = number_no y xs (is_false (f y) (λ u. o.0 x m u e)) ∙ number_at xs o.1 x m e
+  number_found [] o x x5 e = elim x5 [ ]
+  number_found (y ∷ xs) o x (Memᴰ.head h) e = number_yes y xs (sym (ap f h) ∙ e) ∙ ap number_for (sym h)
+  number_found (y ∷ xs) o x (Memᴰ.tail m) e = number_no y xs (is_false (f y) (λ u. o.0 x m u e)) ∙ number_found xs o.1 x m e
 
   -- so it is a send channel's exactly where the circuit of that channel passes,
   pub number_belongs : (s c : ℕ) → c < channels → (xs : List Circuit) → ((x : Circuit) → x ∈ xs → x.channel < channels) → Once xs
-      → any (λ x. belongs s c x && f x) xs ≡ eqb (number_of f xs) (circuit_of s c)
-  number_belongs s c h xs l o = go (eqb (number_of f xs) (circuit_of s c)) refl
+      → any (λ x. belongs s c x && f x) xs ≡ eqb (first_circuit f xs) (circuit_of s c)
+  number_belongs s c h xs l o = go (eqb (first_circuit f xs) (circuit_of s c)) refl
     where
       mine : Circuit → Bool
       mine x = belongs s c x && f x
 
-      go : (b : Bool) → eqb (number_of f xs) (circuit_of s c) ≡ b → any mine xs ≡ b
+      go : (b : Bool) → eqb (first_circuit f xs) (circuit_of s c) ≡ b → any mine xs ≡ b
       go true e = let r = number_circuit s c h xs l (eqb-true _ _ e) in some_any mine xs r.1 (and (parts_belong s c r.0 r.3 r.4) r.2)
       go false e = is_false _ (λ t.
           let r = any_some mine xs t in
           let x = both (belongs s c r.0) (f r.0) r.2 in
-          clash (eq-eqb _ _ (number_at xs o r.0 r.1 x.1 ∙ number_is s c r.0 x.0)) e)
+          clash (eq-eqb _ _ (number_found xs o r.0 r.1 x.1 ∙ number_is s c r.0 x.0)) e)
 
   -- and a circuit that is dropped takes its own number away and no other
   pub number_drop : (s c : ℕ) → c < channels → (xs : List Circuit) → ((x : Circuit) → x ∈ xs → x.channel < channels) → Once xs
-      → number_of f (keep (λ x. not (belongs s c x)) xs) ≡ cond (eqb (number_of f xs) (circuit_of s c)) 0 (number_of f xs)
+      → first_circuit f (keep (λ x. not (belongs s c x)) xs) ≡ cond (eqb (first_circuit f xs) (circuit_of s c)) 0 (first_circuit f xs)
   unfolding Pairwise
   number_drop s c h [] l o = rw (keep_nil (λ x. not (belongs s c x)), number_nil) (sym (cond_same (eqb 0 (circuit_of s c)) 0))
   number_drop s c h (x ∷ xs) l o =
@@ -144,8 +144,8 @@ module _ (f : Circuit → Bool) where
       same = belongs_number s c x h (l x (Memᴰ.head refl))
 
       go : (b : Bool) → belongs s c x ≡ b → (d : Bool) → f x ≡ d
-          → number_of f (keep (λ x. not (belongs s c x)) xs) ≡ cond (eqb (number_of f xs) (circuit_of s c)) 0 (number_of f xs)
-          → number_of f (keep (λ x. not (belongs s c x)) (x ∷ xs)) ≡ cond (eqb (number_of f (x ∷ xs)) (circuit_of s c)) 0 (number_of f (x ∷ xs))
+          → first_circuit f (keep (λ x. not (belongs s c x)) xs) ≡ cond (eqb (first_circuit f xs) (circuit_of s c)) 0 (first_circuit f xs)
+          → first_circuit f (keep (λ x. not (belongs s c x)) (x ∷ xs)) ≡ cond (eqb (first_circuit f (x ∷ xs)) (circuit_of s c)) 0 (first_circuit f (x ∷ xs))
       go true e true u ih = rw (keep_no (λ x. not (belongs s c x)) x xs (ap not e), number_yes x xs u, same, e) (ih ∙ ap (λ (n : ℕ). cond (eqb n (circuit_of s c)) 0 n) (number_none xs (λ y m. o.0 y m u)) ∙ cond_same (eqb 0 (circuit_of s c)) 0)
       go true e false u ih = rw (keep_no (λ x. not (belongs s c x)) x xs (ap not e), number_no x xs u) ih
       go false e true u ih = rw (keep_yes (λ x. not (belongs s c x)) x xs (ap not e), number_yes x (keep (λ x. not (belongs s c x)) xs) u, number_yes x xs u, same, e)

@@ -21,10 +21,10 @@ use Rattle.paths.specs.CubeNetwork.{ports}
 use Rattle.ownership.specs.Calls.{Call, making}
 use Rattle.ownership.specs.OnTable.{table_step}
 use Rattle.ownership.specs.History.{Circuit, History, shape_on, net_on, links_of, belongs, open_on, armed_on, history_step}
-use Rattle.ownership.specs.Agrees.{table_after, table_results, history_after, Accepted, leaves}
+use Rattle.ownership.specs.Agrees.{table_after, table_results, history_after, Accepted, after_calls}
 use Rattle.ownership.specs.Invariant.{Disjoint, Represents}
 use Rattle.ownership.specs.HistoryView.{view_of}
-use Rattle.ownership.specs.StillOpen.{counts_as, numbered, counted, StillOpen, OpenedBy}
+use Rattle.ownership.specs.StillOpen.{counts_as, with_answers, counted, StillOpen, OpenedBy}
 use Rattle.ownership.proofs.Circuits.{pairwise_one, belongs_parts}
 use Rattle.ownership.proofs.ValidAfter.{open_send}
 use Rattle.ownership.proofs.OpenedBy.{opened_later, listed_by}
@@ -48,7 +48,7 @@ module _ (b : List ℕ) (h : History) (D : ℕ) (e : Accepted b (making D)) (cal
   history = history_after h (making D ∷ calls)
 
   pub reached_represents : Represents table history
-  unfolding leaves
+  unfolding after_calls
   reached_represents = represents_run calls (table_step b (making D)).state (history_step h (making D)).state (made_represents b h D e)
 
   -- the history lists the circuit of a send channel, and it holds something
@@ -73,27 +73,27 @@ module _ (b : List ℕ) (h : History) (D : ℕ) (e : Accepted b (making D)) (cal
 
   -- it is listed exactly when the list has an acknowledged open of it, and no accepted making and no accepted close of it afterwards, by the answers of the calls
   -- on the table
-  pub listed_exactly : (s c : ℕ) → (open_on history s c ≡ true) ↔ StillOpen s c (numbered (making D ∷ calls) (table_results b (making D ∷ calls)))
+  pub listed_exactly : (s c : ℕ) → (open_on history s c ≡ true) ↔ StillOpen s c (with_answers (making D ∷ calls) (table_results b (making D ∷ calls)))
   listed_exactly s c = rw (demand_3 b h D e calls).results (open_exactly s c h D (making_passes b h D e) calls)
 
   -- each listed circuit has the path and the receive channel of an acknowledged open of the list, or of an accepted job in it, and no accepted call after that
   -- open ends it
   pub listed_opened : (x : Circuit) → x ∈ history.circuits → OpenedBy h (counted h (making D ∷ calls)) x
-  unfolding leaves counted counts_as
+  unfolding after_calls counted counts_as
   listed_opened x m =
       ⊎_elim (λ k. absurd (Memᴰ.not-nil (subst (λ (u : List Circuit). x ∈ u) (made_clears b h D e) k.0))) (λ z. opened_later h (making D) (counted (history_step h (making D)).state calls) x z) (listed_by calls (history_step h (making D)).state x m)
 
-  still_open : (s c : ℕ) {Holds : Circuit → Type 0} → Listed s c Holds → StillOpen s c (numbered (making D ∷ calls) (table_results b (making D ∷ calls)))
+  still_open : (s c : ℕ) {Holds : Circuit → Type 0} → Listed s c Holds → StillOpen s c (with_answers (making D ∷ calls) (table_results b (making D ∷ calls)))
   still_open s c r = (listed_exactly s c).0 (open_send history r.0 r.1 s c r.2.0 r.2.1)
 
-  some_listed : (s c : ℕ) → StillOpen s c (numbered (making D ∷ calls) (table_results b (making D ∷ calls))) → Listed s c (λ x. x ∈ history.circuits)
+  some_listed : (s c : ℕ) → StillOpen s c (with_answers (making D ∷ calls) (table_results b (making D ∷ calls))) → Listed s c (λ x. x ∈ history.circuits)
   unfolding open_on
   some_listed s c k =
       let r = any_some (belongs s c) history.circuits ((listed_exactly s c).1 k) in
       (r.0, r.1, belongs_parts s c r.0 r.2, r.1)
 
   -- so a circuit holds a link in the table, and a receive channel, exactly when the list has an acknowledged open of it, and no accepted call after that ends it
-  pub link_shown_exactly : (s c : ℕ) → c < channels → ((n : ℕ) × ((p : ℕ) × (owner_at table n p ≡ circuit_of s c))) ↔ StillOpen s c (numbered (making D ∷ calls) (table_results b (making D ∷ calls)))
+  pub link_shown_exactly : (s c : ℕ) → c < channels → ((n : ℕ) × ((p : ℕ) × (owner_at table n p ≡ circuit_of s c))) ↔ StillOpen s c (with_answers (making D ∷ calls) (table_results b (making D ∷ calls)))
   link_shown_exactly s c l = ((λ r. still_open s c ((table_holds_link s c l r.0 r.1.0).0 r.1.1)), (λ k. shows (some_listed s c k)))
     where
       shows : Listed s c (λ x. x ∈ history.circuits) → (n : ℕ) × ((p : ℕ) × (owner_at table n p ≡ circuit_of s c))
@@ -101,7 +101,7 @@ module _ (b : List ℕ) (h : History) (D : ℕ) (e : Accepted b (making D)) (cal
           let first = first_link (net_on history) r.0.source (ports (shape_on history)) r.0.target r.0.ports (reached_represents.valid.every_circuit r.0 r.1).permitted in
           (r.0.source, (first.0, (table_holds_link s c l r.0.source first.0).1 (r.0, r.1, r.2, first.1)))
 
-  pub receive_shown_exactly : (s c : ℕ) → c < channels → ((n : ℕ) × ((k : ℕ) × (receiver_at table n k ≡ circuit_of s c))) ↔ StillOpen s c (numbered (making D ∷ calls) (table_results b (making D ∷ calls)))
+  pub receive_shown_exactly : (s c : ℕ) → c < channels → ((n : ℕ) × ((k : ℕ) × (receiver_at table n k ≡ circuit_of s c))) ↔ StillOpen s c (with_answers (making D ∷ calls) (table_results b (making D ∷ calls)))
   receive_shown_exactly s c l = ((λ r. still_open s c ((table_holds_receive s c l r.0 r.1.0).0 r.1.1)), (λ k. shows (some_listed s c k)))
     where
       shows : Listed s c (λ x. x ∈ history.circuits) → (n : ℕ) × ((k : ℕ) × (receiver_at table n k ≡ circuit_of s c))

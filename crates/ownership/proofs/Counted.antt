@@ -12,9 +12,9 @@ use Rattle.ownership.specs.Sends.{Send, sends_in}
 use Rattle.ownership.specs.Calls.{Call, making, blocking, unblocking, opening, closing, tracing, arming, disarming, opening_all, booking, judging, opening_of, call_tests, result_of, After, call_on}
 use Rattle.ownership.specs.InTurn.{Job, in_turn, after_job}
 use Rattle.ownership.specs.History.{History, facts_on, stopped_on, job_on, applied, history_step}
-use Rattle.ownership.specs.Agrees.{history_after, history_results, leaves, answers}
+use Rattle.ownership.specs.Agrees.{history_after, history_results, after_calls, call_results}
 use Rattle.ownership.specs.Closing.{Each, no_call, call_more}
-use Rattle.ownership.specs.StillOpen.{counts_as, numbered, counted}
+use Rattle.ownership.specs.StillOpen.{counts_as, with_answers, counted}
 use Rattle.ownership.proofs.InTurn.{turn_accepted, turn_refused}
 use Rattle.ownership.proofs.Steps.{history_step_lem}
 
@@ -51,19 +51,19 @@ with_number n calls = map (λ (x : Call). (x, n)) calls
 -- some calls at the front of a list: the history behind them, and the calls of the list with their numbers
 record Front (h next : History) (n : ℕ) (front calls : List Call) : Type 0 where
   history : history_after h (front ++ calls) ≡ history_after next calls
-  numbers : numbered (front ++ calls) (history_results h (front ++ calls)) ≡ with_number n front ++ numbered calls (history_results next calls)
+  numbers : with_answers (front ++ calls) (history_results h (front ++ calls)) ≡ with_number n front ++ with_answers calls (history_results next calls)
 
 no_front : (h : History) (n : ℕ) (calls : List Call) → Front h h n [] calls
 no_front h n calls = record { history = refl; numbers = refl }
 
 -- a single call
 one_front : (h : History) (a : Call) → Single a → (calls : List Call) → Front h (history_step h a).state (history_step h a).result.number (a ∷ []) calls
-unfolding leaves answers numbered
+unfolding after_calls call_results with_answers
 one_front h a single calls = record { history = refl; numbers = rw (single (history_step h a).result.number) }
 
 -- the single opens of an accepted job
 opens_front : (xs : List Send) (h : History) → (in_turn enters h xs).result.number ≡ 0 → (calls : List Call) → Front h (in_turn enters h xs).state 0 (map opening_of xs) calls
-unfolding leaves answers numbered counts_as
+unfolding after_calls call_results with_answers counts_as
 opens_front [] h e calls = unfold in_turn in no_front h 0 calls
 opens_front (x ∷ more) h e calls =
     let z = first h x more e in
@@ -96,13 +96,13 @@ call_front h a calls = ⊎_elim (λ single. rw (single (history_step h a).result
 
 -- "The ownership history counts such a call as its single opens, or as nothing": the history after a list of calls is that after what they count as,
 pub counted_after : (calls : List Call) (h : History) → history_after h (counted h calls) ≡ history_after h calls
-unfolding leaves counted
+unfolding after_calls counted
 counted_after [] h = refl
 counted_after (a ∷ more) h = (call_front h a (counted (history_step h a).state more)).history ∙ counted_after more (history_step h a).state
 
 -- and so are the calls with their numbers.
-pub counted_numbers : (calls : List Call) (h : History) → numbered (counted h calls) (history_results h (counted h calls)) ≡ numbered calls (history_results h calls)
-unfolding answers numbered counted
+pub counted_numbers : (calls : List Call) (h : History) → with_answers (counted h calls) (history_results h (counted h calls)) ≡ with_answers calls (history_results h calls)
+unfolding call_results with_answers counted
 counted_numbers [] h = refl
 counted_numbers (a ∷ more) h =
     (call_front h a (counted (history_step h a).state more)).numbers ∙ ap (with_number (history_step h a).result.number (counts_as a (history_step h a).result.number) ++◌) (counted_numbers more (history_step h a).state)

@@ -19,9 +19,9 @@ use Rattle.soundness.specs.TableTests.{table_tests}
 use Rattle.ownership.specs.Calls.{Call, closing, arming, CallResult, After, only, result_of}
 use Rattle.ownership.specs.Allowed.{Allowed}
 use Rattle.ownership.specs.History.{Circuit, History, net_on, holds_link, holds_receive, belongs, enabled_on, armed_on, facts_on, stopped_on, applied, history_step}
-use Rattle.ownership.specs.HistoryView.{number_of, view_of}
+use Rattle.ownership.specs.HistoryView.{first_circuit, view_of}
 use Rattle.ownership.specs.Invariant.{CircuitValid, Disjoint, Valid, Represents}
-use Rattle.ownership.specs.Agrees.{table_after, table_results, history_after, history_results, leaves, answers}
+use Rattle.ownership.specs.Agrees.{table_after, table_results, history_after, history_results, after_calls, call_results}
 use Rattle.ownership.specs.FromTable.{history_of}
 use Rattle.ownership.specs.Judging.{closes_and_arms, emptied, emptying}
 use Rattle.ownership.proofs.Circuits.{parts_belong, belongs_parts}
@@ -122,7 +122,7 @@ module _ (h : History) (valid : Valid h) (x : Circuit) (xs : List Circuit) (list
 -- a list of calls whose first answers 0 alone
 after_accepted : (h k : History) (a : Call) (more : List Call) → history_step h a ≡ record { state = k; result = only 0 }
     → (history_after h (a ∷ more) ≡ history_after k more) × (history_results h (a ∷ more) ≡ only 0 ∷ history_results k more)
-unfolding leaves answers
+unfolding after_calls call_results
 after_accepted h k a more e = (ap (λ (y : After History). history_after y.state more) e, ap (λ (y : After History). y.result ∷ history_results y.state more) e)
 
 -- calls of which each is accepted, and after which the history holds nothing and is otherwise as it was
@@ -132,15 +132,15 @@ record Empties (h : History) (calls : List Call) : Type 0 where
 
 -- So closing each circuit of a valid history and arming its receive channel leaves nothing held, and all else as it was.
 closes_empty : (xs : List Circuit) (h : History) → Valid h → h.circuits ≡ xs → Empties h (closes_and_arms xs)
-unfolding closes_and_arms leaves answers
+unfolding closes_and_arms after_calls call_results
 closes_empty [] h valid lists =
     record {
-      shows = unfold view_of emptied number_of in λ i.
+      shows = unfold view_of emptied first_circuit in λ i.
           record {
             dimension = h.dimension;
             enabled = enabled_on h;
-            owner = λ n p. number_of (holds_link (net_on h) n p) (lists i);
-            receiver = λ n k. number_of (holds_receive n k) (lists i);
+            owner = λ n p. first_circuit (holds_link (net_on h) n p) (lists i);
+            receiver = λ n k. first_circuit (holds_receive n k) (lists i);
             armed = armed_on h;
           };
       accepted = λ g m. absurd (Memᴰ.not-nil m);

@@ -31,9 +31,9 @@ use Rattle.circuit_path.specs.OpenCircuit.{is_open_in}
 use Rattle.book.specs.BookOf.{open_numbers}
 use Rattle.ownership.specs.History.{Circuit, History, shape_on, net_on, links_of, holds_link, holds_receive, enabled_on, armed_on}
 use Rattle.ownership.specs.Invariant.{CircuitValid, Disjoint, Valid}
-use Rattle.ownership.specs.HistoryView.{number_of, view_of}
+use Rattle.ownership.specs.HistoryView.{first_circuit, view_of}
 use Rattle.ownership.specs.FromTable.{links_out, circuit_at, history_of}
-use Rattle.ownership.proofs.Circuits.{number_for, number_none, Once, number_at}
+use Rattle.ownership.proofs.Circuits.{number_for, number_none, Once, number_found}
 use Rattle.ownership.proofs.CircuitValid.{holds_link_lem, link_holds, holds_receive_lem, receive_holds, links_once, receives_once}
 use Rattle.ownership.proofs.Enabled.{kept_link}
 use Rattle.ownership.proofs.OnSound.{open_sound}
@@ -177,23 +177,23 @@ module _ (v : View) (sound : Sound v) (fits : v.dimension ≤ largest_dimension)
 
   -- its entries: the number that stands in one is that of the circuit that holds it
   entry_same : (holds : Circuit → Bool) {e : ℕ} → Once holds h.circuits → e ≤ channels * cube_nodes D → (e ≢ 0 → CircuitSound v e)
-      → ((c : ℕ) → Open c → holds (circuit_at v c) ≡ true → e ≡ c) → (Open e → holds (circuit_at v e) ≡ true) → e ≡ number_of holds h.circuits
+      → ((c : ℕ) → Open c → holds (circuit_at v c) ≡ true → e ≡ c) → (Open e → holds (circuit_at v e) ≡ true) → e ≡ first_circuit holds h.circuits
   entry_same holds {e} once most stands its holder = ⊎_elim free held (same? e 0)
     where
-      free : e ≡ 0 → e ≡ number_of holds h.circuits
+      free : e ≡ 0 → e ≡ first_circuit holds h.circuits
       free z = z ∙ sym (number_none holds h.circuits (λ x m t. let r = listed_open x m in omega (arith, z, r.1.positive, its r.0 r.1 (rw r.2 t))))
 
-      held : e ≢ 0 → e ≡ number_of holds h.circuits
+      held : e ≢ 0 → e ≡ first_circuit holds h.circuits
       held ne =
           let o : Open e = record { positive = omega (arith, ne); most = most; stands = stands ne } in
-          sym (number_at holds h.circuits once (circuit_at v e) (open_listed e o) (holder o) ∙ number_is e o)
+          sym (number_found holds h.circuits once (circuit_at v e) (open_listed e o) (holder o) ∙ number_is e o)
 
-  owner_same : (n p : ℕ) → v.owner n p ≡ number_of (holds_link (net_on h) n p) h.circuits
+  owner_same : (n p : ℕ) → v.owner n p ≡ first_circuit (holds_link (net_on h) n p) h.circuits
   owner_same n p =
       entry_same (holds_link (net_on h) n p) (links_once (net_on h) n p h.circuits apart) (sound.link_number n p) (link_stands v sound n p)
       (λ c o t. link_number c o n p (holds_link_lem (net_on h) n p _ t)) (λ o. link_holds (net_on h) n p _ (number_link _ o n p refl))
 
-  receiver_same : (n k : ℕ) → v.receiver n k ≡ number_of (holds_receive n k) h.circuits
+  receiver_same : (n k : ℕ) → v.receiver n k ≡ first_circuit (holds_receive n k) h.circuits
   receiver_same n k =
       entry_same (holds_receive n k) (receives_once (net_on h) n k h.circuits apart) (sound.receive_number n k) (receive_stands v sound n k)
       (λ c o t. let a = holds_receive_lem n k _ t in receive_number c o n k a.0 a.1) (λ o. let a = number_receive _ o n k refl in receive_holds n k _ a.0 a.1)

@@ -18,7 +18,7 @@ use Rattle.ownership.specs.Calls.{making, opening, arming, opening_all, CallResu
 use Rattle.ownership.specs.InTurn.{in_turn, after_job}
 use Rattle.ownership.specs.History.{History, holds_link, holds_receive, belongs, enabled_on, held_on, free_on, taken_on, open_on, armed_on, receive_on, waiting_on, facts_on, stopped_on, send_on, with_opened, job_on, applied, history_step, new_history}
 use Rattle.ownership.specs.OnTable.{lent_tests, stopped_at}
-use Rattle.ownership.specs.Agrees.{history_after, history_results, leaves, answers}
+use Rattle.ownership.specs.Agrees.{history_after, history_results, after_calls, call_results}
 
 -- a send as the ten bytes of a list, where its numbers are below 256
 abbrev ten : ℕ → ℕ → ℕ → ℕ → ℕ → List ℕ
@@ -62,10 +62,10 @@ jobs : map shown (history_results ready
     (opening_all (to_one ++ ten 0 1 1 0 1) ∷ opening_all (ten 4 0 1 0 1 ++ to_one) ∷ opening_all (to_one ++ to_three ++ ten 0 2 4 0 1) ∷ opening_all (to_one ++ ten 0 0 3 0 2)
     ∷ opening_all (to_one ++ ten 3 0 1 0 2) ∷ opening_all (to_one ++ 0 ∷ []) ∷ opening_all [] ∷ opening_all (to_one ++ to_three) ∷ opening_all (to_one ++ to_three) ∷ []))
     ≡ (10, 1 ∷ []) ∷ (4, 0 ∷ []) ∷ (4, 2 ∷ []) ∷ (9, 1 ∷ []) ∷ (11, 1 ∷ []) ∷ (28, 0 ∷ []) ∷ (0, 0 ∷ []) ∷ (0, 2 ∷ []) ∷ (9, 0 ∷ []) ∷ []
-unfolding leaves answers history_step stopped_on call_tests refusal facts_on open_on held_on taken_on armed_on any holds_link holds_receive belongs enabled_on free_on link_state is_free receive_on lowest_of lowest send_on waiting_on some_attempt finds_path with_opened applied result_of call_on send attempts attempted network ports send_ports other_ports present axis keep from has flip uphill helical offered end links has_link free_path over ways beginnings scan whole pass scouts outcome_of_path outcome send_goes_on runs answered sends_in send_at in_turn after_job job_on
+unfolding after_calls call_results history_step stopped_on call_tests refusal facts_on open_on held_on taken_on armed_on any holds_link holds_receive belongs enabled_on free_on link_state is_free receive_on lowest_of lowest send_on waiting_on some_attempt finds_path with_opened applied result_of call_on send attempts attempted network ports send_ports other_ports present axis keep from has flip uphill helical offered end links has_link free_path over ways beginnings scan whole pass scouts outcome_of_path outcome send_goes_on runs answered sends_in send_at in_turn after_job job_on
 jobs = refl
 
 -- "The ownership history counts such a call as its single opens, or as nothing."
 counts : history_after ready (opening_all (to_one ++ ten 0 1 1 0 1) ∷ opening_all (to_one ++ to_three) ∷ []) ≡ history_after ready (opening 0 0 1 0 1 ∷ opening 0 1 3 0 2 ∷ [])
-unfolding leaves history_step stopped_on call_tests refusal facts_on open_on held_on taken_on armed_on any holds_link holds_receive belongs enabled_on free_on link_state is_free receive_on lowest_of lowest send_on waiting_on some_attempt finds_path with_opened applied result_of call_on send attempts attempted network ports send_ports other_ports present axis keep from has flip uphill helical offered end links has_link free_path over ways beginnings scan whole pass scouts outcome_of_path outcome send_goes_on runs answered sends_in send_at in_turn after_job job_on
+unfolding after_calls history_step stopped_on call_tests refusal facts_on open_on held_on taken_on armed_on any holds_link holds_receive belongs enabled_on free_on link_state is_free receive_on lowest_of lowest send_on waiting_on some_attempt finds_path with_opened applied result_of call_on send attempts attempted network ports send_ports other_ports present axis keep from has flip uphill helical offered end links has_link free_path over ways beginnings scan whole pass scouts outcome_of_path outcome send_goes_on runs answered sends_in send_at in_turn after_job job_on
 counts = refl

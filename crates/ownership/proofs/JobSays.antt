@@ -23,10 +23,10 @@ use Rattle.ownership.specs.Calls.{Call, opening_all, opening_of, CallResult, ref
 use Rattle.ownership.specs.InTurn.{Job, one_more, in_turn, single_open, after_job}
 use Rattle.ownership.specs.TableFacts.{facts_with, opened, job_in}
 use Rattle.ownership.specs.Update.{updated}
-use Rattle.ownership.specs.OnTable.{facts_of, stopped_at, table_step, opens_on, done}
-use Rattle.ownership.specs.Agrees.{table_after, leaves, answers}
+use Rattle.ownership.specs.OnTable.{facts_of, stopped_at, table_step, done}
+use Rattle.ownership.specs.Agrees.{table_after, after_calls, call_results}
 use Rattle.ownership.specs.Allowed.{Allowed}
-use Rattle.ownership.specs.JobSays.{single_opens, AllAccepted, number_after, FirstRefused, JobSays}
+use Rattle.ownership.specs.JobSays.{single_opens, AllAccepted, number_after, FirstRefused, JobSays, opens_on}
 use Rattle.ownership.proofs.InTurn.{same_call, same_job, turn_accepted, turn_refused, turn_keeps, turn_same}
 use Rattle.ownership.proofs.Steps.{step_says, table_step_lem}
 use Rattle.ownership.proofs.Stops.{none_stops, none_stops_lent, pass_tests, stopped_is}
@@ -115,13 +115,13 @@ job_step b sends small z = λ i. record { state = state i; result = result i }
 
 -- In plain words: calls that are all accepted, one by one;
 accepted_first : (b : List ℕ) (a : Call) (more : List Call) → AllAccepted b (a ∷ more) → ((table_step b a).result.number ≡ 0) × AllAccepted (table_step b a).state more
-unfolding answers
+unfolding call_results
 accepted_first b a more all = (all _ (Memᴰ.head refl), λ g m. all g (Memᴰ.tail m))
 
 -- single opens that are all acknowledged;
 opens_all : (xs : List Send) (b : List ℕ) → AllAccepted b (map opening_of xs)
     → in_turn opens_on b xs ≡ record { result = record { number = 0; sends = length (map opening_of xs) }; state = table_after b (map opening_of xs) }
-unfolding in_turn leaves
+unfolding in_turn after_calls
 opens_all [] b all = refl
 opens_all (x ∷ more) b all =
     let first = accepted_first b (opening_of x) (map opening_of more) all in
@@ -130,7 +130,7 @@ opens_all (x ∷ more) b all =
 -- and the first that is not.
 opens_until : (before : List Call) (xs : List Send) (b : List ℕ) (a : Call) (after : List Call) → map opening_of xs ≡ before ++ a ∷ after → AllAccepted b before → number_after b before a ≢ 0
     → (in_turn opens_on b xs).result ≡ record { number = number_after b before a; sends = length before }
-unfolding leaves
+unfolding after_calls
 opens_until [] [] b a after e all f = let u : ◌≡◌ {A = ℕ} 0 1 = cc in absurd (omega arith)
 opens_until [] (x ∷ more) b a after e all f =
     let q : opening_of x ≡ a = cc in
@@ -147,7 +147,7 @@ opens_until (y ∷ before) (x ∷ more) b a after e all f =
 
 -- One of the two is so of any calls.
 either : (calls : List Call) (b : List ℕ) → AllAccepted b calls ⊎ FirstRefused b calls
-unfolding leaves answers
+unfolding after_calls call_results
 either [] b = inl (λ g m. absurd (Memᴰ.not-nil m))
 either (a ∷ more) b = ⊎_elim (λ e. ⊎_elim (λ all. inl (later more e all)) (λ r. inr (later_refused e r)) (either more (table_step b a).state)) (λ f. inr (here f)) (same? (table_step b a).result.number 0)
   where

@@ -27,8 +27,8 @@ use Rattle.ownership.specs.Calls.{Call, opening, closing}
 use Rattle.ownership.specs.Update.{updated}
 use Rattle.ownership.specs.TableFacts.{open_in}
 use Rattle.ownership.specs.OnTable.{facts_of, stopped_at, table_step}
-use Rattle.ownership.specs.Agrees.{table_after, leaves, Accepted}
-use Rattle.ownership.specs.Closing.{Each, no_call, call_more, GivesFreedom, frees, repairs, readies}
+use Rattle.ownership.specs.Agrees.{table_after, after_calls, Accepted}
+use Rattle.ownership.specs.Closing.{Each, no_call, call_more, GivesFreedom, frees, unblocks, arms}
 use Rattle.ownership.specs.Allowed.{Allowed}
 use Rattle.ownership.proofs.Allowed.{allowed, allowed_passes}
 use Rattle.ownership.proofs.Stops.{none_stops, none_stops_lent, pass_tests, stopped_is}
@@ -113,14 +113,14 @@ set_on f n p m q e = go (eqb m n && eqb q p)
 updated_freer : (v : View) (a : Call) → GivesFreedom a → Freer (updated v a) v
 unfolding updated set_enabled set_armed
 updated_freer v _ (frees {s} {c}) = closed_freer v (circuit_of s c) (λ z. omega arith)
-updated_freer v _ (repairs {n} {p}) =
+updated_freer v _ (unblocks {n} {p}) =
     record {
       dimension = refl;
       free = λ m q e. let r = entry_free v m q e in free_entry (set_enabled v n p true) m q (set_on v.enabled n p m q r.0) r.1;
       channel = λ m k e. unfold available in e;
       closed = λ s c e. unfold open_in is_open_in in e;
     }
-updated_freer v _ (readies {n} {k}) =
+updated_freer v _ (arms {n} {k}) =
     record {
       dimension = refl;
       free = λ m q e. let r = entry_free v m q e in free_entry (set_armed v n k true) m q r.0 r.1;
@@ -152,5 +152,5 @@ module _ (b : List ℕ) (small : AllBytes b) (s c t y v : ℕ) (e : Accepted b (
 
   -- "An open acknowledged in a sound table is also acknowledged after closing any circuit there."
   pub closing_acknowledges : (m k : ℕ) → Accepted (table_step b (closing m k)).state (opening s c t y v)
-  unfolding leaves
+  unfolding after_calls
   closing_acknowledges m k = freedom_acknowledges (call_more (frees {s = m} {c = k}) no_call)

@@ -23,7 +23,7 @@ use Rattle.soundness.specs.Sound.{Sound}
 use Rattle.soundness.specs.TableTests.{table_tests}
 use Rattle.soundness.proofs.Soundness.{link_stands}
 use Rattle.soundness.proofs.Passing.{answers}
-use Rattle.answers.specs.SendOnTable.{pass_answer, answer_of_outcome}
+use Rattle.answers.specs.SendOnTable.{answer_on_bytes, answer_of_outcome}
 use Rattle.answers.specs.SendAnswer.{send_answer, sent_on_bytes, MaySend}
 use Rattle.answers.specs.SendSays.{SendSays}
 use Rattle.answers.proofs.SendSays.{demand_2}
@@ -38,7 +38,7 @@ use Rattle.circuit_path.proofs.CircuitSound.{sound_open}
 use Rattle.ownership.proofs.Steps.{table_step_lem}
 use Rattle.cube.proofs.Ports.{most_nodes}
 use Rattle.ownership.proofs.StepBytes.{blocking_again, unblocking_again, arming_again, disarming_again}
-use Rattle.ownership.proofs.BytesAfter.{written_by, written_bytes}
+use Rattle.ownership.proofs.BytesAfter.{bytes_written, written_bytes}
 
 -- what the tests that have passed say of an open
 pub may_open : (b : List ℕ) (s c t y v : ℕ) → stopped_at b (opening s c t y v) ≡ 0 → MaySend b s t (circuit_of s c) v
@@ -58,7 +58,7 @@ may_open b s c t y v e =
 
 -- the numbers of an outcome, as an open gives them and as a send answers them
 answer_same : (helps : Bool) (o : Outcome) (n : ℕ) (b : List ℕ)
-    → pass_answer (answered helps o n).number (hops_of (answered helps o n)) (receive_of (answered helps o n)) (scouts_of (answered helps o n)) b ≡ answer_of_outcome helps o n b
+    → answer_on_bytes (answered helps o n).number (hops_of (answered helps o n)) (receive_of (answered helps o n)) (scouts_of (answered helps o n)) b ≡ answer_of_outcome helps o n b
 unfolding answered answer_of_outcome
 answer_same helps (acknowledged w k) n b = refl
 answer_same helps route_rejected n b = refl
@@ -70,8 +70,8 @@ module _ (b : List ℕ) (s c t y v : ℕ) (e : stopped_at b (opening s c t y v) 
   open_result = (table_step b (opening s c t y v)).result
 
   -- What an open that no test stops before the search answers is what a send answers, whatever the bytes are.
-  pub open_answers : SendSays b s t (circuit_of s c) y v open_result.number (hops_of open_result) (receive_of open_result) (scouts_of open_result) (written_by b (opening s c t y v))
-  unfolding result_of facts_of written_by sent_on_bytes send_answer
+  pub open_answers : SendSays b s t (circuit_of s c) y v open_result.number (hops_of open_result) (receive_of open_result) (scouts_of open_result) (bytes_written b (opening s c t y v))
+  unfolding result_of facts_of bytes_written sent_on_bytes send_answer
   open_answers = rw ((table_step_lem b (opening s c t y v)).result e) (demand_2 b s t (circuit_of s c) y v (may_open b s c t y v e) _ _ _ _ _ (answer_same _ _ _ _))
 
   -- The users' second demand of the open call: it says what a send says, in its answer and in every byte.

@@ -14,8 +14,8 @@ use Rattle.common.proofs.Lists.{keep_mem}
 use Rattle.paths.specs.Send.{Outcome, acknowledged, route_rejected, receive_rejected}
 use Rattle.ownership.specs.Calls.{Call, making, blocking, unblocking, opening, closing, tracing, arming, disarming, opening_all, booking, judging}
 use Rattle.ownership.specs.History.{Circuit, History, belongs, stopped_on, send_on, with_opened, applied, history_step}
-use Rattle.ownership.specs.Agrees.{history_after, history_results, leaves, answers}
-use Rattle.ownership.specs.StillOpen.{counts_as, numbered, counted, Ends, Lasts, OpenedBy}
+use Rattle.ownership.specs.Agrees.{history_after, history_results, after_calls, call_results}
+use Rattle.ownership.specs.StillOpen.{counts_as, with_answers, counted, Ends, Lasts, OpenedBy}
 use Rattle.ownership.specs.Closing.{Each, no_call, call_more}
 use Rattle.ownership.proofs.Counted.{Single, counted_after, counted_single}
 use Rattle.ownership.proofs.Circuits.{parts_belong}
@@ -74,25 +74,25 @@ lasted h a x m e z = ended h a x (rw ((history_step_lem h a).accepted e) at m) z
 
 -- an open of a list is one of the list with a call in front
 pub opened_later : (h : History) (a : Call) (more : List Call) (x : Circuit) → OpenedBy (history_step h a).state more x → OpenedBy h (a ∷ more) x
-unfolding leaves
+unfolding after_calls
 opened_later h a more x z =
     record { before = a ∷ z.before; type = z.type; vector = z.vector; after = z.after; split = ap (a ∷◌) z.split; not_stopped = z.not_stopped; acknowledges = z.acknowledges; lasts = z.lasts }
 
 -- any list of single calls: what is listed after it was listed before and nothing has ended it, or was opened by it
 abbrev ListedBy : History → List Call → Circuit → Type 0
-ListedBy h calls x = ((x ∈ h.circuits) × Lasts x.source x.channel (numbered calls (history_results h calls))) ⊎ OpenedBy h calls x
+ListedBy h calls x = ((x ∈ h.circuits) × Lasts x.source x.channel (with_answers calls (history_results h calls))) ⊎ OpenedBy h calls x
 
 singly_listed : {calls : List Call} → Each Single calls → (h : History) (x : Circuit) → x ∈ (history_after h calls).circuits → ListedBy h calls x
-unfolding leaves answers numbered Lasts
+unfolding after_calls call_results with_answers Lasts
 singly_listed no_call h x m = inl (m, λ a k z. Memᴰ.not-nil k)
 singly_listed (call_more {a} {calls = more} single rest) h x m =
     ⊎_elim (λ k. ⊎_elim (λ i. inl (i, rw (single (history_step h a).result.number) (later k.0 k.1))) (λ z. inr (now z k.1)) (step h a single x k.0)) (λ z. inr (opened_later h a more x z)) (singly_listed rest (history_step h a).state x m)
   where
-    later : x ∈ (history_step h a).state.circuits → Lasts x.source x.channel (numbered more (history_results (history_step h a).state more)) → Lasts x.source x.channel ((a, (history_step h a).result.number) ∷ numbered more (history_results (history_step h a).state more))
+    later : x ∈ (history_step h a).state.circuits → Lasts x.source x.channel (with_answers more (history_results (history_step h a).state more)) → Lasts x.source x.channel ((a, (history_step h a).result.number) ∷ with_answers more (history_results (history_step h a).state more))
     later k l b i z =
         ⊎_elim (λ e. lasted h a x k (sym (ap (λ (u : Call × ℕ). u.1) e)) (subst (Ends x.source x.channel) (ap (λ (u : Call × ℕ). u.0) e) z)) (λ j. l b j z) (Memᴰ.cases_cons i)
 
-    now : (stopped_on h a ≡ 0) × New h a x → Lasts x.source x.channel (numbered more (history_results (history_step h a).state more)) → OpenedBy h (a ∷ more) x
+    now : (stopped_on h a ≡ 0) × New h a x → Lasts x.source x.channel (with_answers more (history_results (history_step h a).state more)) → OpenedBy h (a ∷ more) x
     now z l =
         let e = z.1.is_open in
         record {
@@ -103,7 +103,7 @@ singly_listed (call_more {a} {calls = more} single rest) h x m =
           split = ap (◌∷ more) e;
           not_stopped = subst (λ (u : Call). stopped_on h u ≡ 0) e z.0;
           acknowledges = z.1.acknowledges;
-          lasts = subst (λ (u : Call). Lasts x.source x.channel (numbered more (history_results (history_step h u).state more))) e l;
+          lasts = subst (λ (u : Call). Lasts x.source x.channel (with_answers more (history_results (history_step h u).state more))) e l;
         }
 
 -- any list: by what its calls count as

@@ -12,7 +12,7 @@ use Rattle.ownership.specs.Calls.{Call, making, blocking, unblocking, opening, c
 use Rattle.ownership.specs.Sends.{sends_in}
 use Rattle.ownership.specs.Calls.{CallResult, scouts_of, answered, CallFacts, result_of}
 use Rattle.ownership.specs.OnTable.{facts_of, stopped_at, table_step}
-use Rattle.ownership.specs.Agrees.{table_after, leaves}
+use Rattle.ownership.specs.Agrees.{table_after, after_calls}
 use Rattle.ownership.proofs.Steps.{table_step_lem}
 use mathlib.Core.Bool.{Bool, true, false}
 
@@ -60,7 +60,7 @@ module _ (b : List ℕ) (a : Call) (f : (table_step b a).result.number ≢ 0) wh
 
 -- so wherever it stands in a list of calls, it leaves the table that it met
 after_all : (before : List Call) (b : List ℕ) (a : Call) → table_after b (before ++ a ∷ []) ≡ (table_step (table_after b before) a).state
-unfolding leaves
+unfolding after_calls
 after_all [] b a = refl
 after_all (x ∷ before) b a = after_all before (table_step b x).state a
 

@@ -16,8 +16,8 @@ use Rattle.common.proofs.Lists.{keep_mem, mem_keep, any_some, some_any}
 use Rattle.paths.specs.Send.{Outcome, acknowledged, route_rejected, receive_rejected}
 use Rattle.ownership.specs.Calls.{Call, making, blocking, unblocking, opening, closing, tracing, arming, disarming, opening_all, booking, judging, CallResult, answered, result_of}
 use Rattle.ownership.specs.History.{Circuit, History, belongs, open_on, facts_on, stopped_on, send_on, with_opened, applied, history_step, waiting_on, new_history}
-use Rattle.ownership.specs.Agrees.{history_after, history_results, leaves, answers}
-use Rattle.ownership.specs.StillOpen.{counts_as, numbered, Ends, Lasts, StillOpen}
+use Rattle.ownership.specs.Agrees.{history_after, history_results, after_calls, call_results}
+use Rattle.ownership.specs.StillOpen.{counts_as, with_answers, Ends, Lasts, StillOpen}
 use Rattle.ownership.specs.Closing.{Each, no_call, call_more}
 use Rattle.ownership.proofs.Counted.{Single, counted_after, counted_numbers, counted_single}
 use Rattle.ownership.proofs.Circuits.{belongs_parts, parts_belong}
@@ -180,26 +180,26 @@ module _ (s c : ℕ) where
       back (inr r) = let l = lasts_first a n ps r.1 in inr (step.spares r.0 l.0, l.1)
 
   -- From any history on, by single calls
-  abbrev Exactly : History → List Call → Type 0
-  Exactly h calls =
-      (open_on (history_after h calls) s c ≡ true) ↔ (StillOpen s c (numbered calls (history_results h calls)) ⊎ ((open_on h s c ≡ true) × Lasts s c (numbered calls (history_results h calls))))
+  abbrev ExactlyListed : History → List Call → Type 0
+  ExactlyListed h calls =
+      (open_on (history_after h calls) s c ≡ true) ↔ (StillOpen s c (with_answers calls (history_results h calls)) ⊎ ((open_on h s c ≡ true) × Lasts s c (with_answers calls (history_results h calls))))
 
-  open_after_single : (h : History) {calls : List Call} → Each Single calls → Exactly h calls
-  unfolding leaves answers numbered Lasts
+  open_after_single : (h : History) {calls : List Call} → Each Single calls → ExactlyListed h calls
+  unfolding after_calls call_results with_answers Lasts
   open_after_single h no_call = ((λ o. inr (o, λ a m. absurd (Memᴰ.not-nil m))), ⊎_elim (λ o. absurd (still_none o)) (λ r. r.0))
   open_after_single h (call_more {a} {calls = more} single rest) =
       let ih = open_after_single (history_step h a).state rest in
-      let one = by_one h (history_step h a).state a (history_step h a).result.number (step_told h a single) (numbered more (history_results (history_step h a).state more)) in
+      let one = by_one h (history_step h a).state a (history_step h a).result.number (step_told h a single) (with_answers more (history_results (history_step h a).state more)) in
       rw (single (history_step h a).result.number) ((λ o. one.0 (ih.0 o)), λ r. ih.1 (one.1 r))
 
   -- and by any calls:
   pub open_after : (h : History) (calls : List Call)
-      → (open_on (history_after h calls) s c ≡ true) ↔ (StillOpen s c (numbered calls (history_results h calls)) ⊎ ((open_on h s c ≡ true) × Lasts s c (numbered calls (history_results h calls))))
+      → (open_on (history_after h calls) s c ≡ true) ↔ (StillOpen s c (with_answers calls (history_results h calls)) ⊎ ((open_on h s c ≡ true) × Lasts s c (with_answers calls (history_results h calls))))
   open_after h calls = rw (← counted_after calls h, ← counted_numbers calls h) (open_after_single h (counted_single calls h))
 
   -- From an accepted making on: the list has an acknowledged open of the channel, and no accepted making and no accepted close of it afterwards.
   pub open_exactly : (h : History) (D : ℕ) → stopped_on h (making D) ≡ 0 → (calls : List Call)
-      → (open_on (history_after h (making D ∷ calls)) s c ≡ true) ↔ StillOpen s c (numbered (making D ∷ calls) (history_results h (making D ∷ calls)))
+      → (open_on (history_after h (making D ∷ calls)) s c ≡ true) ↔ StillOpen s c (with_answers (making D ∷ calls) (history_results h (making D ∷ calls)))
   open_exactly h D e calls =
       let r = open_after h (making D ∷ calls) in
       ((λ o. ⊎_elim (λ x. x) (λ x. absurd (ended x.1)) (r.0 o)), λ x. r.1 (inl x))
@@ -207,7 +207,7 @@ module _ (s c : ℕ) where
       accepted : (history_step h (making D)).result.number ≡ 0
       accepted = unfold result_of in ap (λ (g : CallResult). g.number) ((history_step_lem h (making D)).result e)
 
-      ended : Lasts s c (numbered (making D ∷ calls) (history_results h (making D ∷ calls))) → ⊥
+      ended : Lasts s c (with_answers (making D ∷ calls) (history_results h (making D ∷ calls))) → ⊥
       ended l =
-          unfold answers numbered counts_as Ends in
-          (lasts_first (making D) (history_step h (making D)).result.number (numbered calls (history_results (history_step h (making D)).state calls)) l).0 accepted tt
+          unfold call_results with_answers counts_as Ends in
+          (lasts_first (making D) (history_step h (making D)).result.number (with_answers calls (history_results (history_step h (making D)).state calls)) l).0 accepted tt

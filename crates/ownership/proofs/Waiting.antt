@@ -32,7 +32,7 @@ use Rattle.ownership.specs.Sends.{Send, sends_in}
 use Rattle.ownership.specs.Update.{updated}
 use Rattle.ownership.specs.TableFacts.{open_in, taken_in, facts_with, opened, job_in}
 use Rattle.ownership.specs.OnTable.{facts_of, lent_tests, stopped_at, table_step}
-use Rattle.ownership.specs.Agrees.{table_after, leaves}
+use Rattle.ownership.specs.Agrees.{table_after, after_calls}
 use Rattle.ownership.specs.Closing.{Each, no_call, call_more, ClosesOrArms, closes, arms, RepairsNothing, a_block, an_open, a_close, a_trace, an_arming, a_disarming, a_job, a_book, a_judging, NoLinkHeld}
 use Rattle.ownership.specs.Allowed.{Allowed}
 use Rattle.ownership.proofs.Allowed.{allowed, allowed_passes}
@@ -80,7 +80,7 @@ module _ (R : View → View → Type 0) (self : (v : View) → R v v) (chain : (
       }
 
   pub calls_kept : (b : List ℕ) → AllBytes b → refusal (table_tests b) ≡ 0 → {calls : List Call} → Each P calls → Kept R b (table_after b calls)
-  unfolding leaves
+  unfolding after_calls
   calls_kept b small e no_call = record { small = small; passes = e; related = self (view b) }
   calls_kept b small e (call_more {a} k more) =
       let x = step_kept b small e a k in
@@ -103,31 +103,31 @@ module _ (b : List ℕ) (s c t y v : ℕ) where
       (same? (stopped_at b (opening s c t y v)) 0)
 
   -- where nothing is held, every enabled link is free, and no send channel has an open circuit
-  idle_free : (w : View) → NoLinkHeld w → (n p : ℕ) → w.enabled n p ≡ true → free_in w n p ≡ true
+  unheld_free : (w : View) → NoLinkHeld w → (n p : ℕ) → w.enabled n p ≡ true → free_in w n p ≡ true
   unfolding free_in state_in
-  idle_free w idle n p e = (free_link _ _).1 (e, idle n p)
+  unheld_free w unheld n p e = (free_link _ _).1 (e, unheld n p)
 
-  idle_closed : (w : View) → NoLinkHeld w → open_in w s c ≡ false
+  unheld_closed : (w : View) → NoLinkHeld w → open_in w s c ≡ false
   unfolding open_in is_open_in held_in
-  idle_closed w idle =
+  unheld_closed w unheld =
       is_false _ (λ e.
       let x = any_some (held_by w (circuit_of s c) (source_of (circuit_of s c))) (ports (shape_of w)) e in
       let o : ℕ = w.owner (source_of (circuit_of s c)) x.0 in
-      let nobody : o ≡ 0 = eqb-true o 0 (not-false _ (idle (source_of (circuit_of s c)) x.0)) in
+      let nobody : o ≡ 0 = eqb-true o 0 (not-false _ (unheld (source_of (circuit_of s c)) x.0)) in
       let holder : o ≡ circuit_of s c = eqb-true o (circuit_of s c) x.2 in
       omega (arith, nobody, holder))
 
-  idle_route : {w : View} → NoLinkHeld w → SameEnabled w (view b) → CouldRoute (view b) s t (attempts (shape_of (view b)) y v) → SomeRoute w s t (attempts (shape_of w) y v)
+  unheld_route : {w : View} → NoLinkHeld w → SameEnabled w (view b) → CouldRoute (view b) s t (attempts (shape_of (view b)) y v) → SomeRoute w s t (attempts (shape_of w) y v)
   unfolding SomePathEnabled AllEnabled
-  idle_route {w} idle same x =
+  unheld_route {w} unheld same x =
       let could : CouldRoute w s t (attempts (shape_of w) y v) = rw (same.dimension, same.enabled) x in
-      (could.0, could.1, (could.2.0, could.2.1, (free_path_links (net w) (free_in w) s could.2.0).1 (λ l m. idle_free w idle l.0 l.1 (could.2.2 l m))))
+      (could.0, could.1, (could.2.0, could.2.1, (free_path_links (net w) (free_in w) s could.2.0).1 (λ l m. unheld_free w unheld l.0 l.1 (could.2.2 l m))))
 
   -- "if all circuits are closed and a channel at the target is armed", a send that was answered 10 is acknowledged
   pub closed_acknowledges : AllBytes b → {calls : List Call} → Each ClosesOrArms calls → number_on b ≡ 10 → NoLinkHeld (view (table_after b calls)) → Available (view (table_after b calls)) t
       → number_on (table_after b calls) ≡ 0
   unfolding Allowed facts_of
-  closed_acknowledges small {calls} all e idle there =
+  closed_acknowledges small {calls} all e unheld there =
       let z = was_sent 10 (inl refl) e in
       let kept = calls_kept SameEnabled same_self same_chain updated_same b small (none_stops_lent b (opening s c t y v) refl z) all in
       let p = pass_tests (table_after b calls) kept.passes in
@@ -135,9 +135,9 @@ module _ (b : List ℕ) (s c t y v : ℕ) where
       let D = kept.related.dimension in
       let q : stopped_at (table_after b calls) (opening s c t y v) ≡ 0 =
       stopped_is (table_after b calls) p.0 p.1 p.2 p.3 (opening s c t y v)
-      ∙ allowed_passes (facts_of (view (table_after b calls))) (opening s c t y v) (rw D r.0, rw D r.1, r.2, r.3, (λ n l. r.4 n (rw D at l)), idle_closed (view (table_after b calls)) idle, r.6) in
+      ∙ allowed_passes (facts_of (view (table_after b calls))) (opening s c t y v) (rw D r.0, rw D r.1, r.2, r.3, (λ n l. r.4 n (rw D at l)), unheld_closed (view (table_after b calls)) unheld, r.6) in
       let x = (open_answers b s c t y v z).rejected_route.0 e in
-      (open_answers (table_after b calls) s c t y v q).exactly.1 (idle_route idle kept.related x.1, there)
+      (open_answers (table_after b calls) s c t y v q).exactly.1 (unheld_route unheld kept.related x.1, there)
 
 -- A table that passes its tests and in which no circuit is open holds no link and no receive channel,
 module _ (b : List ℕ) (small : AllBytes b) (e : refusal (table_tests b) ≡ 0) (none : open_numbers (view b) ≡ []) where

@@ -9,27 +9,27 @@ use Rattle.ownership.specs.Invariant.{Valid}
 
 -- a list of calls made one after another: what they leave, and what each of them gives
 module _ {S : Type 0} (makes : S → Call → After S) where
-  unfoldable pub leaves : S → List Call → S
-  leaves s [] = s
-  leaves s (a ∷ more) = leaves (makes s a).state more
+  unfoldable pub after_calls : S → List Call → S
+  after_calls s [] = s
+  after_calls s (a ∷ more) = after_calls (makes s a).state more
 
-  unfoldable pub answers : S → List Call → List CallResult
-  answers s [] = []
-  answers s (a ∷ more) = (makes s a).result ∷ answers (makes s a).state more
+  unfoldable pub call_results : S → List Call → List CallResult
+  call_results s [] = []
+  call_results s (a ∷ more) = (makes s a).result ∷ call_results (makes s a).state more
 
 -- on a table, where the step is the contracts' own definition of a call
 abbrev pub table_after : List ℕ → List Call → List ℕ
-table_after b calls = leaves table_step b calls
+table_after b calls = after_calls table_step b calls
 
 abbrev pub table_results : List ℕ → List Call → List CallResult
-table_results b calls = answers table_step b calls
+table_results b calls = call_results table_step b calls
 
 -- and in the history
 abbrev pub history_after : History → List Call → History
-history_after h calls = leaves history_step h calls
+history_after h calls = after_calls history_step h calls
 
 abbrev pub history_results : History → List Call → List CallResult
-history_results h calls = answers history_step h calls
+history_results h calls = call_results history_step h calls
 
 -- The users' third demand for a list of calls, refused ones included: table and history agree in every byte, each answer and each lent buffer is the
 -- history's, what always holds of a history holds of it (no two of its circuits share a link or a receive channel), and wherever a call of the list is refused,

@@ -2,12 +2,12 @@
 -- Assumes nothing.
 use Rattle.std.specs.Prelude.{◌≡◌, true, List, ℕ, ◌<◌}
 use Rattle.cube.specs.Cube.{channels, NodeOf}
-use Rattle.layout.specs.Layout.{dimension_at, armed_at}
+use Rattle.table.specs.View.{view}
 
 -- all receive channels of a node are armed
 abbrev pub AllArmed : List ℕ → ℕ → Type 0
-AllArmed b n = (k : ℕ) → k < channels → armed_at b n k ≡ true
+AllArmed b n = (k : ℕ) → k < channels → (view b).armed n k ≡ true
 
 -- those of all nodes of the cube are
 abbrev pub CubeArmed : List ℕ → Type 0
-CubeArmed b = (n : ℕ) → NodeOf (dimension_at b) n → AllArmed b n
+CubeArmed b = (n : ℕ) → NodeOf (view b).dimension n → AllArmed b n

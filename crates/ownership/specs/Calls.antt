@@ -158,8 +158,8 @@ in_use a s c = test (a.is_open s c) 9
 abbrev pub no_circuit : CallFacts → ℕ → ℕ → Test
 no_circuit a s c = test (not (a.is_open s c)) 12
 
-abbrev pub link_held : CallFacts → ℕ → ℕ → Test
-link_held a n p = test (a.held n p) 13
+abbrev pub link_is_held : CallFacts → ℕ → ℕ → Test
+link_is_held a n p = test (a.held n p) 13
 
 abbrev pub short_buffer : List ℕ → Test
 short_buffer buffer = test (ltb (length buffer) 9) 14
@@ -183,7 +183,7 @@ judged_by a = record { dimension = a.dimension; is_open = a.is_open; free = a.fr
 -- "Within one call the tests run in rising order of number." Those of each call behind the tests of the lent table; of judging alone the last has a lower number:
 unfoldable pub call_tests : CallFacts → Call → List Test
 call_tests a (making D) = dimension_test D ∷ []
-call_tests a (blocking n p) = node a n ∷ port a p ∷ link_held a n p ∷ []
+call_tests a (blocking n p) = node a n ∷ port a p ∷ link_is_held a n p ∷ []
 call_tests a (unblocking n p) = node a n ∷ port a p ∷ []
 call_tests a (opening s c t y v) = nodes a s t ∷ channel_number c ∷ routing_type y ∷ send_vector a v ∷ in_use a s c ∷ []
 call_tests a (closing s c) = node a s ∷ channel_number c ∷ no_circuit a s c ∷ []

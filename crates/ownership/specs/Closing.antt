@@ -29,8 +29,8 @@ pub data RepairsNothing : Call → Type 0 where
 -- Calls that give more freedom and take none: document 02, (n), names closing; repairing a link and arming a channel are such calls too.
 pub data GivesFreedom : Call → Type 0 where
   frees : {s c : ℕ} → GivesFreedom (closing s c)
-  repairs : {n p : ℕ} → GivesFreedom (unblocking n p)
-  readies : {n k : ℕ} → GivesFreedom (arming n k)
+  unblocks : {n p : ℕ} → GivesFreedom (unblocking n p)
+  arms : {n k : ℕ} → GivesFreedom (arming n k)
 
 -- no link is held
 abbrev pub NoLinkHeld : View → Type 0

@@ -7,9 +7,9 @@ use Rattle.table.specs.Encode.{encode}
 use Rattle.ownership.specs.History.{Circuit, History, net_on, holds_link, holds_receive, enabled_on, armed_on}
 
 -- the number of the first circuit that passes a test; 0, "no circuit", where none does
-unfoldable pub number_of : (Circuit → Bool) → List Circuit → ℕ
-number_of f [] = 0
-number_of f (x ∷ xs) = cond (f x) (circuit_of x.source x.channel) (number_of f xs)
+unfoldable pub first_circuit : (Circuit → Bool) → List Circuit → ℕ
+first_circuit f [] = 0
+first_circuit f (x ∷ xs) = cond (f x) (circuit_of x.source x.channel) (first_circuit f xs)
 
 -- what a table that agrees with the history shows
 unfoldable pub view_of : History → View
@@ -17,8 +17,8 @@ view_of h =
     record {
       dimension = h.dimension;
       enabled = enabled_on h;
-      owner = λ n p. number_of (holds_link (net_on h) n p) h.circuits;
-      receiver = λ n k. number_of (holds_receive n k) h.circuits;
+      owner = λ n p. first_circuit (holds_link (net_on h) n p) h.circuits;
+      receiver = λ n k. first_circuit (holds_receive n k) h.circuits;
       armed = armed_on h;
     }
 

@@ -2,10 +2,14 @@
 -- Assumes nothing.
 use Rattle.std.specs.Prelude.{◌≡◌, ◌⊎◌, ◌≢◌, List, [], ◌∷◌, ◌++◌, map, ℕ, ◌*◌, ◌≤◌, length}
 use Rattle.common.specs.Lists.{◌∈◌}
-use Rattle.ownership.specs.Sends.{sends_in}
+use Rattle.ownership.specs.Sends.{Send, sends_in}
 use Rattle.ownership.specs.Calls.{Call, opening_of, CallResult, After}
 use Rattle.ownership.specs.OnTable.{table_step, done}
 use Rattle.ownership.specs.Agrees.{table_after, table_results}
+
+-- a send of a job as a single call on the bytes of a table
+abbrev pub opens_on : List ℕ → Send → After (List ℕ)
+opens_on b x = table_step b (opening_of x)
 
 -- the single opens that a list of sends asks for, in its order
 abbrev pub single_opens : List ℕ → List Call

@@ -5,8 +5,7 @@ use Rattle.common.specs.Tests.{Test, refusal}
 use Rattle.table.specs.View.{View, view}
 use Rattle.table.specs.Encode.{encode}
 use Rattle.soundness.specs.TableTests.{length_test, table_tests}
-use Rattle.ownership.specs.Sends.{Send}
-use Rattle.ownership.specs.Calls.{Call, opening_of, form, CallFacts, call_tests, After, call_on}
+use Rattle.ownership.specs.Calls.{Call, form, CallFacts, call_tests, After, call_on}
 use Rattle.ownership.specs.TableFacts.{facts_with, job_in}
 use Rattle.ownership.specs.Update.{updated}
 
@@ -25,10 +24,6 @@ stopped_at b a = refusal (lent_tests b a ++ call_tests (facts_of (view b)) a)
 -- What a call does to the bytes of a table: where it is accepted, they are those that show the update of what the table showed.
 unfoldable pub table_step : List ℕ → Call → After (List ℕ)
 table_step b a = call_on b (encode (updated (view b) a)) (facts_of (view b)) (stopped_at b a) a
-
--- document 02, (j): a send of a job as a single call on the bytes of a table
-abbrev pub opens_on : List ℕ → Send → After (List ℕ)
-opens_on b x = table_step b (opening_of x)
 
 -- as the contracts of the calls say it: the bytes of the table after a call, its number, its values and its buffers
 abbrev pub done : List ℕ → ℕ → List ℕ → List (List ℕ) → After (List ℕ)

@@ -1,7 +1,8 @@
 -- A job's list of sends as bytes, and what the sends come to: document 02, (j).
 -- Assumes nothing.
-use Rattle.std.specs.Prelude.{List, map, ℕ, ◌+◌, ◌*◌, ◌/◌, length, get_or}
+use Rattle.std.specs.Prelude.{List, map, ℕ, ◌+◌, ◌*◌, ◌/◌, length}
 use Rattle.common.specs.Lists.{from}
+use Rattle.layout.specs.Layout.{word_at}
 
 -- "(node, channel, target, type, vector, ..)"
 pub record Send : Type 0 where
@@ -16,17 +17,17 @@ abbrev pub send_bytes : ℕ
 send_bytes = 10
 
 -- ".. two bytes each, low first": of the send at place i, counted from 0, the number at place k of its five
-abbrev pub number_at : List ℕ → ℕ → ℕ → ℕ
-number_at bytes i k = let j = send_bytes * i + 2 * k in get_or bytes j 0 + 256 * get_or bytes (j + 1) 0
+abbrev pub send_number : List ℕ → ℕ → ℕ → ℕ
+send_number bytes i k = word_at bytes (send_bytes * i + 2 * k)
 
 unfoldable pub send_at : List ℕ → ℕ → Send
 send_at bytes i =
     record {
-      source = number_at bytes i 0;
-      channel = number_at bytes i 1;
-      target = number_at bytes i 2;
-      type = number_at bytes i 3;
-      vector = number_at bytes i 4;
+      source = send_number bytes i 0;
+      channel = send_number bytes i 1;
+      target = send_number bytes i 2;
+      type = send_number bytes i 3;
+      vector = send_number bytes i 4;
     }
 
 -- the sends of a list, in their order

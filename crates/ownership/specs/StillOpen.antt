@@ -24,10 +24,10 @@ counts_as (judging ports index circuits hops) n = judging ports index circuits h
 counts_as (opening_all sends) n = cond (eqb n 0) (map opening_of (sends_in sends)) []
 
 -- the calls of a list so counted, each with the number that it answered; "Success is 0", and an accepted open is an acknowledged one
-unfoldable pub numbered : List Call → List CallResult → List (Call × ℕ)
-numbered [] gs = []
-numbered (a ∷ more) [] = []
-numbered (a ∷ more) (g ∷ gs) = map (λ (x : Call). (x, g.number)) (counts_as a g.number) ++ numbered more gs
+unfoldable pub with_answers : List Call → List CallResult → List (Call × ℕ)
+with_answers [] gs = []
+with_answers (a ∷ more) [] = []
+with_answers (a ∷ more) (g ∷ gs) = map (λ (x : Call). (x, g.number)) (counts_as a g.number) ++ with_answers more gs
 
 -- the same calls without the numbers, by those that they answer from a history on
 unfoldable pub counted : History → List Call → List Call
@@ -72,4 +72,4 @@ pub record OpenedBy (h : History) (calls : List Call) (x : Circuit) : Type 0 whe
   pub split : calls ≡ before ++ opening x.source x.channel x.target type vector ∷ after
   pub not_stopped : stopped_on (history_after h before) (opening x.source x.channel x.target type vector) ≡ 0
   pub acknowledges : (send_on (history_after h before) x.source x.target type vector).outcome ≡ acknowledged x.ports x.receive
-  pub lasts : Lasts x.source x.channel (numbered after (history_results (history_step (history_after h before) (opening x.source x.channel x.target type vector)).state after))
+  pub lasts : Lasts x.source x.channel (with_answers after (history_results (history_step (history_after h before) (opening x.source x.channel x.target type vector)).state after))

@@ -1,11 +1,11 @@
 -- Document 01, "Examples at the edges": all those marked P, as a single list of inputs and results under one claim that computes. Document 02, (a): "01's
 -- examples hold with every channel armed first". What a table gives is what the history gives (demand_3), so the calls are computed on the history.
 -- Assumes nothing.
-use Rattle.std.specs.Prelude.{◌≡◌, refl, List, [], ◌∷◌, ◌++◌, map, ℕ, ◌*◌, ◌^◌, replicate}
+use Rattle.std.specs.Prelude.{◌≡◌, refl, List, [], ◌∷◌, ◌++◌, map, ℕ, ◌*◌, replicate}
 use Rattle.common.specs.Lists.{keep, from, any, lowest}
 use Rattle.common.specs.Tests.{refusal}
 use Rattle.cube.specs.Bits.{has, flip}
-use Rattle.cube.specs.Cube.{uphill}
+use Rattle.cube.specs.Cube.{channels, cube_nodes, uphill}
 use Rattle.cube.specs.Axes.{axis, present}
 use Rattle.cube.specs.Helical.{helical}
 use Rattle.paths.specs.Network.{offered, end, links, has_link, link_state, is_free, free_path}
@@ -19,7 +19,7 @@ use Rattle.ownership.specs.Calls.{Call, making, blocking, opening, closing, trac
 use Rattle.ownership.specs.History.{History, holds_link, holds_receive, belongs, enabled_on, held_on, free_on, taken_on, open_on, armed_on, receive_on, listed, waiting_on, facts_on, stopped_on, send_on, with_opened, applied, history_step, new_history}
 use Rattle.paths.specs.Waiting.{finds_path, some_attempt}
 use Rattle.ownership.specs.FromTable.{links_out}
-use Rattle.ownership.specs.Agrees.{history_results, answers}
+use Rattle.ownership.specs.Agrees.{history_results, call_results}
 
 -- an input: a list of calls, a word to read, a command and a carried number to write
 pub data Input : Type 0 where
@@ -51,7 +51,7 @@ trace c = tracing 0 c (9 ∷ 9 ∷ 9 ∷ 9 ∷ 9 ∷ 9 ∷ 9 ∷ 9 ∷ 9 ∷ [])
 
 -- "every channel armed first": the eight receive channels of each node of a cube
 abbrev arm_all : ℕ → List Call
-arm_all D = map (λ l. arming l.0 l.1) (links_out (from 0 (2 ^ D)) (from 0 8))
+arm_all D = map (λ l. arming l.0 l.1) (links_out (from 0 (cube_nodes D)) (from 0 channels))
 
 abbrev pub inputs : List Input
 inputs =
@@ -76,29 +76,29 @@ inputs =
     ∷ []
 
 -- a call that answers the number alone; an open; a trace with its buffer
-abbrev done : List (List ℕ)
-done = alone (0 ∷ [])
+abbrev answered_zero : List (List ℕ)
+answered_zero = alone (0 ∷ [])
 
-abbrev opened : ℕ → ℕ → ℕ → ℕ → List (List ℕ)
-opened number hops receive scouts = alone (number ∷ hops ∷ receive ∷ scouts ∷ [])
+abbrev open_answered : ℕ → ℕ → ℕ → ℕ → List (List ℕ)
+open_answered number hops receive scouts = alone (number ∷ hops ∷ receive ∷ scouts ∷ [])
 
-abbrev traced : ℕ → List ℕ → List (List ℕ)
-traced hops buffer = (0 ∷ hops ∷ []) ∷ buffer ∷ []
+abbrev trace_answered : ℕ → List ℕ → List (List ℕ)
+trace_answered hops buffer = (0 ∷ hops ∷ []) ∷ buffer ∷ []
 
 -- every arming answers 0
-abbrev armed : ℕ → List (List (List ℕ))
-armed D = replicate (8 * 2 ^ D) done
+abbrev arming_answered : ℕ → List (List (List ℕ))
+arming_answered D = replicate (channels * cube_nodes D) answered_zero
 
 abbrev pub results : List (List (List (List ℕ)))
 results =
-    (done ∷ armed 3 ++ opened 0 3 0 3 ∷ traced 3 (0 ∷ 1 ∷ 2 ∷ 9 ∷ 9 ∷ 9 ∷ 9 ∷ 9 ∷ 9 ∷ []) ∷ [])
-    ∷ (done ∷ armed 3 ++ done ∷ done ∷ opened 0 3 0 5 ∷ traced 3 (1 ∷ 2 ∷ 0 ∷ 9 ∷ 9 ∷ 9 ∷ 9 ∷ 9 ∷ 9 ∷ []) ∷ [])
-    ∷ (done ∷ armed 1 ++ opened 0 2 0 2 ∷ traced 2 (0 ∷ 0 ∷ 9 ∷ 9 ∷ 9 ∷ 9 ∷ 9 ∷ 9 ∷ 9 ∷ []) ∷ [])
-    ∷ (done ∷ armed 2 ++ opened 0 3 0 3 ∷ traced 3 (1 ∷ 0 ∷ 1 ∷ 9 ∷ 9 ∷ 9 ∷ 9 ∷ 9 ∷ 9 ∷ []) ∷ [])
-    ∷ (done ∷ armed 2 ++ done ∷ opened 0 3 0 3 ∷ traced 3 (1 ∷ 1 ∷ 0 ∷ 9 ∷ 9 ∷ 9 ∷ 9 ∷ 9 ∷ 9 ∷ []) ∷ [])
-    ∷ (done ∷ armed 2 ++ done ∷ opened 22 0 0 0 ∷ [])
-    ∷ (done ∷ armed 2 ++ done ∷ opened 0 3 0 3 ∷ traced 3 (1 ∷ 0 ∷ 1 ∷ 9 ∷ 9 ∷ 9 ∷ 9 ∷ 9 ∷ 9 ∷ []) ∷ [])
-    ∷ (done ∷ armed 1 ++ opened 0 1 0 1 ∷ opened 10 0 0 0 ∷ done ∷ opened 0 1 1 1 ∷ [])
+    (answered_zero ∷ arming_answered 3 ++ open_answered 0 3 0 3 ∷ trace_answered 3 (0 ∷ 1 ∷ 2 ∷ 9 ∷ 9 ∷ 9 ∷ 9 ∷ 9 ∷ 9 ∷ []) ∷ [])
+    ∷ (answered_zero ∷ arming_answered 3 ++ answered_zero ∷ answered_zero ∷ open_answered 0 3 0 5 ∷ trace_answered 3 (1 ∷ 2 ∷ 0 ∷ 9 ∷ 9 ∷ 9 ∷ 9 ∷ 9 ∷ 9 ∷ []) ∷ [])
+    ∷ (answered_zero ∷ arming_answered 1 ++ open_answered 0 2 0 2 ∷ trace_answered 2 (0 ∷ 0 ∷ 9 ∷ 9 ∷ 9 ∷ 9 ∷ 9 ∷ 9 ∷ 9 ∷ []) ∷ [])
+    ∷ (answered_zero ∷ arming_answered 2 ++ open_answered 0 3 0 3 ∷ trace_answered 3 (1 ∷ 0 ∷ 1 ∷ 9 ∷ 9 ∷ 9 ∷ 9 ∷ 9 ∷ 9 ∷ []) ∷ [])
+    ∷ (answered_zero ∷ arming_answered 2 ++ answered_zero ∷ open_answered 0 3 0 3 ∷ trace_answered 3 (1 ∷ 1 ∷ 0 ∷ 9 ∷ 9 ∷ 9 ∷ 9 ∷ 9 ∷ 9 ∷ []) ∷ [])
+    ∷ (answered_zero ∷ arming_answered 2 ++ answered_zero ∷ open_answered 22 0 0 0 ∷ [])
+    ∷ (answered_zero ∷ arming_answered 2 ++ answered_zero ∷ open_answered 0 3 0 3 ∷ trace_answered 3 (1 ∷ 0 ∷ 1 ∷ 9 ∷ 9 ∷ 9 ∷ 9 ∷ 9 ∷ 9 ∷ []) ∷ [])
+    ∷ (answered_zero ∷ arming_answered 1 ++ open_answered 0 1 0 1 ∷ open_answered 10 0 0 0 ∷ answered_zero ∷ open_answered 0 1 1 1 ∷ [])
     ∷ (alone (0 ∷ 1 ∷ 0 ∷ []) ∷ [])
     ∷ (alone (0 ∷ 2112 ∷ []) ∷ [])
     ∷ (alone (0 ∷ 6 ∷ 5 ∷ []) ∷ [])
@@ -108,12 +108,12 @@ results =
     ∷ []
 
 pub examples : map result inputs ≡ results
-unfolding answers history_step stopped_on call_tests refusal facts_on open_on held_on taken_on armed_on links_out any holds_link holds_receive belongs enabled_on free_on link_state is_free receive_on lowest_of lowest listed send_on waiting_on some_attempt finds_path with_opened applied result_of call_on traced_into send attempts attempted network ports send_ports other_ports present axis keep from has flip uphill helical offered end links has_link free_path over ways beginnings scan whole pass scouts outcome_of_path outcome send_goes_on runs answered commands values_in values reserved read_tests reading read_word write_tests writing write_word
+unfolding call_results history_step stopped_on call_tests refusal facts_on open_on held_on taken_on armed_on links_out any holds_link holds_receive belongs enabled_on free_on link_state is_free receive_on lowest_of lowest listed send_on waiting_on some_attempt finds_path with_opened applied result_of call_on traced_into send attempts attempted network ports send_ports other_ports present axis keep from has flip uphill helical offered end links has_link free_path over ways beginnings scan whole pass scouts outcome_of_path outcome send_goes_on runs answered commands values_in values reserved read_tests reading read_word write_tests writing write_word
 examples = refl
 
 -- Document 02, (a): a channel must be armed to be taken; while it is held it is not disarmed, and 21 comes "after 5"; closing disarms it.
 armed_once : map shown (history_results before
     (making 3 ∷ opening 0 0 7 0 7 ∷ arming 7 0 ∷ opening 0 0 7 0 7 ∷ disarming 7 8 ∷ disarming 7 0 ∷ closing 0 0 ∷ opening 0 0 7 0 7 ∷ []))
-    ≡ done ∷ opened 11 0 0 3 ∷ done ∷ opened 0 3 0 3 ∷ alone (5 ∷ []) ∷ alone (21 ∷ []) ∷ done ∷ opened 11 0 0 3 ∷ []
-unfolding answers history_step stopped_on call_tests refusal facts_on open_on held_on taken_on armed_on any holds_link holds_receive belongs enabled_on free_on link_state is_free receive_on lowest_of lowest listed send_on waiting_on some_attempt finds_path with_opened applied result_of call_on traced_into send attempts attempted network ports send_ports other_ports present axis keep from has flip uphill helical offered end links has_link free_path over ways beginnings scan whole pass scouts outcome_of_path outcome send_goes_on runs answered
+    ≡ answered_zero ∷ open_answered 11 0 0 3 ∷ answered_zero ∷ open_answered 0 3 0 3 ∷ alone (5 ∷ []) ∷ alone (21 ∷ []) ∷ answered_zero ∷ open_answered 11 0 0 3 ∷ []
+unfolding call_results history_step stopped_on call_tests refusal facts_on open_on held_on taken_on armed_on any holds_link holds_receive belongs enabled_on free_on link_state is_free receive_on lowest_of lowest listed send_on waiting_on some_attempt finds_path with_opened applied result_of call_on traced_into send attempts attempted network ports send_ports other_ports present axis keep from has flip uphill helical offered end links has_link free_path over ways beginnings scan whole pass scouts outcome_of_path outcome send_goes_on runs answered
 armed_once = refl

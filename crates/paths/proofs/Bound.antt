@@ -19,7 +19,7 @@ use Rattle.cube.proofs.Order.{helical_mem, length_helical}
 use Rattle.paths.specs.Network.{Network, Path, offered, free_path, Nearing}
 use Rattle.paths.specs.Pass.{found, over, ways, beginnings, scan, whole, pass, scouts}
 use Rattle.paths.specs.Search.{arriving}
-use Rattle.paths.specs.Bound.{ways_from, sends_from, most_beginnings}
+use Rattle.paths.specs.Bound.{ways_from, packets_from, most_beginnings}
 use Rattle.paths.proofs.Scan.{scan_sends}
 use Rattle.paths.proofs.Beginnings.{ways_all}
 use Rattle.paths.proofs.Depth.{over_cons, arriving_scan}
@@ -83,8 +83,8 @@ module _ {N : Network} {ports : List ℕ} {D m t : ℕ} (near : Nearing N t) (cu
   on s p = ways (N.distance t (N.next s p)) N t (N.next s p) p
 
   -- the beginnings over every port of a source
-  all_count : (s : ℕ) → length (over (on s) ports) ≤ sends_from m D (N.distance t s)
-  unfolding sends_from on
+  all_count : (s : ℕ) → length (over (on s) ports) ≤ packets_from m D (N.distance t s)
+  unfolding packets_from on
   all_count s = omega (arith, length_shared (on s) (N.offers t s) ports, nearer_ones, farther_ones)
     where
       nearer_ones : length (over (on s) (keep (N.offers t s) ports)) ≤ ways_from m (N.distance t s)
@@ -113,7 +113,7 @@ module _ {N : Network} {ports : List ℕ} {D m t : ℕ} (near : Nearing N t) (cu
 
   -- two passes whose vectors share out the ports send at most one scout for each beginning, whatever is free in each
   pub two_passes : (s : ℕ) (v : ℕ → Bool) (f g : ℕ → ℕ → Bool)
-      → scouts (pass N f s (keep v ports) t) + scouts (pass N g s (keep (λ p. not (v p)) ports) t) ≤ sends_from m D (N.distance t s)
+      → scouts (pass N f s (keep v ports) t) + scouts (pass N g s (keep (λ p. not (v p)) ports) t) ≤ packets_from m D (N.distance t s)
   unfolding on beginnings
   two_passes s v f g =
       let a = pass_sends f s (keep v ports) in
@@ -128,11 +128,11 @@ ways_more m (suc j) zero h = absurd (omega arith)
 ways_more m (suc j) (suc k) h = mul-le-mul (mul-le-mul (le_refl m) h) (let r = ways_more m j k (omega arith) in omega arith)
 
 -- With one link to an axis, no count of beginnings of up to 8 axes is larger: all 45 are computed.
-pub counts_below : (D d : ℕ) → D ≤ largest_dimension → d ≤ D → sends_from 1 D d ≤ most_beginnings
-unfolding sends_from ways_from most_beginnings
-counts_below D d h l = go (at₂ 9 9 (λ D d. not (leb d D) || leb (sends_from 1 D d) most_beginnings) refl D d (omega arith) (omega arith))
+pub counts_below : (D d : ℕ) → D ≤ largest_dimension → d ≤ D → packets_from 1 D d ≤ most_beginnings
+unfolding packets_from ways_from most_beginnings
+counts_below D d h l = go (at₂ 9 9 (λ D d. not (leb d D) || leb (packets_from 1 D d) most_beginnings) refl D d (omega arith) (omega arith))
   where
-    go : not (leb d D) || leb (sends_from 1 D d) most_beginnings ≡ true → sends_from 1 D d ≤ most_beginnings
+    go : not (leb d D) || leb (packets_from 1 D d) most_beginnings ≡ true → packets_from 1 D d ≤ most_beginnings
     go e = leb-true _ _ (rw (le-leb d D l) at e)
 
 pub two_passes_bound : {N : Network} {ports : List ℕ} {D t : ℕ} → Nearing N t → Cubical N ports D 1 t → D ≤ largest_dimension → (s : ℕ) (v : ℕ → Bool) (f g : ℕ → ℕ → Bool)

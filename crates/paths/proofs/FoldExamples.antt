@@ -10,7 +10,7 @@ use Rattle.paths.specs.Network.{Path, offered, take_first, end, links, has_link,
 use Rattle.paths.specs.Pass.{over, ways, beginnings, scan, whole, pass, scouts}
 use Rattle.paths.specs.Send.{lowest_available, acknowledged, route_rejected, outcome_of_path, attempted, outcome, SendResult, send_goes_on, runs}
 use Rattle.paths.specs.CubeNetwork.{Shape, ports, network, send_ports, other_ports, attempts, send}
-use Rattle.paths.specs.Bound.{ways_from, sends_from}
+use Rattle.paths.specs.Bound.{ways_from, packets_from}
 use Rattle.paths.specs.Recover.{drop_axis, walk_from, way_back, first_hop_choices, path_of_links}
 use Rattle.paths.proofs.Examples.{free_but, answer}
 
@@ -58,8 +58,8 @@ unfolding send_ports ports present axis keep from has
 with_fifteen = refl
 
 -- As many beginnings as the bound counts with two links to an axis: D 2, mask 3, 0 to 1.
-beginnings_counted : length (beginnings (network (folded 2 3)) 0 (ports (folded 2 3)) 1) ≡ sends_from 2 2 1
-unfolding network ports present axis keep from has flip uphill helical offered over ways beginnings ways_from sends_from
+beginnings_counted : length (beginnings (network (folded 2 3)) 0 (ports (folded 2 3)) 1) ≡ packets_from 2 2 1
+unfolding network ports present axis keep from has flip uphill helical offered over ways beginnings ways_from packets_from
 beginnings_counted = refl
 
 -- Paths recovered from their links, D 2 and mask 1: straight back over the partner or over the same port, and on past the source; or not back at all.

@@ -22,7 +22,7 @@ use Rattle.cube.proofs.Order.{helical_mem, ports_mem, byte_vector, port_tried}
 use Rattle.paths.specs.Network.{Network, Path, offered, take_first, links, free_path}
 use Rattle.paths.specs.Helix.{helix_from, helix_path, free_front}
 use Rattle.paths.specs.CubeNetwork.{Shape, Node, network, unfolded}
-use Rattle.paths.specs.HelixLinks.{LinkInside, largest, helix_links}
+use Rattle.paths.specs.HelixLinks.{LinkInside, largest_network, helix_links}
 use Rattle.paths.proofs.CubeNetwork.{cube_nearing, cube_leading, port_inside, offered_port, unfolded_offered, unfolded_vector}
 use Rattle.paths.proofs.ByType.{helix_ends, helix_goes_on}
 
@@ -53,20 +53,20 @@ module _ {n t p : ℕ} (target : t < 256) (inside : LinkInside n p) {m : ℕ} (t
 
   -- at the target it is the last
   pub links_end : m ≡ t → helix_links n t p ≡ (n, p) ∷ []
-  unfolding helix_links links network largest
-  links_end there = rw (helix_ends largest t n p (sym to ∙ there))
+  unfolding helix_links links network largest_network
+  links_end there = rw (helix_ends largest_network t n p (sym to ∙ there))
 
   -- Off the target it goes on over the port that is tried first of the uphill vector.
   module _ (off : m ≢ t) {v q : ℕ} (up : v ≡ bit_xor m t) (first : q ≡ first_port v p) where
     uphill_byte : v < 256
     uphill_byte = rw up (xor_lt 8 m t reached target)
 
-    offers : offered largest t m ≡ ports_of port_count v
-    unfolding largest
+    offers : offered largest_network t m ≡ ports_of port_count v
+    unfolding largest_network
     offers = unfolded_vector (unfolded 8) (le_refl 8) refl 8 m t (le_refl 8) reached target ∙ ap (ports_of port_count) (sym up)
 
     pub some_offered : v ≢ 0
-    unfolding largest
+    unfolding largest_network
     some_offered e =
         let p = (cube_leading (unfolded 8) (le_refl 8) t target).leads m reached off in
         clash (ports_mem 8 v (rw offers at p.1)).1 (rw e (zero_has p.0))
@@ -75,45 +75,45 @@ module _ {n t p : ℕ} (target : t < 256) (inside : LinkInside n p) {m : ℕ} (t
     tried = port_tried 8 v p q (le_refl 8) uphill_byte some_offered first
 
     pub links_on : helix_links n t p ≡ (n, p) ∷ helix_links m t q
-    unfolding helix_links links network largest
+    unfolding helix_links links network largest_network
     links_on =
-        rw (helix_goes_on largest t (cube_nearing (unfolded 8) t) n p q _ (λ z. off (to ∙ z)) (rw to at (ap (helical p) offers ∙ tried.rest)), to)
+        rw (helix_goes_on largest_network t (cube_nearing (unfolded 8) t) n p q _ (λ z. off (to ∙ z)) (rw to at (ap (helical p) offers ∙ tried.rest)), to)
 
 -- In a smaller cube the nodes of a path offer the same ports, and the target is as far.
 module _ (S : Shape) (h : S.dimension ≤ largest_dimension) (z : S.fold ≡ 0) (t : ℕ) (target : Node S t) where
-  same_offered : (n : ℕ) → Node S n → offered (network S) t n ≡ offered largest t n
-  unfolding largest
+  same_offered : (n : ℕ) → Node S n → offered (network S) t n ≡ offered largest_network t n
+  unfolding largest_network
   same_offered n i =
       unfolded_vector S h z 8 n t h i target ∙ sym (unfolded_vector (unfolded 8) (le_refl 8) refl 8 n t (le_refl 8) (byte_vector h i) (byte_vector h target))
 
-  same_distance : (n : ℕ) → Node S n → (network S).distance t n ≡ largest.distance t n
-  unfolding network largest
+  same_distance : (n : ℕ) → Node S n → (network S).distance t n ≡ largest_network.distance t n
+  unfolding network largest_network
   same_distance n i = ap length (sym (unfolded_offered S h z t n) ∙ same_offered n i ∙ unfolded_offered (unfolded 8) (le_refl 8) refl t n)
 
-  same_from : (k n a : ℕ) → Node S n → helix_from k (network S) t n a ≡ helix_from k largest t n a
-  unfolding helix_from take_first network largest
+  same_from : (k n a : ℕ) → Node S n → helix_from k (network S) t n a ≡ helix_from k largest_network t n a
+  unfolding helix_from take_first network largest_network
   same_from zero n a i = refl
   same_from (suc k) n a i =
       rw (← same_offered n i) (ap (cond (eqb n t) []) (on (helical a (offered (network S) t n)) refl (λ p l. same_from k (next n p) p l)))
     where
-      on : (ps : List ℕ) → helical a (offered (network S) t n) ≡ ps → ((p : ℕ) → Node S (next n p) → helix_from k (network S) t (next n p) p ≡ helix_from k largest t (next n p) p)
-          → take_first ps (λ p. helix_from k (network S) t ((network S).next n p) p) ≡ take_first ps (λ p. helix_from k largest t (largest.next n p) p)
+      on : (ps : List ℕ) → helical a (offered (network S) t n) ≡ ps → ((p : ℕ) → Node S (next n p) → helix_from k (network S) t (next n p) p ≡ helix_from k largest_network t (next n p) p)
+          → take_first ps (λ p. helix_from k (network S) t ((network S).next n p) p) ≡ take_first ps (λ p. helix_from k largest_network t (largest_network.next n p) p)
       on [] e more = refl
       on (p ∷ ps) e more =
           let there = (offered_port S t n p (helical_mem a _ (rw e (Memᴰ.head refl)))).0 in
           ap (p ∷◌) (more p (port_inside S n p i there))
 
-  pub same_helix : (n p : ℕ) → Node S n → p < S.dimension → helix_path (network S) n t p ≡ helix_path largest n t p
-  unfolding helix_path network largest
+  pub same_helix : (n p : ℕ) → Node S n → p < S.dimension → helix_path (network S) n t p ≡ helix_path largest_network n t p
+  unfolding helix_path network largest_network
   same_helix n p i l =
       let there : Node S (next n p) = next_inside S.dimension n p h i l in
-      ap (p ∷◌) (ap (λ k. helix_from k (network S) t (next n p) p) (same_distance (next n p) there) ∙ same_from (largest.distance t (next n p)) (next n p) p there)
+      ap (p ∷◌) (ap (λ k. helix_from k (network S) t (next n p) p) (same_distance (next n p) there) ∙ same_from (largest_network.distance t (next n p)) (next n p) p there)
 
-  same_links : (n : ℕ) (w : Path) → links (network S) n w ≡ links largest n w
-  unfolding links network largest
+  same_links : (n : ℕ) (w : Path) → links (network S) n w ≡ links largest_network n w
+  unfolding links network largest_network
   same_links n [] = refl
   same_links n (p ∷ w) = ap ((n, p) ∷◌) (same_links (next n p) w)
 
   pub links_of : (n p : ℕ) → Node S n → p < S.dimension → links (network S) n (helix_path (network S) n t p) ≡ helix_links n t p
   unfolding helix_links
-  links_of n p i l = same_links n _ ∙ ap (links largest n) (same_helix n p i l)
+  links_of n p i l = same_links n _ ∙ ap (links largest_network n) (same_helix n p i l)

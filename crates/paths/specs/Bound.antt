@@ -8,8 +8,8 @@ ways_from m zero = zero
 ways_from m (suc d) = m * suc d * suc (ways_from m d)
 
 -- the beginnings over all m times D ports of a source d hops away: m times d of them lead one nearer, the others one farther
-unfoldable pub sends_from : ℕ → ℕ → ℕ → ℕ
-sends_from m D d = ways_from m d + m * (D - d) * suc (ways_from m (suc d))
+unfoldable pub packets_from : ℕ → ℕ → ℕ → ℕ
+packets_from m D d = ways_from m d + m * (D - d) * suc (ways_from m (suc d))
 
 -- "Both passes together never send more than 123,300": with one link to an axis, a source 7 hops away in a cube of dimension 8 has so many
 -- beginnings, and none has more

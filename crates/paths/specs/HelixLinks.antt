@@ -11,9 +11,9 @@ use Rattle.paths.specs.CubeNetwork.{network, unfolded}
 abbrev pub LinkInside : ℕ → ℕ → Type 0
 LinkInside n p = (n < 256) × (p < port_count)
 
-unfoldable pub largest : Network
-largest = network (unfolded largest_dimension)
+unfoldable pub largest_network : Network
+largest_network = network (unfolded largest_dimension)
 
 unfoldable pub helix_links : ℕ → ℕ → ℕ → List Link
-unfolding largest
-helix_links s t p = links largest s (helix_path largest s t p)
+unfolding largest_network
+helix_links s t p = links largest_network s (helix_path largest_network s t p)

@@ -13,16 +13,16 @@ use Rattle.text.specs.Row.{Field, nothing, shows, path, Row as PrintedRow, row}
 use Rattle.text.specs.Written.{row_of}
 use Rattle.text.specs.declared.row.Row.{Row}
 use Rattle.input_line.specs.Line.{letter_s}
-use Rattle.printed_line.specs.PrintedLine.{shows_if, call_row, unreadable, zero_buffer, traced, row_for, state_after}
+use Rattle.printed_line.specs.PrintedLine.{shows_if, call_row, unreadable, zero_buffer, traced_ports, row_for, state_after}
 use Rattle.printed_line.specs.LineContracts.{Answered}
 
 -- a call on a table gave an answer, and the fields are those of that answer
 pub answered : {b b' w : List ℕ} {a : Call} {x : CallResult} {n : ℕ} {r : Row} → record { state = b'; result = x } ≡ table_step b a
-    → row_of w r ≡ call_row n a x (traced table_step b') → Answered b n (some a) w r b'
+    → row_of w r ≡ call_row n a x (traced_ports table_step b') → Answered b n (some a) w r b'
 unfolding row_for state_after
 answered {a = a} {n = n} e same =
     record {
-      row = same ∙ ap (λ (d : After (List ℕ)). call_row n a d.result (traced table_step d.state)) e;
+      row = same ∙ ap (λ (d : After (List ℕ)). call_row n a d.result (traced_ports table_step d.state)) e;
       table = ap (λ (d : After (List ℕ)). d.state) e;
     }
 
@@ -54,6 +54,6 @@ module _ (n : ℕ) (way : ℕ → ℕ → List ℕ) (s c t y v : ℕ) (x : CallR
 
 -- the ports that a trace wrote into the buffer it was lent
 pub ports_are : (s c : ℕ) {r h : ℕ} {b lent buffer : List ℕ} → lent ≡ zero_buffer
-    → done b r (h ∷ []) (buffer ∷ []) ≡ table_step b (tracing s c lent) → take h buffer ≡ traced table_step b s c
-unfolding traced
+    → done b r (h ∷ []) (buffer ∷ []) ≡ table_step b (tracing s c lent) → take h buffer ≡ traced_ports table_step b s c
+unfolding traced_ports
 ports_are s c {b = b} l t = ap (λ (d : After (List ℕ)). take (hops_of d.result) (buffer_of d.result)) (t ∙ ap (λ (m : List ℕ). table_step b (tracing s c m)) l)

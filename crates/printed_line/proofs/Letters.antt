@@ -9,7 +9,7 @@ use Prim.Native.Nat.{ℕ}
 use borrow.Author.Tests.{ne_eqb}
 use Rattle.ownership.specs.Calls.{Call, making, blocking, unblocking, opening, closing, arming, disarming, CallResult, receive_of, scouts_of, carries_scouts, After}
 use Rattle.text.specs.Row.{Field, nothing, shows, letter, path, in_order}
-use Rattle.printed_line.specs.PrintedLine.{call_row, traced, row_for}
+use Rattle.printed_line.specs.PrintedLine.{call_row, traced_ports, row_for}
 
 -- The eight fields of a call's printed line, in their order: line, call, answer, node, channel, receive, scouts, ports. The call is made on any state.
 module _ {S : Type 0} (makes : S → Call → After S) (state : S) (n : ℕ) where
@@ -67,7 +67,7 @@ module _ {S : Type 0} (makes : S → Call → After S) (state : S) (n : ℕ) whe
     pub acknowledged_shows : (answer opens).number ≡ 0
         → shown opens
         ≡ shows n ∷ letter 83 ∷ shows 0 ∷ shows node ∷ shows channel ∷ shows (receive_of (answer opens)) ∷ shows (scouts_of (answer opens))
-        ∷ path (traced makes (makes state opens).state node channel) ∷ []
+        ∷ path (traced_ports makes (makes state opens).state node channel) ∷ []
     unfolding in_order row_for call_row carries_scouts
     acknowledged_shows e = rw e
 

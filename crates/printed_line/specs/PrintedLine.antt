@@ -8,8 +8,8 @@ use Rattle.text.specs.Row.{Field, nothing, shows, path, Row, row, answer_alone}
 use Rattle.input_line.specs.Line.{letter_b, letter_c, letter_d, letter_e, letter_f, letter_r, letter_s}
 
 -- "Success is 0."
-abbrev pub accepted : CallResult → Bool
-accepted x = eqb x.number 0
+abbrev pub is_accepted : CallResult → Bool
+is_accepted x = eqb x.number 0
 
 -- a field that shows nothing unless something holds
 abbrev pub shows_if : Bool → Field → Field
@@ -23,8 +23,8 @@ call_row n (making D) x way = row n letter_f x.number nothing nothing nothing no
 call_row n (blocking m p) x way = row n letter_b x.number (shows m) nothing nothing nothing (shows p)
 call_row n (unblocking m p) x way = row n letter_e x.number (shows m) nothing nothing nothing (shows p)
 call_row n (opening s c t y v) x way =
-    row n letter_s x.number (shows s) (shows c) (shows_if (accepted x) (shows (receive_of x))) (shows_if (carries_scouts x.number) (shows (scouts_of x)))
-    (shows_if (accepted x) (path (way s c)))
+    row n letter_s x.number (shows s) (shows c) (shows_if (is_accepted x) (shows (receive_of x))) (shows_if (carries_scouts x.number) (shows (scouts_of x)))
+    (shows_if (is_accepted x) (path (way s c)))
 call_row n (closing s c) x way = row n letter_c x.number (shows s) (shows c) nothing nothing nothing
 -- document 02, (a): "printing node and channel"
 call_row n (arming m k) x way = row n letter_r x.number (shows m) (shows k) nothing nothing nothing
@@ -45,13 +45,13 @@ zero_buffer = replicate 9 0
 
 module _ {S : Type 0} (makes : S → Call → After S) where
   -- the ports that a trace of a send channel writes
-  unfoldable pub traced : S → ℕ → ℕ → List ℕ
-  traced s n c = let x = (makes s (tracing n c zero_buffer)).result in take (hops_of x) (buffer_of x)
+  unfoldable pub traced_ports : S → ℕ → ℕ → List ℕ
+  traced_ports s n c = let x = (makes s (tracing n c zero_buffer)).result in take (hops_of x) (buffer_of x)
 
   -- the line printed for what an input line asks
   unfoldable pub row_for : S → ℕ → Option Call → Row
   row_for s n none = unreadable n
-  row_for s n (some a) = call_row n a (makes s a).result (traced (makes s a).state)
+  row_for s n (some a) = call_row n a (makes s a).result (traced_ports (makes s a).state)
 
   -- the state behind it; a line that cannot be read changes nothing
   unfoldable pub state_after : S → Option Call → S

@@ -31,7 +31,7 @@ use Rattle.layout.specs.Layout.{dimension_at}
 use Rattle.entries.specs.EntryContracts.{enable_bits}
 use Rattle.table.specs.View.{view, net, shape_of}
 use Rattle.layout.proofs.Entries.{enabled_has}
-use Rattle.reach.specs.Marks.{reach_mark, leads, reaches_on, ReachMarks, MaySweep}
+use Rattle.reach.specs.Marks.{reach_mark, leads_to_marked, reaches_on, ReachMarks, MaySweep}
 
 -- `^` with a number twice changes nothing, and a bit changed before or behind it is the same
 pub xor_back : (w x t : ℕ) → x < 2 ^ w → t < 2 ^ w → bit_xor (bit_xor x t) t ≡ x
@@ -97,8 +97,8 @@ module _ (b : List ℕ) (t : ℕ) (may : MaySweep b t) where
   -- the vector's ports are right.
   leads_reaches : (marks : List Bool) (n v x : ℕ) → NodeOf D n → VectorOf D v → x ≡ enable_bits b n
       → ((p : ℕ) → p < D → has v p ≡ true → reach_mark marks (next n p) ≡ reaches_on b t (next n p))
-      → leads marks n (bit_and v x) ≡ any (λ p. enabled n p && reaches_on b t (N.next n p)) (ports_of port_count v)
-  unfolding leads network
+      → leads_to_marked marks n (bit_and v x) ≡ any (λ p. enabled n p && reaches_on b t (N.next n p)) (ports_of port_count v)
+  unfolding leads_to_marked network
   leads_reaches marks n v x i h e right =
       narrowed (λ p. reach_mark marks (next n p)) (enabled n) v x (bits_of n x i e)
       ∙ any_same _ _ (ports_of port_count v) (λ p m. let k = port_of v p h m in ap (enabled n p &&◌) (right p k.0 k.1))
@@ -130,7 +130,7 @@ module _ (b : List ℕ) (t : ℕ) (may : MaySweep b t) where
 
   -- of any other node, what the marks of the nodes swept before it say is right,
   pub swept_leads : (marks : List Bool) (x bits : ℕ) → 0 < x → VectorOf D x → Swept b t x marks → bits ≡ enable_bits b (bit_xor x t)
-      → leads marks (bit_xor x t) (bit_and x bits) ≡ reaches_on b t (bit_xor x t)
+      → leads_to_marked marks (bit_xor x t) (bit_and x bits) ≡ reaches_on b t (bit_xor x t)
   swept_leads marks x bits some h s e =
       leads_reaches marks n x bits i h e right
       ∙ sym (step n ∙ rw (off, offered_there n i, back) refl)
@@ -179,7 +179,7 @@ module _ (b : List ℕ) (t : ℕ) (may : MaySweep b t) where
 
   -- Then a pass would find a path exactly where an enabled port of its vector leads to a marked node.
   pub marks_find : (marks : List Bool) (s vector bits : ℕ) → ReachMarks b t marks → NodeOf D s → VectorOf D vector → bits ≡ enable_bits b s
-      → leads marks s (bit_and vector bits) ≡ finds_path (pass N enabled s (send_ports (shape_of (view b)) vector) t)
+      → leads_to_marked marks s (bit_and vector bits) ≡ finds_path (pass N enabled s (send_ports (shape_of (view b)) vector) t)
   marks_find marks s vector bits m i h e =
       leads_reaches marks s vector bits i h e (λ p l u. unfold ReachMarks in m (next s p) (rw (leads_to s p l) (flip_inside D s p i l)))
       ∙ sym found

@@ -16,8 +16,8 @@ abbrev pub reach_mark : List Bool → ℕ → Bool
 reach_mark marks n = get_or marks n false
 
 -- a port of a vector leads from node n to a marked one
-unfoldable pub leads : List Bool → ℕ → ℕ → Bool
-leads marks n vector = any (λ p. reach_mark marks (next n p)) (ports_of port_count vector)
+unfoldable pub leads_to_marked : List Bool → ℕ → ℕ → Bool
+leads_to_marked marks n vector = any (λ p. reach_mark marks (next n p)) (ports_of port_count vector)
 
 -- a node of a table's cube reaches t over enabled links
 unfoldable pub reaches_on : List ℕ → ℕ → ℕ → Bool

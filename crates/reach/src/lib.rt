@@ -12,7 +12,7 @@ ghost use Rattle.paths.specs.CubeNetwork.{send_ports, attempts};
 ghost use Rattle.layout.specs.Layout.{dimension_at};
 ghost use Rattle.entries.specs.EntryContracts.{Within};
 ghost use Rattle.table.specs.View.{view, net, shape_of};
-ghost use Rattle.reach.specs.Marks.{reach_mark, leads, ReachMarks, helix_enabled, MaySweep, MayAsk};
+ghost use Rattle.reach.specs.Marks.{reach_mark, leads_to_marked, ReachMarks, helix_enabled, MaySweep, MayAsk};
 
 use answers::SendRequest;
 use cube::{FirstPortTable, Node, Port, RoutingType, VectorPorts};
@@ -22,7 +22,7 @@ use table::Links;
 // Whether a port of a vector leads from a node to a marked one.
 fn leads_on(marks: &[bool; 256], n: Node, vector: u16) -> bool
     requires { (n.0 < 256) × (vector < 256) }
-    ensures { result ≡ leads marks.now n.0 vector }
+    ensures { result ≡ leads_to_marked marks.now n.0 vector }
 {
     VectorPorts::new(vector).any(
         |p|

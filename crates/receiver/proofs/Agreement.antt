@@ -5,25 +5,25 @@ use mathlib.Core.Bool.{or-false, or_assoc}
 use native.Mathlib.Nat.{zero-min}
 use Rattle.command_word.specs.Word.{read_word}
 use Rattle.receiver.specs.declared.Channel.{Channel}
-use Rattle.receiver.specs.Receive.{Packet, data_packet, command_word, started, received, overshoot, after, numbers}
-use Rattle.receiver.specs.Machine.{Start, Machine, at_start, is_end, is_data, number, next, machine_after, machine_numbers, data_accepted, end_accepted, AgreesAfter}
+use Rattle.receiver.specs.Receive.{Packet, data_packet, command_word, started, received, overshoot, after_packets, packet_numbers}
+use Rattle.receiver.specs.Machine.{Start, Machine, at_start, is_end, is_data, machine_number, next_machine, machine_after, machine_numbers, data_accepted, end_accepted, AgreesAfter}
 use Rattle.receiver.proofs.Held.{Held, number_same, number_is, one_more, step_held}
 
 -- A list of packets, from any machine and channel that hold.
 module _ (s : Start) (fits : s.count < 2 ^ 32) where
-  after_held : (ps : List Packet) (m : Machine) (c : Channel) → Held s m c → Held s (machine_after s m ps) (after c ps)
-  unfolding machine_after after
+  after_held : (ps : List Packet) (m : Machine) (c : Channel) → Held s m c → Held s (machine_after s m ps) (after_packets c ps)
+  unfolding machine_after after_packets
   after_held [] m c h = h
-  after_held (p ∷ ps) m c h = after_held ps (next s m p) (received c p).channel (step_held s m c p fits h)
+  after_held (p ∷ ps) m c h = after_held ps (next_machine s m p) (received c p).channel (step_held s m c p fits h)
 
-  numbers_same : (ps : List Packet) (m : Machine) (c : Channel) → Held s m c → numbers c ps ≡ machine_numbers s m ps
-  unfolding machine_numbers numbers
+  numbers_same : (ps : List Packet) (m : Machine) (c : Channel) → Held s m c → packet_numbers c ps ≡ machine_numbers s m ps
+  unfolding machine_numbers packet_numbers
   numbers_same [] m c h = refl
-  numbers_same (p ∷ ps) m c h = ap₂ ◌∷◌ (number_is c p ∙ number_same m c p h.shows.running) (numbers_same ps (next s m p) (received c p).channel (step_held s m c p fits h))
+  numbers_same (p ∷ ps) m c h = ap₂ ◌∷◌ (number_is c p ∙ number_same m c p h.shows.running) (numbers_same ps (next_machine s m p) (received c p).channel (step_held s m c p fits h))
 
 -- what the machine has counted, and whether it is stopped, told by the numbers
-counts : (s : Start) (m : Machine) (p : Packet) → (next s m p).packets ≡ m.packets + cond (is_data p && eqb (number m p) 0) 1 0
-unfolding next number
+counts : (s : Start) (m : Machine) (p : Packet) → (next_machine s m p).packets ≡ m.packets + cond (is_data p && eqb (machine_number m p) 0) 1 0
+unfolding next_machine machine_number
 counts s m data_packet = go m.stopped
   where
     go : (b : Bool) → (cond b m (one_more s m)).packets ≡ m.packets + cond (eqb (cond b 30 0) 0) 1 0
@@ -34,10 +34,10 @@ counts s m (command_word word) = omega arith
 counted_by : (s : Start) (ps : List Packet) (m : Machine) → (machine_after s m ps).packets ≡ m.packets + data_accepted ps (machine_numbers s m ps)
 unfolding machine_after machine_numbers data_accepted
 counted_by s [] m = omega arith
-counted_by s (p ∷ ps) m = let e = counts s m p in let f = counted_by s ps (next s m p) in omega arith
+counted_by s (p ∷ ps) m = let e = counts s m p in let f = counted_by s ps (next_machine s m p) in omega arith
 
-halts : (s : Start) (m : Machine) (p : Packet) → (next s m p).stopped ≡ m.stopped || (is_end s p && eqb (number m p) 0)
-unfolding next number is_end
+halts : (s : Start) (m : Machine) (p : Packet) → (next_machine s m p).stopped ≡ m.stopped || (is_end s p && eqb (machine_number m p) 0)
+unfolding next_machine machine_number is_end
 halts s m data_packet = go m.stopped refl
   where
     go : (b : Bool) → m.stopped ≡ b → (cond b m (one_more s m)).stopped ≡ b || false
@@ -54,7 +54,7 @@ halts s m (command_word word) = go (read_word word).number (eqb (read_word word)
 ended_by : (s : Start) (ps : List Packet) (m : Machine) → (machine_after s m ps).stopped ≡ m.stopped || end_accepted s ps (machine_numbers s m ps)
 unfolding machine_after machine_numbers end_accepted
 ended_by s [] m = sym (or-false m.stopped)
-ended_by s (p ∷ ps) m = ended_by s ps (next s m p) ∙ ap (◌|| end_accepted s ps (machine_numbers s (next s m p) ps)) (halts s m p) ∙ or_assoc m.stopped _ _
+ended_by s (p ∷ ps) m = ended_by s ps (next_machine s m p) ∙ ap (◌|| end_accepted s ps (machine_numbers s (next_machine s m p) ps)) (halts s m p) ∙ or_assoc m.stopped _ _
 
 -- the overshoot of a channel that holds
 overshot_by : (s : Start) (m : Machine) (c : Channel) → s.count < 2 ^ 32 → Held s m c → overshoot c ≡ (m.packets - s.count) % 2 ^ 32
@@ -100,5 +100,5 @@ every_sequence_agrees s a g ps =
       counted = let e = counted_by s ps at_start in let f = ap (data_accepted ps) same in omega arith;
       mark = last.mark;
       ended = ended_by s ps at_start ∙ ap (end_accepted s ps) (sym same);
-      overshot = overshot_by s (machine_after s at_start ps) (after c ps) g last;
+      overshot = overshot_by s (machine_after s at_start ps) (after_packets c ps) g last;
     }

@@ -5,8 +5,8 @@ use native.Mathlib.Nat.{min-eq_left, min-eq_right}
 use borrow.Author.Tests.{eqb-false}
 use Rattle.command_word.specs.Word.{read_word}
 use Rattle.receiver.specs.declared.Channel.{Channel}
-use Rattle.receiver.specs.Receive.{Packet, data_packet, command_word, eight_more, one_less, overflows, after_data, stops, after_command, unread, numbered, after_packet, received}
-use Rattle.receiver.specs.Machine.{Start, Machine, is_end, number, next, Shows}
+use Rattle.receiver.specs.Receive.{Packet, data_packet, command_word, eight_more, one_less, overflows, after_data, stops, after_command, reading_number, packet_number, after_packet, received}
+use Rattle.receiver.specs.Machine.{Start, Machine, is_end, machine_number, next_machine, Shows}
 use Rattle.receiver.proofs.Steps.{unread_number, stopped_number, taken_number}
 
 -- what holds of machine and channel after every packet
@@ -15,21 +15,21 @@ pub record Held (s : Start) (m : Machine) (c : Channel) : Type 0 where
   pub mark : m.overflowed ≡ ltb s.count m.packets
 
 -- the number of a packet
-pub number_same : (m : Machine) (c : Channel) (p : Packet) → c.running ≡ cond m.stopped 0 1 → numbered c p ≡ number m p
-unfolding unread number
+pub number_same : (m : Machine) (c : Channel) (p : Packet) → c.running ≡ cond m.stopped 0 1 → packet_number c p ≡ machine_number m p
+unfolding reading_number machine_number
 number_same m c data_packet e = go m.stopped e
   where
-    go : (b : Bool) → c.running ≡ cond b 0 1 → numbered c data_packet ≡ cond b 30 0
+    go : (b : Bool) → c.running ≡ cond b 0 1 → packet_number c data_packet ≡ cond b 30 0
     go true r = stopped_number c data_packet refl r
     go false r = taken_number c data_packet refl (λ z. omega arith)
 number_same m c (command_word word) e = go (eqb (read_word word).number 0) refl m.stopped e
   where
-    go : (x : Bool) → eqb (read_word word).number 0 ≡ x → (b : Bool) → c.running ≡ cond b 0 1 → numbered c (command_word word) ≡ cond x (cond b 30 0) (read_word word).number
+    go : (x : Bool) → eqb (read_word word).number 0 ≡ x → (b : Bool) → c.running ≡ cond b 0 1 → packet_number c (command_word word) ≡ cond x (cond b 30 0) (read_word word).number
     go true f true r = stopped_number c (command_word word) (eqb-true _ 0 f) r
     go true f false r = taken_number c (command_word word) (eqb-true _ 0 f) (λ z. omega arith)
     go false f b r = unread_number c (command_word word) (read_word word).number refl (eqb-false _ 0 f)
 
-pub number_is : (c : Channel) (p : Packet) → (received c p).number ≡ numbered c p
+pub number_is : (c : Channel) (p : Packet) → (received c p).number ≡ packet_number c p
 unfolding received
 number_is c p = refl
 
@@ -152,8 +152,8 @@ same_end s c command e = rw e (go (eqb command 9) (eqb command 8) (eqb s.ignores
     go false false z = refl
 
 -- One packet.
-pub step_held : (s : Start) (m : Machine) (c : Channel) (p : Packet) → s.count < 2 ^ 32 → Held s m c → Held s (next s m p) (received c p).channel
-unfolding received number next is_end after_packet after_command
+pub step_held : (s : Start) (m : Machine) (c : Channel) (p : Packet) → s.count < 2 ^ 32 → Held s m c → Held s (next_machine s m p) (received c p).channel
+unfolding received machine_number next_machine is_end after_packet after_command
 step_held s m c data_packet fits h = rw (number_same m c data_packet h.shows.running) (go m.stopped refl)
   where
     go : (b : Bool) → m.stopped ≡ b → Held s (cond b m (one_more s m)) (cond (eqb (cond b 30 0) 0) (after_data c) c)

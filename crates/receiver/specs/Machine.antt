@@ -3,7 +3,7 @@
 use Rattle.std.specs.Prelude.{◌≡◌, ℕ, suc, ◌+◌, ◌-◌, ◌*◌, ◌%◌, ◌^◌, ◌<◌, min, Bool, true, false, cond, ◌&&◌, ◌||◌, List, [], ◌∷◌, ◌==◌, nat_lt}
 use Rattle.command_word.specs.Word.{read_word}
 use Rattle.receiver.specs.declared.Channel.{Channel}
-use Rattle.receiver.specs.Receive.{Packet, data_packet, command_word, started, overshoot, after, numbers}
+use Rattle.receiver.specs.Receive.{Packet, data_packet, command_word, started, overshoot, after_packets, packet_numbers}
 
 -- what a channel is given at its start; of `ignores` 0 alone says that ends of message are not ignored
 pub record Start : Type 0 where
@@ -33,26 +33,26 @@ is_data data_packet = true
 is_data (command_word word) = false
 
 -- the number that a packet gets
-unfoldable pub number : Machine → Packet → ℕ
-number m data_packet = cond m.stopped 30 0
-number m (command_word word) = cond ((read_word word).number == 0) (cond m.stopped 30 0) (read_word word).number
+unfoldable pub machine_number : Machine → Packet → ℕ
+machine_number m data_packet = cond m.stopped 30 0
+machine_number m (command_word word) = cond ((read_word word).number == 0) (cond m.stopped 30 0) (read_word word).number
 
 -- what a packet does: a data packet that is not refused is one more, and sets the mark where as many had come as were counted
-unfoldable pub next : Start → Machine → Packet → Machine
-next s m data_packet =
+unfoldable pub next_machine : Start → Machine → Packet → Machine
+next_machine s m data_packet =
     cond
     m.stopped
     m
     (record { packets = suc m.packets; overflowed = m.overflowed || (m.packets == s.count); stopped = false })
-next s m (command_word word) = record { packets = m.packets; overflowed = m.overflowed; stopped = m.stopped || is_end s (command_word word) }
+next_machine s m (command_word word) = record { packets = m.packets; overflowed = m.overflowed; stopped = m.stopped || is_end s (command_word word) }
 
 unfoldable pub machine_after : Start → Machine → List Packet → Machine
 machine_after s m [] = m
-machine_after s m (p ∷ ps) = machine_after s (next s m p) ps
+machine_after s m (p ∷ ps) = machine_after s (next_machine s m p) ps
 
 unfoldable pub machine_numbers : Start → Machine → List Packet → List ℕ
 machine_numbers s m [] = []
-machine_numbers s m (p ∷ ps) = number m p ∷ machine_numbers s (next s m p) ps
+machine_numbers s m (p ∷ ps) = machine_number m p ∷ machine_numbers s (next_machine s m p) ps
 
 -- of packets and their numbers: how many data packets were accepted, and whether an end was
 unfoldable pub data_accepted : List Packet → List ℕ → ℕ
@@ -78,7 +78,7 @@ pub record Shows (s : Start) (m : Machine) (c : Channel) : Type 0 where
 
 -- The theorem's statement, of a start and a list of packets: the channel after the list shows the machine after it, each number is the
 -- machine's; and in plain words of the numbers themselves,
-pub record Agrees (s : Start) (ps : List Packet) (m : Machine) (c : Channel) (ns : List ℕ) : Type 0 where
+pub record AgreesWithMachine (s : Start) (ps : List Packet) (m : Machine) (c : Channel) (ns : List ℕ) : Type 0 where
   pub shows : Shows s m c
   pub answers : ns ≡ machine_numbers s at_start ps
   -- the machine has counted the data packets that were accepted
@@ -93,4 +93,4 @@ pub record Agrees (s : Start) (ps : List Packet) (m : Machine) (c : Channel) (ns
 abbrev pub AgreesAfter : Start → List Packet → Type 0
 AgreesAfter s ps =
     let c = started s.address s.count s.ignores in
-    Agrees s ps (machine_after s at_start ps) (after c ps) (numbers c ps)
+    AgreesWithMachine s ps (machine_after s at_start ps) (after_packets c ps) (packet_numbers c ps)

@@ -73,17 +73,17 @@ after_command c command =
     }
 
 -- what reading a packet answers: data is not read
-unfoldable pub unread : Packet → ℕ
-unread data_packet = 0
-unread (command_word word) = (read_word word).number
+unfoldable pub reading_number : Packet → ℕ
+reading_number data_packet = 0
+reading_number (command_word word) = (read_word word).number
 
 -- "A word that can't be read gets its 15 to 18; then any packet, data or command, to a stopped channel is 30": the tests of a packet, in that
 -- order, by what its reading answered
 unfoldable pub packet_tests : Channel → ℕ → List Test
 packet_tests c number = test (is_set number) number ∷ test (c.running == 0) 30 ∷ []
 
-unfoldable pub numbered : Channel → Packet → ℕ
-numbered c p = refusal (packet_tests c (unread p))
+unfoldable pub packet_number : Channel → Packet → ℕ
+packet_number c p = refusal (packet_tests c (reading_number p))
 
 -- what an accepted packet does
 unfoldable pub after_packet : Channel → Packet → Channel
@@ -92,7 +92,7 @@ after_packet c (command_word word) = after_command c (read_word word).command
 
 -- What a packet does, and its number. "both change nothing": a refusal leaves the channel as it is.
 unfoldable pub received : Channel → Packet → Received
-received c p = record { channel = cond (numbered c p == 0) (after_packet c p) c; number = numbered c p }
+received c p = record { channel = cond (packet_number c p == 0) (after_packet c p) c; number = packet_number c p }
 
 -- what the code answers a packet: the channel after it, or a refusal, which leaves the channel as it is
 abbrev pub received_as : Channel → Result Channel Refusal → Received
@@ -109,10 +109,10 @@ followed (Ok a) address count ignores = Ok (record { receive = a.receive; channe
 followed (Err r) address count ignores = Err r.refusal
 
 -- a list of packets, one after another: the channel afterwards, and the number of each
-unfoldable pub after : Channel → List Packet → Channel
-after c [] = c
-after c (p ∷ ps) = after (received c p).channel ps
+unfoldable pub after_packets : Channel → List Packet → Channel
+after_packets c [] = c
+after_packets c (p ∷ ps) = after_packets (received c p).channel ps
 
-unfoldable pub numbers : Channel → List Packet → List ℕ
-numbers c [] = []
-numbers c (p ∷ ps) = (received c p).number ∷ numbers (received c p).channel ps
+unfoldable pub packet_numbers : Channel → List Packet → List ℕ
+packet_numbers c [] = []
+packet_numbers c (p ∷ ps) = (received c p).number ∷ packet_numbers (received c p).channel ps

@@ -23,7 +23,7 @@ use Rattle.paths.specs.Bound.{ways_from}
 use Rattle.paths.proofs.Bound.{ways_more}
 use Rattle.layout.specs.Layout.{dimension_at}
 use Rattle.table.specs.View.{view, net, shape_of}
-use Rattle.answers.specs.SendOnTable.{free_in, pass_answer}
+use Rattle.answers.specs.SendOnTable.{free_in, answer_on_bytes}
 use Rattle.answers.specs.PassOnBytes.{answer_of_pass, arrival_after, hops_left, hold_path}
 use Rattle.search.specs.SearchContracts.{farthest_after, search_answer, receive_as, try_answer, arrive_answer, Narrowed, MayTry, MayArrive}
 use Rattle.answers.proofs.PassOnBytes.{at_target, arrives}
@@ -39,7 +39,7 @@ one_further m j (suc k) h l = mul-le-mul l (let r = ways_more 1 j k (omega arith
 at_goal : (b : List ℕ) (c n h s : ℕ) (k : Option ℕ) → search_answer (Some h) k s b ≡ answer_of_pass b c n h (receive_as k) (found [] s)
 unfolding answer_of_pass hold_path
 at_goal b c n h s None = refl
-at_goal b c n h s (Some k) = let e : h ≡ h + 0 = omega arith in ap (λ x. pass_answer 0 x k s b) e
+at_goal b c n h s (Some k) = let e : h ≡ h + 0 = omega arith in ap (λ x. answer_on_bytes 0 x k s b) e
 
 -- An arrival.
 module _ {b : List ℕ} {t c n a h s : ℕ} (may : MayArrive b t c n a h s) where

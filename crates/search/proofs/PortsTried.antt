@@ -26,7 +26,7 @@ use Rattle.layout.specs.Layout.{dimension_at}
 use Rattle.entries.specs.EntryContracts.{put_owner, Within}
 use Rattle.table.specs.View.{view, set_owner, net, shape_of}
 use Rattle.table.proofs.Views.{view_put_owner}
-use Rattle.answers.specs.SendOnTable.{free_in, PassAnswer, pass_answer}
+use Rattle.answers.specs.SendOnTable.{free_in, AnswerOnBytes, answer_on_bytes}
 use Rattle.answers.specs.PassOnBytes.{answer_of_pass, arrival_after, hops_left}
 use Rattle.search.specs.SearchContracts.{farthest_after, try_answer, arrive_answer, Enabled, SearchPre, MayTry, MayArrive}
 use Rattle.answers.proofs.PassOnBytes.{owner_length, arrival_after_lem, given_back, free_owner, port_busy, port_acknowledged, port_receive_rejected, port_route_rejected, answer_scouts, ports_over}
@@ -66,7 +66,7 @@ pub before_first_port : {b : List ℕ} {t c : ℕ} {r : Receive} {n v a h s : �
 before_first_port may = record { same = refl; ports = may.ports; sub = λ p m. m; room = may.room; rest = refl }
 
 -- the answer of a node once it has tried the ports of a list
-abbrev tried : List ℕ → ℕ → ℕ → Receive → ℕ → ℕ → List ℕ → ℕ → PassAnswer
+abbrev tried : List ℕ → ℕ → ℕ → Receive → ℕ → ℕ → List ℕ → ℕ → AnswerOnBytes
 tried b t c r n h ps s = answer_of_pass b c n h r (trying (free_in (view b) n) (arrival_after (net (view b)) (free_in (view b)) t n) ps s)
 
 -- what a node trying its ports may do with the first of those left
@@ -163,17 +163,17 @@ module _ {b now : List ℕ} {t c n a h v left p sent s : ℕ} {r : Receive} (may
       }
 
   -- the link is free: the arrival behind it answers
-  module _ (free_now : free_in (view now) n p ≡ true) {b₁ : List ℕ} {n₁ : ℕ} {got : PassAnswer} (held : b₁ ≡ put_owner now n p c) (to : n₁ ≡ next n p)
+  module _ (free_now : free_in (view now) n p ≡ true) {b₁ : List ℕ} {n₁ : ℕ} {got : AnswerOnBytes} (held : b₁ ≡ put_owner now n p c) (to : n₁ ≡ next n p)
       (arrival : got ≡ arrive_answer b₁ t c r n₁ p (h + 1) (sent + 1)) where
     free : free_in (view b) n p ≡ true
     free = rw (← inv.same) free_now
 
     -- its answer, on the table before the hop
-    answer : {y : PassAnswer} → got ≡ y → y ≡ answer_of_pass (put_owner b n p c) c (next n p) (h + 1) r (on p (suc sent))
+    answer : {y : AnswerOnBytes} → got ≡ y → y ≡ answer_of_pass (put_owner b n p c) c (next n p) (h + 1) r (on p (suc sent))
     answer e = sym e ∙ arrival ∙ handed_on b t c r n p h sent here_within may.here.small may.here.circuit (now_held held) to
 
     -- a free path, and a receive channel to take
-    pub tried_acknowledged : {x y d : ℕ} {b₂ : List ℕ} → got ≡ pass_answer 0 x y d b₂ → got ≡ try_answer b t c r n v a h s
+    pub tried_acknowledged : {x y d : ℕ} {b₂ : List ℕ} → got ≡ answer_on_bytes 0 x y d b₂ → got ≡ try_answer b t c r n v a h s
     tried_acknowledged {x} {y} {d} {b₂} e =
         e ∙ port_acknowledged (free_in (view b) n) on b c n h r p others sent free y x d b₂ (answer e) ∙ all_tries
 
@@ -181,12 +181,12 @@ module _ {b now : List ℕ} {t c n a h v left p sent s : ℕ} {r : Receive} (may
     restored e q = q ∙ ap (λ y. put_owner y n p 0) e ∙ given_back b n p c here_within (unfold view in free_owner (view b) n p free)
 
     -- a free path, and none to take
-    pub tried_rejected : {d : ℕ} {b₂ b₃ : List ℕ} → got ≡ pass_answer 11 0 0 d b₂ → b₃ ≡ put_owner b₂ n p 0 → pass_answer 11 0 0 d b₃ ≡ try_answer b t c r n v a h s
+    pub tried_rejected : {d : ℕ} {b₂ b₃ : List ℕ} → got ≡ answer_on_bytes 11 0 0 d b₂ → b₃ ≡ put_owner b₂ n p 0 → answer_on_bytes 11 0 0 d b₃ ≡ try_answer b t c r n v a h s
     tried_rejected {d} {b₂} e q =
         let w = port_receive_rejected (free_in (view b) n) on b c n h r p others sent free 0 0 d b₂ (answer e) in
-        ap (pass_answer 11 0 0 d) (restored w.0 q) ∙ w.1 ∙ all_tries
+        ap (answer_on_bytes 11 0 0 d) (restored w.0 q) ∙ w.1 ∙ all_tries
 
-    few_scouts : {d : ℕ} {b₂ : List ℕ} → got ≡ pass_answer 10 0 0 d b₂ → d ≤ suc sent + ways_from 1 (farthest_after b t n v)
+    few_scouts : {d : ℕ} {b₂ : List ℕ} → got ≡ answer_on_bytes 10 0 0 d b₂ → d ≤ suc sent + ways_from 1 (farthest_after b t n v)
     unfolding arrival_after hops_left network
     few_scouts {d} {b₂} e =
         let m = ways_more 1 (hops_left b t (next n p)) (farthest_after b t n v) here_reach in
@@ -195,7 +195,7 @@ module _ {b now : List ℕ} {t c n a h v left p sent s : ℕ} {r : Receive} (may
         omega (arith, all, m, same)
 
     -- no free path
-    pub tried_next : {d x : ℕ} {b₂ b₃ : List ℕ} → got ≡ pass_answer 10 0 0 d b₂ → Without left p x → b₃ ≡ put_owner b₂ n p 0 → PortsTried b t c r n v a h s b₃ x d
+    pub tried_next : {d x : ℕ} {b₂ b₃ : List ℕ} → got ≡ answer_on_bytes 10 0 0 d b₂ → Without left p x → b₃ ≡ put_owner b₂ n p 0 → PortsTried b t c r n v a h s b₃ x d
     unfolding try_answer
     tried_next {d} {x} {b₂} e less u =
         let w = port_route_rejected (free_in (view b) n) on b c n h r p others sent free 0 0 d b₂ (answer e) in
@@ -210,9 +210,9 @@ module _ {b now : List ℕ} {t c n a h v left p sent s : ℕ} {r : Receive} (may
 
 -- no port left
 pub no_port_left : {b : List ℕ} {t c n v a h s : ℕ} {r : Receive} {now : List ℕ} {left sent : ℕ} → PortsTried b t c r n v a h s now left sent → left ≡ 0
-    → pass_answer 10 0 0 sent now ≡ try_answer b t c r n v a h s
+    → answer_on_bytes 10 0 0 sent now ≡ try_answer b t c r n v a h s
 unfolding try_answer
 no_port_left {b} {t} {c} {n} {v} {a} {h} {s} {r} {now} {left} {sent} inv z =
     let none : helical a (ports_of port_count left) ≡ [] = ap (λ x. helical a (ports_of port_count x)) z ∙ helical_zero 8 a in
     let over = ports_over (free_in (view b) n) (arrival_after (net (view b)) (free_in (view b)) t n) b c n h r sent in
-    ap (pass_answer 10 0 0 sent) inv.same ∙ over ∙ ap (λ ps. tried b t c r n h ps sent) (sym none) ∙ inv.rest
+    ap (answer_on_bytes 10 0 0 sent) inv.same ∙ over ∙ ap (λ ps. tried b t c r n h ps sent) (sym none) ∙ inv.rest

@@ -32,10 +32,10 @@ use Rattle.entries.specs.EntryContracts.{put_receiver}
 use Rattle.table.specs.View.{View, view, receive, net, shape_of}
 use Rattle.table.specs.TableContracts.{lowest_channel}
 use Rattle.table.proofs.Receives.{channel_taken, channel_missing}
-use Rattle.common.specs.Lists.{some_below}
+use Rattle.common.specs.SomeBelow.{some_below}
 use Rattle.std.specs.Prelude.{Option, Some, None}
 use Rattle.table.proofs.Made.{ones}
-use Rattle.answers.specs.SendOnTable.{free_in, pass_answer, answer_of_outcome}
+use Rattle.answers.specs.SendOnTable.{free_in, answer_on_bytes, answer_of_outcome}
 use Rattle.answers.specs.PassOnBytes.{hold_path, answer_of_pass, arrival_after}
 use Rattle.search.specs.SearchContracts.{farthest_after, receive_as, try_answer, Narrowed, MayTry}
 use Rattle.answers.specs.SendAnswer.{bytes_after_send, send_answer, searched, MaySend}
@@ -74,12 +74,12 @@ module _ {b : List ℕ} {s t c vector : ℕ} (may : MaySend b s t c vector) wher
 
 -- The answer of a pass that was acknowledged, with the receive channel taken; and of one that was not.
 module _ (b : List ℕ) (c s t : ℕ) (r : Receive) where
-  pub pass_taken : (p : PassResult) {x h k n : ℕ} {b₁ b₂ : List ℕ} → pass_answer x h k n b₁ ≡ answer_of_pass b c s 0 r p → x ≡ 0 → b₂ ≡ put_receiver b₁ t k c → pass_answer x h k n b₂ ≡ send_answer true b c s t (one_result r p)
+  pub pass_taken : (p : PassResult) {x h k n : ℕ} {b₁ b₂ : List ℕ} → answer_on_bytes x h k n b₁ ≡ answer_of_pass b c s 0 r p → x ≡ 0 → b₂ ≡ put_receiver b₁ t k c → answer_on_bytes x h k n b₂ ≡ send_answer true b c s t (one_result r p)
   unfolding answer_of_pass send_answer bytes_after_send answer_of_outcome outcome outcome_of_path scouts
   pass_taken (none m) {x} q z e = let y : x ≡ 10 = cc in absurd (omega arith)
   pass_taken (found w m) {x} {h} {k} {n} {b₁} {b₂} q z e = go r q
     where
-      go : (r : Receive) → pass_answer x h k n b₁ ≡ answer_of_pass b c s 0 r (found w m) → pass_answer x h k n b₂ ≡ send_answer true b c s t (one_result r (found w m))
+      go : (r : Receive) → answer_on_bytes x h k n b₁ ≡ answer_of_pass b c s 0 r (found w m) → answer_on_bytes x h k n b₂ ≡ send_answer true b c s t (one_result r (found w m))
       go none_available u = let y : x ≡ 11 = cc in absurd (omega arith)
       go (lowest_available j) u =
           let i : k ≡ j = cc in
@@ -89,12 +89,12 @@ module _ (b : List ℕ) (c s t : ℕ) (r : Receive) where
           let d : b₁ ≡ hold_path b c s w = cc in
           rw (z, l, o, e, d, i) refl
 
-  pub pass_rejected : (p : PassResult) {x h k n : ℕ} {b₁ : List ℕ} → pass_answer x h k n b₁ ≡ answer_of_pass b c s 0 r p → x ≢ 0 → pass_answer x h k n b₁ ≡ send_answer true b c s t (one_result r p)
+  pub pass_rejected : (p : PassResult) {x h k n : ℕ} {b₁ : List ℕ} → answer_on_bytes x h k n b₁ ≡ answer_of_pass b c s 0 r p → x ≢ 0 → answer_on_bytes x h k n b₁ ≡ send_answer true b c s t (one_result r p)
   unfolding answer_of_pass send_answer bytes_after_send answer_of_outcome outcome outcome_of_path scouts
   pass_rejected (none m) q f = q
   pass_rejected (found w m) {x} {h} {k} {n} {b₁} q f = go r q
     where
-      go : (r : Receive) → pass_answer x h k n b₁ ≡ answer_of_pass b c s 0 r (found w m) → pass_answer x h k n b₁ ≡ send_answer true b c s t (one_result r (found w m))
+      go : (r : Receive) → answer_on_bytes x h k n b₁ ≡ answer_of_pass b c s 0 r (found w m) → answer_on_bytes x h k n b₁ ≡ send_answer true b c s t (one_result r (found w m))
       go none_available u = u
       go (lowest_available j) u = let y : x ≡ 0 = cc in absurd (f y)
 
@@ -116,22 +116,22 @@ told_channel v n (Some k) e = let f = channel_taken v n e in unfold receive lowe
 
 -- A send of routing type 0, from the ports that are left of its vector.
 module _ {b : List ℕ} {s t c vector left : ℕ} (may : MaySend b s t c vector) (narrow : Narrowed (view b) s vector left) {taken : Receive} (told : taken ≡ receive (view b) t)
-    {x h k n : ℕ} {b₁ : List ℕ} (got : pass_answer x h k n b₁ ≡ try_answer b t c taken s left 7 0 0) where
-  by_pass : pass_answer x h k n b₁ ≡ answer_of_pass b c s 0 (receive (view b) t) (pass_of b s t vector)
+    {x h k n : ℕ} {b₁ : List ℕ} (got : answer_on_bytes x h k n b₁ ≡ try_answer b t c taken s left 7 0 0) where
+  by_pass : answer_on_bytes x h k n b₁ ≡ answer_of_pass b c s 0 (receive (view b) t) (pass_of b s t vector)
   by_pass = got ∙ ap (λ r. try_answer b t c r s left 7 0 0) told ∙ narrow_tries b t c (receive (view b) t) 7 0 0 narrow ∙ tries_pass may
 
-  pub maze_taken : x ≡ 0 → {b₂ : List ℕ} → b₂ ≡ put_receiver b₁ t k c → pass_answer x h k n b₂ ≡ searched b s t c 0 vector
+  pub maze_taken : x ≡ 0 → {b₂ : List ℕ} → b₂ ≡ put_receiver b₁ t k c → answer_on_bytes x h k n b₂ ≡ searched b s t c 0 vector
   maze_taken z e = pass_taken b c s t (receive (view b) t) (pass_of b s t vector) by_pass z e ∙ sym (one_pass b s t c vector)
 
-  pub maze_rejected : x ≢ 0 → pass_answer x h k n b₁ ≡ searched b s t c 0 vector
+  pub maze_rejected : x ≢ 0 → answer_on_bytes x h k n b₁ ≡ searched b s t c 0 vector
   maze_rejected f = pass_rejected b c s t (receive (view b) t) (pass_of b s t vector) by_pass f ∙ sym (one_pass b s t c vector)
 
 -- A rejected pass leaves each byte of the table as it was: so does the first pass of a type 4 send, before the second begins.
-pub first_pass_leaves : (b : List ℕ) (s t c vector : ℕ) {x h k n : ℕ} {b₁ : List ℕ} → pass_answer x h k n b₁ ≡ searched b s t c 0 vector → x ≢ 0 → b₁ ≡ b
+pub first_pass_leaves : (b : List ℕ) (s t c vector : ℕ) {x h k n : ℕ} {b₁ : List ℕ} → answer_on_bytes x h k n b₁ ≡ searched b s t c 0 vector → x ≢ 0 → b₁ ≡ b
 first_pass_leaves b s t c vector q f = sent_leaves b c s t true _ _ (q ∙ one_pass b s t c vector) f
 
 -- A send of routing type 4: after a route rejection, a second pass over the other ports on the same bytes.
-module _ {b : List ℕ} {s t c vector : ℕ} (may : MaySend b s t c vector) {x h k n : ℕ} {b₁ : List ℕ} (got : pass_answer x h k n b₁ ≡ searched b s t c 0 vector) where
+module _ {b : List ℕ} {s t c vector : ℕ} (may : MaySend b s t c vector) {x h k n : ℕ} {b₁ : List ℕ} (got : answer_on_bytes x h k n b₁ ≡ searched b s t c 0 vector) where
   S : Shape
   S = shape_of (view b)
 
@@ -144,11 +144,11 @@ module _ {b : List ℕ} {s t c vector : ℕ} (may : MaySend b s t c vector) {x h
   second : PassResult
   second = pass (network S) (free_in (view b)) s (other_ports S vector) t
 
-  first_is : pass_answer x h k n b₁ ≡ send_answer true b c s t (one_result r first)
+  first_is : answer_on_bytes x h k n b₁ ≡ send_answer true b c s t (one_result r first)
   unfolding r first
   first_is = got ∙ one_pass b s t c vector
 
-  pub alternate_ended : x ≢ 10 → pass_answer x h k n b₁ ≡ searched b s t c 4 vector
+  pub alternate_ended : x ≢ 10 → answer_on_bytes x h k n b₁ ≡ searched b s t c 4 vector
   unfolding searched r first
   alternate_ended f =
       first_is ∙ ap (send_answer true b c s t) (sym (alternate_stops (shape_of (view b)) (free_in (view b)) r s vector t (sent_stops b c s t (outcome r first) (scouts first) first_is f)))
@@ -181,8 +181,8 @@ module _ {b : List ℕ} {s t c vector : ℕ} (may : MaySend b s t c vector) {x h
     unfolding S view
     ports_other = rw others_are (other_vector S vector _ (other_has (dimension_at b) vector may.fits))
 
-    module _ {x₂ h₂ k₂ n₂ : ℕ} {b₂ : List ℕ} (again : pass_answer x₂ h₂ k₂ n₂ b₂ ≡ searched b₁ s t c 0 others) where
-      second_is : pass_answer x₂ h₂ k₂ n₂ b₂ ≡ send_answer true b c s t (one_result r second)
+    module _ {x₂ h₂ k₂ n₂ : ℕ} {b₂ : List ℕ} (again : answer_on_bytes x₂ h₂ k₂ n₂ b₂ ≡ searched b₁ s t c 0 others) where
+      second_is : answer_on_bytes x₂ h₂ k₂ n₂ b₂ ≡ send_answer true b c s t (one_result r second)
       unfolding S r second
       second_is =
           again ∙ ap (λ u. searched u s t c 0 others) same_bytes ∙ one_pass b s t c others
@@ -193,7 +193,7 @@ module _ {b : List ℕ} {s t c vector : ℕ} (may : MaySend b s t c vector) {x h
       few_scouts =
           omega (arith, sent_scouts b c s t true (outcome r first) (scouts first) first_is, sent_scouts b c s t true (outcome r second) (scouts second) second_is, scouts_bound S may.fits refl s t vector (free_in (view b)) (free_in (view b)))
 
-      pub alternate_again : pass_answer x₂ h₂ k₂ (n + n₂) b₂ ≡ searched b s t c 4 vector
+      pub alternate_again : answer_on_bytes x₂ h₂ k₂ (n + n₂) b₂ ≡ searched b s t c 4 vector
       unfolding searched S r first second
       alternate_again =
           sent_counted b c s t (outcome r second) (scouts second) (n + n₂) second_is

@@ -10,7 +10,7 @@ use Rattle.paths.specs.Search.{trying, arriving}
 use Rattle.paths.specs.Send.{Receive, lowest_available, none_available}
 use Rattle.layout.specs.Layout.{table_length, dimension_at}
 use Rattle.table.specs.View.{View, view, net}
-use Rattle.answers.specs.SendOnTable.{free_in, PassAnswer, pass_answer}
+use Rattle.answers.specs.SendOnTable.{free_in, AnswerOnBytes, answer_on_bytes}
 use Rattle.answers.specs.PassOnBytes.{answer_of_pass, arrival_after, hops_left}
 
 -- the largest distance to a target among the nodes behind the ports of a list
@@ -23,11 +23,11 @@ unfoldable pub farthest_after : List ℕ → ℕ → ℕ → ℕ → ℕ
 farthest_after b t n vector = farthest (net (view b)) t n (ports_of port_count vector)
 
 -- trying the ports of a vector at node n, after an arrival on port a, with h hops made and s scouts sent, where the target takes r; and an arrival
-unfoldable pub try_answer : List ℕ → ℕ → ℕ → Receive → ℕ → ℕ → ℕ → ℕ → ℕ → PassAnswer
+unfoldable pub try_answer : List ℕ → ℕ → ℕ → Receive → ℕ → ℕ → ℕ → ℕ → ℕ → AnswerOnBytes
 try_answer b t c r n vector a h s =
     answer_of_pass b c n h r (trying (free_in (view b) n) (arrival_after (net (view b)) (free_in (view b)) t n) (helical a (ports_of port_count vector)) s)
 
-unfoldable pub arrive_answer : List ℕ → ℕ → ℕ → Receive → ℕ → ℕ → ℕ → ℕ → PassAnswer
+unfoldable pub arrive_answer : List ℕ → ℕ → ℕ → Receive → ℕ → ℕ → ℕ → ℕ → AnswerOnBytes
 arrive_answer b t c r n a h s = answer_of_pass b c n h r (arriving (hops_left b t n) (net (view b)) (free_in (view b)) t n a s)
 
 -- the ports left of a vector once some that are not free at node n are dropped from it
@@ -47,10 +47,10 @@ receive_as None = none_available
 
 -- what a pass says that found a free path of so many hops, or none, where the target has a receive channel to take, or none; with the scouts sent, and the
 -- bytes afterwards
-abbrev pub search_answer : (hops receive : Option ℕ) → (scouts : ℕ) → List ℕ → PassAnswer
-search_answer None k s b = pass_answer 10 0 0 s b
-search_answer (Some h) (Some k) s b = pass_answer 0 h k s b
-search_answer (Some h) None s b = pass_answer 11 0 0 s b
+abbrev pub search_answer : (hops receive : Option ℕ) → (scouts : ℕ) → List ℕ → AnswerOnBytes
+search_answer None k s b = answer_on_bytes 10 0 0 s b
+search_answer (Some h) (Some k) s b = answer_on_bytes 0 h k s b
+search_answer (Some h) None s b = answer_on_bytes 11 0 0 s b
 
 -- what both ask: a table of a cube up to dimension 8, a node and a target of it, a port, a circuit
 pub record SearchPre (b : List ℕ) (t c n a : ℕ) : Type 0 where

@@ -4,7 +4,7 @@
 ghost use Rattle.std.specs.Prelude.{◌≡◌};
 ghost use Rattle.entries.specs.EntryContracts.{Within};
 ghost use Rattle.table.specs.View.{view};
-ghost use Rattle.answers.specs.Opens.{opened_answer};
+ghost use Rattle.answers.specs.PassOnBytes.{opened_answer};
 ghost use Rattle.search.specs.SearchContracts.{Narrowed, Enabled, search_answer, receive_as, try_answer, arrive_answer, MayTry, MayArrive};
 ghost use Rattle.answers.specs.SendAnswer.{MaySend, searched};
 
@@ -136,7 +136,7 @@ pub fn maze(
     let ports = enabled_ports(t, request.source, request.vector);
     let search = Search {
         target: request.target,
-        receive: table::free_channel(t, request.target),
+        receive: table::available_channel(t, request.target),
         circuit: request.circuit,
         first,
     };

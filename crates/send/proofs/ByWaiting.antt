@@ -6,14 +6,14 @@ use mathlib.Core.Bool.{Bool, true, false}
 use mathlib.Core.List.{List}
 use Prim.Native.Nat.{ℕ}
 use native.Mathlib.Omega.{arith}
-use Rattle.cube.specs.RoutingTypes.{type_number, SentAs}
+use Rattle.cube.specs.RoutingTypes.{routing_number, SentAs}
 use Rattle.cube.specs.declared.routing_type.RoutingType.{RoutingType}
 use Rattle.paths.proofs.SentAs.{attempts_sent}
 use Rattle.paths.specs.Waiting.{some_attempt}
 use Rattle.paths.specs.CubeNetwork.{attempts, send}
 use Rattle.table.specs.View.{view, net, shape_of}
 use Rattle.reach.specs.Marks.{MayAsk}
-use Rattle.answers.specs.SendOnTable.{pass_answer, waiting_helps}
+use Rattle.answers.specs.SendOnTable.{answer_on_bytes, waiting_helps}
 use Rattle.answers.specs.SendAnswer.{sent_on_bytes, searched, MaySend}
 use Rattle.answers.proofs.SendAnswer.{sent_leaves, other_kept, rejected_as}
 
@@ -21,7 +21,7 @@ use Rattle.answers.proofs.SendAnswer.{sent_leaves, other_kept, rejected_as}
 may_ask : {b : List ℕ} {s t c vector : ℕ} → MaySend b s t c vector → MayAsk b s t vector
 may_ask may = record { sweep = record { bytes = may.bytes; fits = may.fits; target = may.target }; source = may.source; ports = may.ports }
 
-module _ (b : List ℕ) (s t c type vector : ℕ) {x h k n : ℕ} {b₁ : List ℕ} (got : pass_answer x h k n b₁ ≡ searched b s t c type vector) where
+module _ (b : List ℕ) (s t c type vector : ℕ) {x h k n : ℕ} {b₁ : List ℕ} (got : answer_on_bytes x h k n b₁ ≡ searched b s t c type vector) where
   pub search_leaves : x ≡ 10 → b₁ ≡ b
   unfolding searched
   search_leaves z = sent_leaves b c s t true _ _ got (λ y. omega (arith, y, z))
@@ -29,7 +29,7 @@ module _ (b : List ℕ) (s t c type vector : ℕ) {x h k n : ℕ} {b₁ : List �
   pub may_ask_after : MaySend b s t c vector → x ≡ 10 → MayAsk b₁ s t vector
   may_ask_after may z = rw (search_leaves z) (may_ask may)
 
-  pub judged_kept : x ≢ 10 → pass_answer x h k n b₁ ≡ sent_on_bytes b s t c type vector
+  pub judged_kept : x ≢ 10 → answer_on_bytes x h k n b₁ ≡ sent_on_bytes b s t c type vector
   unfolding searched sent_on_bytes
   judged_kept f = other_kept b c s t (waiting_helps (view b) s t type vector) _ _ got f
 
@@ -38,15 +38,15 @@ module _ (b : List ℕ) (s t c type vector : ℕ) {x h k n : ℕ} {b₁ : List �
     unfolding waiting_helps
     answer = rw (search_leaves z) at asked
 
-    pub judged_helps : r ≡ true → pass_answer x h k n b₁ ≡ sent_on_bytes b s t c type vector
+    pub judged_helps : r ≡ true → answer_on_bytes x h k n b₁ ≡ sent_on_bytes b s t c type vector
     unfolding searched sent_on_bytes
     judged_helps e = rw (sym answer ∙ e) got
 
-    pub judged_blocked : r ≡ false → pass_answer 22 0 0 n b₁ ≡ sent_on_bytes b s t c type vector
+    pub judged_blocked : r ≡ false → answer_on_bytes 22 0 0 n b₁ ≡ sent_on_bytes b s t c type vector
     unfolding searched sent_on_bytes
     judged_blocked e = rw (sym answer ∙ e) (rejected_as b c s t _ _ got z)
 
 -- A number is sent by the search of its type.
-pub searched_as : (b : List ℕ) (s t c n vector : ℕ) (type : RoutingType) → SentAs n type → searched b s t c (type_number type) vector ≡ searched b s t c n vector
+pub searched_as : (b : List ℕ) (s t c n vector : ℕ) (type : RoutingType) → SentAs n type → searched b s t c (routing_number type) vector ≡ searched b s t c n vector
 unfolding searched send
 searched_as b s t c n vector type as_type = rw (attempts_sent (shape_of (view b)) n vector type as_type) refl

@@ -2,7 +2,7 @@
 #![tactic(auto)]
 
 ghost use Rattle.std.specs.Prelude.{◌≡◌, ◌≢◌};
-ghost use Rattle.answers.specs.Opens.{opened_answer};
+ghost use Rattle.answers.specs.PassOnBytes.{opened_answer};
 ghost use Rattle.answers.specs.SendAnswer.{MaySend, searched, sent_on_bytes};
 
 use answers::{Acknowledged, Rejected, SendRequest};

@@ -39,11 +39,11 @@ counting_none v =
 module _ {v : View} where
   -- receive channels that nobody holds are passed over
   pub counts_skip : {i j : ℕ} {m : List ℕ} → i ≤ j → ((n k : ℕ) → k < channels → i ≤ channels * n + k → channels * n + k < j → v.receiver n k ≡ 0) → Counted v i j m m 0
-  counts_skip {i} {j} {m} l free =
+  counts_skip {i} {j} {m} l unheld =
       record { counts = λ h x. subst (λ (y : ℕ). Counting v j y m) (sym (add-zero h)) (on h x); most = omega arith }
     where
       back : {n k : ℕ} → Earlier j n k → v.receiver n k ≢ 0 → Earlier i n k
-      back {n} {k} e h = (e.0, ⊎_elim (λ b. b) (λ b. absurd (h (free n k e.0 b e.1))) (below_or i (channels * n + k)))
+      back {n} {k} e h = (e.0, ⊎_elim (λ b. b) (λ b. absurd (h (unheld n k e.0 b e.1))) (below_or i (channels * n + k)))
 
       on : (h : ℕ) → Counting v i h m → Counting v j h m
       on h x =

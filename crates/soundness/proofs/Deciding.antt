@@ -34,7 +34,7 @@ use Rattle.layout.proofs.Entries.{enabled_has, mask_has}
 use Rattle.circuit_path.specs.CircuitSound.{end_for, CircuitSound}
 use Rattle.soundness.specs.Sound.{Nowhere, Sound}
 use Rattle.soundness.specs.SoundTest.{sound_test}
-use Rattle.soundness.specs.Counting.{Earlier, ReceivedBefore, CircuitFollowed, Counting, Counts, Frees}
+use Rattle.soundness.specs.Counting.{Earlier, ReceivedBefore, CircuitFollowed, Counting, Counts, CountsUnheld}
 use Rattle.soundness.proofs.Soundness.{placed, link_stands}
 use Rattle.soundness.proofs.LinkCount.{links_same, links_more, links_parts}
 use Rattle.soundness.proofs.Passing.{off, unarmed, view_framed, decided, same_answer}
@@ -60,13 +60,13 @@ module _ (b : List ℕ) (n : ℕ) {answer : Bool} (d : Decides ((k : ℕ) → k 
   unfolding view
   armed_held e = d.holds e
 
-  pub absent_free : answer ≡ true → ((n k : ℕ) → cube_nodes (dimension_at b) ≤ n → armed_at b n k ≡ false) → cube_nodes (dimension_at b) ≤ n → (k : ℕ) → k < channels → (view b).receiver n k ≡ 0
+  pub absent_unheld : answer ≡ true → ((n k : ℕ) → cube_nodes (dimension_at b) ≤ n → armed_at b n k ≡ false) → cube_nodes (dimension_at b) ≤ n → (k : ℕ) → k < channels → (view b).receiver n k ≡ 0
   unfolding view
-  absent_free e arms l k i = ⊎_elim (λ z. z) (λ z. absurd (clash (d.holds e k i z) (arms n k l))) (same? (receiver_at b n k) 0)
+  absent_unheld e arms l k i = ⊎_elim (λ z. z) (λ z. absurd (clash (d.holds e k i z) (arms n k l))) (same? (receiver_at b n k) 0)
 
 -- all receive channels were looked at, and all held links are enabled and counted
-module _ (b : List ℕ) (d : dimension_at b ≤ largest_dimension) (fit : EnablesFit b (dimension_at b)) (arms : ArmsFit b (dimension_at b)) {hops free : ℕ} {m : List ℕ} (x : Counting (view b) (channels * 256) hops m)
-    (on : (n p : ℕ) → n < 256 → p < port_count → (view b).owner n p ≢ 0 → (view b).enabled n p ≡ true) (counted : link_count (held_by (view b) 0) entry_count ≡ free) where
+module _ (b : List ℕ) (d : dimension_at b ≤ largest_dimension) (fit : EnablesFit b (dimension_at b)) (arms : ArmsFit b (dimension_at b)) {hops unheld : ℕ} {m : List ℕ} (x : Counting (view b) (channels * 256) hops m)
+    (on : (n p : ℕ) → n < 256 → p < port_count → (view b).owner n p ≢ 0 → (view b).enabled n p ≡ true) (counted : link_count (held_by (view b) 0) entry_count ≡ unheld) where
   v : View
   v = view b
 
@@ -79,7 +79,7 @@ module _ (b : List ℕ) (d : dimension_at b ≤ largest_dimension) (fit : Enable
   on_held : (n p : ℕ) → x.on n p ≡ true → held n p ≡ true
   on_held n p e = is_held n p (x.on_paths n p e).2
 
-  held_count : link_count held entry_count + free ≡ entry_count
+  held_count : link_count held entry_count + unheld ≡ entry_count
   held_count = unfold held in omega (arith, links_parts (held_by (view b) 0), counted)
 
   small : (view b).dimension ≤ largest_dimension
@@ -191,17 +191,17 @@ module _ (b : List ℕ) (d : dimension_at b ≤ largest_dimension) (fit : Enable
                 nobody : (n k : ℕ) → (view b).receiver n k ≢ c
                 nobody n k e = ⊎_elim (λ i. clash (eq-eqb _ c e) (f n k i.0 i.1)) (λ o. h (sym e ∙ (view_framed b).no_receive n k o)) (placed n k)
 
-  sum_decides : Decides (Sound (view b)) (eqb (hops + free) entry_count)
+  sum_decides : Decides (Sound (view b)) (eqb (hops + unheld) entry_count)
   sum_decides =
       record {
         holds = λ e. counted_sound (λ n p h. links_same x.on held on_held (few (eqb-true _ entry_count e)) n p (in_place n p h).0 (in_place n p h).1 (is_held n p h));
         fails = λ e s. eqb-false _ entry_count e (equal (links_more x.on held on_held) (links_more held x.on (all_on s)));
       }
     where
-      few : hops + free ≡ entry_count → link_count held entry_count ≤ link_count x.on entry_count
+      few : hops + unheld ≡ entry_count → link_count held entry_count ≤ link_count x.on entry_count
       few e = omega (arith, held_count, x.count)
 
-      equal : link_count x.on entry_count ≤ link_count held entry_count → link_count held entry_count ≤ link_count x.on entry_count → hops + free ≡ entry_count
+      equal : link_count x.on entry_count ≤ link_count held entry_count → link_count held entry_count ≤ link_count x.on entry_count → hops + unheld ≡ entry_count
       equal l k = omega (arith, held_count, x.count)
 
       in_place : (n p : ℕ) → (view b).owner n p ≢ 0 → (n < 256) × (p < port_count)
@@ -225,10 +225,10 @@ module _ (b : List ℕ) (bytes : (i : ℕ) → get_or b i 0 < 256) (s : Sound (v
       go false e = no_bit_above 0 (enable_bits b n) (λ p l. off_at p (λ h. clash (lt-ltb n _ h.0) e))
 
 -- what two sums answer: whether all links are in them, and false where one of them failed
-abbrev pub all_links : Option ℕ → Option ℕ → Bool
-all_links None _ = false
-all_links (Some _) None = false
-all_links (Some hops) (Some free) = eqb (hops + free) entry_count
+abbrev pub hops_and_unheld : Option ℕ → Option ℕ → Bool
+hops_and_unheld None _ = false
+hops_and_unheld (Some _) None = false
+hops_and_unheld (Some hops) (Some unheld) = eqb (hops + unheld) entry_count
 
 -- the answer of the test: whatever refuses the table, and the sum
 module _ (b : List ℕ) (d : dimension_at b ≤ largest_dimension) where
@@ -238,11 +238,11 @@ module _ (b : List ℕ) (d : dimension_at b ≤ largest_dimension) where
   pub counting_start : {before : List ℕ} → before ≡ replicate 256 0 → Counting (view b) 0 0 before
   counting_start e = subst (Counting (view b) 0 0) (sym e) (counting_none (view b))
 
-  pub sum_answers : EnablesFit b (dimension_at b) → ArmsFit b (dimension_at b) → (hops free : Option ℕ) {before : List ℕ} (m : List ℕ) → Frees (view b) 0 256 free → before ≡ replicate 256 0 → Counts (view b) 0 (channels * 256) before m hops
-      → all_links hops free ≡ sound_test (view b)
-  sum_answers fit arms None free m f e x = refuse (x 0 (counting_start e))
+  pub sum_answers : EnablesFit b (dimension_at b) → ArmsFit b (dimension_at b) → (hops unheld : Option ℕ) {before : List ℕ} (m : List ℕ) → CountsUnheld (view b) 0 256 unheld → before ≡ replicate 256 0 → Counts (view b) 0 (channels * 256) before m hops
+      → hops_and_unheld hops unheld ≡ sound_test (view b)
+  sum_answers fit arms None unheld m f e x = refuse (x 0 (counting_start e))
   sum_answers fit arms (Some hops) None m f e x = refuse f
-  sum_answers fit arms (Some hops) (Some free) m f e x =
+  sum_answers fit arms (Some hops) (Some unheld) m f e x =
       same_answer _ _
       (sum_decides b d fit arms (subst (λ (y : ℕ). Counting (view b) entry_count y m) (zero-add hops) (x.counts 0 (counting_start e))) (λ n p i j h. f.enabled n p (omega arith) i j h)
       (let e = f.counted in let z : link_count (held_by (view b) 0) 0 ≡ 0 = unfold link_count from in ap length (keep_nil _) in omega arith))

@@ -4,5 +4,5 @@ pub mod LinkCount
 pub mod Passing
 pub mod Counting
 pub mod CountedChannel
-pub mod Free
+pub mod Unheld
 pub mod Deciding

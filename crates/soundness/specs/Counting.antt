@@ -52,13 +52,13 @@ abbrev pub Counts : View → ℕ → ℕ → List ℕ → List ℕ → Option �
 Counts v i j before after (Some hops) = Counted v i j before after hops
 Counts v i j before after None = (h : ℕ) → Counting v i h before → Sound v → ⊥
 
--- what counting the free links of nodes n₀ up to n₁ comes to, where a held one must be enabled
-pub record FreeCounted (v : View) (n₀ n₁ free : ℕ) : Type 0 where
+-- what counting the unheld links of nodes n₀ up to n₁ comes to, where a held one must be enabled
+pub record UnheldCounted (v : View) (n₀ n₁ unheld : ℕ) : Type 0 where
   pub enabled : (n p : ℕ) → n₀ ≤ n → n < n₁ → p < port_count → v.owner n p ≢ 0 → v.enabled n p ≡ true
-  pub counted : link_count (held_by v 0) (port_count * n₀) + free ≡ link_count (held_by v 0) (port_count * n₁)
-  pub most : free + port_count * n₀ ≤ port_count * n₁
+  pub counted : link_count (held_by v 0) (port_count * n₀) + unheld ≡ link_count (held_by v 0) (port_count * n₁)
+  pub most : unheld + port_count * n₀ ≤ port_count * n₁
 
 -- and where it comes to nothing, the table is not sound
-abbrev pub Frees : View → ℕ → ℕ → Option ℕ → Type 0
-Frees v n₀ n₁ (Some free) = FreeCounted v n₀ n₁ free
-Frees v n₀ n₁ None = Sound v → ⊥
+abbrev pub CountsUnheld : View → ℕ → ℕ → Option ℕ → Type 0
+CountsUnheld v n₀ n₁ (Some unheld) = UnheldCounted v n₀ n₁ unheld
+CountsUnheld v n₀ n₁ None = Sound v → ⊥

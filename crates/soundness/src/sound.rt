@@ -3,7 +3,7 @@ ghost use Rattle.std.specs.Prelude.{◌≡◌, ◌+◌, ◌*◌, ◌<◌, ◌≤
 ghost use Rattle.common.specs.Refusals.{answer_of};
 ghost use Rattle.cube.specs.Cube.{channels};
 ghost use Rattle.table.specs.View.{view};
-ghost use Rattle.soundness.specs.Counting.{Counts, Frees};
+ghost use Rattle.soundness.specs.Counting.{Counts, CountsUnheld};
 ghost use Rattle.soundness.specs.SoundTest.{sound_test};
 ghost use Rattle.soundness.specs.TestContracts.{Usable, AbsentUnarmed, TableAnswer};
 
@@ -77,9 +77,9 @@ fn all_hops(table: CubeTable, seen: &mut Marks) -> Option<u32>
 }
 
 // How many links of a group of nodes nobody holds. None where one is held that is not enabled. No twin of `hops_group`: one call counts the links of all its nodes.
-fn free_group(table: CubeTable, from: Node) -> Option<u32>
+fn unheld_group(table: CubeTable, from: Node) -> Option<u32>
     requires { from.0 + 16 ≤ 256 }
-    ensures { Frees (view table.entry.bytes.now) from.0 (from.0 + 16) result }
+    ensures { CountsUnheld (view table.entry.bytes.now) from.0 (from.0 + 16) result }
 {
     if table::none_held::<Links>(table.bytes, from, GROUP) {
         return Some(128);
@@ -90,19 +90,19 @@ fn free_group(table: CubeTable, from: Node) -> Option<u32>
             return None;
         }
     }
-    Some(table::count_free_links(table.bytes, from, GROUP))
+    Some(table::count_unheld_links(table.bytes, from, GROUP))
 }
 
 // How many links nobody holds. None where one is held that is not enabled. It goes over the groups as `all_hops` does: one loop for both took a sixth more time on a table full of circuits of one
 // hop, with the same instructions. One function that is given the count of a group would be no plainer: it would carry what both contracts say, and that of `all_hops` speaks of the marks before and after.
-fn all_free(table: CubeTable) -> Option<u32>
-    ensures { Frees (view table.entry.bytes.now) 0 256 result }
+fn all_unheld(table: CubeTable) -> Option<u32>
+    ensures { CountsUnheld (view table.entry.bytes.now) 0 256 result }
 {
-    let mut free = 0;
+    let mut unheld = 0;
     for i in 0..GROUPS {
-        free += free_group(table, Node(GROUP * i))?;
+        unheld += unheld_group(table, Node(GROUP * i))?;
     }
-    Some(free)
+    Some(unheld)
 }
 
 // The test of a whole table: each circuit that holds a receive channel is followed once, and the links that it leads over, added up, are all that are held.
@@ -120,14 +120,14 @@ fn entries_sound(t: &[u8], dimension: u16) -> bool
         bytes: t,
         nodes: cube::node_count(dimension),
     };
-    let Some(free) = all_free(table) else {
+    let Some(unheld) = all_unheld(table) else {
         return false;
     };
     let mut seen = Marks::new();
     let Some(hops) = all_hops(table, &mut seen) else {
         return false;
     };
-    hops + free == ALL_LINKS
+    hops + unheld == ALL_LINKS
 }
 
 // Whether a table may be used, or the refusal of the first test that it fails.

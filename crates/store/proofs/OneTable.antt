@@ -8,7 +8,7 @@ use Rattle.std.proofs.Common.{Some}
 use Rattle.ownership.specs.Calls.{Call, making, lent, After}
 use Rattle.ownership.specs.OnTable.{table_step}
 use Rattle.ownership.specs.History.{History, history_step}
-use Rattle.ownership.specs.Agrees.{table_after, table_results, history_after, history_results, Agrees, Accepted, leaves, answers}
+use Rattle.ownership.specs.Agrees.{table_after, table_results, history_after, history_results, Agrees, Accepted, after_calls, call_results}
 use Rattle.ownership.specs.Invariant.{Represents}
 use Rattle.ownership.proofs.Agreement.{represents_step, made_result, made_represents}
 use Rattle.store.specs.Store.{Event, on, Store, Known, nothing_known, store_step, lent_to, learn, store_after, known_after, store_results, Represented, GivesAsKnown, StoreAgrees}
@@ -16,9 +16,9 @@ use Rattle.store.proofs.Stores.{made_new, learn_made, learn_known, step_itself, 
 
 -- calls that give the same at each place of a list give the same list
 answers_same : {S T : Type 0} (f : S → Call → After S) (g : T → Call → After T) (calls : List Call) (s : S) (t : T)
-    → ((before : List Call) (a : Call) (more : List Call) → calls ≡ before ++ a ∷ more → (f (leaves f s before) a).result ≡ (g (leaves g t before) a).result)
-    → answers f s calls ≡ answers g t calls
-unfolding leaves answers
+    → ((before : List Call) (a : Call) (more : List Call) → calls ≡ before ++ a ∷ more → (f (after_calls f s before) a).result ≡ (g (after_calls g t before) a).result)
+    → call_results f s calls ≡ call_results g t calls
+unfolding after_calls call_results
 answers_same f g [] s t h = refl
 answers_same f g (a ∷ calls) s t h = ap₂ ◌∷◌ (h [] a calls refl) (answers_same f g calls (f s a).state (g t a).state (λ before x more e. h (a ∷ before) x more (ap (a ∷◌) e)))
 
@@ -29,19 +29,19 @@ module _ (i : ℕ) where
 
   -- the bytes that they leave of it
   table_runs : (calls : List Call) (s : Store) → store_after s (events calls) i ≡ table_after (s i) calls
-  unfolding store_after leaves
+  unfolding store_after after_calls
   table_runs [] s = refl
   table_runs (a ∷ more) s = table_runs more (store_step s (on i a)).state ∙ ap (λ b. table_after b more) (step_itself s i a)
 
   -- and what they give
   pub table_gives : (calls : List Call) (s : Store) → store_results s (events calls) ≡ table_results (s i) calls
-  unfolding store_results answers store_step
+  unfolding store_results call_results store_step
   table_gives [] s = refl
   table_gives (a ∷ more) s = ap ((table_step (s i) a).result ∷◌) (table_gives more (store_step s (on i a)).state ∙ ap (λ b. table_results b more) (step_itself s i a))
 
   -- what is known of it, from a history that it represents
   history_runs : (calls : List Call) (s : Store) (k : Known) (h : History) → k i ≡ Some h → Represents (s i) h → known_after s k (events calls) i ≡ Some (history_after h calls)
-  unfolding known_after leaves store_step
+  unfolding known_after after_calls store_step
   history_runs [] s k h q r = q
   history_runs (a ∷ more) s k h q r =
       history_runs more (store_step s (on i a)).state (learn k (on i a) (store_step s (on i a)).result.number) (history_step h a).state (learn_known s k i a h q r)
@@ -100,7 +100,7 @@ module _ (i : ℕ) where
     making_represents = rw (step_itself s i (making D)) (made_represents (s i) h D accepted)
 
     pub table_demand_3 : Agrees (s i) h (making D ∷ calls)
-    unfolding known_after leaves answers
+    unfolding known_after after_calls call_results
     table_demand_3 =
         let t = store_demand_3 made known (step_represented s nothing_known (nothing_represented s) (on i (making D))) (events calls) in
         let later = results_from made known calls t begun making_known making_represents in

@@ -9,7 +9,8 @@ use lib.Dec.{eqb}
 use borrow.Author.Tests.{eqb-true, eqb-false}
 use Rattle.std.specs.Prelude.{Some, None}
 use Rattle.cube.specs.Cube.{channels}
-use Rattle.common.specs.Lists.{lowest, some_below}
+use Rattle.common.specs.Lists.{lowest}
+use Rattle.common.specs.SomeBelow.{some_below}
 use Rattle.common.proofs.Lowest.{lowest_most, lowest_passes, lowest_before, some_is, none_is}
 use Rattle.paths.specs.Send.{lowest_available, none_available, lowest_of}
 use Rattle.table.specs.View.{View, available}
@@ -36,7 +37,7 @@ none_chosen f e j h = go (eqb (lowest f 8 0) 8) refl e
     go true q z = lowest_before f 8 0 j (omega arith) (let y = eqb-true (lowest f 8 0) 8 q in omega (arith, y, h))
     go false q z = let y : ◌≡◌ {A = ℕ} 0 1 = cc in absurd (omega arith)
 
--- what `free_channel` answers: the lowest channel, or that there is none
+-- what `available_channel` answers: the lowest channel, or that there is none
 pub channel_taken : (v : View) (n : ℕ) {k : ℕ} → Some k ≡ some_below channels (lowest_channel v n) → (k ≡ lowest_channel v n) × (k ≢ channels)
 channel_taken v n e = let f = some_is e in (f.0, λ z. omega arith)
 

@@ -25,7 +25,7 @@ use Rattle.layout.specs.Layout.{entry_place, link_part, receive_part, mask_place
 use Rattle.layout.specs.LayoutContracts.{node_rows, RowVector, row_count}
 use Rattle.layout.proofs.Entries.{entry_is, mask_has, rows_word, row_entry}
 use Rattle.table.specs.View.{View, view, available}
-use Rattle.table.specs.TableContracts.{HeldBy, links_held, link_count, free_count, lowest_channel}
+use Rattle.table.specs.TableContracts.{HeldBy, links_held, link_count, unheld_count, lowest_channel}
 
 -- the row of a node, in the part of links or in that of receive channels
 module _ (b : List ℕ) (n c : ℕ) {row : List ℕ} (h : n < 256) where
@@ -45,11 +45,11 @@ module _ (b : List ℕ) (n c : ℕ) {row : List ℕ} (h : n < 256) where
   channels_lowest vector e r = lowest_same (has vector) _ 8 0 (λ k g l. r.bits k l ∙ entry_test receive_part k e l)
 
   -- the channels that nobody holds, and of them those that a mask has: these are available
-  module _ (free armed : ℕ) (z : c ≡ 0) (e : row ≡ node_rows receive_part b n 1) (r : RowVector row c free) (a : armed ≡ get_or b (arm_place n) 0) where
-    pub channel_available : (k : ℕ) → k < channels → has (bit_and free armed) k ≡ available (view b) n k
+  module _ (unheld armed : ℕ) (z : c ≡ 0) (e : row ≡ node_rows receive_part b n 1) (r : RowVector row c unheld) (a : armed ≡ get_or b (arm_place n) 0) where
+    pub channel_available : (k : ℕ) → k < channels → has (bit_and unheld armed) k ≡ available (view b) n k
     unfolding available view receiver_at armed_at
     channel_available k l =
-        has_and free armed k ∙ and_comm (has free k) (has armed k)
+        has_and unheld armed k ∙ and_comm (has unheld k) (has armed k)
         ∙ ap₂ ◌&&◌ (ap (λ x. has x k) a ∙ sym (mask_has b n k h l arm_part))
         (r.bits k l ∙ entry_test receive_part k e l ∙ ap (eqb (entry_at receive_part b n k)) z)
 
@@ -78,17 +78,17 @@ covers_node b n part masks j h e f d =
     }
 
 -- one more link is looked at
-module _ (b : List ℕ) (n nodes i x count : ℕ) {rows : List ℕ} (last : n + nodes ≤ 256) (h : i < port_count * nodes) (p : rows ≡ node_rows link_part b n nodes) (e : x ≡ word_at rows (2 * i)) (c : count ≡ free_count b (port_count * n + i)) where
+module _ (b : List ℕ) (n nodes i x count : ℕ) {rows : List ℕ} (last : n + nodes ≤ 256) (h : i < port_count * nodes) (p : rows ≡ node_rows link_part b n nodes) (e : x ≡ word_at rows (2 * i)) (c : count ≡ unheld_count b (port_count * n + i)) where
   link : x ≡ owner_at b ((8 * n + i) / 8) ((8 * n + i) % 8)
   unfolding owner_at
   link =
       entry_is b ((8 * n + i) / 8) ((8 * n + i) % 8) (omega arith) (omega arith) link_part x (entry_place link_part n 0 + 2 * i) (omega arith)
       (e ∙ ap (λ ys. word_at ys (2 * i)) p ∙ rows_word link_part b n nodes i h)
 
-  pub free_yes : x ≡ 0 → count + 1 ≡ free_count b (port_count * n + i + 1)
-  unfolding free_count link_count
-  free_yes z = count_yes (λ l. eqb (owner_at b (l / 8) (l % 8)) 0) (8 * n + i) count (eq-eqb _ 0 (sym link ∙ z)) c
+  pub unheld_yes : x ≡ 0 → count + 1 ≡ unheld_count b (port_count * n + i + 1)
+  unfolding unheld_count link_count
+  unheld_yes z = count_yes (λ l. eqb (owner_at b (l / 8) (l % 8)) 0) (8 * n + i) count (eq-eqb _ 0 (sym link ∙ z)) c
 
-  pub free_no : x ≢ 0 → count ≡ free_count b (port_count * n + i + 1)
-  unfolding free_count link_count
-  free_no z = count_no (λ l. eqb (owner_at b (l / 8) (l % 8)) 0) (8 * n + i) count (ne_eqb _ 0 (λ y. z (link ∙ y))) c
+  pub unheld_no : x ≢ 0 → count ≡ unheld_count b (port_count * n + i + 1)
+  unfolding unheld_count link_count
+  unheld_no z = count_no (λ l. eqb (owner_at b (l / 8) (l % 8)) 0) (8 * n + i) count (ne_eqb _ 0 (λ y. z (link ∙ y))) c

@@ -30,8 +30,8 @@ unfoldable pub link_count : (ℕ → ℕ → Bool) → ℕ → ℕ
 link_count f i = length (keep (λ l. f (l / port_count) (l % port_count)) (from 0 i))
 
 -- how many of them nobody holds
-unfoldable pub free_count : List ℕ → ℕ → ℕ
-free_count b i = link_count (λ n p. eqb (owner_at b n p) 0) i
+unfoldable pub unheld_count : List ℕ → ℕ → ℕ
+unheld_count b i = link_count (λ n p. eqb (owner_at b n p) 0) i
 
 -- how many links of node n circuit c holds
 unfoldable pub links_held : View → ℕ → ℕ → ℕ

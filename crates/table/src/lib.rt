@@ -7,18 +7,19 @@ mod cube_table;
 
 ghost use Rattle.std.specs.Prelude.{◌≡◌, ◌≢◌, true, ℕ, ◌+◌, ◌*◌, ◌<◌, ◌≤◌, eqb, length};
 ghost use Rattle.common.specs.Decides.{Decides};
-ghost use Rattle.common.specs.Lists.{keep, from, lowest, some_below};
+ghost use Rattle.common.specs.Lists.{keep, from, lowest};
+ghost use Rattle.common.specs.SomeBelow.{some_below};
 ghost use Rattle.cube.specs.Cube.{largest_dimension, port_count, channels};
 ghost use Rattle.layout.specs.Layout.{table_length, receiver_at};
 ghost use Rattle.entries.specs.EntryContracts.{Within};
 ghost use Rattle.table.specs.View.{view, available, fresh};
 ghost use Rattle.table.specs.Encode.{encode};
-ghost use Rattle.table.specs.TableContracts.{HeldBy, links_held, EnablesFit, ArmsFit, free_count, AvailableVector, lowest_channel};
+ghost use Rattle.table.specs.TableContracts.{HeldBy, links_held, EnablesFit, ArmsFit, unheld_count, AvailableVector, lowest_channel};
 
 use cube::{Circuit, Node};
 pub use cube_table::CubeTable;
 pub use entries::{dimension, enable_bits, enabled, owner, set_enabled, set_owner};
-pub use layout::{BYTES, Channels, Half, Links};
+pub use layout::{BYTES, Channels, Links, Resource};
 
 // Whether every node has the enable bits of links of its cube alone, and the nodes that the cube lacks have none.
 pub fn enables_fit(t: &[u8], dimension: u16) -> bool
@@ -32,7 +33,7 @@ pub fn enables_fit(t: &[u8], dimension: u16) -> bool
 }
 
 // Whether nobody holds any of the links, or of the receive channels, of so many nodes from one on. Where it says no, a caller looks at each by itself.
-pub fn none_held<H: Half>(t: &[u8], n: Node, nodes: u16) -> bool
+pub fn none_held<H: Resource>(t: &[u8], n: Node, nodes: u16) -> bool
     requires { (length t.now ≡ table_length) × (n.0 + nodes ≤ 256) × (0 < nodes) }
     ensures { result ≡ true → (m k : ℕ) → n.0 ≤ m → m < n.0 + nodes → k < port_count → H.owner t.now m k ≡ 0 }
 {
@@ -50,7 +51,7 @@ pub fn arms_fit(t: &[u8], dimension: u16) -> bool
 }
 
 // The ports of a node whose links a circuit holds, as a vector; of circuit 0, those whose links nobody holds.
-pub fn held_by(t: &[u8], c: Circuit, n: Node) -> u16
+pub fn ports_held(t: &[u8], c: Circuit, n: Node) -> u16
     requires { Within t.now n.0 0 }
     ensures { HeldBy t.now c.0 n.0 result }
 {
@@ -67,7 +68,7 @@ pub fn links_held(t: &[u8], c: Circuit, n: Node) -> u16
 }
 
 // Whether the links of a node that are held are enabled, or its receive channels that are held armed.
-pub fn held_enabled<H: Half>(t: &[u8], n: Node) -> bool
+pub fn held_enabled<H: Resource>(t: &[u8], n: Node) -> bool
     requires { Within t.now n.0 0 }
     ensures { Decides ((k : ℕ) → k < port_count → H.owner t.now n.0 k ≢ 0 → H.enabled t.now n.0 k ≡ true) result }
 {
@@ -75,19 +76,19 @@ pub fn held_enabled<H: Half>(t: &[u8], n: Node) -> bool
 }
 
 // How many links of so many nodes from one on nobody holds.
-pub fn count_free_links(t: &[u8], n: Node, nodes: u16) -> u32
+pub fn count_unheld_links(t: &[u8], n: Node, nodes: u16) -> u32
     requires { (length t.now ≡ table_length) × (n.0 + nodes ≤ 256) × (0 < nodes) }
-    ensures { (result ≤ port_count * nodes) × (free_count t.now (port_count * n.0) + result ≡ free_count t.now (port_count * (n.0 + nodes))) }
+    ensures { (result ≤ port_count * nodes) × (unheld_count t.now (port_count * n.0) + result ≡ unheld_count t.now (port_count * (n.0 + nodes))) }
 {
     let rows = layout::node_rows::<Links>(t, n, nodes);
     // Counted in two bytes, as an entry has, so that several are counted at a time: the library's count, a usize, takes sixteen times the instructions.
-    let mut free: u16 = 0;
+    let mut unheld: u16 = 0;
     for i in 0..8 * usize::from(nodes) {
         if layout::word(rows, layout::ENTRY * i) == 0 {
-            free += 1;
+            unheld += 1;
         }
     }
-    u32::from(free)
+    u32::from(unheld)
 }
 
 // The lowest receive channel of a node that a circuit holds, and the lowest that is armed and that nobody holds.
@@ -98,7 +99,7 @@ pub fn held_channel(t: &[u8], c: Circuit, n: Node) -> Option<u16>
     cube::lowest_of(layout::row_vector(layout::node_row::<Channels>(t, n), c))
 }
 
-pub fn free_channel(t: &[u8], n: Node) -> Option<u16>
+pub fn available_channel(t: &[u8], n: Node) -> Option<u16>
     requires { Within t.now n.0 0 }
     ensures { result ≡ some_below channels (lowest_channel (view t.now) n.0) }
 {
@@ -118,8 +119,8 @@ fn available(t: &[u8], n: Node) -> u16
     requires { Within t.now n.0 0 }
     ensures { AvailableVector (view t.now) n.0 result }
 {
-    let free = layout::row_vector(layout::node_row::<Channels>(t, n), Circuit(0));
-    free & u16::from(t[layout::mask_place::<Channels>(n)])
+    let unheld = layout::row_vector(layout::node_row::<Channels>(t, n), Circuit(0));
+    unheld & u16::from(t[layout::mask_place::<Channels>(n)])
 }
 
 // Writes a table of a dimension: all its links enabled, nothing held, no channel armed.

@@ -76,21 +76,21 @@ unfolding book_of open_numbers book_from view
 book_whole b = let k : last_of b + 1 - 1 ≡ last_of b = omega arith in ap (book_from (view b) 1) k
 
 -- A book while it is counted: the circuits of the numbers from c on are left.
-pub record Counting (v : View) (last circuits hops c : ℕ) : Type 0 where
+pub record CountingBook (v : View) (last circuits hops c : ℕ) : Type 0 where
   pub few : circuits < c
   pub short : hops ≤ 9 * circuits
   pub count : circuits + length (book_from v c (last + 1 - c)) ≡ length (book_of v)
   pub sum : hops + hop_count (book_from v c (last + 1 - c)) ≡ hop_count (book_of v)
 
 -- before the first number
-pub nothing_counted : (b : List ℕ) → Counting (view b) (last_of b) 0 0 1
+pub nothing_counted : (b : List ℕ) → CountingBook (view b) (last_of b) 0 0 1
 nothing_counted b =
     let whole = book_whole b in record { few = omega arith; short = omega arith; count = zero-add _ ∙ ap length whole; sum = zero-add _ ∙ ap hop_count whole }
 
-module _ {v : View} {last circuits hops c : ℕ} (f : Counting v last circuits hops c) where
+module _ {v : View} {last circuits hops c : ℕ} (f : CountingBook v last circuits hops c) where
   -- an open circuit more, of those behind which the numbers from d on are left
   pub count_open : {i d : ℕ} → c < d → book_from v c (last + 1 - c) ≡ record { number = i; ports = path_of v i } ∷ book_from v d (last + 1 - d)
-      → {more n m : ℕ} → n ≡ length (path_of v i) → n ≤ 9 → more ≡ circuits + 1 → m ≡ hops + n → Counting v last more m d
+      → {more n m : ℕ} → n ≡ length (path_of v i) → n ≤ 9 → more ≡ circuits + 1 → m ≡ hops + n → CountingBook v last more m d
   unfolding port_bytes
   count_open {i} {d} h next e l q r =
       record {

@@ -15,11 +15,11 @@ use Rattle.book.specs.Book.{BookCircuit, port_bytes, word_bytes, index_from, ind
 use Rattle.book.specs.BookOf.{book_of}
 use Rattle.book.proofs.WrittenBook.{index_length}
 use Rattle.table_book.specs.Writing.{last_of, book_from, line_bytes}
-use Rattle.table_book.proofs.BookFrom.{book_whole, Counting, nothing_counted, count_open}
+use Rattle.table_book.proofs.BookFrom.{book_whole, CountingBook, nothing_counted, count_open}
 
 -- the circuits of the numbers from c on are left
 pub record Filling (v : View) (last : ℕ) (ports₀ index₀ ports index : List ℕ) (circuits hops c : ℕ) : Type 0 where
-  pub counted : Counting v last circuits hops c
+  pub counted : CountingBook v last circuits hops c
   pub ports_long : length ports ≡ length ports₀
   pub index_long : length index ≡ length index₀
   pub ports_bytes : sets ports hops (port_bytes (book_from v c (last + 1 - c))) ≡ sets ports₀ 0 (port_bytes (book_of v))

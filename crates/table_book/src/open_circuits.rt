@@ -11,7 +11,7 @@ use std::ops::Range;
 use table::{CubeTable, Links};
 
 // Whether anybody holds a link out of a node.
-fn holds_link(t: &[u8], n: Node) -> bool
+fn any_link_held(t: &[u8], n: Node) -> bool
     requires { Within t.now n.0 0 }
     ensures { result ≡ false → HoldsNone (view t.now) n.0 }
 {
@@ -52,7 +52,7 @@ impl OpenCircuits<'_> {
         ensures { NodeNext self.old result self.new }
     {
         let t = self.table.bytes;
-        let node = (self.nodes.start..self.nodes.end).find(|n| holds_link(t, Node(*n)))?;
+        let node = (self.nodes.start..self.nodes.end).find(|n| any_link_held(t, Node(*n)))?;
         let first = CHANNELS * node + 1;
         self.nodes.start = node + 1;
         self.numbers = first..first + CHANNELS;

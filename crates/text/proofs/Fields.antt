@@ -10,7 +10,7 @@ use lib.ListN.{length, get_or, set, drop, drop_of_length-le}
 use lib.Seq.{sets, drop-cons}
 use Rattle.common.proofs.Tests.{below_or}
 use Rattle.text.specs.Text.{digit, decimal}
-use Rattle.text.specs.Row.{in_turn}
+use Rattle.text.specs.Row.{path_digits}
 use Rattle.text.proofs.Writing.{sets_append, set_sets}
 use Rattle.text.proofs.Digits.{decimal_short, decimal_long, long_length, decimal_some, decimal_length}
 
@@ -51,10 +51,10 @@ next_digit {n = n} {at = at} {m = m} {i = i} {d = d} {out₀ = out₀} {out = ou
         }
 
 -- the ports of a path from place i on
-pub turn_step : (path : List ℕ) (i : ℕ) → i < length path → in_turn (drop i path) ≡ decimal (get_or path i 0) ++ in_turn (drop (i + 1) path)
-unfolding in_turn
+pub turn_step : (path : List ℕ) (i : ℕ) → i < length path → path_digits (drop i path) ≡ decimal (get_or path i 0) ++ path_digits (drop (i + 1) path)
+unfolding path_digits
 turn_step path i h = rw (add-one i, drop-cons path i 0 h)
 
-pub turn_end : (path : List ℕ) (i : ℕ) → length path ≤ i → in_turn (drop i path) ≡ []
-unfolding in_turn
-turn_end path i h = ap in_turn (drop_of_length-le path h)
+pub turn_end : (path : List ℕ) (i : ℕ) → length path ≤ i → path_digits (drop i path) ≡ []
+unfolding path_digits
+turn_end path i h = ap path_digits (drop_of_length-le path h)

@@ -9,7 +9,7 @@ use lib.Dec.{ltb, lit<, lit≤}
 use borrow.Author.Tests.{eq-eqb, ne_eqb}
 use Rattle.text.specs.Text.{newline, space, digit, digits, decimal}
 use Rattle.text.specs.Lines.{on_first, cut, lines, fields}
-use Rattle.text.specs.Row.{in_turn, spaced, ended}
+use Rattle.text.specs.Row.{path_digits, spaced, ended}
 use Rattle.text.specs.Above.{Above, AllAbove}
 
 -- texts above a byte
@@ -67,10 +67,10 @@ pub above_decimal : (n : ℕ) → Above space (decimal n)
 unfolding decimal
 above_decimal n = above_digits n n
 
-pub above_turn : (ps : List ℕ) → Above space (in_turn ps)
-unfolding in_turn Above
+pub above_turn : (ps : List ℕ) → Above space (path_digits ps)
+unfolding path_digits Above
 above_turn [] = tt
-above_turn (p ∷ ps) = above_append space (decimal p) (in_turn ps) (above_decimal p) (above_turn ps)
+above_turn (p ∷ ps) = above_append space (decimal p) (path_digits ps) (above_decimal p) (above_turn ps)
 
 -- such texts with one space between and a newline behind are one line
 pub ended_line : (fs : List (List ℕ)) (rest : List ℕ) → AllAbove space fs → lines (ended fs ++ rest) ≡ spaced fs ∷ lines rest

@@ -11,9 +11,9 @@ pub data Field : Type 0 where
   path : List ℕ → Field
 
 -- ports in path order, each by its number
-unfoldable pub in_turn : List ℕ → List ℕ
-in_turn [] = []
-in_turn (p ∷ ps) = decimal p ++ in_turn ps
+unfoldable pub path_digits : List ℕ → List ℕ
+path_digits [] = []
+path_digits (p ∷ ps) = decimal p ++ path_digits ps
 
 -- the bytes of a field; "A field with nothing to show is `-`."
 unfoldable pub field_bytes : Field → List ℕ
@@ -21,7 +21,7 @@ field_bytes nothing = dash ∷ []
 field_bytes (shows n) = decimal n
 field_bytes (letter x) = x ∷ []
 field_bytes (path []) = dash ∷ []
-field_bytes (path (p ∷ ps)) = in_turn (p ∷ ps)
+field_bytes (path (p ∷ ps)) = path_digits (p ∷ ps)
 
 pub record Row : Type 0 where
   pub line : Field

@@ -45,11 +45,11 @@ leading_zero (x ∷ []) = false
 leading_zero (x ∷ y ∷ xs) = eqb x 48
 
 -- "0 to 65,535"
-abbrev pub largest : ℕ
-largest = 65535
+abbrev pub largest_number : ℕ
+largest_number = 65535
 
 -- the number that a field says, where it is one
-unfoldable pub number : List ℕ → Option ℕ
-number [] = none
-number (x ∷ xs) =
-    cond (all_digits (x ∷ xs) && not (leading_zero (x ∷ xs)) && leb (value 0 (x ∷ xs)) largest) (some (value 0 (x ∷ xs))) none
+unfoldable pub field_number : List ℕ → Option ℕ
+field_number [] = none
+field_number (x ∷ xs) =
+    cond (all_digits (x ∷ xs) && not (leading_zero (x ∷ xs)) && leb (value 0 (x ∷ xs)) largest_number) (some (value 0 (x ∷ xs))) none

@@ -7,7 +7,7 @@ use Rattle.std.proofs.lemmas.List.Edits.{sets}
 use Rattle.text.specs.declared.row.Field.{Field as GivenField}
 use Rattle.text.specs.declared.row.Field.TheVariants.{Number, Letter, Path}
 use Rattle.text.specs.declared.row.Row.{Row as GivenRow}
-use Rattle.text.specs.Text.{all_digits, value, largest}
+use Rattle.text.specs.Text.{all_digits, value, largest_number}
 use Rattle.text.specs.Row.{Field, nothing, shows, letter, path, field_bytes, Row}
 
 -- a text was written from place i on, byte by byte; place j is behind it
@@ -22,7 +22,7 @@ or_none (some n) = Some n
 
 -- what digits say behind others that say n, up to 65,535; None where they are no digits or say more
 unfoldable pub said : ℕ → List ℕ → Answer ℕ
-said n xs = cond (all_digits xs && leb (value n xs) largest) (Some (value n xs)) None
+said n xs = cond (all_digits xs && leb (value n xs) largest_number) (Some (value n xs)) None
 
 -- what a field shows that was given beside a buffer of ports: a path is as many of them as it says
 abbrev pub shown_of : List ℕ → GivenField → Field

@@ -1,6 +1,6 @@
 // Reading a field as a number.
 ghost use Rattle.std.specs.Prelude.{◌≡◌, ◌-◌, ◌≤◌, SomeIff};
-ghost use Rattle.text.specs.Text.{number};
+ghost use Rattle.text.specs.Text.{field_number};
 ghost use Rattle.text.specs.Written.{or_none, said};
 
 // What a digit says.
@@ -26,7 +26,7 @@ fn digits(field: &[u8]) -> Option<u16>
 
 // The library's `parse` takes 01 and +1 too, and a str.
 pub fn read(field: &[u8]) -> Option<u16>
-    ensures { result ≡ or_none (number field.now) }
+    ensures { result ≡ or_none (field_number field.now) }
 {
     match field {
         [b'0'] => Some(0),

@@ -3,7 +3,7 @@
 // without it a caller knows nothing of what its own slice holds afterwards), and functions that answer the rest of a slice need one of what the rest lends.
 ghost use Rattle.std.specs.Prelude.{[], ◌∷◌, ◌+◌, ◌≤◌, ◌<◌, ◌≡◌, length};
 ghost use Rattle.text.specs.Text.{decimal};
-ghost use Rattle.text.specs.Row.{field_bytes, in_turn, path as shows_path};
+ghost use Rattle.text.specs.Row.{field_bytes, path_digits, path as shows_path};
 ghost use Rattle.text.specs.Written.{Wrote};
 
 pub fn byte(out: &mut [u8], at: usize, x: u8) -> usize
@@ -64,8 +64,8 @@ pub fn decimal(out: &mut [u8], at: usize, n: u32) -> usize
 
 // Ports in their order, each by its number.
 fn ports(out: &mut [u8], at: usize, path: &[u8]) -> usize
-    requires { at + length (in_turn path.now) ≤ length out.old }
-    ensures { Wrote out.old at (in_turn path.now) out.new result }
+    requires { at + length (path_digits path.now) ≤ length out.old }
+    ensures { Wrote out.old at (path_digits path.now) out.new result }
 {
     let mut end = at;
     for port in path {

@@ -5,7 +5,7 @@ use Rattle.table.specs.View.{view}
 use Rattle.common.proofs.Lowest.{lowest_here, lowest_on}
 use Rattle.circuit_path.proofs.Hops.{found_here, found_past, no_back, first_back, first_found}
 use Rattle.circuit_path.proofs.first_hop.Goals as goal
-use Rattle.circuit_path.proofs.first_hop.Goals.{then-takes+else-comes_back, else-takes}
+use Rattle.circuit_path.proofs.first_hop.Goals.{then-holds_port+else-comes_back, else-holds_port}
 
 pub returns-then-comes_back : goal.returns-then-comes_back
 returns-then-comes_back c =
@@ -15,15 +15,15 @@ returns-then-comes_back c =
 pub loop-p-preserved : goal.loop-p-preserved
 loop-p-preserved c =
     let h = c.loop-p-test.true in
-    elim c.if-takes.branch [
-      | then-takes+else-comes_back w ↦
+    elim c.if-holds_port.branch [
+      | then-holds_port+else-comes_back w ↦
           rw (w.found-is, w.or-found.ensures)
           (record {
             back = sym (lowest_on _ 8 c.loop-p.p h (sym w.comes_back.ensures ∙ w.if-comes_back.false)) ∙ c.loop-p.invariant.back;
-            taken = found_here _ _ h (sym c.takes.ensures ∙ w.if-takes.true) c.loop-p.found c.loop-p.invariant.taken;
+            taken = found_here _ _ h (sym c.holds_port.ensures ∙ w.if-holds_port.true) c.loop-p.found c.loop-p.invariant.taken;
           })
-      | else-takes w ↦
-          let off = sym c.takes.ensures ∙ w.if-takes.false in
+      | else-holds_port w ↦
+          let off = sym c.holds_port.ensures ∙ w.if-holds_port.false in
           rw w.found-is
           (record {
             back = sym (lowest_on _ 8 c.loop-p.p h (no_back _ _ _ _ _ off)) ∙ c.loop-p.invariant.back;

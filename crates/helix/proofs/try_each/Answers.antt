@@ -13,14 +13,14 @@ returns-in_err-free c =
     let p = err_from_is_err_and c.from_residual.result c.from_residual.ensures.1 in
     rw (p.1, p.2, c.in_err-free.ensures.0) (helix_none c.requires.may_send c.in_err-free.ensures.1)
 
-pub free_channel-requires : goal.free_channel-requires
-free_channel-requires c =
+pub available_channel-requires : goal.available_channel-requires
+available_channel-requires c =
     let may = c.requires.may_send in
     record { bytes = may.bytes; node = byte_vector may.fits may.target; port = lit< tt }
 
 pub returns-in_err-receive : goal.returns-in_err-receive
 returns-in_err-receive c =
-    let none = sym c.in_err-receive.ensures.ok_part ∙ c.free_channel.ensures in
+    let none = sym c.in_err-receive.ensures.ok_part ∙ c.available_channel.ensures in
     let refused = rw c.in_err-receive.ensures.ok_part at c.in_err-receive.ensures.value in
     let p = err_from_is_err_and c.from_residual-in_err-receive.result c.from_residual-in_err-receive.ensures.1 in
     rw (p.1, IfErr-at_err (p.0 ≡◌) refused p.2) (helix_full c.requires.may_send c.in_ok-free.ensures refl (channel_missing (view c.args.t.now) c.args.request.target.0 none))
@@ -28,7 +28,7 @@ returns-in_err-receive c =
 pub set_owner-requires : goal.set_owner-requires
 set_owner-requires c =
     let may = c.requires.may_send in
-    let taken = channel_taken (view c.args.t.now) c.args.request.target.0 (sym c.in_ok-receive.ensures.ok_part ∙ c.free_channel.ensures) in
+    let taken = channel_taken (view c.args.t.now) c.args.request.target.0 (sym c.in_ok-receive.ensures.ok_part ∙ c.available_channel.ensures) in
     record {
       bytes = c.hold_helix.auto.t ∙ may.bytes;
       node = byte_vector may.fits may.target;
@@ -37,5 +37,5 @@ set_owner-requires c =
 
 pub returns : goal.returns
 returns c =
-    let taken = channel_taken (view c.args.t.now) c.args.request.target.0 (sym c.in_ok-receive.ensures.ok_part ∙ c.free_channel.ensures) in
+    let taken = channel_taken (view c.args.t.now) c.args.request.target.0 (sym c.in_ok-receive.ensures.ok_part ∙ c.available_channel.ensures) in
     helix_taken c.requires.may_send c.in_ok-free.ensures taken.0 taken.1 c.hold_helix.ensures c.set_owner.ensures

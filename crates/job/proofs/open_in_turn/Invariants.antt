@@ -5,7 +5,7 @@ use Rattle.table.specs.Encode.{AllBytes}
 use Rattle.soundness.specs.TableTests.{table_tests}
 use Rattle.ownership.specs.Sends.{sends_in}
 use Rattle.ownership.specs.InTurn.{in_turn}
-use Rattle.ownership.specs.OnTable.{opens_on}
+use Rattle.ownership.specs.JobSays.{opens_on}
 use Rattle.job.proofs.SendsInTurn.{sends_from, further}
 use Rattle.job.proofs.open_in_turn.Given as goal
 

@@ -1,50 +1,45 @@
 -- `line_answer::carry_out` meets its contract.
-use mathlib.Core.Path.{ap, ◌∙◌}
-use Rattle.text.specs.Row.{answer_alone}
-use Rattle.printed_line.specs.PrintedLine.{call_row, unreadable}
-use Rattle.printed_line.proofs.Answers.{answered, unread_line, with_call}
+use mathlib.Core.Path.{ap}
+use Rattle.printed_line.specs.PrintedLine.{call_row}
+use Rattle.printed_line.proofs.Answers.{answered, with_call}
 use Rattle.line_answer.proofs.carry_out.Goals as goal
-
-pub returns-in_default : goal.returns-in_default
-unfolding unreadable
-returns-in_default c = rw c.in_default.is (unread_line (c.answer_alone.ensures _ ∙ ap (answer_alone _) c.number.ensures))
 
 pub returns-in-Make : goal.returns-in-Make
 unfolding call_row
 returns-in-Make c =
-    rw (c.in-Some.is, c.in-Make.is)
-    (answered (rw (← c.answer-answer.ensures) at c.make.ensures) (ap (with_call _) (c.answer_alone-in-Make.ensures _)))
+    rw c.in-Make.is
+    (answered (rw (← c.answer-answer.ensures) at c.make.ensures) (ap (with_call _) (c.answer_alone.ensures _)))
 
 pub returns-in-Block : goal.returns-in-Block
 unfolding call_row
 returns-in-Block c =
-    rw (c.in-Some.is, c.in-Block.is)
+    rw c.in-Block.is
     (answered (rw (← c.answer-answer-in-Block.ensures) at c.block.ensures) (c.of_port.ensures _))
 
 pub returns-in-Unblock : goal.returns-in-Unblock
 unfolding call_row
 returns-in-Unblock c =
-    rw (c.in-Some.is, c.in-Unblock.is)
+    rw c.in-Unblock.is
     (answered (rw (← c.answer-answer-in-Unblock.ensures) at c.unblock.ensures) (c.of_port-in-Unblock.ensures _))
 
 pub returns-in-Open : goal.returns-in-Open
 returns-in-Open c =
-    rw (c.in-Some.is, c.in-Open.is) c.open.ensures
+    rw c.in-Open.is c.open.ensures
 
 pub returns-in-Close : goal.returns-in-Close
 unfolding call_row
 returns-in-Close c =
-    rw (c.in-Some.is, c.in-Close.is)
+    rw c.in-Close.is
     (answered (rw (← c.answer-answer-in-Close.ensures) at c.close.ensures) (c.of_channel.ensures _))
 
 pub returns-in-Arm : goal.returns-in-Arm
 unfolding call_row
 returns-in-Arm c =
-    rw (c.in-Some.is, c.in-Arm.is)
+    rw c.in-Arm.is
     (answered (rw (← c.answer-answer-in-Arm.ensures) at c.arm.ensures) (c.of_channel-in-Arm.ensures _))
 
 pub returns-in-Disarm : goal.returns-in-Disarm
 unfolding call_row
 returns-in-Disarm c =
-    rw (c.in-Some.is, c.in-Disarm.is)
+    rw c.in-Disarm.is
     (answered (rw (← c.answer-answer-in-Disarm.ensures) at c.disarm.ensures) (c.of_channel-in-Disarm.ensures _))

@@ -1,5 +1,5 @@
 -- What was written of the list is within the output.
-use Rattle.std.proofs.Common.{◌≡◌, arith}
+use Rattle.std.proofs.Common.{arith}
 use Rattle.std.proofs.lemmas.List.{length-take}
 use Rattle.listing.proofs.Remaining.{written_within}
 use Rattle.maze_list.proofs.print.Goals as goal

@@ -15,24 +15,24 @@ try_in_turn-found-requires c =
 
 pub returns-in_err-hops : goal.returns-in_err-hops
 returns-in_err-hops c =
-    let told = told_channel (view c.args.t.now) c.args.request.target.0 _ c.free_channel.ensures in
+    let told = told_channel (view c.args.t.now) c.args.request.target.0 _ c.available_channel.ensures in
     let refused = rw c.in_err-hops.ensures.ok_part at c.in_err-hops.ensures.value in
     let p = err_from_is_err_and c.from_residual.result c.from_residual.ensures.1 in
-    let said = ap (λ h. search_answer h c.free_channel.result c.try_in_turn-found.new.scouts c.try_in_turn-found.new.t) c.in_err-hops.ensures.ok_part in
+    let said = ap (λ h. search_answer h c.available_channel.result c.try_in_turn-found.new.scouts c.try_in_turn-found.new.t) c.in_err-hops.ensures.ok_part in
     rw (p.1, IfErr-at_err (p.0 ≡◌) refused p.2) (maze_rejected c.requires.may_send c.enabled_ports-ports.ensures.0 told (sym said ∙ c.try_in_turn-found.ensures) (λ z. omega (arith, z)))
 
 pub returns-in_err-receive : goal.returns-in_err-receive
 returns-in_err-receive c =
-    let told = told_channel (view c.args.t.now) c.args.request.target.0 _ c.free_channel.ensures in
+    let told = told_channel (view c.args.t.now) c.args.request.target.0 _ c.available_channel.ensures in
     let refused = rw c.in_err-receive.ensures.ok_part at c.in_err-receive.ensures.value in
     let p = err_from_is_err_and c.from_residual-in_err-receive.result c.from_residual-in_err-receive.ensures.1 in
-    let found = ap (λ h. search_answer h c.free_channel.result c.try_in_turn-found.new.scouts c.try_in_turn-found.new.t) c.in_ok-hops.ensures.ok_part in
+    let found = ap (λ h. search_answer h c.available_channel.result c.try_in_turn-found.new.scouts c.try_in_turn-found.new.t) c.in_ok-hops.ensures.ok_part in
     let said = found ∙ ap (λ k. search_answer (Some c.in_ok-hops.hops) k c.try_in_turn-found.new.scouts c.try_in_turn-found.new.t) c.in_err-receive.ensures.ok_part in
     rw (p.1, IfErr-at_err (p.0 ≡◌) refused p.2) (maze_rejected c.requires.may_send c.enabled_ports-ports.ensures.0 told (sym said ∙ c.try_in_turn-found.ensures) (λ z. omega (arith, z)))
 
 pub returns : goal.returns
 returns c =
-    let told = told_channel (view c.args.t.now) c.args.request.target.0 _ c.free_channel.ensures in
-    let found = ap (λ h. search_answer h c.free_channel.result c.try_in_turn-found.new.scouts c.try_in_turn-found.new.t) c.in_ok-hops.ensures.ok_part in
+    let told = told_channel (view c.args.t.now) c.args.request.target.0 _ c.available_channel.ensures in
+    let found = ap (λ h. search_answer h c.available_channel.result c.try_in_turn-found.new.scouts c.try_in_turn-found.new.t) c.in_ok-hops.ensures.ok_part in
     let said = found ∙ ap (λ k. search_answer (Some c.in_ok-hops.hops) k c.try_in_turn-found.new.scouts c.try_in_turn-found.new.t) c.in_ok-receive.ensures.ok_part in
     maze_taken c.requires.may_send c.enabled_ports-ports.ensures.0 told (sym said ∙ c.try_in_turn-found.ensures) refl c.set_owner.ensures

@@ -1,6 +1,6 @@
 -- `table::held_channel` meets its contract: the lowest of the entries of its row that are the circuit's.
 use mathlib.Core.Path.{◌∙◌, ap}
-use Rattle.common.specs.Lists.{some_below}
+use Rattle.common.specs.SomeBelow.{some_below}
 use Rattle.table.proofs.Rows.{channels_lowest}
 use Rattle.table.proofs.held_channel.Goals as goal
 

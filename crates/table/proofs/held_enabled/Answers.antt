@@ -4,6 +4,6 @@ use Rattle.table.proofs.held_enabled.Goals as goal
 
 pub returns : goal.returns
 returns g c =
-    let laws = g.met.H.Half.laws in
+    let laws = g.met.H.Resource.laws in
     rw (laws.owner_is, laws.enabled_is)
-    (covers_node c.args.t.now c.args.n.0 g.H.Half.ROWS g.H.Half.MASKS c.mask_place.result c.requires.node c.node_row.ensures c.mask_place.ensures.0 c.mask_covers.ensures)
+    (covers_node c.args.t.now c.args.n.0 g.H.Resource.ROWS g.H.Resource.MASKS c.mask_place.result c.requires.node c.node_row.ensures c.mask_place.ensures.0 c.mask_covers.ensures)

@@ -6,5 +6,5 @@ use Rattle.table.proofs.none_held.Goals as goal
 
 pub returns : goal.returns
 returns g c =
-    let laws = g.met.H.Half.laws in
-    λ z. rw laws.owner_is (rows_zero c.args.t.now g.H.Half.ROWS c.args.n.0 c.args.nodes (omega (arith, laws.rows_inside)) (omega arith) (rw (← c.node_rows.ensures) c.or_bytes.ensures) (eqb-true _ 0 z))
+    let laws = g.met.H.Resource.laws in
+    λ z. rw laws.owner_is (rows_zero c.args.t.now g.H.Resource.ROWS c.args.n.0 c.args.nodes (omega (arith, laws.rows_inside)) (omega arith) (rw (← c.node_rows.ensures) c.or_bytes.ensures) (eqb-true _ 0 z))

@@ -7,7 +7,7 @@ use Rattle.std.proofs.Common.{rules, Err}
 use Rattle.common.specs.declared.refusal.Refusal.TheVariants.{ReservedCommand}
 use Rattle.command_word.specs.contracts.kinds.PacketType.{the_type}
 use Rattle.command_word.specs.Commands.{type_of, type_for, values}
-use Rattle.command_word.specs.Kinds.{type_number}
+use Rattle.command_word.specs.Kinds.{packet_type_number}
 use Rattle.command_word.specs.Reasons.{too_large, no_command, wrong_type, reserved_command, readable}
 use Rattle.command_word.proofs.Answers.{read_refused, read_accepted}
 use Rattle.command_word.proofs.Named.{same_number}
@@ -27,7 +27,7 @@ returns-then-ne c =
 pub returns-in_err-command : goal.returns-in_err-command
 returns-in_err-command c =
     let large : 1 < type_of c.args.word = search rules in
-    let goes = sym c.packet_type-packet_type.ensures ∙ ap type_number (differs_false the_type (search rules) _ _ (sym c.if-ne.ensures)) ∙ c.of_command.ensures ∙ ap type_for c.command.ensures in
+    let goes = sym c.packet_type-packet_type.ensures ∙ ap packet_type_number (differs_false the_type (search rules) _ _ (sym c.if-ne.ensures)) ∙ c.of_command.ensures ∙ ap type_for c.command.ensures in
     let none = sym (ap values c.command-2.ensures) ∙ c.in_err-command.ensures.1 in
     let e : c.from_residual.result ≡ Err ReservedCommand = search rules in
     rw e (read_refused _ 18 (reserved_command (omega arith) large goes none) refl)
@@ -35,7 +35,7 @@ returns-in_err-command c =
 pub returns : goal.returns
 returns c =
     let large : 1 < type_of c.args.word = search rules in
-    let goes = sym c.packet_type-packet_type.ensures ∙ ap type_number (differs_false the_type (search rules) _ _ (sym c.if-ne.ensures)) ∙ c.of_command.ensures ∙ ap type_for c.command.ensures in
+    let goes = sym c.packet_type-packet_type.ensures ∙ ap packet_type_number (differs_false the_type (search rules) _ _ (sym c.if-ne.ensures)) ∙ c.of_command.ensures ∙ ap type_for c.command.ensures in
     let same = c.in_ok-command.ensures ∙ c.command-2.ensures in
     let count = c.values.ensures.0 ∙ ap values same in
     read_accepted _ _ _ (readable (omega arith) large goes (λ e. omega (arith, count, e))) same (ap₂ ◌%◌ c.status.ensures count)

@@ -4,7 +4,7 @@ use Rattle.std.specs.List.{slice_split}
 use Rattle.std.proofs.lemmas.List.{get_or_read, length_push}
 use Rattle.std.proofs.lemmas.Iterator.Splits.{YieldsList-from_slice_split}
 use Rattle.std.proofs.lemmas.Iterator.Consumers.{YieldsList-turn, YieldsList-end}
-use Rattle.text.specs.Text.{space, number}
+use Rattle.text.specs.Text.{space, field_number}
 use Rattle.text.specs.Lines.{fields}
 use Rattle.text.proofs.Cuts.{fields_split}
 use Rattle.text.proofs.Reading.{read_some, read_not}
@@ -26,7 +26,7 @@ pub returns-in_err-read : goal.returns-in_err-read
 returns-in_err-read c =
     let t = field_is c.args.text.now _ (YieldsList-turn (YieldsList-from_slice_split _ (λ b. eqb b space) c.args.text.now (cc) (cc) (cc) (λ x b q k. search (rules, tests))) c.loop-field.yielded _ c.loop-field.yielded_by _ _ c.in-Some.field c.in-Some.is c.next.ensures.steps) in
     let none = read_not _ c.in_err-read.ensures in
-    rw c.from_residual.ensures (record { read = tt; unread = λ x. unread x _ (c.loop-field.invariant.2 ∙ numbers_none (fields c.args.text.now) c.loop-field.numbers (length c.loop-field.yielded) t.0 (ap number (sym t.1) ∙ none)) })
+    rw c.from_residual.ensures (record { read = tt; unread = λ x. unread x _ (c.loop-field.invariant.2 ∙ numbers_none (fields c.args.text.now) c.loop-field.numbers (length c.loop-field.yielded) t.0 (ap field_number (sym t.1) ∙ none)) })
 
 pub returns-in_err-push : goal.returns-in_err-push
 returns-in_err-push c =
@@ -38,7 +38,7 @@ pub loop-field-preserved : goal.loop-field-preserved
 loop-field-preserved c =
     let t = field_is c.args.text.now _ (YieldsList-turn (YieldsList-from_slice_split _ (λ b. eqb b space) c.args.text.now (cc) (cc) (cc) (λ x b q k. search (rules, tests))) c.loop-field.yielded _ c.loop-field.yielded_by _ _ c.in-Some.field c.in-Some.is c.next.ensures.steps) in
     let n = read_some _ _ c.in_ok-read.ensures in
-    let more = numbers_more (fields c.args.text.now) c.loop-field.numbers (length c.loop-field.yielded) t.0 _ (ap number (sym t.1) ∙ n) in
+    let more = numbers_more (fields c.args.text.now) c.loop-field.numbers (length c.loop-field.yielded) t.0 _ (ap field_number (sym t.1) ∙ n) in
     rw (c.in_ok-push.ensures, length_push c.loop-field.yielded c.in-Some.field, length_push c.loop-field.numbers c.in_ok-read.field-0)
     (search rules, search rules, c.loop-field.invariant.2 ∙ more, ap (λ m. m + 1) c.loop-field.invariant.3)
 

@@ -1,4 +1,4 @@
--- `soundness::sound::entries_sound` meets its contract: the masks fit, and the hops of the circuits and the free links are all links.
+-- `soundness::sound::entries_sound` meets its contract: the masks fit, and the hops of the circuits and the unheld links are all links.
 use mathlib.Core.Path.{sym, subst}
 use native.Mathlib.Omega.{arith}
 use Rattle.std.proofs.Common.{Some}
@@ -44,4 +44,4 @@ pub returns : goal.returns
 returns c =
     let b = c.args.t.now in
     sum_answers b (omega (arith, c.requires.stored, c.requires.most)) (subst (EnablesFit b) c.requires.stored (c.enables_fit.ensures.holds c.if-not-enables_fit.false))
-    (subst (ArmsFit b) c.requires.stored (c.arms_fit.ensures.holds c.if-not-arms_fit.false)) (Some c.in-Some-all_hops.hops) (Some c.in-Some.free) _ c.in-Some.ensures c.new-seen.ensures c.in-Some-all_hops.ensures
+    (subst (ArmsFit b) c.requires.stored (c.arms_fit.ensures.holds c.if-not-arms_fit.false)) (Some c.in-Some-all_hops.hops) (Some c.in-Some.unheld) _ c.in-Some.ensures c.new-seen.ensures c.in-Some-all_hops.ensures

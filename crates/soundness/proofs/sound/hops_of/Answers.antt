@@ -8,7 +8,7 @@ use Rattle.table.specs.View.{view}
 use Rattle.circuit_hops.proofs.Ways.{shown}
 use Rattle.soundness.proofs.Counting.{counts_skip, counts_join, counts_fail, counts_as_lem}
 use Rattle.soundness.proofs.CountedChannel.{counts_entry}
-use Rattle.soundness.proofs.Deciding.{unarmed_fails, armed_held, absent_free}
+use Rattle.soundness.proofs.Deciding.{unarmed_fails, armed_held, absent_unheld}
 use Rattle.soundness.proofs.sound.hops_of.Goals as goal
 use Rattle.soundness.proofs.sound.hops_of.Goals.{then-c-ne0+in_ok-hops, else-c-ne0}
 
@@ -23,7 +23,7 @@ pub returns-then-n-table : goal.returns-then-n-table
 returns-then-n-table c =
     let b = c.args.table.bytes.now in
     let n = c.args.n.0 in
-    let none = absent_free b n c.held_enabled.ensures c.if-not-held_enabled.false c.requires.unarmed (omega (arith, c.if-n-table.true, c.args.table.count)) in
+    let none = absent_unheld b n c.held_enabled.ensures c.if-not-held_enabled.false c.requires.unarmed (omega (arith, c.if-n-table.true, c.args.table.count)) in
     counts_skip (omega arith) (λ m k l g h. let e : n ≡ m = omega arith in ap (λ y. (view b).receiver y k) (sym e) ∙ none k l)
 
 pub returns-in_err-hops : goal.returns-in_err-hops

@@ -1,11 +1,11 @@
--- `soundness::sound::free_group` meets its contract: the held links of the nodes so far are enabled.
+-- `soundness::sound::unheld_group` meets its contract: the held links of the nodes so far are enabled.
 use mathlib.Core.Path.{◌≡◌}
 use mathlib.Core.Logic.{◌≢◌}
 use mathlib.Core.Bool.{true}
 use Prim.Native.Nat.{ℕ, ◌≤◌, ◌<◌}
 use Rattle.cube.specs.Cube.{port_count}
 use Rattle.table.specs.View.{view}
-use Rattle.soundness.proofs.sound.free_group.Given as goal
+use Rattle.soundness.proofs.sound.unheld_group.Given as goal
 
 abbrev pub invariant-loop-n : goal.invariant-loop-n
 invariant-loop-n l = (m p : ℕ) → l.from.0 ≤ m → m < l.n → p < port_count → (view l.table.bytes.now).owner m p ≢ 0 → (view l.table.bytes.now).enabled m p ≡ true

@@ -1,4 +1,4 @@
--- `soundness::sound::free_group` meets its contract: nothing is held there, or the nodes are looked at.
+-- `soundness::sound::unheld_group` meets its contract: nothing is held there, or the nodes are looked at.
 use mathlib.Core.Path.{◌≡◌, subst}
 use mathlib.Core.Logic.{⊎_elim, ◌≢◌}
 use mathlib.Core.Bool.{true}
@@ -6,11 +6,11 @@ use Prim.Native.Nat.{ℕ}
 use native.Mathlib.Omega.{arith}
 use Rattle.common.proofs.Tests.{below_or}
 use Rattle.table.specs.View.{view}
-use Rattle.soundness.proofs.Free.{frees_all, frees_clear}
-use Rattle.soundness.proofs.sound.free_group.Goals as goal
+use Rattle.soundness.proofs.Unheld.{unheld_all, unheld_clear}
+use Rattle.soundness.proofs.sound.unheld_group.Goals as goal
 
 pub returns-then-none_held : goal.returns-then-none_held
-returns-then-none_held c = frees_clear c.args.table.bytes.now c.args.from.0 (c.none_held.ensures c.if-none_held.true)
+returns-then-none_held c = unheld_clear c.args.table.bytes.now c.args.from.0 (c.none_held.ensures c.if-none_held.true)
 
 pub returns-then-not-held_enabled : goal.returns-then-not-held_enabled
 returns-then-not-held_enabled c s = c.held_enabled.ensures.fails c.if-not-held_enabled.true (λ p i z. unfold view in s.held_enabled c.loop-n.n p z)
@@ -24,4 +24,4 @@ loop-n-preserved c m p g h k z =
 
 pub returns : goal.returns
 returns c =
-    frees_all c.args.table.bytes.now (omega (arith, c.count_free_links.ensures.0)) (λ m p g h. c.loop-n.invariant m p g (omega arith)) c.count_free_links.ensures.1
+    unheld_all c.args.table.bytes.now (omega (arith, c.count_unheld_links.ensures.0)) (λ m p g h. c.loop-n.invariant m p g (omega arith)) c.count_unheld_links.ensures.1

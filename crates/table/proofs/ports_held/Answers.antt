@@ -1,6 +1,6 @@
--- `table::held_by` meets its contract: the row of its links is looked at.
+-- `table::ports_held` meets its contract: the row of its links is looked at.
 use Rattle.table.proofs.Rows.{links_vector}
-use Rattle.table.proofs.held_by.Goals as goal
+use Rattle.table.proofs.ports_held.Goals as goal
 
 pub returns : goal.returns
 returns c =

@@ -1,4 +1,4 @@
--- `book::line_of` meets its contract: the first line with the circuit's number is its line.
+-- `book::listed_line` meets its contract: the first line with the circuit's number is its line.
 use mathlib.Core.Path.{refl}
 use lib.Dec.{eqb}
 use Rattle.std.proofs.Common.{rules}
@@ -6,7 +6,7 @@ use Rattle.std.proofs.lemmas.Iterator.Search.{find_from_yields_List}
 use Rattle.std.proofs.lemmas.Iterator.Consumers.{YieldsList-from_first}
 use Rattle.book.specs.BookContracts.{line_is, lines_left}
 use Rattle.book.proofs.Lines.{line_if_first}
-use Rattle.book.proofs.line_of.Goals as goal
+use Rattle.book.proofs.listed_line.Goals as goal
 
 pub returns : goal.returns
 returns c =

@@ -2,7 +2,7 @@
 use native.Mathlib.Omega.{arith}
 use borrow.Author.Tests.{not-false}
 use Rattle.table.specs.View.{view}
-use Rattle.table_book.proofs.open_circuits.holds_link.Goals as goal
+use Rattle.table_book.proofs.open_circuits.any_link_held.Goals as goal
 
 pub returns : goal.returns
 unfolding view
