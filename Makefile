@@ -13,7 +13,7 @@ SONAME := libmaze.so.$(basename $(VERSION))
 SHARED := target/lib/libmaze.so.$(VERSION)
 
 # The calls and functions of the header, each by the manual page that tells of it.
-PAGE_maze = make block unblock arm disarm open open_all close trace book book_lookup judge word_read word_write check_table dimension node_count link_node link_enabled link_circuit \
+PAGE_maze = make block unblock arm disarm open open_all close trace book book_lookup judge join word_read word_write check_table dimension node_count link_node link_enabled link_circuit \
 	receive_armed receive_circuit circuit circuit_node circuit_channel circuit_receive refusal_text command_text word_text
 PAGE_maze_arbitrate =
 PAGE_maze_receive = receive_start receive_data receive_word receive_overshoot

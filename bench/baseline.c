@@ -57,6 +57,12 @@ static inline unsigned held_by(const uint8_t *row, unsigned circuit) {
     return (unsigned)_mm_movemask_epi8(_mm_packs_epi16(same, _mm_setzero_si128()));
 }
 
+/* A row whose circuits have numbers that are larger by this. */
+static inline void put_moved_row(uint8_t *to, const uint8_t *row, unsigned more) {
+    __m128i circuits = row_vector(row), none = _mm_cmpeq_epi16(circuits, _mm_setzero_si128());
+    _mm_storeu_si128((__m128i *)to, _mm_add_epi16(circuits, _mm_andnot_si128(none, _mm_set1_epi16((short)more))));
+}
+
 /* The lowest uphill port of a node whose link the circuit holds: MAZE_PORTS if there is none. */
 static inline unsigned uphill_port(const uint8_t *row, unsigned uphill, unsigned circuit) {
     return lowest((held_by(row, circuit) & uphill) | 1u << MAZE_PORTS);
@@ -85,6 +91,20 @@ static inline unsigned zeros(uint64_t four) {
 static inline unsigned held_by(const uint8_t *row, unsigned circuit) {
     uint64_t same = circuit * (uint64_t)0x0001000100010001u;
     return zeros(four_entries(row) ^ same) | zeros(four_entries(row + 8) ^ same) << 4;
+}
+
+static inline void put_four(uint8_t *bytes, uint64_t four) {
+    bytes[0] = (uint8_t)four, bytes[1] = (uint8_t)(four >> 8), bytes[2] = (uint8_t)(four >> 16), bytes[3] = (uint8_t)(four >> 24);
+    bytes[4] = (uint8_t)(four >> 32), bytes[5] = (uint8_t)(four >> 40), bytes[6] = (uint8_t)(four >> 48), bytes[7] = (uint8_t)(four >> 56);
+}
+
+/* A row whose circuits have numbers that are larger by this: both numbers are 2,048 at most, so no sum reaches the next entry. */
+static inline void put_moved_row(uint8_t *to, const uint8_t *row, unsigned more) {
+    for (unsigned half = 0; half < ROW_BYTES; half += 8) {
+        const uint64_t low = 0x7fff7fff7fff7fffu;
+        uint64_t four = four_entries(row + half), some = (((four & low) + low) | four) & ~low;
+        put_four(to + half, four + (some >> 15) * more);
+    }
 }
 
 static inline unsigned uphill_port(const uint8_t *row, unsigned uphill, unsigned circuit) {
@@ -584,6 +604,30 @@ uint16_t base_judge(const uint8_t *table, size_t table_len, const uint8_t *ports
         too_few |= ends[node]++ >= __builtin_popcount(table[MAZE_ARMED_AT + node] & ~held(receives(table, node)));
     }
     return bad_link ? MAZE_BAD_BOOK_LINK : too_few ? MAZE_RECEIVE_REJECTED : MAZE_ACCEPTED;
+}
+
+/* The rows of the second half behind those of the first, with the new numbers of its circuits. */
+static void put_rows(uint8_t *part, const uint8_t *second, unsigned nodes) {
+    for (unsigned node = 0; node < nodes; node++) put_moved_row(part + ROW_BYTES * (nodes + node), second + ROW_BYTES * node, MAZE_CHANNELS * nodes);
+}
+
+/* A sound table is zero behind the nodes of its cube, so the first half is all that it is, and the second comes behind its nodes. */
+uint16_t base_join(const uint8_t *first, size_t first_len, const uint8_t *second, size_t second_len, uint8_t *joined, size_t joined_len) {
+    uint16_t number = refuse_table(first, first_len);
+    unsigned nodes;
+    if (!number) number = refuse_table(second, second_len);
+    if (number) return number;
+    if (joined_len != MAZE_TABLE_BYTES) return MAZE_BAD_LENGTH;
+    if (first[0] != second[0] || first[0] == MAZE_DIMENSION_LARGEST) return MAZE_BAD_HALVES;
+    nodes = 1u << first[0];
+    memcpy(joined, first, MAZE_TABLE_BYTES);
+    joined[0]++;
+    memcpy(joined + MAZE_ENABLED_AT + nodes, second + MAZE_ENABLED_AT, nodes);
+    for (unsigned node = 0; node < 2 * nodes; node++) joined[MAZE_ENABLED_AT + node] |= (uint8_t)nodes; /* the bit of the new port */
+    put_rows(joined + MAZE_LINKS_AT, second + MAZE_LINKS_AT, nodes);
+    put_rows(joined + MAZE_RECEIVES_AT, second + MAZE_RECEIVES_AT, nodes);
+    memcpy(joined + MAZE_ARMED_AT + nodes, second + MAZE_ARMED_AT, nodes);
+    return MAZE_ACCEPTED;
 }
 
 /* How many numbers each command can carry; 0 where it is reserved. */

@@ -19,6 +19,7 @@ maze_traced base_book_lookup(const uint8_t *ports, size_t ports_len, const uint8
                             uint8_t *buffer, size_t buffer_len);
 uint16_t base_judge(const uint8_t *table, size_t table_len, const uint8_t *ports, size_t ports_len, const uint8_t *index, size_t index_len, uint16_t circuits,
                     uint16_t hops);
+uint16_t base_join(const uint8_t *first, size_t first_len, const uint8_t *second, size_t second_len, uint8_t *joined, size_t joined_len);
 maze_word_read_answer base_word_read(uint16_t word);
 maze_word_written base_word_write(uint16_t command, uint16_t carried);
 maze_served base_arbitrate(maze_arbiter *arbiter, uint32_t requests);
@@ -41,6 +42,7 @@ maze_traced sse_book_lookup(const uint8_t *ports, size_t ports_len, const uint8_
                            uint8_t *buffer, size_t buffer_len);
 uint16_t sse_judge(const uint8_t *table, size_t table_len, const uint8_t *ports, size_t ports_len, const uint8_t *index, size_t index_len, uint16_t circuits,
                    uint16_t hops);
+uint16_t sse_join(const uint8_t *first, size_t first_len, const uint8_t *second, size_t second_len, uint8_t *joined, size_t joined_len);
 maze_word_read_answer sse_word_read(uint16_t word);
 maze_word_written sse_word_write(uint16_t command, uint16_t carried);
 maze_served sse_arbitrate(maze_arbiter *arbiter, uint32_t requests);

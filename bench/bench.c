@@ -27,6 +27,7 @@ struct calls {
     maze_booked (*book)(const uint8_t *, size_t, uint8_t *, size_t, uint8_t *, size_t);
     maze_traced (*book_lookup)(const uint8_t *, size_t, const uint8_t *, size_t, uint16_t, uint16_t, uint16_t, uint8_t *, size_t);
     uint16_t (*judge)(const uint8_t *, size_t, const uint8_t *, size_t, const uint8_t *, size_t, uint16_t, uint16_t);
+    uint16_t (*join)(const uint8_t *, size_t, const uint8_t *, size_t, uint8_t *, size_t);
     maze_word_read_answer (*word_read)(uint16_t);
     maze_word_written (*word_write)(uint16_t, uint16_t);
     maze_served (*arbitrate)(maze_arbiter *, uint32_t);
@@ -37,13 +38,13 @@ struct calls {
 };
 
 static const struct calls plain = {base_make, base_block, base_unblock, base_arm, base_disarm, base_open, base_open_all, base_close, base_trace, base_book, base_book_lookup,
-                                   base_judge, base_word_read, base_word_write, base_arbitrate, base_receive_start, base_receive_data, base_receive_word,
+                                   base_judge, base_join, base_word_read, base_word_write, base_arbitrate, base_receive_start, base_receive_data, base_receive_word,
                                    base_receive_overshoot};
 static const struct calls sse = {sse_make, sse_block, sse_unblock, sse_arm, sse_disarm, sse_open, sse_open_all, sse_close, sse_trace, sse_book, sse_book_lookup,
-                                 sse_judge, sse_word_read, sse_word_write, sse_arbitrate, sse_receive_start, sse_receive_data, sse_receive_word,
+                                 sse_judge, sse_join, sse_word_read, sse_word_write, sse_arbitrate, sse_receive_start, sse_receive_data, sse_receive_word,
                                  sse_receive_overshoot};
 static const struct calls library = {maze_make, maze_block, maze_unblock, maze_arm, maze_disarm, maze_open, maze_open_all, maze_close, maze_trace, maze_book, maze_book_lookup,
-                                     maze_judge, maze_word_read, maze_word_write, maze_arbitrate, maze_receive_start, maze_receive_data, maze_receive_word,
+                                     maze_judge, maze_join, maze_word_read, maze_word_write, maze_arbitrate, maze_receive_start, maze_receive_data, maze_receive_word,
                                      maze_receive_overshoot};
 
 enum { BYTES = MAZE_TABLE_BYTES };
@@ -135,6 +136,21 @@ static void booked_short(void) { full_of_short(), book_it(); }
 static void emptied_one(void) { booked_one(), armed(8); }
 static void emptied_short(void) { booked_short(), armed(8); }
 static void emptied_long(void) { full_of_long(), book_it(), armed(8); }
+
+/* Two halves of 128 nodes: a made table twice, and one whose every link is held by a circuit of its own, twice. */
+static uint8_t other_half[BYTES], joined[BYTES];
+
+static void empty_halves(void) {
+    base_make(table, BYTES, 7);
+    memcpy(other_half, table, BYTES);
+}
+
+static void full_halves(void) {
+    armed(7);
+    for (unsigned node = 0; node < 128; node++)
+        for (unsigned port = 0; port < 7; port++) base_open(table, BYTES, (uint16_t)node, (uint16_t)port, (uint16_t)(node ^ 1u << port), 0, (uint16_t)(1u << port));
+    memcpy(other_half, table, BYTES);
+}
 
 /* Every word once, and every command with every number of six bits once, in an order that a processor cannot foresee: so they come from
  * boards. */
@@ -256,6 +272,13 @@ static unsigned long turn_judge(const struct calls *c, struct with with) {
     return c->judge(table, BYTES, book_ports, sizeof book_ports, book_index, sizeof book_index, booked.circuits, booked.hops);
 }
 
+/* The sum has the last link of each half over port 6, and the last node's links. */
+static unsigned long turn_join(const struct calls *c, struct with with) {
+    (void)with;
+    unsigned long number = c->join(table, BYTES, other_half, BYTES, joined, BYTES);
+    return number + 100ul * (MAZE_LINK_CIRCUIT(joined, 127, 6) + 3000ul * MAZE_LINK_CIRCUIT(joined, 255, 6) + joined[MAZE_ENABLED_AT + 255]);
+}
+
 static unsigned long turn_words_read(const struct calls *c, struct with with) {
     (void)with;
     unsigned long sum = 0;
@@ -346,6 +369,8 @@ static const struct {
     {"a book of 1 circuit of 9 hops", nine_hops, turn_book, {0, 0, 0, 0}, MAZE_ACCEPTED, 2000, 1},
     {"a lookup in a book of 1 circuit of 9 hops", booked_one, turn_lookup, {1, 0, 0, 0}, MAZE_ACCEPTED, 20000, 1},
     {"judging a book of 1 circuit of 9 hops", emptied_one, turn_judge, {0, 0, 0, 0}, MAZE_ACCEPTED, 2000, 1},
+    {"joining two halves of 128 nodes, no circuit", empty_halves, turn_join, {0, 0, 0, 0}, MAZE_ACCEPTED, 3000, 1},
+    {"joining two halves of 896 circuits of 1 hop", full_halves, turn_join, {0, 0, 0, 0}, MAZE_ACCEPTED, 200, 1},
     {"2,047 circuits of 1 hop: open and close", full_of_short, turn_open_close, {0, 1, 1, 0}, MAZE_ACCEPTED, 300, 1},
     {"  open, rejected", full_of_short, turn_open, {0, 255, 255, 0}, MAZE_ROUTE_REJECTED, 300, 1},
     {"  open, rejected, links into the target blocked", full_into_blocked, turn_open, {0, 255, 255, 0}, MAZE_NO_ROUTE, 300, 1},

@@ -5,32 +5,36 @@
  * maze_receive_start and maze_receive_overshoot, which refuse nothing, answer a channel and a
  * count. The tests of a call run in rising order of number, and the first that applies is the
  * answer; but a job (maze_open_all) tests its list, 28, before its sends, a lookup
- * (maze_book_lookup) tests its book, 25, before 12 and 14, and maze_judge tests receive
- * channels, 11, last. A refused call alters no byte lent to it and answers zero beside its
- * number; only 10, 11 and 22 of maze_open carry their scouts, a job tells which of its sends was
- * refused, and a receive channel comes back as it was. Numbers are tested at their whole width and
- * never cut: node 256 is not node 0. But C itself cuts a number that is wider than the parameter
- * before the call is made, so that 65536 arrives as 0; the warning -Wconversion tells.
+ * (maze_book_lookup) tests its book, 25, before 12 and 14, maze_judge tests receive channels, 11,
+ * last, and maze_join tests one table after another. A refused call alters no byte lent to it and
+ * answers zero beside its number; only 10, 11 and 22 of maze_open carry their scouts, a job tells
+ * which of its sends was refused, and a receive channel comes back as it was. Numbers are tested at
+ * their whole width and never cut: node 256 is not node 0. But C itself cuts a number that is wider
+ * than the parameter before the call is made, so that 65536 arrives as 0; the warning -Wconversion
+ * tells.
  *
  * What the caller sees to:
  * - A pointer to bytes comes with a length, and points to at least that many bytes that stay valid
  *   during the call. With length 0 the pointer may be anything, also null. No alignment is asked
  *   for.
- * - The memory of a table is writable, for every call but maze_trace, maze_book and maze_judge: an
- *   open writes to the table while it searches, also where it is rejected in the end. Those three
- *   and the reading functions only read it, and maze_judge and maze_book_lookup only read their
- *   book. The memory of a buffer that a call may write is writable.
+ * - The memory of a table is writable, for every call but maze_trace, maze_book and maze_judge, and
+ *   but for the first two tables of maze_join: an open writes to the table while it searches, also
+ *   where it is rejected in the end. Those three calls and the reading functions only read it,
+ *   maze_join only reads its first two, and maze_judge and maze_book_lookup only read their book.
+ *   The memory of a buffer that a call may write is writable.
  * - The buffer of maze_trace does not overlap the table, nor does the list of maze_open_all. The
  *   two buffers of maze_book overlap neither the table nor each other, and the buffer of
- *   maze_book_lookup does not overlap the book. What is lent to maze_judge may overlap.
+ *   maze_book_lookup does not overlap the book. The third table of maze_join overlaps neither of
+ *   the first two; these may overlap, and may be the same. What is lent to maze_judge may overlap.
  * - The arbiter lent to maze_arbitrate is a maze_arbiter of the caller's, aligned as C aligns one
  *   and never null, that nobody else reads or writes during the call.
  * - While a call that may write a table runs, nobody else reads or writes that table: a search
  *   marks the links of its path as it goes and frees each of them again where it goes back, so a
  *   table looked at meanwhile may show circuits that are never opened. Nobody else uses a buffer
- *   that is written. Several threads may read, trace or book one table, judge books against it, or
- *   look up in one book or judge it, at the same time if nobody changes it. Calls on different
- *   tables may run at the same time: the library keeps nothing of its own between calls.
+ *   that is written. Several threads may read, trace or book one table, judge books against it,
+ *   join it to another as the first or the second, or look up in one book or judge it, at the same
+ *   time if nobody changes it. Calls on different tables may run at the same time: the library
+ *   keeps nothing of its own between calls.
  * The padding of an answer struct has no meaning.
  *
  * Linking: the library is for x86-64 with SSE2, by the System V rules for calls, so the stack is
@@ -45,7 +49,7 @@
 #include <stddef.h>
 #include <stdint.h>
 
-#define MAZE_VERSION "0.12.0" /* CHANGELOG.md says what each version changes for a caller */
+#define MAZE_VERSION "0.13.0" /* CHANGELOG.md says what each version changes for a caller */
 
 /* The functions of this header are inline and static, so that they ask nothing of the library. */
 #if defined __cplusplus || (defined __STDC_VERSION__ && __STDC_VERSION__ >= 199901L)
@@ -89,6 +93,7 @@ extern "C" {
 #define MAZE_BAD_BOOK_CIRCUIT 26  /* a circuit of a book has a bad source, path or send channel */
 #define MAZE_BAD_BOOK_LINK 27     /* a link of the book is blocked, taken or shared */
 #define MAZE_BAD_SEND_LIST 28     /* the list of sends is no multiple of ten bytes or above 640 */
+#define MAZE_BAD_HALVES 29        /* the halves differ in dimension, or theirs is 8 */
 #define MAZE_CHANNEL_STOPPED 30   /* the receive channel is stopped */
 #define MAZE_BAD_REQUESTER 31     /* a request bit is at 26 or above, or the record is above 25 */
 
@@ -119,8 +124,8 @@ extern "C" {
  * A table is sound if what it says of nodes and ports that the cube lacks is zero, every held link
  * is enabled, every held receive channel is armed, no circuit number is above 8 * 2^D, and every
  * circuit in it holds all links of one path from its source that is permitted for some send vector,
- * one receive channel at the end of that path, and nothing else. Every call but maze_make refuses a
- * table that is not sound. */
+ * one receive channel at the end of that path, and nothing else. Every call refuses a table that is
+ * not sound, but for one that maze_make or maze_join writes anew. */
 #define MAZE_TABLE_BYTES 8705
 #define MAZE_NODES 256         /* nodes that have a row, present in the cube or not */
 #define MAZE_PORTS 8           /* ports in a row */
@@ -323,6 +328,25 @@ maze_traced maze_book_lookup(const uint8_t *ports, size_t ports_len, const uint8
  * Answers 0, or the first of 1, 2, 3, 25, 26, 27 and 11 that applies, in this order. */
 uint16_t maze_judge(const uint8_t *table, size_t table_len, const uint8_t *ports, size_t ports_len,
                     const uint8_t *index, size_t index_len, uint16_t circuits, uint16_t hops);
+
+/* ---- Two cubes joined into one ---- */
+
+/* Joins two tables of one dimension D, 1 to 7, as halves of a third, of dimension D + 1: the bit of
+ * port D tells the half. Writes all 8,705 bytes of the third, whatever they were before:
+ *   Nodes and circuits of the first keep their numbers. Node n of the second becomes node n + 2^D,
+ *   and circuit c of it circuit c + 8 * 2^D, which is the circuit of the same send channel of the
+ *   node as it is numbered now.
+ *   Each circuit holds the links and the receive channel that it held, under the new numbers, so
+ *   that maze_trace gives the same ports. Links that were blocked and receive channels that were
+ *   armed are so in the third, and no others.
+ *   The new links, those out of port D of every node, are enabled, and no circuit holds them.
+ * The third is sound then, and any call goes on with it. The first and the second are only read;
+ * they may be the same bytes, two times the same half.
+ * Answers 0, or the first of 1, 2 and 3 of the first table, 1, 2 and 3 of the second, 1 of the
+ * third and 29 that applies, in this order. 29: the first two have different dimensions, or both
+ * have dimension 8, and no cube is larger. */
+uint16_t maze_join(const uint8_t *first, size_t first_len, const uint8_t *second,
+                   size_t second_len, uint8_t *joined, size_t joined_len);
 
 /* ---- Reading a table between calls ----
  *
@@ -562,6 +586,7 @@ MAZE_INLINE const char *maze_refusal_text(unsigned number) {
     case MAZE_BAD_BOOK_CIRCUIT: return "a circuit of a book has a bad source, path or send channel";
     case MAZE_BAD_BOOK_LINK: return "a link of the book is blocked, taken or shared";
     case MAZE_BAD_SEND_LIST: return "the list of sends is no multiple of ten bytes or above 640";
+    case MAZE_BAD_HALVES: return "the halves differ in dimension, or theirs is 8";
     case MAZE_CHANNEL_STOPPED: return "the receive channel is stopped";
     case MAZE_BAD_REQUESTER: return "a request bit is at 26 or above, or the record is above 25";
     default: return "unknown number";

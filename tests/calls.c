@@ -902,12 +902,25 @@ static void refused_book(unsigned number, size_t length, size_t ports_length, si
     expect(unaltered() && unaltered_book(), "altered by a book refused as", number, ports_length);
 }
 
-/* Of a judging the refusals of the table alone stand here; the others are in judge.c. */
+/* Of a judging the refusals of the table alone stand here; the others are in judge.c, and those of a joining in join.c. */
 static void refused_judging(unsigned number, size_t length, size_t ports_length, size_t index_length, unsigned circuits, unsigned hops) {
     keep();
     fresh_book();
     refused(number, maze_judge(table, length, book_ports, ports_length, book_index, index_length, (uint16_t)circuits, (uint16_t)hops), "refused judging", circuits);
     expect(unaltered_book(), "altered by a judging refused as", number, circuits);
+}
+
+/* So of a joining: the table is its first, its second, or both, and the third, which is then not looked at, of any length. */
+static void refused_joining(unsigned number, size_t length, size_t third_length) {
+    static uint8_t half[BYTES], third[BYTES], kept_third[BYTES];
+    keep();
+    expect(maze_make(half, BYTES, 3) == 0, "make", 3, number);
+    memset(third, 99, BYTES);
+    memset(kept_third, 99, BYTES);
+    refused(number, maze_join(table, length, half, BYTES, third, third_length), "refused joining, the first", number);
+    refused(number, maze_join(half, BYTES, table, length, third, third_length), "refused joining, the second", number);
+    refused(number, maze_join(table, length, table, length, third, third_length), "refused joining, both", number);
+    expect(memcmp(third, kept_third, BYTES) == 0, "altered by a joining refused as", number, third_length);
 }
 
 /* Every call but making is refused with this number, also where later tests apply. */
@@ -930,6 +943,8 @@ static void all_refused(unsigned number, size_t length) {
     refused_book(number, length, 0, 0);
     refused_judging(number, length, 0, 0, 0, 0);
     refused_judging(number, length, 0, 0, 65535, 65535);
+    refused_joining(number, length, BYTES);
+    refused_joining(number, length, BYTES - 1);
 }
 
 static void lengths(void) {
@@ -958,6 +973,7 @@ static void lengths(void) {
         expect(maze_open_all(none, 0, none, 0).number == 1, "no table, job", i, 0);
         expect(maze_book(none, 0, none, 0, none, 0).number == 1, "no table, book", i, 0);
         expect(maze_judge(none, 0, none, 0, none, 0, 0, 0) == 1 && maze_judge(none, 0, none, 0, none, 0, 1, 1) == 1, "no table, judging", i, 0);
+        expect(maze_join(none, 0, none, 0, none, 0) == 1 && maze_join(none, 0, table, BYTES, none, 0) == 1, "no table, joining", i, 0);
     }
 }
 

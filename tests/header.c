@@ -30,6 +30,7 @@ HAS_TYPE(maze_trace, maze_traced, const uint8_t *, size_t, uint16_t, uint16_t, u
 HAS_TYPE(maze_book, maze_booked, const uint8_t *, size_t, uint8_t *, size_t, uint8_t *, size_t);
 HAS_TYPE(maze_book_lookup, maze_traced, const uint8_t *, size_t, const uint8_t *, size_t, uint16_t, uint16_t, uint16_t, uint8_t *, size_t);
 HAS_TYPE(maze_judge, uint16_t, const uint8_t *, size_t, const uint8_t *, size_t, const uint8_t *, size_t, uint16_t, uint16_t);
+HAS_TYPE(maze_join, uint16_t, const uint8_t *, size_t, const uint8_t *, size_t, uint8_t *, size_t);
 HAS_TYPE(maze_arbitrate, maze_served, maze_arbiter *, uint32_t);
 HAS_TYPE(maze_receive_start, maze_receive_channel, uint32_t, uint32_t, uint16_t);
 HAS_TYPE(maze_receive_data, maze_received, maze_receive_channel);
@@ -69,6 +70,7 @@ static const struct {
     NAME(MAZE_BAD_BOOK_CIRCUIT, 26),
     NAME(MAZE_BAD_BOOK_LINK, 27),
     NAME(MAZE_BAD_SEND_LIST, 28),
+    NAME(MAZE_BAD_HALVES, 29),
     NAME(MAZE_CHANNEL_STOPPED, 30),
     NAME(MAZE_BAD_REQUESTER, 31),
     NAME(MAZE_TABLE_BYTES, 8705),

@@ -49,6 +49,12 @@ int main() {
     const maze_opened_all job = maze_open_all(table.data(), table.size(), sends.data(), sends.size());
     check(job.number == MAZE_RECEIVE_REJECTED && job.sends == 0, "a job with no channel armed");
     check(maze_open_all(table.data(), table.size(), sends.data(), sends.size() - 1).number == MAZE_BAD_SEND_LIST, "a list of 19 bytes");
+    std::vector<uint8_t> joined(MAZE_TABLE_BYTES), smaller(MAZE_TABLE_BYTES);
+    check(maze_arm(table.data(), table.size(), 7, 3) == MAZE_ACCEPTED && maze_open(table.data(), table.size(), 0, 1, 7, MAZE_TYPE_MAZE, 1).number == MAZE_ACCEPTED, "open one more");
+    check(maze_join(table.data(), table.size(), table.data(), table.size(), joined.data(), joined.size()) == MAZE_ACCEPTED && MAZE_DIMENSION(joined.data()) == 4, "join a table and itself");
+    check(maze_trace(joined.data(), joined.size(), 8, 1, ports, sizeof ports).hops == 3 && MAZE_RECEIVE_CIRCUIT(joined.data(), 15, 3) == 66 && MAZE_LINK_ENABLED(joined.data(), 15, 3), "its second half");
+    check(maze_make(smaller.data(), smaller.size(), 2) == MAZE_ACCEPTED && maze_join(table.data(), table.size(), smaller.data(), smaller.size(), joined.data(), joined.size()) == MAZE_BAD_HALVES,
+          "halves that differ");
     check(maze_word_read(2437).command == 6, "read a word");
     check(maze_word_write(1, 0).word == 2112, "write a word");
     maze_arbiter arbiter = {MAZE_REQUESTERS - 1};

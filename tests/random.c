@@ -5,8 +5,10 @@
  * runs that many streams of calls of each kind and dimension (20 without an argument), each from a seed of its own. At the first difference it
  * shortens the list of calls as long as they still differ, prints it and stops. Otherwise it prints how often each case has occurred. Calls are
  * written as in the printed list, and beside them `T node channel` traces, `J` opens the sends that follow it together, each as behind S, `K` writes the book of the table,
- * `L circuit circuits hops` looks a circuit up in the book that stands there, `G circuits hops` judges that book, `P place value` writes one byte of the table,
- * `W place value` one of the book's index and `V place value` one of its ports, and `/ table of N`, `/ buffer of N`, `/ list of N`, `/ ports of N` or `/ index of N` behind a call says that it was lent N bytes. */
+ * `L circuit circuits hops` looks a circuit up in the book that stands there, `G circuits hops` judges that book, `N 0` joins the table and a second one to a third,
+ * `N 1` the second and the table, `N 2` the table with itself, `P place value` writes one byte of the table, `W place value` one of the book's index and `V place value`
+ * one of its ports, `X` exchanges the table and the second one, `Y` puts what was joined in the table's place, and `/ table of N`, `/ buffer of N`, `/ list of N`,
+ * `/ ports of N`, `/ index of N`, `/ second of N` or `/ third of N` behind a call says that it was lent N bytes. */
 #include "draw.h"
 #include "reference.h"
 #include "subject.h"
@@ -15,7 +17,7 @@
 #include <stdlib.h>
 #include <string.h>
 
-enum { SPARE = 32, BUFFER = 24, MOST_CALLS = 60000, LETTERS = 15, NUMBERS = MAZE_BAD_SEND_LIST + 1, MOST_JOBS = 4000, LIST = 660 };
+enum { SPARE = 32, BUFFER = 24, MOST_CALLS = 60000, LETTERS = 18, NUMBERS = MAZE_BAD_HALVES + 1, MOST_JOBS = 4000, LIST = 660 };
 enum { PORTS = MAZE_CIRCUITS_LARGEST + SPARE, INDEX = MAZE_BOOK_LINE_BYTES * MAZE_CIRCUITS_LARGEST + SPARE };
 
 static int one_in(unsigned count) {
@@ -24,7 +26,7 @@ static int one_in(unsigned count) {
 
 /* ---- calls, and both tables ---- */
 
-static const char letters[] = "FBESCRDTJKLGWVP";
+static const char letters[] = "FBESCRDTJKLGNWVPXY";
 
 static size_t letter_place(char letter) {
     return (size_t)(strchr(letters, letter) - letters);
@@ -36,6 +38,7 @@ struct call {
     uint16_t table_len, buffer_len; /* buffer_len: of a trace's buffer or of a job's list */
     uint16_t job;                   /* which list of sends */
     uint16_t ports_len, index_len;  /* of a book's two buffers */
+    uint16_t other_len, joined_len; /* of the second and the third table of a joining */
 };
 
 /* The lists of sends of a stream. They go on behind what is lent. */
@@ -46,6 +49,7 @@ struct pair {
     uint8_t table[2][MAZE_TABLE_BYTES + SPARE]; /* the library's and the reference's; more bytes than are lent */
     uint8_t buffer[2][BUFFER];
     uint8_t ports[2][PORTS], index[2][INDEX]; /* the book that was written last, or what W made of it */
+    uint8_t other[2][MAZE_TABLE_BYTES + SPARE], joined[2][MAZE_TABLE_BYTES + SPARE];
 };
 
 /* The answers of one call, of both sides. */
@@ -54,6 +58,24 @@ struct answers {
 };
 
 static struct pair now;
+
+/* The table and the second one in the order of the call, or the table twice. */
+static uint16_t join(uint16_t (*joins)(const uint8_t *, size_t, const uint8_t *, size_t, uint8_t *, size_t), const struct call *call, struct pair *on, int side) {
+    const uint8_t *table = on->table[side], *other = on->other[side];
+    uint8_t *joined = on->joined[side];
+    switch (call->argument[0]) {
+    case 0: return joins(table, call->table_len, other, call->other_len, joined, call->joined_len);
+    case 1: return joins(other, call->other_len, table, call->table_len, joined, call->joined_len);
+    default: return joins(table, call->table_len, table, call->other_len, joined, call->joined_len);
+    }
+}
+
+static void exchange(struct pair *on) {
+    static uint8_t table[2][MAZE_TABLE_BYTES + SPARE];
+    memcpy(table, on->table, sizeof table);
+    memcpy(on->table, on->other, sizeof table);
+    memcpy(on->other, table, sizeof table);
+}
 
 static struct answers run(const struct call *call, struct pair *on) {
     struct answers answers;
@@ -97,6 +119,9 @@ static struct answers run(const struct call *call, struct pair *on) {
         number[0] = maze_judge(lib, length, on->ports[0], call->ports_len, on->index[0], call->index_len, a[0], a[1]);
         number[1] = ref_judge(ref, length, on->ports[1], call->ports_len, on->index[1], call->index_len, a[0], a[1]);
         break;
+    case 'N': number[0] = join(maze_join, call, on, 0), number[1] = join(ref_join, call, on, 1); break;
+    case 'X': exchange(on); break;
+    case 'Y': memcpy(on->table, on->joined, sizeof on->table); break;
     case 'W': on->index[0][a[0]] = on->index[1][a[0]] = (uint8_t)a[1]; break;
     case 'V': on->ports[0][a[0]] = on->ports[1][a[0]] = (uint8_t)a[1]; break;
     default: lib[a[0]] = ref[a[0]] = (uint8_t)a[1]; break; /* P */
@@ -114,7 +139,8 @@ static struct answers run(const struct call *call, struct pair *on) {
 static int same(const struct answers *answers, const struct pair *on) {
     return memcmp(answers->value[0], answers->value[1], sizeof answers->value[0]) == 0 &&
            memcmp(on->table[0], on->table[1], sizeof on->table[0]) == 0 && memcmp(on->buffer[0], on->buffer[1], sizeof on->buffer[0]) == 0 &&
-           memcmp(on->ports[0], on->ports[1], sizeof on->ports[0]) == 0 && memcmp(on->index[0], on->index[1], sizeof on->index[0]) == 0;
+           memcmp(on->ports[0], on->ports[1], sizeof on->ports[0]) == 0 && memcmp(on->index[0], on->index[1], sizeof on->index[0]) == 0 &&
+           memcmp(on->other[0], on->other[1], sizeof on->other[0]) == 0 && memcmp(on->joined[0], on->joined[1], sizeof on->joined[0]) == 0;
 }
 
 /* Before the first call the bytes lent mean nothing. */
@@ -123,6 +149,8 @@ static void start(struct pair *on) {
     for (size_t i = 0; i < sizeof on->buffer[0]; i++) on->buffer[0][i] = on->buffer[1][i] = (uint8_t)(0xe0 + i % 16);
     for (size_t i = 0; i < sizeof on->ports[0]; i++) on->ports[0][i] = on->ports[1][i] = (uint8_t)(5 * i + 11);
     for (size_t i = 0; i < sizeof on->index[0]; i++) on->index[0][i] = on->index[1][i] = (uint8_t)(3 * i + 13);
+    for (size_t i = 0; i < sizeof on->other[0]; i++) on->other[0][i] = on->other[1][i] = (uint8_t)(9 * i + 17);
+    for (size_t i = 0; i < sizeof on->joined[0]; i++) on->joined[0][i] = on->joined[1][i] = (uint8_t)(11 * i + 19);
 }
 
 /* ---- the list of a stream, and what is said of a difference ---- */
@@ -131,7 +159,7 @@ static struct call list[MOST_CALLS];
 static size_t calls;
 
 static void print_call(const struct call *call) {
-    static const int arguments[LETTERS] = {1, 2, 2, 5, 2, 2, 2, 2, 0, 0, 3, 2, 2, 2, 2};
+    static const int arguments[LETTERS] = {1, 2, 2, 5, 2, 2, 2, 2, 0, 0, 3, 2, 1, 2, 2, 2, 0, 0};
     int count = arguments[letter_place(call->letter)];
     printf("%c", call->letter);
     for (int i = 0; i < count; i++) printf(" %u", (unsigned)call->argument[i]);
@@ -140,6 +168,8 @@ static void print_call(const struct call *call) {
     if (call->letter == 'J') printf(" / list of %u", (unsigned)call->buffer_len);
     if (call->table_len != MAZE_TABLE_BYTES) printf(" / table of %u", (unsigned)call->table_len);
     if (call->letter == 'K' || call->letter == 'L' || call->letter == 'G') printf(" / ports of %u / index of %u", (unsigned)call->ports_len, (unsigned)call->index_len);
+    if (call->letter == 'N' && call->other_len != MAZE_TABLE_BYTES) printf(" / second of %u", (unsigned)call->other_len);
+    if (call->letter == 'N' && call->joined_len != MAZE_TABLE_BYTES) printf(" / third of %u", (unsigned)call->joined_len);
     if ((call->letter == 'T' || call->letter == 'L') && call->buffer_len != BUFFER) printf(" / buffer of %u", (unsigned)call->buffer_len);
     printf("\n");
 }
@@ -194,6 +224,10 @@ static void report(unsigned dimension, const char *kind, uint64_t seed) {
         if (pair.ports[0][i] != pair.ports[1][i]) printf("byte %zu of the ports: library %u, reference %u\n", i, pair.ports[0][i], pair.ports[1][i]), shown++;
     for (size_t i = 0, shown = 0; i < sizeof pair.index[0] && shown < 10; i++)
         if (pair.index[0][i] != pair.index[1][i]) printf("byte %zu of the index: library %u, reference %u\n", i, pair.index[0][i], pair.index[1][i]), shown++;
+    for (size_t i = 0, shown = 0; i < sizeof pair.other[0] && shown < 10; i++)
+        if (pair.other[0][i] != pair.other[1][i]) printf("byte %zu of the second table: library %u, reference %u\n", i, pair.other[0][i], pair.other[1][i]), shown++;
+    for (size_t i = 0, shown = 0; i < sizeof pair.joined[0] && shown < 10; i++)
+        if (pair.joined[0][i] != pair.joined[1][i]) printf("byte %zu of the third table: library %u, reference %u\n", i, pair.joined[0][i], pair.joined[1][i]), shown++;
 }
 
 /* ---- what has occurred ---- */
@@ -212,6 +246,7 @@ static struct {
     unsigned long rejected[2][MAZE_TYPE_ALTERNATE_MAZE + 1], no_route_idle, no_route_unscouted, helped_past_blocked; /* 10 and then 22, by type */
     unsigned long book_empty, book_several, book_long, book_whole, book_exact, ports_short, index_short, number_wide, offset_wide;
     unsigned long looked_first, looked_last, looked_absent_short, damaged_books, damaged_formed, fault[FAULTS], laid_books, traced_alike;
+    unsigned long joined_circuits, joined_orders[3], joined_long, joined_crossed, joined_damaged, joined_damaged_sound;
     unsigned long judged_several, judged_long, judged_beside, judged_open, judged_unarmed;
     unsigned long job_several, job_long, job_empty, job_first, job_middle, job_last;
     unsigned long helix_first, helix_later, helix_none, helix_received, helix_received_later, fixed_taken, fixed_rejected, fixed_received, partly_free;
@@ -229,12 +264,16 @@ static void count_held(unsigned long *held, unsigned long *links, unsigned long 
         }
 }
 
-/* How many circuits and hops the book of the table has, if it is sound: its held receive channels and links. */
-static unsigned booked_circuits(void) {
+static unsigned circuits_of(const uint8_t *table) {
     unsigned count = 0;
     for (unsigned node = 0; node < MAZE_NODES; node++)
-        for (unsigned channel = 0; channel < MAZE_CHANNELS; channel++) count += MAZE_RECEIVE_CIRCUIT(now.table[1], node, channel) != 0;
+        for (unsigned channel = 0; channel < MAZE_CHANNELS; channel++) count += MAZE_RECEIVE_CIRCUIT(table, node, channel) != 0;
     return count;
+}
+
+/* How many circuits and hops the book of the table has, if it is sound: its held receive channels and links. */
+static unsigned booked_circuits(void) {
+    return circuits_of(now.table[1]);
 }
 
 static unsigned booked_hops(void) {
@@ -243,6 +282,8 @@ static unsigned booked_hops(void) {
         for (unsigned port = 0; port < MAZE_PORTS; port++) count += MAZE_LINK_CIRCUIT(now.table[1], node, port) != 0;
     return count;
 }
+
+static unsigned new_port = MAZE_PORTS; /* where the table was joined: the port between its halves */
 
 static void tally(const struct call *call, const struct answers *answers, unsigned long held, unsigned long links, unsigned long blocked) {
     unsigned long number = answers->value[1][0], scouts = answers->value[1][3];
@@ -278,6 +319,11 @@ static void tally(const struct call *call, const struct answers *answers, unsign
         seen.looked_absent_short += number == MAZE_NO_CIRCUIT && call->buffer_len < MAZE_TRACE_BYTES;
     }
     if (call->letter == 'G' && number == MAZE_ACCEPTED) seen.judged_several += a[0] > 1, seen.judged_long += a[0] > 64, seen.judged_beside += a[0] > 0 && held > 0;
+    if (call->letter == 'N' && number == MAZE_ACCEPTED) {
+        unsigned all = circuits_of(now.joined[1]), of_table = circuits_of(now.table[1]);
+        seen.joined_circuits += of_table > 0 && all > of_table, seen.joined_long += all > 256;
+        seen.joined_orders[a[0]]++;
+    }
     if (call->letter != 'S') return;
     if (!(number == MAZE_ACCEPTED || number == MAZE_ROUTE_REJECTED || number == MAZE_RECEIVE_REJECTED || number == MAZE_NO_ROUTE)) return;
     if (number == MAZE_ROUTE_REJECTED || number == MAZE_NO_ROUTE) {
@@ -317,6 +363,8 @@ static void tally(const struct call *call, const struct answers *answers, unsign
         seen.first_hop_away += !uphill;
         seen.through_source += ref_last_send.hops > 2 && ref_last_send.ports[0] == ref_last_send.ports[1];
         seen.to_itself += a[0] == a[2];
+        for (unsigned hop = 0, crossed = 0; hop < ref_last_send.hops && !crossed; hop++)
+            if (ref_last_send.ports[hop] == new_port) crossed = 1, seen.joined_crossed++;
     } else {
         unsigned channel = 0;
         while (channel < MAZE_CHANNELS && MAZE_RECEIVE_CIRCUIT(now.table[1], a[2], channel) != 0) channel++;
@@ -353,13 +401,15 @@ static void make_call(struct call call) {
         seen.armed_held += MAZE_RECEIVE_CIRCUIT(now.table[1], call.argument[0], call.argument[1]) != 0;
     }
     seen.disarmed_again += call.letter == 'D' && last_number == MAZE_ACCEPTED && !armed;
-    if (call.letter != 'P' && call.letter != 'W' && call.letter != 'V') tally(&call, &answers, held, links, blocked);
+    if (call.letter == 'F') new_port = MAZE_PORTS;
+    if (call.letter == 'Y') new_port = MAZE_DIMENSION(now.table[1]) - 1u;
+    if (!strchr("PWVXY", call.letter)) tally(&call, &answers, held, links, blocked);
 }
 
 /* ---- choosing calls ---- */
 
 static struct call plain(char letter, unsigned a, unsigned b) {
-    struct call call = {letter, {(uint16_t)a, (uint16_t)b, 0, 0, 0}, MAZE_TABLE_BYTES, BUFFER, 0, PORTS, INDEX};
+    struct call call = {letter, {(uint16_t)a, (uint16_t)b, 0, 0, 0}, MAZE_TABLE_BYTES, BUFFER, 0, PORTS, INDEX, MAZE_TABLE_BYTES, MAZE_TABLE_BYTES};
     return call;
 }
 
@@ -484,6 +534,18 @@ static struct call any_judging(void) {
     if (one_in(16)) call.argument[1] = (uint16_t)(one_in(4) ? odd_number(MAZE_CIRCUITS_LARGEST) : last_hops + 2 - below(4));
     if (one_in(12)) call.ports_len = near_length((unsigned)last_hops, PORTS);
     if (one_in(12)) call.index_len = near_length(MAZE_BOOK_LINE_BYTES * (unsigned)last_circuits, INDEX);
+    return call;
+}
+
+/* A length of a table: now and then a wrong one. */
+static uint16_t any_length(void) {
+    static const uint16_t lengths[] = {0, 1, MAZE_ARMED_AT, MAZE_TABLE_BYTES - 1, MAZE_TABLE_BYTES + 1, MAZE_TABLE_BYTES + SPARE};
+    return one_in(15) ? lengths[below(sizeof lengths / sizeof *lengths)] : MAZE_TABLE_BYTES;
+}
+
+static struct call any_joining(void) {
+    struct call call = plain('N', below(5) % 3, 0);
+    call.table_len = any_length(), call.other_len = any_length(), call.joined_len = any_length();
     return call;
 }
 
@@ -1009,13 +1071,47 @@ static void judged(unsigned dimension) {
     }
 }
 
+/* A table with circuits and some links blocked: one to join. */
+static void half(unsigned dimension) {
+    unsigned sends = one_in(5) ? 0 : below(6u << below(dimension + 1)), blocks = one_in(2) ? 0 : below(1u << dimension);
+    make_call(plain('F', dimension, 0));
+    arm_nodes(dimension, 1 + below(2));
+    for (unsigned i = 0; i < blocks; i++) make_call(plain('B', any_node(dimension), below(dimension)));
+    for (unsigned i = 0; i < sends; i++) make_call(any_send(dimension));
+}
+
+/* Two tables joined; then, by turns, joined with bytes of either changed, or calls that go on with the joined one. */
+static void joined(unsigned dimension) {
+    unsigned rounds = 2 + below(3);
+    for (unsigned round = 0; round < rounds && !differs; round++) {
+        half(dimension);
+        make_call(plain('X', 0, 0));
+        half(one_in(12) ? 1 + below(MAZE_DIMENSION_LARGEST) : dimension);
+        for (unsigned i = 0; i < 4; i++) make_call(any_joining());
+        for (unsigned i = 0; i < 16 && round % 2 == 0; i++) {
+            unsigned at = place(dimension), old = now.table[1][at];
+            make_call(plain('P', at, one_in(3) ? old ^ 1u << below(8) : one_in(3) ? 0 : one_in(2) ? now.table[1][place(dimension)] : below(256)));
+            if (now.table[1][at] == old) continue;
+            make_call(any_joining());
+            seen.joined_damaged++, seen.joined_damaged_sound += last_number == MAZE_ACCEPTED || last_number == MAZE_BAD_HALVES;
+            if (!one_in(4)) make_call(plain('P', at, old));
+            if (one_in(3)) make_call(plain('X', 0, 0));
+        }
+        if (round % 2 == 0) continue;
+        make_call(plain('N', below(3), 0));
+        if (last_number != MAZE_ACCEPTED) continue;
+        make_call(plain('Y', 0, 0));
+        for (unsigned i = 0; i < 40; i++) make_call(any_call(dimension + 1));
+    }
+}
+
 static const struct {
     const char *name;
     void (*run)(unsigned);
 } kinds[] = {
     {"mixed", mixed},     {"refusals", refusals},   {"filled", filled}, {"thinned", thinned},     {"walled", walled},
     {"damaged", damaged}, {"rewritten", rewritten}, {"laid", laid},     {"contended", contended}, {"stopped", stopped},
-    {"together", together}, {"booked", booked},     {"judged", judged},
+    {"together", together}, {"booked", booked},     {"judged", judged}, {"joined", joined},
 };
 
 static void print_seen(void) {
@@ -1057,6 +1153,9 @@ static void print_seen(void) {
     for (int fault = 1; fault < FAULTS; fault++) printf("%s %s: %lu", fault > 1 ? ";" : "", fault_names[fault], seen.fault[fault]);
     printf("\njudged and accepted: books of several circuits: %lu, of more than 64: %lu, beside open circuits: %lu; refused with their circuits open: %lu; closed and not armed: %lu",
            seen.judged_several, seen.judged_long, seen.judged_beside, seen.judged_open, seen.judged_unarmed);
+    printf("\njoined with circuits in both: %lu, with more than 256 in all: %lu; the table first: %lu, second: %lu, both: %lu; opens over the new port: %lu", seen.joined_circuits,
+           seen.joined_long, seen.joined_orders[0], seen.joined_orders[1], seen.joined_orders[2], seen.joined_crossed);
+    printf("\njoinings with a byte changed: %lu, still sound: %lu", seen.joined_damaged, seen.joined_damaged_sound);
     printf("\nrejected after 1,000 scouts or more: %lu; after 10,000 or more: %lu; most scouts of a send: %lu\n", seen.rejected_1000,
            seen.rejected_10000, seen.most_scouts);
     printf("opens with nine tenths of the links held: %lu, accepted: %lu; with all held: %lu; with all receive channels held: %lu\n",
@@ -1203,6 +1302,18 @@ int main(int count, char **arguments) {
             {"a judged book with too few channels", seen.answers[letter_place('G')][MAZE_RECEIVE_REJECTED]},
             {"a book judged by a table that is not sound", seen.answers[letter_place('G')][MAZE_NOT_SOUND]},
             {"a book judged by a table of a wrong length", seen.answers[letter_place('G')][MAZE_BAD_LENGTH]},
+            {"a joining of tables with circuits in both", seen.joined_circuits},
+            {"a joining with more than 256 circuits", seen.joined_long},
+            {"a joining of the table and the second one", seen.joined_orders[0]},
+            {"a joining of the second one and the table", seen.joined_orders[1]},
+            {"a joining of the table with itself", seen.joined_orders[2]},
+            {"an open over the port between the halves", seen.joined_crossed},
+            {"a joining with a byte changed, still sound", seen.joined_damaged_sound},
+            {"a joining with a byte changed, not sound", seen.joined_damaged - seen.joined_damaged_sound},
+            {"a joining of tables of a wrong length", seen.answers[letter_place('N')][MAZE_BAD_LENGTH]},
+            {"a joining of tables of no dimension", seen.answers[letter_place('N')][MAZE_BAD_DIMENSION]},
+            {"a joining of tables that are not sound", seen.answers[letter_place('N')][MAZE_NOT_SOUND]},
+            {"a joining of halves that do not fit", seen.answers[letter_place('N')][MAZE_BAD_HALVES]},
             {"a wrong length", seen.wrong_length},
             {"a short buffer", seen.short_buffer},
         };

@@ -184,7 +184,7 @@ static void go_on_with_copy(void) {
 static void texts(void) {
     static const unsigned numbers[] = {MAZE_ACCEPTED, 1, 2, 3, 4, 5, 6, 7, 8, 9, 10, 11, 12, 13, 14, 15, 16, 17, 18, 19, 20, 21,
                                        MAZE_NO_ROUTE, MAZE_BOOK_SHORT, MAZE_BAD_BOOK, MAZE_BAD_BOOK_CIRCUIT, MAZE_BAD_BOOK_LINK,
-                                       MAZE_BAD_SEND_LIST, MAZE_CHANNEL_STOPPED, MAZE_BAD_REQUESTER};
+                                       MAZE_BAD_SEND_LIST, MAZE_BAD_HALVES, MAZE_CHANNEL_STOPPED, MAZE_BAD_REQUESTER};
     const unsigned count = sizeof numbers / sizeof *numbers;
     unsigned at, other;
     unsigned long number, known = 0;

@@ -8,7 +8,9 @@
  * - Soundness searches all the permitted paths that the links of a circuit allow, for one that uses them all.
  * - A book is gathered apart, from the path of each open circuit, and copied at the end. A lookup writes down to which circuit each place of the ports belongs.
  * - To judge a book, each circuit's ports are tried with every target and with every send vector of one port; then the uses of each link are counted, those by
- *   circuits of the table too, and the circuits that end at each node. */
+ *   circuits of the table too, and the circuits that end at each node.
+ * - To join two tables, a made one is taken, the links blocked in either half are blocked in it and the channels armed are armed, and every circuit of either half is
+ *   laid along its path from its source's new number on. */
 #include "reference.h"
 
 #include <stdlib.h>
@@ -667,4 +669,45 @@ uint16_t ref_judge(const uint8_t *table, size_t table_len, const uint8_t *ports,
     test(&call, bad_links > 0, MAZE_BAD_BOOK_LINK);
     test(&call, short_nodes > 0, MAZE_RECEIVE_REJECTED);
     return (uint16_t)call.number;
+}
+
+/* What one half brings into a cube as it was made: `behind` is what its nodes gain. A circuit is laid hop by hop, from the new number of its source. */
+static void bring(struct cube *whole, const struct cube *half, unsigned behind) {
+    for (unsigned node = 0; node < power(half->dimension); node++) {
+        for (unsigned port = 0; port < half->dimension; port++)
+            if (!bit(half->enabled[node], port)) whole->enabled[node + behind] -= power(port);
+        for (unsigned channel = 0; channel < SLOTS; channel++) whole->armed[node + behind][channel] = half->armed[node][channel];
+    }
+    for (unsigned target = 0; target < power(half->dimension); target++)
+        for (unsigned slot = 0; slot < SLOTS; slot++) {
+            const unsigned was = half->receive[target][slot], source = (was - 1) / SLOTS, is = SLOTS * (source + behind) + (was - 1) % SLOTS + 1;
+            unsigned node = source + behind;
+            struct path path;
+            if (was == 0) continue;
+            path = path_of(half, source, was);
+            for (unsigned hop = 0; hop < path.hops; hop++) {
+                whole->link[node][path.port[hop]] = is;
+                node = across(node, path.port[hop]);
+            }
+            whole->receive[node][slot] = is;
+        }
+}
+
+/* Request (k). */
+uint16_t ref_join(const uint8_t *first, size_t first_len, const uint8_t *second, size_t second_len, uint8_t *joined, size_t joined_len) {
+    struct call call, other;
+    struct cube whole;
+    begin(&call, first, first_len);
+    begin(&other, second, second_len);
+    test(&call, other.number != MAZE_ACCEPTED, other.number);
+    test(&call, joined_len != 8705, MAZE_BAD_LENGTH);
+    test(&call, call.cube.dimension != other.cube.dimension, MAZE_BAD_HALVES);
+    test(&call, call.cube.dimension == 8, MAZE_BAD_HALVES);
+    if (call.number != MAZE_ACCEPTED) return (uint16_t)call.number;
+    ref_make(joined, joined_len, (uint16_t)(call.cube.dimension + 1));
+    read_cube(&whole, joined);
+    bring(&whole, &call.cube, 0);
+    bring(&whole, &other.cube, power(call.cube.dimension));
+    write_cube(&whole, joined);
+    return MAZE_ACCEPTED;
 }

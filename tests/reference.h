@@ -1,4 +1,4 @@
-/* The calls on a table once more, written for checking: an independent reading of document 01 with requests (a), (b), (c), (e), (f), (i) and (j) of document 02, which
+/* The calls on a table once more, written for checking: an independent reading of document 01 with requests (a), (b), (c), (e), (f), (i), (j) and (k) of document 02, which
  * shares nothing with the library but the header's names. Signatures and answers are those of maze.h. */
 #ifndef REFERENCE_H
 #define REFERENCE_H
@@ -19,6 +19,7 @@ maze_traced ref_book_lookup(const uint8_t *ports, size_t ports_len, const uint8_
                            uint8_t *buffer, size_t buffer_len);
 uint16_t ref_judge(const uint8_t *table, size_t table_len, const uint8_t *ports, size_t ports_len, const uint8_t *index, size_t index_len, uint16_t circuits,
                    uint16_t hops);
+uint16_t ref_join(const uint8_t *first, size_t first_len, const uint8_t *second, size_t second_len, uint8_t *joined, size_t joined_len);
 
 /* What the last open that came to its search did; for counting which cases a test has seen. */
 struct ref_send {

@@ -42,6 +42,10 @@ static void lookup(void) {
 static void judge(void) {
     answer = maze_judge(table, sizeof table, book_ports, sizeof book_ports, book_index, sizeof book_index, booked.circuits, booked.hops);
 }
+static void join(void) {
+    static uint8_t half[MAZE_TABLE_BYTES], whole[MAZE_TABLE_BYTES];
+    answer = maze_make(half, sizeof half, 7) + (unsigned)maze_join(half, sizeof half, half, sizeof half, whole, sizeof whole);
+}
 static void word_read(void) { answer = maze_word_read(2437).number; }
 static void word_write(void) { answer = maze_word_write(6, 5).number; }
 static void arbitrate(void) { answer = maze_arbitrate(&arbiter, 0x3ffffffu).number; }
@@ -127,5 +131,6 @@ int main(void) {
     expect(bytes_of(close_one) - bytes_of(nothing) < OTHER_BYTES && answer == MAZE_ACCEPTED, "maze_close", answer, 0);
     maze_arm(table, sizeof table, 254, 0);
     holds("maze_judge", taken_by(judge, MAZE_ACCEPTED, "maze_judge"), OTHER_BYTES);
+    holds("maze_join", taken_by(join, MAZE_ACCEPTED, "maze_join"), OTHER_BYTES);
     return verdict();
 }

@@ -28,6 +28,7 @@
 #define maze_book base_book
 #define maze_book_lookup base_book_lookup
 #define maze_judge base_judge
+#define maze_join base_join
 #endif
 
 #ifdef SUBJECT_REFERENCE
@@ -44,6 +45,7 @@
 #define maze_book ref_book
 #define maze_book_lookup ref_book_lookup
 #define maze_judge ref_judge
+#define maze_join ref_join
 #endif
 
 #endif

@@ -8,6 +8,7 @@ ghost use Rattle.arbiter.specs.Arbiter.{arbitrated};
 ghost use Rattle.command_word.specs.Word.{read_word, write_word};
 ghost use Rattle.ownership.specs.Calls.{making, blocking, unblocking, opening, closing, tracing, arming, disarming, opening_all, booking, judging};
 ghost use Rattle.book.specs.Lookup.{looked_up};
+ghost use Rattle.joining.specs.Joined.{join_step};
 ghost use Rattle.ownership.specs.OnTable.{table_step, done};
 ghost use Rattle.receiver.specs.Receive.{data_packet, command_word, started, received, overshoot};
 
@@ -143,6 +144,13 @@ pub extern "C" fn maze_judge(
 {
     let book = lent_book(ports, index, circuits, hops);
     refusal::answer(booking::judge(table, &book))
+}
+
+#[unsafe(no_mangle)]
+pub extern "C" fn maze_join(first: &[u8], second: &[u8], joined: &mut [u8]) -> u16
+    ensures { done joined.new result [] [] ≡ join_step first.now second.now joined.old }
+{
+    refusal::answer(joining::join(first, second, joined))
 }
 
 #[unsafe(no_mangle)]

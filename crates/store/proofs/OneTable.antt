@@ -1,4 +1,4 @@
--- The users' third demand for one table, from the theorem about several: all events are calls on it, and the other tables do not matter.
+-- The users' third demand for one table, from the theorem about several: all events are calls on it, and the other tables do not matter; also from an accepted join on.
 -- Assumes nothing.
 use mathlib.Core.Path.{◌≡◌, refl, ap, ap₂, sym, subst, ◌∙◌}
 use mathlib.Core.Logic.{◌≢◌}
@@ -7,12 +7,13 @@ use Prim.Native.Nat.{ℕ}
 use Rattle.std.proofs.Common.{Some}
 use Rattle.ownership.specs.Calls.{Call, making, lent, After}
 use Rattle.ownership.specs.OnTable.{table_step}
-use Rattle.ownership.specs.History.{History, history_step}
+use Rattle.ownership.specs.History.{History, history_step, new_history}
 use Rattle.ownership.specs.Agrees.{table_after, table_results, history_after, history_results, Agrees, Accepted, after_calls, call_results}
 use Rattle.ownership.specs.Invariant.{Represents}
 use Rattle.ownership.proofs.Agreement.{represents_step, made_result, made_represents}
-use Rattle.store.specs.Store.{Event, on, Store, Known, nothing_known, store_step, lent_to, learn, store_after, known_after, store_results, Represented, GivesAsKnown, StoreAgrees}
-use Rattle.store.proofs.Stores.{made_new, learn_made, learn_known, step_itself, step_represented, nothing_represented, store_demand_3}
+use Rattle.joining.specs.Joined.{joined_history, join_step}
+use Rattle.store.specs.Store.{Event, on, join, joined_of, Store, Known, nothing_known, store_step, lent_to, learn, store_after, known_after, store_results, Represented, GivesAsKnown, StoreAgrees}
+use Rattle.store.proofs.Stores.{made_new, learn_made, learn_joined, learn_known, step_itself, third_itself, step_represented, nothing_represented, store_demand_3}
 
 -- calls that give the same at each place of a list give the same list
 answers_same : {S T : Type 0} (f : S → Call → After S) (g : T → Call → After T) (calls : List Call) (s : S) (t : T)
@@ -107,3 +108,35 @@ module _ (i : ℕ) where
         agrees_from s nothing_known (making D ∷ calls) (store_demand_3 s nothing_known (nothing_represented s) (events (making D ∷ calls))) h
         (history_runs calls made known begun making_known making_represents)
         (ap₂ ◌∷◌ (made_result (s i) h D accepted) (subst (λ b. table_results b calls ≡ history_results begun calls) (step_itself s i (making D)) later))
+
+  -- and what is known of the table after it and the calls is the history that begins with it, with the calls, whatever was known before
+  pub made_known : (s : Store) (k : Known) (D : ℕ) → Accepted (s i) (making D) → (calls : List Call)
+      → known_after s k (events (making D ∷ calls)) i ≡ Some (history_after (new_history D) calls)
+  unfolding known_after store_step
+  made_known s k D accepted calls =
+      history_runs calls (store_step s (on i (making D))).state (learn k (on i (making D)) (table_step (s i) (making D)).result.number) (new_history D)
+      (learn_made s k i (making D) D refl accepted)
+      (rw (step_itself s i (making D)) (subst (Represents (table_step (s i) (making D)).state) (made_new (s i) (new_history D) D accepted) (made_represents (s i) (new_history D) D accepted)))
+
+-- After an accepted join of two tables whose histories are known, the history of both is known of the third.
+module _ (s : Store) (k : Known) (r : Represented s k) (i j t : ℕ) (h g : History) (p : k i ≡ Some h) (q : k j ≡ Some g) (e : (join_step (s i) (s j) (s t)).result.number ≡ 0) where
+  abbrev joined : Store
+  joined = (store_step s (join i j t)).state
+
+  abbrev then_known : Known
+  then_known = learn k (join i j t) (store_step s (join i j t)).result.number
+
+  both_histories : then_known t ≡ Some (joined_history h g)
+  unfolding store_step joined_of
+  both_histories = learn_joined k i j t _ e ∙ ap₂ joined_of p q
+
+  -- Then a list of calls on the third agrees with it: "From then on the mission's third demand covers it, its list going on from that history",
+  pub joined_table : (calls : List Call) → Agrees (join_step (s i) (s j) (s t)).state (joined_history h g) calls
+  joined_table calls =
+      subst (λ b. Agrees b (joined_history h g) calls) (third_itself s i j t)
+      (one_table t joined then_known (step_represented s k r (join i j t)) (joined_history h g) both_histories calls)
+
+  -- and what is known of the third after the join and the calls is that history with the calls.
+  pub joined_known : (calls : List Call) → known_after s k (join i j t ∷ map (on t) calls) t ≡ Some (history_after (joined_history h g) calls)
+  unfolding known_after
+  joined_known calls = history_runs t calls joined then_known (joined_history h g) both_histories (step_represented s k r (join i j t) t _ both_histories)

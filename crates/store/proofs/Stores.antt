@@ -9,7 +9,7 @@ use Rattle.std.proofs.Common.{Option, Some, None}
 use Rattle.std.specs.Option.{option_map}
 use Rattle.std.proofs.lemmas.Option.{none-some, same_Some}
 use Rattle.common.proofs.Tests.{same?}
-use Rattle.ownership.specs.Calls.{Call, making, CallResult}
+use Rattle.ownership.specs.Calls.{Call, making, CallResult, After}
 use Rattle.ownership.specs.OnTable.{table_step}
 use Rattle.ownership.specs.History.{History, applied, history_step, new_history}
 use Rattle.ownership.specs.Invariant.{Represents}
@@ -17,7 +17,10 @@ use Rattle.ownership.specs.Agrees.{Accepted}
 use Rattle.ownership.proofs.Steps.{history_step_lem}
 use Rattle.ownership.proofs.Refused.{refused_leaves}
 use Rattle.ownership.proofs.Agreement.{represents_step, represents_bytes, made_result, made_represents}
-use Rattle.store.specs.Store.{Event, on, Store, Known, nothing_known, with_table, store_step, lent_to, entered, learn, store_after, known_after, store_results, Represented, GivesAsKnown, StoreAgrees, written_by, Unwritten}
+use Rattle.joining.specs.Joined.{join_step}
+use Rattle.joining.proofs.JoinNumbers.{join_numbers, join_represents}
+use Rattle.store.proofs.Joins.{gives_as_known, both_known}
+use Rattle.store.specs.Store.{Event, on, join, Store, Known, nothing_known, with_table, store_step, lent_to, entered, joined_of, learn, store_after, known_after, store_results, Represented, GivesAsKnown, StoreAgrees, written_by, Unwritten}
 
 -- the part of the table that is replaced, of another, and of any where nothing new is put in
 module _ {A : Type 0} (f : ℕ → A) (i : ℕ) (x : A) where
@@ -39,18 +42,18 @@ unfolding applied
 made_new b h D e = (history_step_lem h (making D)).accepted (sym (ap (λ (g : CallResult). g.number) (made_result b h D e)) ∙ e)
 
 -- a call is a making, or it is entered in the history, if one is known
-entered_as : (a : Call) → ((D : ℕ) × (a ≡ making D)) ⊎ ((o : Option History) → entered o a ≡ option_map (λ h. (history_step h a).state) o)
+pub entered_as : (a : Call) → ((D : ℕ) × (a ≡ making D)) ⊎ ((o : Option History) → entered o a ≡ option_map (λ h. (history_step h a).state) o)
 unfolding entered
 entered_as (making D) = inl (D, refl)
 entered_as a = inr (λ o. refl)
 
 -- what is known of the table of an event where it is accepted, and where it is refused
 module _ (k : Known) (i : ℕ) (a : Call) (n : ℕ) where
-  learn_accepted : n ≡ 0 → learn k (on i a) n i ≡ entered (k i) a
+  pub learn_accepted : n ≡ 0 → learn k (on i a) n i ≡ entered (k i) a
   unfolding learn
   learn_accepted e = table_itself k i _ ∙ rw (eq-eqb n 0 e)
 
-  learn_refused : n ≢ 0 → learn k (on i a) n i ≡ k i
+  pub learn_refused : n ≢ 0 → learn k (on i a) n i ≡ k i
   unfolding learn
   learn_refused f = table_itself k i _ ∙ rw (ne_eqb n 0 f)
 
@@ -100,41 +103,79 @@ module _ (s : Store) (k : Known) (i : ℕ) (a : Call) where
   learn_represents (Some g) q r h l =
       subst (Represents (table_step (s i) a).state) (same_Some _ _ (sym (learn_known g q (r g refl)) ∙ l)) (represents_step (s i) g (r g refl) a).represented
 
--- the bytes of the table of an event afterwards; those of another table and what is known of it
+-- what is known of the third table of a join where it is accepted, and where it is refused
+module _ (k : Known) (i j t n : ℕ) where
+  pub learn_joined : n ≡ 0 → learn k (join i j t) n t ≡ joined_of (k i) (k j)
+  unfolding learn
+  learn_joined e = table_itself k t _ ∙ rw (eq-eqb n 0 e)
+
+  learn_unjoined : n ≢ 0 → learn k (join i j t) n t ≡ k t
+  unfolding learn
+  learn_unjoined f = table_itself k t _ ∙ rw (ne_eqb n 0 f)
+
+-- Whatever is known of it afterwards is represented by the bytes that the join leaves.
+module _ (s : Store) (k : Known) (r : Represented s k) (i j t : ℕ) where
+  abbrev joins : After (List ℕ)
+  joins = join_step (s i) (s j) (s t)
+
+  learn_join_represents : (h : History) → learn k (join i j t) joins.result.number t ≡ Some h → Represents joins.state h
+  learn_join_represents h l = ⊎_elim accepts refuses (same? joins.result.number 0)
+    where
+      accepts : joins.result.number ≡ 0 → Represents joins.state h
+      accepts e =
+          let (f, g, p, q, w) = both_known (k i) (k j) h (sym (learn_joined k i j t _ e) ∙ l) in
+          subst (Represents joins.state) w (join_represents (s i) (s j) (s t) f g (r i f p) (r j g q) e)
+
+      refuses : joins.result.number ≢ 0 → Represents joins.state h
+      refuses f = rw ((join_numbers (s i) (s j) (s t)).unchanged f) (r t h (sym (learn_unjoined k i j t _ f) ∙ l))
+
+-- the bytes of the table that an event writes; those of another table and what is known of it
 pub step_itself : (s : Store) (i : ℕ) (a : Call) → (store_step s (on i a)).state i ≡ (table_step (s i) a).state
 unfolding store_step
 step_itself s i a = table_itself s i _
 
+pub third_itself : (s : Store) (i j t : ℕ) → (store_step s (join i j t)).state t ≡ (join_step (s i) (s j) (s t)).state
+unfolding store_step
+third_itself s i j t = table_itself s t _
+
 pub step_other : (s : Store) (e : Event) (j : ℕ) → written_by e ≢ j → (store_step s e).state j ≡ s j
 unfolding store_step written_by
 step_other s (on i a) j d = other_table s i _ j d
+step_other s (join i j t) m d = other_table s t _ m d
 
 pub learn_other : (k : Known) (e : Event) (n j : ℕ) → written_by e ≢ j → learn k e n j ≡ k j
 unfolding learn written_by
 learn_other k (on i a) n j d = other_table k i _ j d
+learn_other k (join i j t) n m d = other_table k t _ m d
 
--- One event: whatever is known afterwards is represented.
-pub step_represented : (s : Store) (k : Known) → Represented s k → (e : Event) → Represented (store_step s e).state (learn k e (store_step s e).result.number)
+-- One event: whatever is known afterwards of the table that it may write is represented,
+written_represented : (s : Store) (k : Known) → Represented s k → (e : Event) (h : History) → learn k e (store_step s e).result.number (written_by e) ≡ Some h
+    → Represents ((store_step s e).state (written_by e)) h
 unfolding store_step written_by
-step_represented s k r (on i a) j h l = ⊎_elim itself other (same? i j)
+written_represented s k r (on i a) h l = rw (step_itself s i a) (learn_represents s k i a (k i) refl (r i) h l)
+written_represented s k r (join i j t) h l = rw (third_itself s i j t) (learn_join_represents s k r i j t h l)
+
+-- and so is whatever is known of any table.
+pub step_represented : (s : Store) (k : Known) → Represented s k → (e : Event) → Represented (store_step s e).state (learn k e (store_step s e).result.number)
+step_represented s k r e j h l = ⊎_elim itself other (same? (written_by e) j)
   where
-    itself : i ≡ j → Represents ((store_step s (on i a)).state j) h
-    itself e =
-        subst (λ m. Represents ((store_step s (on i a)).state m) h) e
-        (rw (step_itself s i a) (learn_represents s k i a (k i) refl (r i) h (ap (learn k (on i a) (store_step s (on i a)).result.number) e ∙ l)))
+    itself : written_by e ≡ j → Represents ((store_step s e).state j) h
+    itself q = subst (λ m. learn k e (store_step s e).result.number m ≡ Some h → Represents ((store_step s e).state m) h) q (written_represented s k r e h) l
 
-    other : i ≢ j → Represents ((store_step s (on i a)).state j) h
-    other d = rw (step_other s (on i a) j d) (r j h (sym (learn_other k (on i a) _ j d) ∙ l))
+    other : written_by e ≢ j → Represents ((store_step s e).state j) h
+    other d = rw (step_other s e j d) (r j h (sym (learn_other k e _ j d) ∙ l))
 
--- and it gives what the history of its table says, where one is known
+-- It gives what the history of its table says, where one is known, or a join what the known histories of its halves say,
 step_as_known : (s : Store) (k : Known) → Represented s k → (e : Event) → GivesAsKnown s k e
 unfolding store_step GivesAsKnown
 step_as_known s k r (on i a) = λ h q. (represents_step (s i) h (r i h q) a).result
+step_as_known s k r (join i j t) = gives_as_known (s i) (s j) (s t) (k i) (k j) (r i) (r j)
 
--- where it is refused, each byte of every table and of the buffers that it is lent is as it was
+-- and where it is refused, each byte of every table and of the buffers that it is lent is as it was
 step_refused : (s : Store) (e : Event) → (store_step s e).result.number ≢ 0 → ((j : ℕ) → (store_step s e).state j ≡ s j) × ((store_step s e).result.buffers ≡ lent_to e)
 unfolding store_step lent_to
 step_refused s (on i a) f = let x = refused_leaves (s i) a f in (same_table s i _ x.0, x.1)
+step_refused s (join i j t) f = (same_table s t _ ((join_numbers (s i) (s j) (s t)).unchanged f), unfold join_step in refl)
 
 -- Lists of events: whatever is known afterwards is represented.
 pub run_represented : (events : List Event) (s : Store) (k : Known) → Represented s k → Represented (store_after s events) (known_after s k events)
