@@ -7,6 +7,7 @@
  * takes that many pairs of tables of each dimension for the random part (12 without an argument). A byte of a table is given by its place, as in calls.c: the link
  * out of port p of node n is held at 257 + 16 n + 2 p, receive channel c of node n at 4353 + 16 n + 2 c, the enabled links of node n are at 1 + n, and its armed
  * channels at 8449 + n. */
+#include "blocks.h"
 #include "draw.h"
 #include "expect.h"
 #include "reference.h"
@@ -24,21 +25,6 @@ static uint8_t *const third = room + SPARE;
 static unsigned long answers[NUMBERS], accepted_circuits, crossing, later_calls;
 
 /* ---- a call, and what it left ---- */
-
-/* Blocks of these bytes alone, so that what watches memory sees a byte that is read or written behind them. */
-static uint8_t *block_of(const uint8_t *bytes, size_t length) {
-    uint8_t *block = calloc(1, length);
-    if (!block && length) exit(2);
-    if (length) memcpy(block, bytes, length);
-    return block;
-}
-
-/* Takes a block away. Answers whether it has these bytes. */
-static int has(uint8_t *block, const uint8_t *bytes, size_t length) {
-    int same = length == 0 || memcmp(block, bytes, length) == 0;
-    free(block);
-    return same;
-}
 
 /* What stood in the third table before, and beside it: each time something else. */
 static void fresh_third(size_t length) {
@@ -62,8 +48,8 @@ static unsigned join(size_t first_length, size_t second_length, size_t third_len
     if (number != 0) good &= memcmp(third, before + SPARE, third_length) == 0, after = before + 3;
     other = block_of(before + 3, third_length);
     again = maze_join(a, first_length, b, second_length, other, third_length);
-    good &= again == number && has(other, after, third_length);
-    return good & has(a, first, first_length) & has(b, second, second_length) ? number : FAIL;
+    good &= again == number && block_had(other, after, third_length);
+    return good & block_had(a, first, first_length) & block_had(b, second, second_length) ? number : FAIL;
 }
 
 /* The call is refused with this number. */

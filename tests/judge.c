@@ -5,6 +5,7 @@
  *     judge [tables [seed]]
  *
  * takes that many tables of each dimension for the last two (10 without an argument). A byte of a table is given by its place, as in calls.c. */
+#include "blocks.h"
 #include "books.h"
 #include "draw.h"
 #include "expect.h"
@@ -55,26 +56,11 @@ static void add(unsigned number, const char *digits) {
 
 /* ---- a call, and what it left ---- */
 
-/* A block of these bytes alone, so that what watches memory sees a byte that is read behind them. */
-static uint8_t *block_of(const uint8_t *bytes, size_t length) {
-    uint8_t *block = calloc(1, length);
-    if (!block && length) exit(2);
-    if (length) memcpy(block, bytes, length);
-    return block;
-}
-
-/* Takes a block away. Answers whether it has these bytes still. */
-static int unaltered(uint8_t *block, const uint8_t *bytes, size_t length) {
-    int same = length == 0 || memcmp(block, bytes, length) == 0;
-    free(block);
-    return same;
-}
-
 /* What the call answers for the table and the two buffers as they stand; 99 where it altered a byte. */
 static unsigned judged(size_t table_length, size_t ports_length, size_t index_length) {
     uint8_t *t = block_of(table, table_length), *p = block_of(book_ports, ports_length), *x = block_of(book_index, index_length);
     unsigned number = maze_judge(t, table_length, p, ports_length, x, index_length, (uint16_t)circuits, (uint16_t)hops);
-    int same = unaltered(t, table, table_length) & unaltered(p, book_ports, ports_length) & unaltered(x, book_index, index_length);
+    int same = block_had(t, table, table_length) & block_had(p, book_ports, ports_length) & block_had(x, book_index, index_length);
     return same ? number : 99;
 }
 

@@ -1,9 +1,9 @@
 -- From what a call answers to the fields of its printed line.
 -- Assumes nothing.
-use mathlib.Core.Path.{◌≡◌, refl, ap, ◌∙◌}
+use mathlib.Core.Path.{◌≡◌, ap, ◌∙◌}
 use mathlib.Core.Logic.{◌≢◌}
 use mathlib.Core.List.{List, [], ◌∷◌}
-use mathlib.Core.Option.{none, some}
+use mathlib.Core.Option.{some}
 use Prim.Native.Nat.{ℕ}
 use lib.ListN.{take}
 use borrow.Author.Tests.{ne_eqb}
@@ -13,7 +13,7 @@ use Rattle.text.specs.Row.{Field, nothing, shows, path, Row as PrintedRow, row}
 use Rattle.text.specs.Written.{row_of}
 use Rattle.text.specs.declared.row.Row.{Row}
 use Rattle.input_line.specs.Line.{letter_s}
-use Rattle.printed_line.specs.PrintedLine.{shows_if, call_row, unreadable, zero_buffer, traced_ports, row_for, state_after}
+use Rattle.printed_line.specs.PrintedLine.{shows_if, call_row, zero_buffer, traced_ports, row_for, state_after}
 use Rattle.printed_line.specs.LineContracts.{Answered}
 
 -- a call on a table gave an answer, and the fields are those of that answer
@@ -25,11 +25,6 @@ answered {a = a} {n = n} e same =
       row = same ∙ ap (λ (d : After (List ℕ)). call_row n a d.result (traced_ports table_step d.state)) e;
       table = ap (λ (d : After (List ℕ)). d.state) e;
     }
-
--- a line that cannot be read
-pub unread_line : {b w : List ℕ} {n : ℕ} {r : Row} → row_of w r ≡ unreadable n → Answered b n none w r b
-unfolding row_for state_after
-unread_line e = record { row = e; table = refl }
 
 -- a printed line that shows a call letter, scouts, or a receive channel, scouts and ports, in the place of what it showed there
 abbrev pub with_call : Field → PrintedRow → PrintedRow
