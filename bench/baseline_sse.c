@@ -13,6 +13,7 @@
 #define base_book_lookup sse_book_lookup
 #define base_judge sse_judge
 #define base_join sse_join
+#define base_widen sse_widen
 #define base_word_read sse_word_read
 #define base_word_write sse_word_write
 #define base_arbitrate sse_arbitrate

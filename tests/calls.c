@@ -1,15 +1,20 @@
-/* The calls on a table from C, beside vectors worked by hand from document 01 and requests (a), (b), (c), (e), (f) and (j) of document 02: the examples with the
- * bytes of their tables, each refusal at its edge, and that a refused call alters nothing.
+/* The calls on a table from C, beside vectors worked by hand from docs/SPECIFICATION.md: its Examples with the bytes of their tables, each refusal at its edge,
+ * and that a refused call alters nothing. With -DWIDE the same of wide tables; those that are folded are in folded.c.
  *
- * A byte of a table is given by its place: the link out of port p of node n is held at 257 + 16 n + 2 p, receive channel c of node n at
- * 4353 + 16 n + 2 c, the enabled links of node n are at 1 + n, and its armed channels at 8449 + n. */
+ * A byte of a table is given by its place in a narrow one: the link out of port p of node n is held at 257 + 16 n + 2 p, receive channel c of node n at
+ * 4353 + 16 n + 2 c, the enabled links of node n are at 1 + n, and its armed channels at 8449 + n. What stands there in the table at hand, here() tells. */
 #include "books.h"
 #include "expect.h"
 #include "subject.h"
 
 #include <string.h>
 
-enum { BYTES = 8705, SPARE = 64, BUFFER = 16, MOST = 24 };
+#ifdef WIDE
+enum { BYTES = 14338, OTHER_BYTES = 8705, FOLD_AT = 1 };
+#else
+enum { BYTES = 8705, OTHER_BYTES = 14338 };
+#endif
+enum { SPARE = 64, BUFFER = 16, MOST = 24 };
 
 /* The table and the buffer lent, and what they were before a call. Both go on behind what is lent. */
 static uint8_t table[BYTES + SPARE], kept_table[BYTES + SPARE], buffer[BUFFER], kept_buffer[BUFFER];
@@ -45,13 +50,16 @@ static void fresh(unsigned dimension) {
     fresh_buffer();
     armed_at_first = 0;
     expect(maze_make(table, BYTES, (uint16_t)dimension) == 0, "make", dimension, 0);
+#ifdef WIDE
+    expect(table[FOLD_AT] == 0, "a made fold mask", dimension, table[FOLD_AT]);
+#endif
 }
 
 static void arm(unsigned node, unsigned channel) {
     expect(maze_arm(table, BYTES, (uint16_t)node, (uint16_t)channel) == 0, "arm", node, channel);
 }
 
-/* A made table with every channel armed first, as document 01's examples have it. */
+/* A made table with every channel armed first, as Examples 1 to 8 have it. */
 static void fresh_armed(unsigned dimension) {
     unsigned refused = 0;
     fresh(dimension);
@@ -72,11 +80,11 @@ static void expect_table(const char *what, unsigned dimension, const struct plac
     memset(want, 0, BYTES);
     want[0] = (uint8_t)dimension;
     for (unsigned node = 0; node < 1u << dimension; node++) {
-        want[1 + node] = (uint8_t)((1u << dimension) - 1);
-        want[8449 + node] = (uint8_t)armed_at_first;
+        want[here(1 + node)] = (uint8_t)((1u << dimension) - 1);
+        want[here(8449 + node)] = (uint8_t)armed_at_first;
     }
     for (size_t i = BYTES; i < sizeof want; i++) want[i] = (uint8_t)(i % 251 + 1);
-    for (; places && places->at; places++) want[places->at] = (uint8_t)places->value;
+    for (; places && places->at; places++) want[here(places->at)] = (uint8_t)places->value;
     while (at < sizeof want && want[at] == table[at]) at++;
     expect(at == sizeof want, what, at, at < sizeof want ? table[at] : 0);
 }
@@ -350,7 +358,7 @@ static void receive_channels(void) {
             arm(0, 7);
         }
         got = maze_open(table, BYTES, node, 1, 0, 0, node);
-        expect(got.number == 0 && got.hops == 1 && got.receive == port && table[4353 + 2 * port] + 256u * table[4354 + 2 * port] == 8u * node + 2, "receive channel", port, got.receive);
+        expect(got.number == 0 && got.hops == 1 && got.receive == port && table[here(4353 + 2 * port)] + 256u * table[here(4354 + 2 * port)] == 8u * node + 2, "receive channel", port, got.receive);
     }
     /* and then no link into it is free */
     got = maze_open(table, BYTES, 3, 0, 0, 4, 3);
@@ -467,7 +475,7 @@ static void inclusion(void) {
             fresh_armed(2);
             for (unsigned choice = 0; choice < 256; choice++) {
                 maze_opened got[3];
-                for (unsigned node = 0; node < 4; node++) table[1 + node] = choice >> 2 * node & 3;
+                for (unsigned node = 0; node < 4; node++) table[here(1 + node)] = choice >> 2 * node & 3;
                 for (unsigned i = 0; i < 3; i++) {
                     got[i] = maze_open(table, BYTES, 0, 0, (uint16_t)target, types[i], (uint16_t)vector);
                     if (got[i].number == 0) maze_close(table, BYTES, 0, 0), maze_arm(table, BYTES, (uint16_t)target, got[i].receive);
@@ -486,8 +494,8 @@ static void inclusion(void) {
 static void hold_all(unsigned dimension) {
     for (unsigned node = 0; node < 1u << dimension; node++)
         for (unsigned port = 0; port < dimension; port++)
-            if (table[1 + node] >> port & 1)
-                table[257 + 16 * node + 2 * port] = table[4353 + 16 * (node ^ 1u << port) + 2 * port] = (uint8_t)(8 * node + port + 1);
+            if (table[here(1 + node)] >> port & 1)
+                table[here(257 + 16 * node + 2 * port)] = table[here(4353 + 16 * (node ^ 1u << port) + 2 * port)] = (uint8_t)(8 * node + port + 1);
 }
 
 /* Some links blocked and all others held: 22 where every path of the type crosses a blocked one, and 10 otherwise; no scout is sent. With nothing held
@@ -558,7 +566,7 @@ static void waiting_edges(void) {
         maze_opened got;
         for (int all_held = 0; all_held < 2; all_held++) {
             fresh_armed(edges[i].dimension);
-            for (size_t j = 0; edges[i].blocked[j].port != 99; j++) table[1 + edges[i].blocked[j].node] &= (uint8_t)~(1u << edges[i].blocked[j].port);
+            for (size_t j = 0; edges[i].blocked[j].port != 99; j++) table[here(1 + edges[i].blocked[j].node)] &= (uint8_t)~(1u << edges[i].blocked[j].port);
             if (all_held) hold_all(edges[i].dimension);
             keep();
             got = maze_open(table, BYTES, edges[i].node, 7, edges[i].target, edges[i].type, edges[i].vector);
@@ -587,10 +595,10 @@ static void waiting_choices(void) {
             for (unsigned choice = 0; choice < 256; choice++) {
                 maze_opened idle, held;
                 memcpy(table, made, BYTES);
-                for (unsigned node = 0; node < 4; node++) table[1 + node] = choice >> 2 * node & 3;
+                for (unsigned node = 0; node < 4; node++) table[here(1 + node)] = choice >> 2 * node & 3;
                 idle = maze_open(table, BYTES, 0, 7, (uint16_t)target, type, vector);
                 memcpy(table, made, BYTES);
-                for (unsigned node = 0; node < 4; node++) table[1 + node] = choice >> 2 * node & 3;
+                for (unsigned node = 0; node < 4; node++) table[here(1 + node)] = choice >> 2 * node & 3;
                 hold_all(2);
                 held = maze_open(table, BYTES, 0, 7, (uint16_t)target, type, vector);
                 if ((idle.number != 0 && idle.number != 22) || held.number != (idle.number == 0 ? 10 : 22) || held.scouts != 0)
@@ -711,8 +719,8 @@ static void lowest_armed(void) {
     arm(7, 7);
     got = maze_open(table, BYTES, 0, 0, 7, 0, 7);
     expect(got.number == 0 && got.receive == 7 && got.scouts == 3, "the last channel", got.number, got.receive);
-    expect(table[8456] == 128, "the last channel is armed", 7, table[8456]);
-    expect(maze_close(table, BYTES, 0, 0) == 0 && table[8456] == 0, "close disarms the last channel", 7, table[8456]);
+    expect(table[here(8456)] == 128, "the last channel is armed", 7, table[here(8456)]);
+    expect(maze_close(table, BYTES, 0, 0) == 0 && table[here(8456)] == 0, "close disarms the last channel", 7, table[here(8456)]);
 }
 
 /* Arming sets one bit and disarming clears it; neither turns it round. */
@@ -785,7 +793,7 @@ static void arming(void) {
         expect(got.number == 0 && got.receive == last, "open of a round circuit number", source, got.receive);
         keep();
         expect(maze_disarm(table, BYTES, (uint16_t)target, (uint16_t)last) == 21 && unaltered(), "disarm a channel that it holds", source, last);
-        table[8449 + target] = 0;
+        table[here(8449 + target)] = 0;
         keep();
         expect(maze_disarm(table, BYTES, (uint16_t)target, (uint16_t)last) == 3 && unaltered(), "held and not armed", target, last);
     }
@@ -844,6 +852,18 @@ static void refused_trace(unsigned number, size_t length, unsigned node, unsigne
     expect(got.number == number && got.hops == 0, "refused trace", number, got.number);
     expect(unaltered(), "altered by a trace refused as", number, buffer_length);
 }
+
+/* The conversion that reads a table of the kind. */
+#ifdef WIDE
+#define convert maze_narrow
+
+static void refused_fold(unsigned number, size_t length, unsigned mask) {
+    keep();
+    refused(number, maze_wide_fold(table, length, (uint16_t)mask), "refused fold", mask);
+}
+#else
+#define convert maze_widen
+#endif
 
 static void refused_block(unsigned number, size_t length, unsigned node, unsigned port) {
     keep();
@@ -910,6 +930,17 @@ static void refused_judging(unsigned number, size_t length, size_t ports_length,
     expect(unaltered_book(), "altered by a judging refused as", number, circuits);
 }
 
+/* So of a conversion, where the table is read; the others are in convert.c. */
+static void refused_conversion(unsigned number, size_t length, size_t other_length) {
+    static uint8_t other[OTHER_BYTES], kept_other[OTHER_BYTES];
+    keep();
+    memset(other, 99, OTHER_BYTES);
+    memset(kept_other, 99, OTHER_BYTES);
+    refused(number, convert(table, length, other, other_length), "refused conversion", number);
+    expect(memcmp(other, kept_other, OTHER_BYTES) == 0, "altered by a conversion refused as", number, other_length);
+}
+
+#ifndef WIDE
 /* So of a joining: the table is its first, its second, or both, and the third, which is then not looked at, of any length. */
 static void refused_joining(unsigned number, size_t length, size_t third_length) {
     static uint8_t half[BYTES], third[BYTES], kept_third[BYTES];
@@ -922,6 +953,7 @@ static void refused_joining(unsigned number, size_t length, size_t third_length)
     refused(number, maze_join(table, length, table, length, third, third_length), "refused joining, both", number);
     expect(memcmp(third, kept_third, BYTES) == 0, "altered by a joining refused as", number, third_length);
 }
+#endif
 
 /* Every call but making is refused with this number, also where later tests apply. */
 static void all_refused(unsigned number, size_t length) {
@@ -943,12 +975,19 @@ static void all_refused(unsigned number, size_t length) {
     refused_book(number, length, 0, 0);
     refused_judging(number, length, 0, 0, 0, 0);
     refused_judging(number, length, 0, 0, 65535, 65535);
+    refused_conversion(number, length, OTHER_BYTES);
+    refused_conversion(number, length, OTHER_BYTES - 1);
+#ifdef WIDE
+    refused_fold(number, length, 0);
+    refused_fold(number, length, 65535);
+#else
     refused_joining(number, length, BYTES);
     refused_joining(number, length, BYTES - 1);
+#endif
 }
 
 static void lengths(void) {
-    static const size_t wrong[] = {0, 1, 257, 8448, 8449, 8704, 8706, BYTES + SPARE};
+    static const size_t wrong[] = {0, 1, 257, 8448, 8449, 8704, 8706, BYTES - 1, BYTES + 1, BYTES + SPARE};
     uint8_t *const anywhere[] = {NULL, (uint8_t *)(uintptr_t)1};
     for (size_t i = 0; i < sizeof wrong / sizeof *wrong; i++) {
         fresh(3);
@@ -973,7 +1012,12 @@ static void lengths(void) {
         expect(maze_open_all(none, 0, none, 0).number == 1, "no table, job", i, 0);
         expect(maze_book(none, 0, none, 0, none, 0).number == 1, "no table, book", i, 0);
         expect(maze_judge(none, 0, none, 0, none, 0, 0, 0) == 1 && maze_judge(none, 0, none, 0, none, 0, 1, 1) == 1, "no table, judging", i, 0);
+        expect(convert(none, 0, none, 0) == 1 && convert(none, 0, table, BYTES) == 1, "no table, conversion", i, 0);
+#ifdef WIDE
+        expect(maze_wide_fold(none, 0, 0) == 1, "no table, fold", i, 0);
+#else
         expect(maze_join(none, 0, none, 0, none, 0) == 1 && maze_join(none, 0, table, BYTES, none, 0) == 1, "no table, joining", i, 0);
+#endif
     }
 }
 
@@ -991,9 +1035,10 @@ static void dimensions(void) {
         refused(2, maze_make(table, BYTES, wrong[i]), "make of dimension", wrong[i]);
         if (wrong[i] > 255) continue;
         table[0] = (uint8_t)wrong[i];
-        table[300] = 77; /* not sound either: 2 comes before 3 */
+        table[here(300)] = 77; /* not sound either: 2 comes before 3 */
         all_refused(2, BYTES);
         expect(maze_make(table, BYTES, 4) == 0, "make over dimension", wrong[i], 0);
+        armed_at_first = 0;
         expect_table("made over it", 4, NULL);
     }
 }
@@ -1003,8 +1048,8 @@ static void ranges(void) {
     static const uint16_t no_channel[] = {8, 9, 255, 256, 257, 263, 65535}, no_type[] = {2, 5, 6, 7, 8, 255, 256, 257, 259, 260, 1024, 65535};
     for (unsigned dimension = 1; dimension <= 8; dimension++) {
         unsigned nodes = 1u << dimension, last = nodes - 1;
-        unsigned no_node[] = {nodes, nodes + 1, 256, 256 + last, 257, 32768, 65535}, no_port[] = {dimension, dimension + 1, 8, 255, 256, 257, 65535};
-        unsigned no_vector[] = {0, nodes, nodes + 1, 256, 256 + last, 257, 32769, 65535};
+        unsigned no_node[] = {nodes, nodes + 1, 256, 256 + last, 257, 32768, 65535}, no_port[] = {dimension, dimension + 1, 8, 9, 16, 17, 17 - dimension, 18, 23, 24, 255, 256, 257, 65535};
+        unsigned no_vector[] = {0, nodes, nodes + 1, 256, 256 + last, 257, 32768, 32769, 65535};
         fresh(dimension);
         arm(0, 7);
         arm(last, 0);
@@ -1073,7 +1118,7 @@ static uint16_t opened_and_closed(uint16_t node, uint16_t channel, uint16_t targ
     return opened.number;
 }
 
-/* Every 16-bit value of each argument, on a table of dimension 3 with every channel armed and an open circuit: refused wherever the papers say so,
+/* Every 16-bit value of each argument, on a table of dimension 3 with every channel armed and an open circuit: refused wherever Refusals says so,
  * and nowhere else. One check for each argument; where it fails, the first wrong value is named. */
 static void sweeps(void) {
     enum { ARGUMENTS = 18 };
@@ -1142,6 +1187,42 @@ static void long_ones(void) {
     }
 }
 
+/* The same of lists of sends, of a book, of judging it, and of a lookup in it. */
+static void long_lists_and_books(void) {
+    static uint8_t sends[655370], ports[65536 + 8], index[65536 + 8], traced[65536 + 8];
+    static const size_t lists[] = {65536, 65546, 65536 + 640, 327680, 327690, 328320, 655360, 655370};
+    static const size_t lengths_of_buffer[] = {65536, 65536 + 2, 65536 + 8};
+    static const uint8_t three[] = {0, 1, 2}, line[] = {1, 0, 0, 0, 3, 0};
+    fresh(3);
+    arm(7, 0);
+    sends[4] = 7, sends[8] = 7;
+    for (size_t i = 0; i < sizeof lists / sizeof *lists; i++) {
+        maze_opened_all got;
+        keep();
+        got = maze_open_all(table, BYTES, sends, lists[i]);
+        expect(got.number == 28 && got.sends == 0 && unaltered(), "a list of sends that is too long", i, got.number);
+    }
+    expect(maze_open_all(table, BYTES, sends, 10).number == 0, "the first of them alone", 0, 0);
+    for (size_t i = 0; i < sizeof lengths_of_buffer / sizeof *lengths_of_buffer; i++) {
+        const size_t length = lengths_of_buffer[i];
+        maze_booked booked;
+        maze_traced found;
+        int kept = 1;
+        memset(ports, 0xc5, sizeof ports);
+        memset(index, 0xc5, sizeof index);
+        booked = maze_book(table, BYTES, ports, length, index, length);
+        for (size_t j = 3; j < sizeof ports; j++) kept &= ports[j] == 0xc5;
+        for (size_t j = 6; j < sizeof index; j++) kept &= index[j] == 0xc5;
+        expect(booked.number == 0 && booked.circuits == 1 && booked.hops == 3 && kept && memcmp(ports, three, 3) == 0 && memcmp(index, line, 6) == 0, "a book in long buffers", i, booked.number);
+        expect(maze_judge(table, BYTES, ports, length, index, length, 1, 3) == 26, "a book in long buffers, its circuit open", i, 0);
+        memset(traced, 0xc5, sizeof traced);
+        found = maze_book_lookup(ports, length, index, length, 1, 3, 1, traced, length);
+        for (size_t j = 3; j < sizeof traced; j++) kept &= traced[j] == 0xc5;
+        expect(found.number == 0 && found.hops == 3 && kept && memcmp(traced, three, 3) == 0, "a lookup in long buffers", i, found.number);
+    }
+    expect(maze_close(table, BYTES, 0, 0) == 0 && maze_arm(table, BYTES, 7, 0) == 0 && maze_judge(table, BYTES, ports, 65536, index, 65536, 1, 3) == 0, "a book in long buffers, loadable", 0, 0);
+}
+
 /* A buffer of exactly nine bytes, and longer ones; the length of the path does not matter. */
 static void buffers(void) {
     fresh(8);
@@ -1187,14 +1268,14 @@ static void alignments(void) {
         maze_traced traced;
         memset(room, 0x5a, sizeof room);
         expect(maze_make(lent, BYTES, 3) == 0 && maze_block(lent, BYTES, 1, 2) == 0 && maze_block(lent, BYTES, 3, 2) == 0, "made at", shift, 0);
-        expect(maze_arm(lent, BYTES, 7, 0) == 0 && maze_arm(lent, BYTES, 7, 6) == 0 && lent[8456] == 65, "armed at", shift, 0);
+        expect(maze_arm(lent, BYTES, 7, 0) == 0 && maze_arm(lent, BYTES, 7, 6) == 0 && lent[here(8456)] == 65, "armed at", shift, 0);
         opened = maze_open(lent, BYTES, 0, 0, 7, 0, 7);
         traced = maze_trace(lent, BYTES, 0, 0, ports + shift, 9);
         expect(opened.number == 0 && opened.scouts == 5 && traced.number == 0 && traced.hops == 3, "opened at", shift, opened.number);
         expect(ports[shift] == 1 && ports[shift + 1] == 2 && ports[shift + 2] == 0, "traced at", shift, 0);
-        expect(lent[0] == 3 && lent[259] == 1 && lent[293] == 1 && lent[353] == 1 && lent[4465] == 1, "held at", shift, 0);
-        expect(maze_unblock(lent, BYTES, 1, 2) == 0 && maze_close(lent, BYTES, 0, 0) == 0 && lent[259] == 0 && lent[8456] == 64, "closed at", shift, 0);
-        expect(maze_disarm(lent, BYTES, 7, 6) == 0 && lent[8456] == 0, "disarmed at", shift, 0);
+        expect(lent[0] == 3 && lent[here(259)] == 1 && lent[here(293)] == 1 && lent[here(353)] == 1 && lent[here(4465)] == 1, "held at", shift, 0);
+        expect(maze_unblock(lent, BYTES, 1, 2) == 0 && maze_close(lent, BYTES, 0, 0) == 0 && lent[here(259)] == 0 && lent[here(8456)] == 64, "closed at", shift, 0);
+        expect(maze_disarm(lent, BYTES, 7, 6) == 0 && lent[here(8456)] == 0, "disarmed at", shift, 0);
         for (size_t i = 0; i < sizeof room; i++)
             if ((i < shift || i >= shift + BYTES) && room[i] != 0x5a) expect(0, "a byte beside the table", shift, i);
     }
@@ -1316,7 +1397,7 @@ static void long_jobs(void) {
     refused_job(4, 0, BYTES, 10);
     refused_job(28, 0, BYTES, 9);
     refused_job(28, 0, BYTES, 11);
-    table[263] = 9;
+    table[here(263)] = 9;
     refused_job(3, 0, BYTES, 9);
     table[0] = 9;
     refused_job(2, 0, BYTES, 9);
@@ -1370,7 +1451,7 @@ static void lookups_trace(const char *what) {
 
 /* A circuit over one link, written to the table by its bytes. */
 static void lay(unsigned node, unsigned port) {
-    const unsigned circuit = 8 * node + port + 1, link = 257 + 16 * node + 2 * port, receive = 4353 + 16 * (node ^ 1u << port) + 2 * port;
+    const unsigned circuit = 8 * node + port + 1, link = here(257 + 16 * node + 2 * port), receive = here(4353 + 16 * (node ^ 1u << port) + 2 * port);
     table[link] = table[receive] = (uint8_t)(circuit % 256);
     table[link + 1] = table[receive + 1] = (uint8_t)(circuit / 256);
 }
@@ -1448,7 +1529,7 @@ static void books(void) {
     refused_book(23, BYTES, 0, 0);
     lookups_trace("lookups of 2,048 circuits");
     /* a table that is not sound, of a wrong dimension or length: 3, 2 and 1 come before 23 */
-    table[4353] ^= 1;
+    table[here(4353)] ^= 1;
     refused_book(3, BYTES, 2047, 12287);
     refused_book(3, BYTES, 2048, 12288);
     table[0] = 9;
@@ -1631,16 +1712,16 @@ static void soundness(void) {
     for (size_t i = 0; i < sizeof tables / sizeof *tables; i++) {
         fresh_armed(3);
         expect(maze_open(table, BYTES, 0, 0, 7, 0, 7).number == 0, "open for", i, 0);
-        for (const struct place *place = tables[i].places; place->at; place++) table[place->at] = (uint8_t)place->value;
+        for (const struct place *place = tables[i].places; place->at; place++) table[here(place->at)] = (uint8_t)place->value;
         if (tables[i].ports) {
             expect_trace(tables[i].what, 0, 0, tables[i].ports);
             keep();
             expect(maze_close(table, BYTES, 0, 0) == 0, tables[i].what, i, 0);
             /* what was circuit 1's is free, its receive channel is not armed, and nothing else has changed */
-            for (size_t at = 257; at < 8449; at += 2)
-                if (kept_table[at] == 1 && kept_table[at + 1] == 0) {
-                    kept_table[at] = 0;
-                    if (at >= 4353) kept_table[8449 + (at - 4353) / 16] &= (uint8_t)~(1u << (at - 4353) / 2 % 8);
+            for (unsigned at = 257; at < 8449; at += 2)
+                if (kept_table[here(at)] == 1 && kept_table[here(at + 1)] == 0) {
+                    kept_table[here(at)] = 0;
+                    if (at >= 4353) kept_table[here(8449 + (at - 4353) / 16)] &= (uint8_t)~(1u << (at - 4353) / 2 % 8);
                 }
             expect(unaltered_table(), tables[i].what, i, 1);
         } else {
@@ -1652,12 +1733,72 @@ static void soundness(void) {
     }
 }
 
+#ifdef WIDE
+/* What a wide table alone has, by its own places: the three bytes of node n's enabled links are at 2 + 3 n, and the link out of its port p is held at 770 + 36 n + 2 p.
+ * Dimension 3, with circuit 1 on ports 0, 1, 2 of nodes 0, 1 and 3. */
+static const struct {
+    const char *what;
+    struct place places[4];
+} wide_tables[] = {
+    {"port 8 enabled", {{3, 1}}},
+    {"port 17 enabled", {{4, 2}}},
+    {"port 14 enabled, that of a folded dimension 3", {{3, 64}}},
+    {"bit 18 set", {{4, 4}}},
+    {"bit 23 set", {{4, 128}}},
+    {"bit 18 of node 7 set", {{25, 4}}},
+    {"bit 23 of an absent node set", {{28, 128}}},
+    {"bit 23 of node 255 set", {{769, 128}}},
+    {"bit 0 of node 255 set", {{767, 1}}},
+    {"port 8 held", {{786, 1}}},
+    {"port 17 held", {{804, 1}}},
+    {"port 17 held, the high byte", {{805, 1}}},
+    {"port 17 enabled and held", {{4, 2}, {804, 1}}},
+    {"port 17 of node 255 held", {{9985, 1}}},
+    /* out over port 17, where it would lead over port 0 were that folded, in place of port 0 */
+    {"its first hop over a partner", {{770, 0}, {804, 1}, {4, 2}}},
+    {"held links in the order of the bytes turned round", {{2, 0}, {4, 7}}},
+};
+
+static void wide_soundness(void) {
+    for (size_t i = 0; i < sizeof wide_tables / sizeof *wide_tables; i++) {
+        fresh_armed(3);
+        expect(maze_open(table, BYTES, 0, 0, 7, 0, 7).number == 0, wide_tables[i].what, i, 0);
+        for (const struct place *place = wide_tables[i].places; place->at; place++) table[place->at] = (uint8_t)place->value;
+        all_refused(3, BYTES);
+    }
+}
+
+/* Each bit of the enabled links of each node that is none of a port of the cube, in each dimension, with nothing folded. */
+static void absent_ports(void) {
+    for (unsigned dimension = 1; dimension <= 8; dimension++) {
+        unsigned wrong = 0, first = 0;
+        fresh_armed(dimension);
+        for (unsigned node = 0; node < 256; node++)
+            for (unsigned bit = node < 1u << dimension ? dimension : 0; bit < 24; bit++) {
+                const unsigned at = 2 + 3 * node + bit / 8;
+                table[at] = (uint8_t)(table[at] ^ 1u << bit % 8);
+                if (maze_unblock(table, BYTES, 0, 0) != 3 && wrong++ == 0) first = 24 * node + bit;
+                table[at] = (uint8_t)(table[at] ^ 1u << bit % 8);
+            }
+        expect(wrong == 0, "an absent port enabled", dimension, first);
+        for (unsigned node = 0; node < 256; node++)
+            for (unsigned port = node < 1u << dimension ? dimension : 0; port < 18; port++) {
+                const unsigned at = 770 + 36 * node + 2 * port + node % 2;
+                table[at] = 1;
+                if (maze_unblock(table, BYTES, 0, 0) != 3 && wrong++ == 0) first = 18 * node + port;
+                table[at] = 0;
+            }
+        expect(wrong == 0, "an absent port held", dimension, first);
+    }
+}
+#endif
+
 /* Each bit of the armed channels of each node that the cube lacks. One check for each dimension; where it fails, the first wrong place is named. */
 static void absent_nodes_armed(void) {
     for (unsigned dimension = 1; dimension < 8; dimension++) {
         unsigned first = 0;
         fresh_armed(dimension);
-        for (unsigned at = 8449 + (1u << dimension); at < BYTES; at++)
+        for (unsigned at = here(8449 + (1u << dimension)); at < BYTES; at++)
             for (unsigned channel = 0; channel < 8; channel++) {
                 table[at] = (uint8_t)(1u << channel);
                 if (maze_unblock(table, BYTES, 0, 0) != 3 && first == 0) first = at;
@@ -1691,6 +1832,7 @@ int main(void) {
     ranges();
     sweeps();
     long_ones();
+    long_lists_and_books();
     buffers();
     long_buffers();
     alignments();
@@ -1702,5 +1844,9 @@ int main(void) {
     book_alignments();
     soundness();
     absent_nodes_armed();
+#ifdef WIDE
+    wide_soundness();
+    absent_ports();
+#endif
     return verdict();
 }

@@ -5,7 +5,7 @@
 /^ *abbrev (pub )?(requires|ensures)-[^ ]*-text :/ { on = 1 }
 /^ *$/ { on = 0 }
 on { text = text $0 "\n" }
-/^    requires = / && !asked { asked = 1; asking = 1 }
+/^ *requires = / && !asked { asked = 1; asking = 1 }
 asking { asks = asks $0 "\n"; if (/;$/) asking = 0 }
 END {
     for (i = 1; i <= count; i++)

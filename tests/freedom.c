@@ -1,6 +1,6 @@
-/* Request (n) of document 02, "More freedom never hurts", on random tables of every dimension. An open that is acknowledged is acknowledged, too, after any one circuit
+/* Promises 11 and Promises 12 on random tables of every dimension. An open that is acknowledged is acknowledged, too, after any one circuit
  * is closed and after any calls that close, unblock or arm. And an open of type 0 with an uphill send vector answers and takes the same on two tables that agree
- * between its source and its target, whatever differs elsewhere. What is between is decided here, from the bytes. It fails, too, where a case that it is there for did
+ * between its source and its target, whatever differs elsewhere. With -DWIDE the tables of the first are folded, too. What is between is decided here, from the bytes. It fails, too, where a case that it is there for did
  * not occur. */
 #include "draw.h"
 #include "expect.h"
@@ -11,7 +11,7 @@
 enum { ROUNDS = 60, SMALL_ROUNDS = 400, SMALL = 3, CALLS = 60, CHANGES = 120, MOST_CLOSED = 40 };
 
 static struct {
-    unsigned long other_path, other_scouts, same_target, closed, freed, numbers[MAZE_NO_ROUTE + 1], differ, away_differs, second_pass_differs;
+    unsigned long folded, over_partners, other_path, other_scouts, same_target, closed, freed, numbers[MAZE_NO_ROUTE + 1], differ, away_differs, second_pass_differs;
 } seen;
 
 static int one_in(unsigned count) {
@@ -33,9 +33,19 @@ static uint16_t any_type(void) {
     return types[below(4)];
 }
 
+static uint16_t any_port(const uint8_t *table, unsigned dimension) {
+    unsigned port = below(dimension);
+#ifdef WIDE
+    if ((table[MAZE_WIDE_FOLD_AT] >> port & 1) && one_in(2)) port = 17 - port;
+#else
+    (void)table;
+#endif
+    return (uint16_t)port;
+}
+
 static void any_call(uint8_t *table, unsigned dimension) {
     uint16_t node = any_node(dimension);
-    uint16_t port = (uint16_t)below(dimension), channel = (uint16_t)below(MAZE_CHANNELS);
+    uint16_t port = any_port(table, dimension), channel = (uint16_t)below(MAZE_CHANNELS);
     switch (below(8)) {
     case 0: maze_block(table, MAZE_TABLE_BYTES, node, port); break;
     case 1: maze_unblock(table, MAZE_TABLE_BYTES, node, port); break;
@@ -46,10 +56,20 @@ static void any_call(uint8_t *table, unsigned dimension) {
     }
 }
 
-/* A table with circuits, blocked links and armed channels, few of them in one of three. */
-static void any_table(uint8_t *table, unsigned dimension) {
+/* A table with circuits, blocked links and armed channels, few of them in one of three; folded, where it can be and is to be. */
+static void any_table(uint8_t *table, unsigned dimension, int folded) {
     int few = one_in(3);
     maze_make(table, MAZE_TABLE_BYTES, (uint16_t)dimension);
+#ifdef WIDE
+    if (folded && !one_in(3)) {
+        unsigned mask = below(1u << dimension);
+        if (dimension > 6) mask &= below(1u << dimension);
+        expect(maze_wide_fold(table, MAZE_TABLE_BYTES, (uint16_t)mask) == MAZE_ACCEPTED, "fold", dimension, mask);
+        seen.folded += mask != 0;
+    }
+#else
+    (void)folded;
+#endif
     for (unsigned node = 0; node < 1u << dimension; node++)
         for (unsigned channel = 0; channel < MAZE_CHANNELS; channel++)
             if (few ? one_in(8) : !one_in(3)) maze_arm(table, MAZE_TABLE_BYTES, (uint16_t)node, (uint16_t)channel);
@@ -80,7 +100,7 @@ static void any_freedom(uint8_t *table, unsigned dimension) {
     uint16_t node = any_node(dimension);
     switch (below(3)) {
     case 0: maze_close(table, MAZE_TABLE_BYTES, node, (uint16_t)below(MAZE_CHANNELS)); break;
-    case 1: maze_unblock(table, MAZE_TABLE_BYTES, node, (uint16_t)below(dimension)); break;
+    case 1: maze_unblock(table, MAZE_TABLE_BYTES, node, any_port(table, dimension)); break;
     default: maze_arm(table, MAZE_TABLE_BYTES, node, (uint16_t)below(MAZE_CHANNELS)); break;
     }
 }
@@ -90,10 +110,11 @@ static void closing(unsigned dimension) {
     unsigned channels = MAZE_CHANNELS << dimension, first = below(channels), closed = 0;
     uint16_t node, channel, target, type, vector;
     struct sent before, after;
-    any_table(table, dimension);
+    any_table(table, dimension, 1);
     node = any_node(dimension), channel = (uint16_t)below(MAZE_CHANNELS), target = any_node(dimension), type = any_type(), vector = any_vector(dimension);
     before = send_on(table, node, channel, target, type, vector);
     if (before.opened.number != MAZE_ACCEPTED) return;
+    for (unsigned hop = 0; hop < before.traced.hops; hop++) seen.over_partners += before.ports[hop] > 9;
     /* each circuit by itself, up to some of one table, from any of them on */
     for (unsigned i = 0; i < channels && closed < MOST_CLOSED; i++) {
         unsigned circuit = 1 + (first + i) % channels, at = maze_circuit_receive(table, circuit);
@@ -153,7 +174,7 @@ static void elsewhere(unsigned dimension) {
     unsigned uphill = source ^ target, all = (1u << dimension) - 1;
     struct sent a, b;
     if (one_in(30)) channel = (uint16_t)(MAZE_CHANNELS + below(3)); /* no channel of the node */
-    any_table(first, dimension);
+    any_table(first, dimension, 0); /* Promises 12 is said of tables with nothing folded */
     /* with many links blocked in one of four, so that 22 occurs */
     if (one_in(4))
         for (unsigned i = dimension << dimension; i > 0; i--)
@@ -190,6 +211,10 @@ int main(void) {
         }
     expect(seen.closed > 0 && seen.freed > 0 && seen.other_path > 0 && seen.other_scouts > 0 && seen.same_target > 0, "closings: other path, other scouts", seen.other_path, seen.other_scouts);
     expect(seen.differ > 0 && seen.second_pass_differs > 0 && seen.away_differs > 0, "tables that differ, and opens that look further", seen.second_pass_differs, seen.away_differs);
+#ifdef WIDE
+    expect(seen.folded > 0 && seen.over_partners > 0, "folded tables, and opens over partners", seen.folded, seen.over_partners);
+    printf("folded tables: %lu, hops over partners: %lu\n", seen.folded, seen.over_partners);
+#endif
     for (unsigned number = 0; number <= MAZE_NO_ROUTE; number++) {
         int wanted = number == MAZE_ACCEPTED || number == MAZE_BAD_CHANNEL || number == MAZE_BAD_SEND_VECTOR || number == MAZE_CHANNEL_IN_USE || number == MAZE_ROUTE_REJECTED || number == MAZE_RECEIVE_REJECTED || number == MAZE_NO_ROUTE;
         expect(!wanted || seen.numbers[number] > 0, "a number did not occur", number, seen.numbers[number]);

@@ -1,4 +1,4 @@
-/* The header's names: each has the number that the papers give it, each answer the layout that the library writes, and each call the type that it has. */
+/* The header's names: each has the number that docs/SPECIFICATION.md gives it, each answer the layout that the library writes, and each call the type that it has. */
 #include "expect.h"
 
 #include <maze.h>
@@ -31,6 +31,20 @@ HAS_TYPE(maze_book, maze_booked, const uint8_t *, size_t, uint8_t *, size_t, uin
 HAS_TYPE(maze_book_lookup, maze_traced, const uint8_t *, size_t, const uint8_t *, size_t, uint16_t, uint16_t, uint16_t, uint8_t *, size_t);
 HAS_TYPE(maze_judge, uint16_t, const uint8_t *, size_t, const uint8_t *, size_t, const uint8_t *, size_t, uint16_t, uint16_t);
 HAS_TYPE(maze_join, uint16_t, const uint8_t *, size_t, const uint8_t *, size_t, uint8_t *, size_t);
+HAS_TYPE(maze_wide_make, uint16_t, uint8_t *, size_t, uint16_t);
+HAS_TYPE(maze_wide_block, uint16_t, uint8_t *, size_t, uint16_t, uint16_t);
+HAS_TYPE(maze_wide_unblock, uint16_t, uint8_t *, size_t, uint16_t, uint16_t);
+HAS_TYPE(maze_wide_arm, uint16_t, uint8_t *, size_t, uint16_t, uint16_t);
+HAS_TYPE(maze_wide_disarm, uint16_t, uint8_t *, size_t, uint16_t, uint16_t);
+HAS_TYPE(maze_wide_open, maze_opened, uint8_t *, size_t, uint16_t, uint16_t, uint16_t, uint16_t, uint16_t);
+HAS_TYPE(maze_wide_open_all, maze_opened_all, uint8_t *, size_t, const uint8_t *, size_t);
+HAS_TYPE(maze_wide_close, uint16_t, uint8_t *, size_t, uint16_t, uint16_t);
+HAS_TYPE(maze_wide_trace, maze_traced, const uint8_t *, size_t, uint16_t, uint16_t, uint8_t *, size_t);
+HAS_TYPE(maze_wide_book, maze_booked, const uint8_t *, size_t, uint8_t *, size_t, uint8_t *, size_t);
+HAS_TYPE(maze_wide_fold, uint16_t, uint8_t *, size_t, uint16_t);
+HAS_TYPE(maze_wide_judge, uint16_t, const uint8_t *, size_t, const uint8_t *, size_t, const uint8_t *, size_t, uint16_t, uint16_t);
+HAS_TYPE(maze_widen, uint16_t, const uint8_t *, size_t, uint8_t *, size_t);
+HAS_TYPE(maze_narrow, uint16_t, const uint8_t *, size_t, uint8_t *, size_t);
 HAS_TYPE(maze_arbitrate, maze_served, maze_arbiter *, uint32_t);
 HAS_TYPE(maze_receive_start, maze_receive_channel, uint32_t, uint32_t, uint16_t);
 HAS_TYPE(maze_receive_data, maze_received, maze_receive_channel);
@@ -66,6 +80,7 @@ static const struct {
     NAME(MAZE_CHANNEL_HELD, 21),
     NAME(MAZE_NO_ROUTE, 22),
     NAME(MAZE_BOOK_SHORT, 23),
+    NAME(MAZE_FOLDED, 24),
     NAME(MAZE_BAD_BOOK, 25),
     NAME(MAZE_BAD_BOOK_CIRCUIT, 26),
     NAME(MAZE_BAD_BOOK_LINK, 27),
@@ -83,6 +98,17 @@ static const struct {
     NAME(MAZE_LINKS_AT, 1 + 256),
     NAME(MAZE_RECEIVES_AT, 1 + 256 + 4096),
     NAME(MAZE_ARMED_AT, 1 + 256 + 4096 + 4096),
+    NAME(MAZE_WIDE_TABLE_BYTES, 14338),
+    NAME(MAZE_WIDE_PORTS, 18),
+    NAME(MAZE_WIDE_MASK_BYTES, 3),
+    NAME(MAZE_WIDE_DIMENSION_AT, 0),
+    NAME(MAZE_WIDE_FOLD_AT, 1),
+    NAME(MAZE_WIDE_ENABLED_AT, 1 + 1),
+    NAME(MAZE_WIDE_LINKS_AT, 1 + 1 + 768),
+    NAME(MAZE_WIDE_RECEIVES_AT, 1 + 1 + 768 + 9216),
+    NAME(MAZE_WIDE_ARMED_AT, 1 + 1 + 768 + 9216 + 4096),
+    NAME(MAZE_WIDE_LINKS_LARGEST, 256 * (8 + 8)),
+    NAME(MAZE_WIDE_SCOUTS_LARGEST, 35099560),
     NAME(MAZE_TYPE_MAZE, 0),
     NAME(MAZE_TYPE_HELIX, 1),
     NAME(MAZE_TYPE_FIXED, 3),
@@ -121,7 +147,7 @@ static const struct {
     NAME(MAZE_REQUESTER_NOBODY, 26),
 };
 
-/* What the macros read in a table, beside the papers' layout: each byte is the rest of its place by 251, plus 1, so that neighbours differ, and
+/* What the macros read in a table, beside the layout of Tables and Wide: each byte is the rest of its place by 251, plus 1, so that neighbours differ, and
  * so do the bytes of two parts for one node. */
 static int reads_table(void) {
     static uint8_t table[MAZE_TABLE_BYTES];
@@ -140,6 +166,28 @@ static int reads_table(void) {
     return good;
 }
 
+/* The same of a wide table, by its functions. Its dimension is 1 and its fold mask 2, a bit that no cube of that dimension has. */
+static int reads_wide_table(void) {
+    static uint8_t table[MAZE_WIDE_TABLE_BYTES];
+    int good = 1;
+    for (unsigned at = 0; at < sizeof table; at++) table[at] = (uint8_t)(at % 251 + 1);
+    good &= maze_wide_dimension(table) == 1 && maze_wide_fold_mask(table) == 2 && maze_wide_node_count(table) == 2;
+    for (unsigned node = 0; node < 256; node++) {
+        for (unsigned port = 0; port < 18; port++) {
+            unsigned mask = 2 + 3 * node, link = 2 + 768 + 2 * (18 * node + port);
+            good &= maze_wide_link_enabled(table, node, port) == (int)((table[mask] + 256u * table[mask + 1] + 65536u * table[mask + 2]) >> port & 1);
+            good &= maze_wide_link_circuit(table, node, port) == table[link] + 256u * table[link + 1];
+            good &= maze_wide_link_node(table, node, port) == (node < 2 && port < 1 ? 1 - node : MAZE_NODES);
+        }
+        for (unsigned channel = 0; channel < 8; channel++) {
+            unsigned receive = 2 + 768 + 9216 + 2 * (8 * node + channel);
+            good &= maze_wide_receive_circuit(table, node, channel) == table[receive] + 256u * table[receive + 1];
+            good &= maze_wide_receive_armed(table, node, channel) == (table[14082 + node] >> channel & 1);
+        }
+    }
+    return good;
+}
+
 int main(void) {
     maze_word_read_answer (*read)(uint16_t) = maze_word_read;
     maze_word_written (*write)(uint16_t, uint16_t) = maze_word_write;
@@ -149,5 +197,6 @@ int main(void) {
     maze_word_read_answer back = read(written.word);
     expect(written.number == MAZE_ACCEPTED && back.command == MAZE_END_OF_TRANSMISSION && back.carried == MAZE_STATUS_END_TO_END, "the names read back", written.word, back.carried);
     expect(reads_table(), "the macros read the layout of a table", 0, 0);
+    expect(reads_wide_table(), "the functions read the layout of a wide table", 0, 0);
     return verdict();
 }

@@ -55,6 +55,16 @@ int main() {
     check(maze_trace(joined.data(), joined.size(), 8, 1, ports, sizeof ports).hops == 3 && MAZE_RECEIVE_CIRCUIT(joined.data(), 15, 3) == 66 && MAZE_LINK_ENABLED(joined.data(), 15, 3), "its second half");
     check(maze_make(smaller.data(), smaller.size(), 2) == MAZE_ACCEPTED && maze_join(table.data(), table.size(), smaller.data(), smaller.size(), joined.data(), joined.size()) == MAZE_BAD_HALVES,
           "halves that differ");
+    std::vector<uint8_t> wide(MAZE_WIDE_TABLE_BYTES), narrow(MAZE_TABLE_BYTES);
+    check(maze_widen(table.data(), table.size(), wide.data(), wide.size()) == MAZE_ACCEPTED && maze_wide_check_table(wide.data(), wide.size()) == MAZE_ACCEPTED, "widen");
+    check(maze_wide_trace(wide.data(), wide.size(), 0, 1, ports, sizeof ports).hops == 3 && maze_wide_receive_circuit(wide.data(), 7, 3) == 2, "trace in the wide table");
+    check(maze_wide_trace(table.data(), table.size(), 0, 1, ports, sizeof ports).number == MAZE_BAD_LENGTH, "a wide call on a narrow table");
+    check(maze_narrow(wide.data(), wide.size(), narrow.data(), narrow.size()) == MAZE_ACCEPTED && narrow == table, "and narrow again");
+    check(maze_wide_fold(wide.data(), wide.size(), 1) == MAZE_ACCEPTED && maze_wide_link_enabled(wide.data(), 0, 17) && maze_wide_port_exists(wide.data(), 17), "fold");
+    check(maze_wide_link_node(wide.data(), 0, 17) == 1 && maze_wide_axis(17) == 0 && maze_wide_partner(0) == 17, "a partner");
+    check(maze_wide_fold(wide.data(), wide.size(), 8) == MAZE_BAD_PORT, "a fold bit at the dimension");
+    check(maze_narrow(wide.data(), wide.size(), narrow.data(), narrow.size()) == MAZE_FOLDED && maze_wide_fold_mask(wide.data()) == 1, "a fold mask");
+    check(maze_wide_make(wide.data(), wide.size(), 8) == MAZE_ACCEPTED && maze_wide_link_enabled(wide.data(), 255, 7) && !maze_wide_link_enabled(wide.data(), 255, 8), "a wide table");
     check(maze_word_read(2437).command == 6, "read a word");
     check(maze_word_write(1, 0).word == 2112, "write a word");
     maze_arbiter arbiter = {MAZE_REQUESTERS - 1};

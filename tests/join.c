@@ -1,4 +1,4 @@
-/* Joining two tables from C, beside vectors worked by hand from request (k) of document 02: all bytes of the third table, each number at its edge, the order of the
+/* Joining two tables from C, beside vectors worked by hand from Joining: all bytes of the third table, each number at its edge, the order of the
  * tests over the three tables, and that a refused call alters no byte; then random tables of dimension 1 to 7 beside the reference, what the joined table traces and
  * books, and calls on it over the new port; and damaged tables.
  *
@@ -68,7 +68,7 @@ static void accepted(const char *what, unsigned about) {
 
 /* ---- tables by their bytes ---- */
 
-/* A made table, by the paper: 2^D nodes, each with its D links enabled. */
+/* A made table, by Tables 11: 2^D nodes, each with its D links enabled. */
 static void made(uint8_t *table, unsigned dimension) {
     memset(table, 0, BYTES);
     table[0] = (uint8_t)dimension;

@@ -1,10 +1,12 @@
-/* Judging a book from C, beside vectors worked by hand from requests (e) and (i) of document 02: each number at its edge, the order of the tests over the whole
+/* Judging a book from C, beside vectors worked by hand from Books and Judging: each number at its edge, the order of the tests over the whole
  * book, and that nothing lent is altered; then books that were written of a table, judged by it once their circuits are closed; and books that are a step or two
- * away from such a one, judged by tables with circuits at random, beside the reference.
+ * away from such a one, judged by tables with circuits at random, beside the reference. With -DWIDE the same by wide tables; there
+ * the books written of tables, those at random and the lists of ports in small cubes are of folded cubes too, and the vectors of those are in folded.c.
  *
  *     judge [tables [seed]]
  *
- * takes that many tables of each dimension for the last two (10 without an argument). A byte of a table is given by its place, as in calls.c. */
+ * takes that many tables of each dimension for the last two (10 without an argument). A byte of a table is given by its place in a narrow one,
+ * as in calls.c. */
 #include "blocks.h"
 #include "books.h"
 #include "draw.h"
@@ -15,7 +17,7 @@
 #include <stdlib.h>
 #include <string.h>
 
-enum { BYTES = 8705, SPARE = 64, LINES = 2048, LONGEST = 9, MOST = 12, ANSWERS = 32 };
+enum { BYTES = MAZE_TABLE_BYTES, SPARE = 64, LINES = 2048, LONGEST = 9, MOST = 12, ANSWERS = 32 };
 
 /* A circuit of a book. */
 struct circuit {
@@ -26,6 +28,32 @@ struct circuit {
 static uint8_t table[BYTES + SPARE];
 static struct circuit book[LINES + 1];
 static unsigned lines, dimension, nodes;
+
+/* The bit of a node that a port changes: of port p and of its partner 17 - p it is bit p. */
+static unsigned step(unsigned port) {
+    return 1u << (port < 9 ? port : 17 - port);
+}
+
+static unsigned fold_mask(void) {
+#ifdef WIDE
+    return table[MAZE_WIDE_FOLD_AT];
+#else
+    return 0;
+#endif
+}
+
+static int has_port(unsigned port) {
+    return port < dimension || (port > 17 - dimension && port < 18 && (fold_mask() & step(port)));
+}
+
+static unsigned any_port(void) {
+    unsigned port = below(dimension);
+    return (fold_mask() >> port & 1) && below(2) ? 17 - port : port;
+}
+
+static int is_enabled(unsigned node, unsigned port) {
+    return table[enabled_at(node) + port / 8] >> port % 8 & 1;
+}
 
 /* The two buffers of the book, which go on behind what is lent, and its counts; and what stands there where no book is. */
 static uint8_t book_ports[PORTS + SPARE], book_index[INDEX + SPARE], no_ports[PORTS + SPARE], no_index[INDEX + SPARE];
@@ -81,7 +109,17 @@ static void fresh(unsigned of) {
     lines = 0;
     memset(table, 77, sizeof table);
     expect(maze_make(table, BYTES, (uint16_t)dimension) == 0, "make", dimension, 0);
-    memset(table + 8449, 255, nodes);
+    memset(table + here(8449), 255, nodes);
+}
+
+/* The same, folded where a table can be. */
+static void fresh_folded(unsigned of, unsigned mask) {
+    fresh(of);
+#ifdef WIDE
+    expect(maze_wide_fold(table, BYTES, (uint16_t)mask) == 0, "fold", of, mask);
+#else
+    (void)mask;
+#endif
 }
 
 /* A trace into no bytes is refused as 12 or 14 where the table is sound. */
@@ -92,12 +130,12 @@ static int is_sound(void) {
 /* ---- links, channels and circuits of the table, by their bytes ---- */
 
 static unsigned entry(unsigned part, unsigned node, unsigned slot) {
-    const unsigned at = part + 16 * node + 2 * slot;
+    const unsigned at = part == 257 ? link_at(node, slot) : receive_at(node, slot);
     return table[at] + 256u * table[at + 1];
 }
 
 static void set_entry(unsigned part, unsigned node, unsigned slot, unsigned circuit) {
-    const unsigned at = part + 16 * node + 2 * slot;
+    const unsigned at = part == 257 ? link_at(node, slot) : receive_at(node, slot);
     table[at] = (uint8_t)(circuit % 256);
     table[at + 1] = (uint8_t)(circuit / 256);
 }
@@ -105,13 +143,13 @@ static void set_entry(unsigned part, unsigned node, unsigned slot, unsigned circ
 /* The lowest receive channel of a node that is armed and not held; 8 if there is none. */
 static unsigned available_channel(unsigned node) {
     unsigned channel = 0;
-    while (channel < 8 && (entry(4353, node, channel) != 0 || !(table[8449 + node] >> channel & 1))) channel++;
+    while (channel < 8 && (entry(4353, node, channel) != 0 || !(table[here(8449 + node)] >> channel & 1))) channel++;
     return channel;
 }
 
 static unsigned available_count(unsigned node) {
     unsigned count = 0;
-    for (unsigned channel = 0; channel < 8; channel++) count += entry(4353, node, channel) == 0 && (table[8449 + node] >> channel & 1);
+    for (unsigned channel = 0; channel < 8; channel++) count += entry(4353, node, channel) == 0 && (table[here(8449 + node)] >> channel & 1);
     return count;
 }
 
@@ -134,7 +172,7 @@ static unsigned source_of(const struct circuit *circuit) {
 
 static unsigned end_of(const struct circuit *circuit) {
     unsigned node = source_of(circuit);
-    for (unsigned hop = 0; hop < circuit->length; hop++) node ^= 1u << circuit->port[hop];
+    for (unsigned hop = 0; hop < circuit->length; hop++) node ^= step(circuit->port[hop]);
     return node;
 }
 
@@ -143,7 +181,7 @@ static unsigned uses(unsigned of, unsigned port) {
     unsigned count = 0;
     for (unsigned i = 0; i < lines; i++) {
         unsigned node = source_of(&book[i]);
-        for (unsigned hop = 0; hop < book[i].length; node ^= 1u << book[i].port[hop++]) count += node == of && book[i].port[hop] == port;
+        for (unsigned hop = 0; hop < book[i].length; node ^= step(book[i].port[hop++])) count += node == of && book[i].port[hop] == port;
     }
     return count;
 }
@@ -151,7 +189,7 @@ static unsigned uses(unsigned of, unsigned port) {
 /* Opens a circuit over one link, on a channel of the node where it leads. */
 static void hold_link(unsigned node, unsigned port, unsigned circuit, unsigned channel) {
     set_entry(257, node, port, circuit);
-    set_entry(4353, node ^ 1u << port, channel, circuit);
+    set_entry(4353, node ^ step(port), channel, circuit);
 }
 
 /* Opens all circuits of an accepted book at once: then the table is sound and has each of them by the ports of the book. */
@@ -163,7 +201,7 @@ static int takes_book(void) {
         unsigned node = source_of(&book[i]), channel = available_channel(end_of(&book[i]));
         if (channel == 8) good = 0;
         else set_entry(4353, end_of(&book[i]), channel, book[i].number);
-        for (unsigned hop = 0; hop < book[i].length; node ^= 1u << book[i].port[hop++]) set_entry(257, node, book[i].port[hop], book[i].number);
+        for (unsigned hop = 0; hop < book[i].length; node ^= step(book[i].port[hop++])) set_entry(257, node, book[i].port[hop], book[i].number);
     }
     for (unsigned i = 0; i < lines && good; i++) {
         uint8_t traced_ports[LONGEST];
@@ -180,17 +218,17 @@ static int takes_book(void) {
 /* A link of a circuit blocked or held, and the link back blocked, which is another one. */
 static void step_links(const char *what, const struct circuit *circuit) {
     unsigned node = source_of(circuit);
-    for (unsigned hop = 0; hop < circuit->length; node ^= 1u << circuit->port[hop++]) {
-        const unsigned port = circuit->port[hop], next = node ^ 1u << port, channel = available_channel(next);
+    for (unsigned hop = 0; hop < circuit->length; node ^= step(circuit->port[hop++])) {
+        const unsigned port = circuit->port[hop], next = node ^ step(port), channel = available_channel(next), at = enabled_at(node) + port / 8, back = enabled_at(next) + port / 8;
         unsigned other = 8 * node + 1;
-        table[1 + node] = (uint8_t)(table[1 + node] ^ 1u << port);
+        table[at] = (uint8_t)(table[at] ^ 1u << port % 8);
         expect_judged(what, 27);
-        table[1 + node] = (uint8_t)(table[1 + node] ^ 1u << port);
+        table[at] = (uint8_t)(table[at] ^ 1u << port % 8);
         if (uses(next, port) == 0 && entry(257, next, port) == 0) {
-            const uint8_t enabled = table[1 + next];
-            table[1 + next] = (uint8_t)(enabled & ~(1u << port));
+            const uint8_t enabled = table[back];
+            table[back] = (uint8_t)(enabled & ~(1u << port % 8));
             expect_judged(what, 0);
-            table[1 + next] = enabled;
+            table[back] = enabled;
         }
         while (other <= 8 * node + 8 && (in_book(other) || is_open(other))) other++;
         if (other > 8 * node + 8 || channel == 8) continue;
@@ -203,22 +241,22 @@ static void step_links(const char *what, const struct circuit *circuit) {
 /* Just as many channels of its target available as circuits end there, and one fewer. */
 static void step_channels(const char *what, const struct circuit *circuit) {
     const unsigned target = end_of(circuit);
-    const uint8_t armed = table[8449 + target];
+    const uint8_t armed = table[here(8449 + target)];
     unsigned ending = 0;
     for (unsigned i = 0; i < lines; i++) ending += end_of(&book[i]) == target;
-    while (available_count(target) > ending) table[8449 + target] = (uint8_t)(table[8449 + target] & ~(1u << available_channel(target)));
+    while (available_count(target) > ending) table[here(8449 + target)] = (uint8_t)(table[here(8449 + target)] & ~(1u << available_channel(target)));
     expect_judged(what, 0);
-    table[8449 + target] = (uint8_t)(table[8449 + target] & ~(1u << available_channel(target)));
+    table[here(8449 + target)] = (uint8_t)(table[here(8449 + target)] & ~(1u << available_channel(target)));
     expect_judged(what, 11);
-    table[8449 + target] = armed;
+    table[here(8449 + target)] = armed;
 }
 
 /* Its send channel open in the table, over a link that the book does not use. */
 static void step_open(const char *what, const struct circuit *circuit) {
     const unsigned node = source_of(circuit);
-    for (unsigned port = 0; port < dimension; port++) {
-        const unsigned channel = available_channel(node ^ 1u << port);
-        if (uses(node, port) != 0 || entry(257, node, port) != 0 || !(table[1 + node] >> port & 1) || channel == 8) continue;
+    for (unsigned port = 0; port < MAZE_PORTS; port++) {
+        const unsigned channel = has_port(port) ? available_channel(node ^ step(port)) : 8;
+        if (channel == 8 || uses(node, port) != 0 || entry(257, node, port) != 0 || !is_enabled(node, port)) continue;
         hold_link(node, port, circuit->number, channel);
         expect_judged(what, 26);
         hold_link(node, port, 0, channel);
@@ -232,7 +270,10 @@ static void step_ports(const char *what, struct circuit *circuit) {
     for (unsigned hop = 0; hop < circuit->length; hop++) {
         circuit->port[hop] = (uint8_t)dimension;
         expect_judged(what, 26);
+        circuit->port[hop] = (uint8_t)(17 - dimension);
+        expect_judged(what, 26);
         for (unsigned i = 0; i < 6; i++) {
+            if (has_port(none[i])) continue;
             circuit->port[hop] = (uint8_t)none[i];
             expect_judged(what, 26);
         }
@@ -454,7 +495,7 @@ static const struct vector {
 
 static void run_vector(const struct vector *vector) {
     fresh(vector->dimension);
-    for (const struct place *place = vector->places; place->at; place++) table[place->at] = (uint8_t)place->value;
+    for (const struct place *place = vector->places; place->at; place++) table[here(place->at)] = (uint8_t)place->value;
     for (unsigned i = 0; vector->circuits[i].number; i++) add(vector->circuits[i].number, vector->circuits[i].ports);
     expect(is_sound(), vector->what, dimension, 3);
     expect_judged(vector->what, vector->number);
@@ -479,10 +520,10 @@ static void not_well_formed(void) {
         circuits = bad_books[i].circuits, hops = bad_books[i].hops;
         got = judged(BYTES, bad_books[i].ports_length, bad_books[i].index_length);
         expect(got == 25, bad_books[i].what, 25, got);
-        table[8449 + 254] = 0, table[1] = 0; /* 25 comes before 27 and 11 */
+        table[here(8449 + 254)] = 0, table[here(1)] = 0; /* 25 comes before 27 and 11 */
         got = judged(BYTES, bad_books[i].ports_length, bad_books[i].index_length);
         expect(got == 25, bad_books[i].what, 25, got);
-        table[8449 + 254] = 255, table[1] = 255;
+        table[here(8449 + 254)] = 255, table[here(1)] = 255;
     }
     /* every length of both buffers below what the good book takes, and one byte more */
     expect_judged("the good book again", 0);
@@ -530,34 +571,39 @@ static void lengths(void) {
         }
 }
 
-/* Every list of up to D + 2 ports, in small cubes: as many are paths as the paper's rule has. With h ports to go the target can be come to in h! ways by a first hop
- * towards it, and by each first hop away in (h + 1)! ways; at no distance each port leads out and back: in dimension 1 to 4 that is 2, 10, 48 and 260 in all. */
+/* Every list of up to D + 2 ports, in small cubes: as many are paths as Paths 4 to 6 have. With h ports to go the target can be come to in h! ways by a first hop
+ * towards it, and by each first hop away in (h + 1)! ways; at no distance each port leads out and back: in dimension 1 to 4 that is 2, 10, 48 and 260 in all. With every
+ * dimension folded a path of h hops is one of 2^h: in dimension 1 to 3 that is 6, 52 and 474. */
 static void every_path(void) {
-    static const unsigned paths[] = {0, 2, 10, 48, 260};
-    for (unsigned of = 1; of <= 4; of++) {
-        fresh(of);
-        for (unsigned source = of < 4 ? 0 : 5; source < nodes; source += of < 3 ? 1 : of < 4 ? 5 : nodes) {
-            unsigned accepted = 0, other = 0, as_reference = 0, all = 0;
-            for (unsigned length = 1; length <= of + 2; length++) {
-                unsigned count = 1;
-                for (unsigned hop = 0; hop < length; hop++) count *= of;
-                for (unsigned number = 0; number < count; number++, all++) {
-                    unsigned got, rest = number;
-                    lines = 0;
-                    add(8 * source + 3, "");
-                    book[0].length = length;
-                    for (unsigned hop = 0; hop < length; hop++, rest /= of) book[0].port[hop] = (uint8_t)(rest % of);
-                    write_book();
-                    got = judged(BYTES, length, 6);
-                    accepted += got == 0;
-                    other += got != 0 && got != 26;
-                    as_reference += got == ref_judge(table, BYTES, book_ports, length, book_index, 6, 1, (uint16_t)length);
+    static const unsigned paths[] = {0, 2, 10, 48, 260}, folded_paths[] = {0, 6, 52, 474};
+    for (unsigned folded = 0; folded < (MAZE_PORTS == 8 ? 1 : 2); folded++)
+        for (unsigned of = 1; of <= (folded ? 3 : 4); of++) {
+            unsigned ports[8], there = 0;
+            fresh_folded(of, folded ? (1u << of) - 1 : 0);
+            for (unsigned port = 0; port < 18; port++)
+                if (has_port(port)) ports[there++] = port;
+            for (unsigned source = of < 4 ? 0 : 5; source < nodes; source += of < 3 ? 1 : of < 4 ? 5 : nodes) {
+                unsigned accepted = 0, other = 0, as_reference = 0, all = 0;
+                for (unsigned length = 1; length <= of + 2; length++) {
+                    unsigned count = 1;
+                    for (unsigned hop = 0; hop < length; hop++) count *= there;
+                    for (unsigned number = 0; number < count; number++, all++) {
+                        unsigned got, rest = number;
+                        lines = 0;
+                        add(8 * source + 3, "");
+                        book[0].length = length;
+                        for (unsigned hop = 0; hop < length; hop++, rest /= there) book[0].port[hop] = (uint8_t)ports[rest % there];
+                        write_book();
+                        got = judged(BYTES, length, 6);
+                        accepted += got == 0;
+                        other += got != 0 && got != 26;
+                        as_reference += got == ref_judge(table, BYTES, book_ports, length, book_index, 6, 1, (uint16_t)length);
+                    }
                 }
+                expect(accepted == (folded ? folded_paths : paths)[of] && other == 0, "how many paths there are in dimension", of, accepted);
+                expect(as_reference == all, "the same paths as the reference has", all, as_reference);
             }
-            expect(accepted == paths[of] && other == 0, "how many paths there are in dimension", of, accepted);
-            expect(as_reference == all, "the same paths as the reference has", all, as_reference);
         }
-    }
 }
 
 /* A circuit over each link of a cube of dimension 8, which is the most that a table can hold: 2,048 lines. */
@@ -572,12 +618,12 @@ static void whole_cube(void) {
     earlier_tests("2,048 circuits");
     for (unsigned k = 0; k < LINES; k += k < 16 || k > LINES - 16 ? 1 : 211) {
         const unsigned node = k / 8, port = k % 8, target = node ^ 1u << port;
-        table[1 + node] = (uint8_t)(255 ^ 1u << port);
+        table[here(1 + node)] = (uint8_t)(255 ^ 1u << port);
         expect_judged("one of 2,048 links blocked", 27);
-        table[1 + node] = 255;
-        table[8449 + target] = 127;
+        table[here(1 + node)] = 255;
+        table[here(8449 + target)] = 127;
         expect_judged("seven channels of one of 256 targets", 11);
-        table[8449 + target] = 255;
+        table[here(8449 + target)] = 255;
         book[k].port[0] = 8;
         expect_judged("port 8 in one of 2,048 circuits", 26);
         book[k].port[0] = (uint8_t)((port + 1) % 8); /* which another circuit of the node has */
@@ -627,10 +673,10 @@ static void pointers(void) {
         memmove(book_ports + shift, book_ports + (shift ? shift - 1 : 0), hops);
         memmove(book_index + shift, book_index + (shift ? shift - 1 : 0), 6 * circuits);
         expect(maze_judge(room + shift, BYTES, book_ports + shift, hops, book_index + shift, 6 * circuits, (uint16_t)circuits, (uint16_t)hops) == 0, "judged at", shift, 0);
-        table[8456] = 3;
+        table[here(8456)] = 3;
         memcpy(room + shift, table, BYTES);
         expect(maze_judge(room + shift, BYTES, book_ports + shift, hops, book_index + shift, 6 * circuits, (uint16_t)circuits, (uint16_t)hops) == 11, "two channels, judged at", shift, 0);
-        table[8456] = 255;
+        table[here(8456)] = 255;
     }
     /* circuit 1 by port 0: the port is the high byte of the number */
     lines = 0;
@@ -646,10 +692,10 @@ static void pointers(void) {
 /* A table with some links blocked, many channels armed and circuits open, all by calls but for the arming. */
 static void random_table(void) {
     unsigned sends = below(4u << below(dimension + 2));
-    fresh(dimension);
+    fresh_folded(dimension, MAZE_PORTS == 8 || below(3) == 0 ? 0 : below(1u << dimension));
     for (unsigned node = 0; node < nodes; node++)
-        if (below(4) == 0) table[8449 + node] = (uint8_t)below(256);
-    for (unsigned i = below(2) ? 0 : below(nodes); i > 0; i--) maze_block(table, BYTES, (uint16_t)below(nodes), (uint16_t)below(dimension));
+        if (below(4) == 0) table[here(8449 + node)] = (uint8_t)below(256);
+    for (unsigned i = below(2) ? 0 : below(nodes); i > 0; i--) maze_block(table, BYTES, (uint16_t)below(nodes), (uint16_t)any_port());
     for (unsigned i = 0; i < sends; i++)
         maze_open(table, BYTES, (uint16_t)below(nodes), (uint16_t)below(8), (uint16_t)below(nodes), (uint16_t)(below(3) ? 0 : 4), (uint16_t)(1 + below(nodes - 1)));
 }
@@ -660,7 +706,7 @@ static void book_table(void) {
     unsigned offset = 0;
     lines = 0;
     write_book();
-    booked = maze_book(table, BYTES, book_ports, 2048, book_index, 12288);
+    booked = maze_book(table, BYTES, book_ports, 4096, book_index, 12288);
     expect(booked.number == 0, "a book", booked.number, booked.circuits);
     for (unsigned i = 0; i < booked.circuits; i++) {
         const uint8_t *line = book_index + 6 * i;
@@ -709,7 +755,7 @@ static void own_book(void) {
         close_circuit(book[i].number, 1);
     }
     expect(judged(BYTES, hops, 6 * circuits) == 0, "a book whose circuits are closed and armed again", lines, 0);
-    expect(judged(BYTES, 2048, 12288) == 0, "the same in the buffers that it was written to", lines, 0);
+    expect(judged(BYTES, 4096, 12288) == 0, "the same in the buffers that it was written to", lines, 0);
     expect(takes_book(), "a book taken by its table", lines, 0);
     accepted_lines += lines;
     if (lines == 0) return;
@@ -735,10 +781,10 @@ static void change_book(void) {
     unsigned hop = below(circuit->length), last = circuit->length - 1;
     uint8_t port = circuit->port[hop];
     switch (below(9)) {
-    case 0: circuit->port[hop] = (uint8_t)below(below(8) ? dimension : 256); break;
+    case 0: circuit->port[hop] = (uint8_t)(below(8) == 0 ? below(256) : fold_mask() && below(2) ? 17u - port : any_port()); break;
     case 1: circuit->port[hop] = circuit->port[last], circuit->port[last] = port; break; /* often another path to the same target */
     case 2:
-        if (circuit->length < LONGEST) circuit->port[circuit->length++] = (uint8_t)below(dimension);
+        if (circuit->length < LONGEST) circuit->port[circuit->length++] = (uint8_t)any_port();
         break;
     case 3:
         if (circuit->length > 1) circuit->length--;
@@ -762,9 +808,9 @@ static void change_book(void) {
 static void change_table(void) {
     const struct circuit *circuit = &book[below(lines)];
     unsigned node = source_of(circuit), stop = below(circuit->length), target, channel;
-    for (unsigned hop = 0; hop < stop; hop++) node ^= 1u << circuit->port[hop];
+    for (unsigned hop = 0; hop < stop; hop++) node ^= step(circuit->port[hop] % 18u);
     target = end_of(circuit);
-    if (source_of(circuit) >= nodes || target >= nodes || node >= nodes || circuit->port[stop] >= dimension) return;
+    if (source_of(circuit) >= nodes || target >= nodes || node >= nodes || !has_port(circuit->port[stop])) return;
     channel = available_channel(target);
     switch (below(7)) {
     case 0: maze_block(table, BYTES, (uint16_t)node, circuit->port[stop]); break;
@@ -772,7 +818,7 @@ static void change_table(void) {
     case 2: case 3: case 4:
         while (available_channel(target) < 8) maze_disarm(table, BYTES, (uint16_t)target, (uint16_t)available_channel(target));
         break;
-    case 5: maze_open(table, BYTES, (uint16_t)node, (uint16_t)below(8), (uint16_t)(node ^ 1u << circuit->port[stop]), 0, (uint16_t)(1u << circuit->port[stop])); break;
+    case 5: maze_open(table, BYTES, (uint16_t)node, (uint16_t)below(8), (uint16_t)(node ^ step(circuit->port[stop])), 0, (uint16_t)step(circuit->port[stop])); break;
     default: maze_open(table, BYTES, (uint16_t)source_of(circuit), (uint16_t)((circuit->number - 1) % 8), (uint16_t)below(nodes), 4, 1);
     }
 }
@@ -784,9 +830,9 @@ static void draw_circuit(unsigned number) {
     circuit->number = number;
     circuit->length = 1 + below(dimension + 1);
     for (unsigned hop = 0; hop < circuit->length; hop++) {
-        unsigned port = below(dimension);
-        for (unsigned tries = 0; hop > 0 && walked >> port & 1 && tries < 30; tries++) port = below(dimension);
-        if (hop > 0) walked |= 1u << port;
+        unsigned port = any_port();
+        for (unsigned tries = 0; hop > 0 && (walked & step(port)) && tries < 30; tries++) port = any_port();
+        if (hop > 0) walked |= step(port);
         circuit->port[hop] = (uint8_t)port;
     }
 }

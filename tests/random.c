@@ -1,15 +1,17 @@
-/* The library beside the reference, on random lists of calls and on damaged tables of every dimension: answer for answer and byte for byte.
+/* The library beside the reference, on random lists of calls and on damaged tables of every dimension: answer for answer and byte for byte. With -DWIDE the tables are
+ * wide, of any fold mask, and then there is a stream for each fold mask of each dimension, too; tables of both kinds, and what converts them, are in store.c.
  *
  *     random [streams [seed]]
  *
- * runs that many streams of calls of each kind and dimension (20 without an argument), each from a seed of its own. At the first difference it
+ * runs that many streams of calls of each kind and dimension (20 without an argument, 10 with -DWIDE), each from a seed of its own. At the first difference it
  * shortens the list of calls as long as they still differ, prints it and stops. Otherwise it prints how often each case has occurred. Calls are
  * written as in the printed list, and beside them `T node channel` traces, `J` opens the sends that follow it together, each as behind S, `K` writes the book of the table,
  * `L circuit circuits hops` looks a circuit up in the book that stands there, `G circuits hops` judges that book, `N 0` joins the table and a second one to a third,
- * `N 1` the second and the table, `N 2` the table with itself, `P place value` writes one byte of the table, `W place value` one of the book's index and `V place value`
+ * `N 1` the second and the table, `N 2` the table with itself, `M mask` sets the fold mask, `P place value` writes one byte of the table, `W place value` one of the book's index and `V place value`
  * one of its ports, `X` exchanges the table and the second one, `Y` puts what was joined in the table's place, and `/ table of N`, `/ buffer of N`, `/ list of N`,
  * `/ ports of N`, `/ index of N`, `/ second of N` or `/ third of N` behind a call says that it was lent N bytes. */
 #include "draw.h"
+#include "near.h"
 #include "reference.h"
 #include "subject.h"
 
@@ -17,8 +19,9 @@
 #include <stdlib.h>
 #include <string.h>
 
-enum { SPARE = 32, BUFFER = 24, MOST_CALLS = 60000, LETTERS = 18, NUMBERS = MAZE_BAD_HALVES + 1, MOST_JOBS = 4000, LIST = 660 };
-enum { PORTS = MAZE_CIRCUITS_LARGEST + SPARE, INDEX = MAZE_BOOK_LINE_BYTES * MAZE_CIRCUITS_LARGEST + SPARE };
+enum { SPARE = 32, BUFFER = 24, MOST_CALLS = 60000, LETTERS = 19, NUMBERS = MAZE_BAD_HALVES + 1, MOST_JOBS = 4000, LIST = 660 };
+/* A folded table of dimension 8 has twice as many links. */
+enum { PORTS = (MAZE_PORTS / 8) * MAZE_CIRCUITS_LARGEST + SPARE, INDEX = MAZE_BOOK_LINE_BYTES * MAZE_CIRCUITS_LARGEST + SPARE };
 
 static int one_in(unsigned count) {
     return below(count) == 0;
@@ -26,7 +29,7 @@ static int one_in(unsigned count) {
 
 /* ---- calls, and both tables ---- */
 
-static const char letters[] = "FBESCRDTJKLGNWVPXY";
+static const char letters[] = "FBESCRDTJKLGNMWVPXY";
 
 static size_t letter_place(char letter) {
     return (size_t)(strchr(letters, letter) - letters);
@@ -58,6 +61,35 @@ struct answers {
 };
 
 static struct pair now;
+
+/* ---- the ports of the table's cube ---- */
+
+#ifdef WIDE
+static unsigned fold_mask(void) {
+    return maze_wide_fold_mask(now.table[1]);
+}
+#else
+static unsigned fold_mask(void) {
+    return 0;
+}
+#endif
+
+static unsigned axis(unsigned port) {
+    return port < 9 ? port : 17 - port;
+}
+
+static int has_port(unsigned dimension, unsigned port) {
+    return axis(port) < dimension && (port < 9 || (fold_mask() >> axis(port) & 1));
+}
+
+static unsigned any_port(unsigned dimension) {
+    unsigned port = below(dimension);
+    return (fold_mask() >> port & 1) && one_in(2) ? 17 - port : port;
+}
+
+static unsigned behind(unsigned node, unsigned port) {
+    return node ^ 1u << axis(port);
+}
 
 /* The table and the second one in the order of the call, or the table twice. */
 static uint16_t join(uint16_t (*joins)(const uint8_t *, size_t, const uint8_t *, size_t, uint8_t *, size_t), const struct call *call, struct pair *on, int side) {
@@ -120,6 +152,9 @@ static struct answers run(const struct call *call, struct pair *on) {
         number[1] = ref_judge(ref, length, on->ports[1], call->ports_len, on->index[1], call->index_len, a[0], a[1]);
         break;
     case 'N': number[0] = join(maze_join, call, on, 0), number[1] = join(ref_join, call, on, 1); break;
+#ifdef WIDE
+    case 'M': number[0] = maze_wide_fold(lib, length, a[0]), number[1] = ref_wide_fold(ref, length, a[0]); break;
+#endif
     case 'X': exchange(on); break;
     case 'Y': memcpy(on->table, on->joined, sizeof on->table); break;
     case 'W': on->index[0][a[0]] = on->index[1][a[0]] = (uint8_t)a[1]; break;
@@ -159,7 +194,7 @@ static struct call list[MOST_CALLS];
 static size_t calls;
 
 static void print_call(const struct call *call) {
-    static const int arguments[LETTERS] = {1, 2, 2, 5, 2, 2, 2, 2, 0, 0, 3, 2, 1, 2, 2, 2, 0, 0};
+    static const int arguments[LETTERS] = {1, 2, 2, 5, 2, 2, 2, 2, 0, 0, 3, 2, 1, 1, 2, 2, 2, 0, 0};
     int count = arguments[letter_place(call->letter)];
     printf("%c", call->letter);
     for (int i = 0; i < count; i++) printf(" %u", (unsigned)call->argument[i]);
@@ -249,6 +284,7 @@ static struct {
     unsigned long joined_circuits, joined_orders[3], joined_long, joined_crossed, joined_damaged, joined_damaged_sound;
     unsigned long judged_several, judged_long, judged_beside, judged_open, judged_unarmed;
     unsigned long job_several, job_long, job_empty, job_first, job_middle, job_last;
+    unsigned long folded, unfolded, folded_alike, partner_opened, partner_blocked, from_last, back_by_partner, both_of_pair, full_and_armed, book_folded;
     unsigned long helix_first, helix_later, helix_none, helix_received, helix_received_later, fixed_taken, fixed_rejected, fixed_received, partly_free;
 } seen;
 
@@ -256,12 +292,15 @@ static void count_held(unsigned long *held, unsigned long *links, unsigned long 
     const uint8_t *table = now.table[1];
     unsigned dimension = MAZE_DIMENSION(table) > MAZE_DIMENSION_LARGEST ? 0 : MAZE_DIMENSION(table);
     *held = *blocked = 0;
-    *links = MAZE_DIMENSION(table) > MAZE_DIMENSION_LARGEST ? 1 : (unsigned long)MAZE_DIMENSION(table) << MAZE_DIMENSION(table);
+    *links = 0;
     for (unsigned node = 0; node < MAZE_NODES; node++)
         for (unsigned port = 0; port < MAZE_PORTS; port++) {
+            const int there = node < 1u << dimension && has_port(dimension, port);
             *held += MAZE_LINK_CIRCUIT(table, node, port) != 0;
-            *blocked += port < dimension && node < 1u << dimension && !MAZE_LINK_ENABLED(table, node, port);
+            *links += (unsigned)there;
+            *blocked += there && !MAZE_LINK_ENABLED(table, node, port);
         }
+    if (*links == 0) *links = 1;
 }
 
 static unsigned circuits_of(const uint8_t *table) {
@@ -301,7 +340,7 @@ static void tally(const struct call *call, const struct answers *answers, unsign
     if (call->letter == 'K') {
         unsigned long circuits = answers->value[1][4], hops = answers->value[1][1];
         if (number == MAZE_ACCEPTED) {
-            seen.book_empty += circuits == 0, seen.book_several += circuits > 1, seen.book_long += circuits > 256, seen.book_whole += hops == MAZE_CIRCUITS_LARGEST;
+            seen.book_empty += circuits == 0, seen.book_several += circuits > 1, seen.book_long += circuits > 256, seen.book_whole += hops == MAZE_CIRCUITS_LARGEST, seen.book_folded += hops > MAZE_CIRCUITS_LARGEST;
             seen.book_exact += hops > 0 && call->ports_len == hops && call->index_len == MAZE_BOOK_LINE_BYTES * circuits;
             for (unsigned long i = 0; i < circuits; i++) {
                 const uint8_t *line = now.index[1] + MAZE_BOOK_LINE_BYTES * i;
@@ -334,6 +373,11 @@ static void tally(const struct call *call, const struct answers *answers, unsign
         if (!none && blocked > 0) seen.helped_past_blocked++;
     }
     if (scouts > seen.most_scouts) seen.most_scouts = scouts;
+    if (number == MAZE_RECEIVE_REJECTED) {
+        unsigned channel = 0;
+        while (channel < MAZE_CHANNELS && MAZE_RECEIVE_ARMED(now.table[1], a[2], channel)) channel++;
+        seen.full_and_armed += channel == MAZE_CHANNELS; /* only where dimensions are folded */
+    }
     if (10 * held >= 9 * links) {
         seen.nearly_full++;
         seen.nearly_full_accepted += number == MAZE_ACCEPTED;
@@ -356,12 +400,20 @@ static void tally(const struct call *call, const struct answers *answers, unsign
         *(all_ports ? &seen.receive_ended_no_port : &seen.receive_ended) += 1;
     }
     if (number == MAZE_ACCEPTED) {
-        unsigned uphill = (a[0] ^ a[2]) >> ref_last_send.ports[0] & 1, passed_over = 0;
+        unsigned uphill = (a[0] ^ a[2]) >> axis(ref_last_send.ports[0]) & 1, passed_over = 0, at = a[0], partner = 0, shared = 0;
         for (unsigned channel = 0; channel < answers->value[1][2]; channel++) passed_over |= MAZE_RECEIVE_CIRCUIT(now.table[1], a[2], channel) == 0;
         seen.passed_over += passed_over; /* a lower channel that no circuit holds: it is not armed */
         seen.hops[ref_last_send.hops]++;
         seen.first_hop_away += !uphill;
-        seen.through_source += ref_last_send.hops > 2 && ref_last_send.ports[0] == ref_last_send.ports[1];
+        seen.through_source += ref_last_send.hops > 2 && axis(ref_last_send.ports[0]) == axis(ref_last_send.ports[1]);
+        seen.back_by_partner += ref_last_send.hops > 1 && ref_last_send.ports[0] + ref_last_send.ports[1] == 17;
+        for (unsigned hop = 0; hop < ref_last_send.hops; at = behind(at, ref_last_send.ports[hop++])) {
+            const unsigned port = ref_last_send.ports[hop], other = port < 8 || port > 9 ? MAZE_LINK_CIRCUIT(now.table[1], at, 17 - port) : 0;
+            partner |= port > 9;
+            shared |= other != 0 && other != MAZE_CIRCUIT(a[0], a[1]);
+            seen.from_last += port == 17 && hop + 1u < ref_last_send.hops;
+        }
+        seen.partner_opened += partner, seen.both_of_pair += shared;
         seen.to_itself += a[0] == a[2];
         for (unsigned hop = 0, crossed = 0; hop < ref_last_send.hops && !crossed; hop++)
             if (ref_last_send.ports[hop] == new_port) crossed = 1, seen.joined_crossed++;
@@ -381,8 +433,10 @@ static unsigned long last_number, last_circuits, last_hops; /* the last two of t
 static void make_call(struct call call) {
     struct answers answers;
     unsigned long held = 0, links = 1, blocked = 0;
+    unsigned fold;
     int armed = 0;
     if (differs || calls == MOST_CALLS) return;
+    fold = fold_mask();
     if (call.letter == 'S') count_held(&held, &links, &blocked);
     if (call.letter == 'K') held = booked_circuits(), links = booked_hops();
     if (call.letter == 'G') held = booked_circuits();
@@ -401,6 +455,8 @@ static void make_call(struct call call) {
         seen.armed_held += MAZE_RECEIVE_CIRCUIT(now.table[1], call.argument[0], call.argument[1]) != 0;
     }
     seen.disarmed_again += call.letter == 'D' && last_number == MAZE_ACCEPTED && !armed;
+    if (call.letter == 'M' && last_number == MAZE_ACCEPTED) *(fold == fold_mask() ? &seen.folded_alike : fold & ~fold_mask() ? &seen.unfolded : &seen.folded) += 1;
+    seen.partner_blocked += call.letter == 'B' && last_number == MAZE_ACCEPTED && call.argument[1] > 9;
     if (call.letter == 'F') new_port = MAZE_PORTS;
     if (call.letter == 'Y') new_port = MAZE_DIMENSION(now.table[1]) - 1u;
     if (!strchr("PWVXY", call.letter)) tally(&call, &answers, held, links, blocked);
@@ -459,7 +515,7 @@ static unsigned any_type(void) {
 }
 
 static struct call any_send(unsigned dimension) {
-    unsigned node = any_node(dimension), target = one_in(8) ? node : any_node(dimension);
+    unsigned node = any_node(dimension), target = one_in(8) ? node : near_to(fold_mask(), node, any_node(dimension));
     return sending(node, one_in(8) ? below(8) : free_channel(node), target, any_type(), any_vector(dimension, node, target));
 }
 
@@ -537,6 +593,7 @@ static struct call any_judging(void) {
     return call;
 }
 
+#ifndef WIDE
 /* A length of a table: now and then a wrong one. */
 static uint16_t any_length(void) {
     static const uint16_t lengths[] = {0, 1, MAZE_ARMED_AT, MAZE_TABLE_BYTES - 1, MAZE_TABLE_BYTES + 1, MAZE_TABLE_BYTES + SPARE};
@@ -548,11 +605,12 @@ static struct call any_joining(void) {
     call.table_len = any_length(), call.other_len = any_length(), call.joined_len = any_length();
     return call;
 }
+#endif
 
 /* A circuit that is open, by chance; or any node and channel. */
 static void any_circuit(unsigned dimension, unsigned *node, unsigned *channel) {
     for (int tries = 0; tries < 20; tries++) {
-        unsigned circuit = MAZE_LINK_CIRCUIT(now.table[1], any_node(dimension), below(dimension));
+        unsigned circuit = MAZE_LINK_CIRCUIT(now.table[1], any_node(dimension), any_port(dimension));
         if (circuit != 0) {
             *node = MAZE_CIRCUIT_NODE(circuit);
             *channel = MAZE_CIRCUIT_CHANNEL(circuit);
@@ -578,11 +636,29 @@ static struct call on_receive(char letter, unsigned dimension) {
     return plain(letter, any_node(dimension), below(8));
 }
 
+#ifdef WIDE
+static unsigned any_mask(unsigned dimension) {
+    switch (below(5)) {
+    case 0: return fold_mask();
+    case 1: case 2: return fold_mask() ^ 1u << below(dimension);
+    case 3: return one_in(2) ? 0 : (1u << dimension) - 1;
+    default: return below(1u << dimension);
+    }
+}
+#endif
+
 /* A call some of whose numbers are out of range. */
 static struct call odd_call(unsigned dimension) {
     static const uint16_t lengths[] = {0, 1, 256, MAZE_ARMED_AT, MAZE_TABLE_BYTES - 1, MAZE_TABLE_BYTES + 1, MAZE_TABLE_BYTES + SPARE};
     static const unsigned types[] = {0, 4, 1, 2, 3, 5, 6, 7, 8, 256, 257, 259, 260, 65535};
     struct call call = any_send(dimension);
+#ifdef WIDE
+    if (one_in(10)) {
+        call = plain('M', one_in(3) ? any_mask(dimension) : odd_number(1u << dimension), 0);
+        if (one_in(4)) call.table_len = lengths[below(sizeof lengths / sizeof *lengths)];
+        return call;
+    }
+#endif
     call.letter = "FBESSSCTRDJKG"[below(13)];
     if (call.letter == 'F') {
         call.argument[0] = (uint16_t)(one_in(4) ? 256 + dimension : one_in(2) ? 0 : 9 + below(60000));
@@ -612,6 +688,9 @@ static struct call odd_call(unsigned dimension) {
 static struct call any_call(unsigned dimension) {
     unsigned choice = below(100);
     struct call call;
+#ifdef WIDE
+    if (one_in(24)) return plain('M', any_mask(dimension), 0);
+#endif
     if (choice < 40) return any_send(dimension);
     if (choice < 43) return any_job(dimension);
     if (choice < 44) return one_in(2) ? any_book() : one_in(2) ? any_lookup() : any_judging();
@@ -623,8 +702,8 @@ static struct call any_call(unsigned dimension) {
     }
     if (choice < 80) return on_receive('R', dimension);
     if (choice < 84) return on_receive('D', dimension);
-    if (choice < 90) return plain('B', any_node(dimension), below(dimension));
-    if (choice < 95) return plain('E', any_node(dimension), below(dimension));
+    if (choice < 90) return plain('B', any_node(dimension), any_port(dimension));
+    if (choice < 95) return plain('E', any_node(dimension), any_port(dimension));
     return odd_call(dimension);
 }
 
@@ -660,9 +739,9 @@ static void filled(unsigned dimension) {
     arm_nodes(dimension, 1);
     for (unsigned i = 0; i < nodes; i++) make_call(any_send(dimension));
     for (unsigned node = 0; node < nodes; node++)
-        for (unsigned port = 0; port < dimension; port++)
-            if (MAZE_LINK_CIRCUIT(now.table[1], node, port) == 0)
-                make_call(sending(node, free_channel(node), node ^ 1u << port, good_type(), 1u << port));
+        for (unsigned port = 0; port < MAZE_PORTS; port++)
+            if (has_port(dimension, port) && MAZE_LINK_CIRCUIT(now.table[1], node, port) == 0)
+                make_call(sending(node, free_channel(node), behind(node, port), good_type(), 1u << axis(port)));
     for (unsigned i = 0; i < holes; i++) make_call(on_circuit('C', dimension));
     for (unsigned i = 0; i < 40; i++) make_call(any_send(dimension));
     for (unsigned i = 0; i < 60; i++) make_call(any_call(dimension));
@@ -673,8 +752,8 @@ static void thinned(unsigned dimension) {
     unsigned nodes = 1u << dimension, share = 2 + below(4);
     arm_nodes(dimension, 2);
     for (unsigned node = 0; node < nodes; node++)
-        for (unsigned port = 0; port < dimension; port++)
-            if (one_in(share)) make_call(plain('B', node, port));
+        for (unsigned port = 0; port < MAZE_PORTS; port++)
+            if (has_port(dimension, port) && one_in(share)) make_call(plain('B', node, port));
     for (unsigned i = 0; i < 60; i++) make_call(any_call(dimension));
 }
 
@@ -685,18 +764,21 @@ static void walled(unsigned dimension) {
     for (unsigned i = 0; i < 6; i++) {
         unsigned target = any_node(dimension), gap = below(2 * dimension), node;
         int hold = one_in(3);
-        for (unsigned port = 0; port < dimension; port++) {
-            node = target ^ 1u << port;
-            if (port == gap) continue;
-            if (hold) make_call(sending(node, free_channel(node), target, 0, 1u << port));
+        if (fold_mask() != 0 && gap < dimension && one_in(2)) gap = 17 - gap;
+        for (unsigned port = 0; port < MAZE_PORTS; port++) {
+            node = behind(target, port);
+            if (port == gap || !has_port(dimension, port)) continue;
+            if (hold) make_call(sending(node, free_channel(node), target, 0, 1u << axis(port)));
             else make_call(plain('B', node, port));
         }
         for (unsigned j = 0; j < 3; j++) {
             node = target ^ all;
             if (!one_in(3)) node ^= 1u << below(dimension);
+            node = near_to(fold_mask(), target, node);
             make_call(sending(node, free_channel(node), target, any_type(), one_in(2) ? all : any_vector(dimension, node, target)));
         }
-        for (unsigned port = 0; port < dimension; port++) make_call(plain('E', target ^ 1u << port, port));
+        for (unsigned port = 0; port < MAZE_PORTS; port++)
+            if (has_port(dimension, port)) make_call(plain('E', behind(target, port), port));
     }
 }
 
@@ -705,7 +787,10 @@ static unsigned place(unsigned dimension) {
     const uint8_t *table = now.table[1];
     if (one_in(8)) return below(MAZE_TABLE_BYTES);
     if (one_in(20)) return MAZE_DIMENSION_AT;
-    if (one_in(6)) return MAZE_ENABLED_AT + (one_in(4) ? below(MAZE_NODES) : any_node(dimension));
+#ifdef WIDE
+    if (one_in(20)) return MAZE_WIDE_FOLD_AT;
+#endif
+    if (one_in(6)) return enabled_at(one_in(4) ? below(MAZE_NODES) : any_node(dimension)) + below(MASK_BYTES);
     if (one_in(12)) return MAZE_ARMED_AT + below(2u << dimension) % MAZE_NODES; /* of a node, or of one just behind the last */
     if (one_in(8)) {
         unsigned node = any_node(dimension);
@@ -713,16 +798,31 @@ static unsigned place(unsigned dimension) {
         return MAZE_ARMED_AT + node;
     }
     for (int tries = 0; tries < 40; tries++) {
-        unsigned node = any_node(dimension), slot = below(8), part = one_in(2) ? MAZE_LINKS_AT : MAZE_RECEIVES_AT;
-        unsigned at = part + 2 * (8 * node + slot);
+        unsigned node = any_node(dimension), slot = below(8);
+        unsigned at = one_in(2) ? link_at(node, one_in(4) ? below(MAZE_PORTS) : slot) : receive_at(node, slot);
         if (table[at] != 0 || table[at + 1] != 0 || one_in(20)) return at + (one_in(4) ? 1 : 0);
     }
-    return MAZE_LINKS_AT + below(2 * 2 * 8 * MAZE_NODES);
+    return MAZE_LINKS_AT + below(MAZE_ARMED_AT - MAZE_LINKS_AT);
+}
+
+/* A made table; where it is wide, with the fold mask that is wanted or, if none is, with any. Written as a byte it comes with every partner link blocked. */
+#ifdef WIDE
+enum { ANY_MASK = 256 };
+static unsigned wanted_mask = ANY_MASK;
+#endif
+
+static void make_table(unsigned dimension) {
+    make_call(plain('F', dimension, 0));
+#ifdef WIDE
+    if (wanted_mask != ANY_MASK) make_call(plain('M', wanted_mask, 0));
+    else if (one_in(8)) make_call(plain('P', MAZE_WIDE_FOLD_AT, below(1u << dimension)));
+    else if (one_in(2)) make_call(plain('M', any_mask(dimension), 0));
+#endif
 }
 
 /* A made table, channels armed, and some sends. */
 static void anew(unsigned dimension) {
-    make_call(plain('F', dimension, 0));
+    make_table(dimension);
     arm_nodes(dimension, 2);
     for (unsigned i = 0; i < 2 * dimension + 4; i++) make_call(any_send(dimension));
 }
@@ -769,10 +869,10 @@ static void rewritten(unsigned dimension) {
     anew(dimension);
     for (unsigned i = 0; i < 60; i++) {
         const uint8_t *table = now.table[1];
-        unsigned node = any_node(dimension), slot = below(8), other = below(8), from = MAZE_RECEIVES_AT + 2 * (8 * node + slot), to;
+        unsigned node = any_node(dimension), slot = below(8), other = below(8), from = receive_at(node, slot), to;
         for (int tries = 0; tries < 30 && MAZE_RECEIVE_CIRCUIT(table, node, slot) == 0; tries++)
-            node = any_node(dimension), slot = below(8), from = MAZE_RECEIVES_AT + 2 * (8 * node + slot);
-        to = MAZE_RECEIVES_AT + 2 * (8 * (one_in(10) ? any_node(dimension) : node) + other);
+            node = any_node(dimension), slot = below(8), from = receive_at(node, slot);
+        to = receive_at(one_in(10) ? any_node(dimension) : node, other);
         if (from != to && table[to] == 0 && table[to + 1] == 0) {
             /* the receive channel moved: sound if it stays at its node and is armed */
             make_call(plain('P', to, table[from]));
@@ -789,7 +889,7 @@ static void rewritten(unsigned dimension) {
 }
 
 static void write_entry(unsigned part, unsigned node, unsigned slot, unsigned circuit) {
-    unsigned at = part + 2 * (8 * node + slot);
+    unsigned at = part == MAZE_LINKS_AT ? link_at(node, slot) : receive_at(node, slot);
     make_call(plain('P', at, circuit % 256));
     make_call(plain('P', at + 1, circuit / 256));
 }
@@ -808,12 +908,15 @@ static void laid(unsigned dimension) {
                 if (MAZE_LINK_CIRCUIT(table, n, slot) == circuit || MAZE_RECEIVE_CIRCUIT(table, n, slot) == circuit) clear = 0;
         node[0] = source;
         for (unsigned hop = 0; hop < hops; hop++) {
-            do port[hop] = below(dimension);
-            while (hop > 0 && fault != 1 && walked >> port[hop] & 1);
-            if (hop > 0) walked |= 1u << port[hop];
-            if (hop == 1 && one_in(3) && fault != 1) walked = 1u << (port[hop] = port[0]); /* back through the source */
+            do port[hop] = any_port(dimension);
+            while (hop > 0 && fault != 1 && walked >> axis(port[hop]) & 1);
+            if (hop > 0) walked |= 1u << axis(port[hop]);
+            if (hop == 1 && one_in(3) && fault != 1) { /* back through the source, by the same port or its partner */
+                port[hop] = has_port(dimension, 17 - port[0]) && one_in(2) ? 17 - port[0] : port[0];
+                walked = 1u << axis(port[hop]);
+            }
             if (MAZE_LINK_CIRCUIT(table, node[hop], port[hop]) != 0 || !MAZE_LINK_ENABLED(table, node[hop], port[hop])) clear = 0;
-            node[hop + 1] = node[hop] ^ 1u << port[hop];
+            node[hop + 1] = behind(node[hop], port[hop]);
         }
         end = node[hops];
         if (!clear || MAZE_RECEIVE_CIRCUIT(table, end, channel) != 0) continue;
@@ -823,7 +926,7 @@ static void laid(unsigned dimension) {
         make_call(plain('P', MAZE_ARMED_AT + end, fault == 6 ? table[MAZE_ARMED_AT + end] & ~(1u << channel) : table[MAZE_ARMED_AT + end] | 1u << channel));
         switch (fault) { /* 1 was a port walked twice, 6 a channel that is not armed */
         case 2: write_entry(MAZE_LINKS_AT, node[below(hops)], port[below(hops)], 0); break;
-        case 3: write_entry(MAZE_LINKS_AT, any_node(dimension), below(8), circuit); break;
+        case 3: write_entry(MAZE_LINKS_AT, any_node(dimension), below(MAZE_PORTS), circuit); break;
         case 4: write_entry(MAZE_RECEIVES_AT, end, channel, 0), write_entry(MAZE_RECEIVES_AT, node[below(hops)], channel, circuit); break;
         case 5: write_entry(MAZE_RECEIVES_AT, any_node(dimension), below(8), circuit); break;
         default: break;
@@ -858,30 +961,44 @@ static void contended(unsigned dimension) {
     }
 }
 
-/* Some links near a source and a target blocked, and all others held by a circuit of their own: which of 10 and 22 a rejected send gets is not to be
- * read off the links that it meets. Then circuits are closed one by one. */
+/* Every link that is enabled is held, in a table where no circuit is: that of port p by channel p of its node, alone; or, where p is folded, together with the partner link
+ * back, which is blocked where the other is. */
+static void hold_all(unsigned dimension) {
+    for (unsigned node = 0; node < 1u << dimension; node++)
+        for (unsigned port = 0; port < dimension; port++) {
+            const unsigned circuit = MAZE_CIRCUIT(node, port), other = behind(node, port), partner = 17 - port;
+            const int enabled = MAZE_LINK_ENABLED(now.table[1], node, port);
+            if (!has_port(dimension, partner)) {
+                if (enabled) write_entry(MAZE_LINKS_AT, node, port, circuit), write_entry(MAZE_RECEIVES_AT, other, port, circuit);
+            } else if (enabled && MAZE_LINK_ENABLED(now.table[1], other, partner)) {
+                write_entry(MAZE_LINKS_AT, node, port, circuit), write_entry(MAZE_LINKS_AT, other, partner, circuit);
+                write_entry(MAZE_RECEIVES_AT, node, port, circuit);
+            } else {
+                make_call(plain('B', node, port));
+                make_call(plain('B', other, partner));
+            }
+        }
+}
+
+/* Some links near a source and a target blocked, and all others held: which of 10 and 22 a rejected send gets is not to be read off the links that it meets. Then circuits
+ * are closed one by one. */
 static void stopped(unsigned dimension) {
-    unsigned nodes = 1u << dimension, source = any_node(dimension), target = one_in(6) ? source : any_node(dimension), blocks = 1 + below(3 * dimension);
+    unsigned nodes = 1u << dimension, source = any_node(dimension), target = one_in(6) ? source : near_to(fold_mask(), source, any_node(dimension)), blocks = 1 + below(3 * dimension);
     for (unsigned i = 0; i < blocks; i++) {
-        unsigned node = one_in(2) ? source : target, port = below(dimension);
-        if (one_in(2)) node ^= 1u << port; /* into the node */
+        unsigned node = one_in(2) ? source : target, port = any_port(dimension);
+        if (one_in(2)) node = behind(node, port); /* into the node */
         if (one_in(3)) node ^= 1u << below(dimension);
         make_call(plain('B', node, port));
     }
     for (unsigned node = 0; node < nodes; node++) make_call(plain('P', MAZE_ARMED_AT + node, 255));
-    for (unsigned node = 0; node < nodes; node++)
-        for (unsigned port = 0; port < dimension; port++)
-            if (MAZE_LINK_ENABLED(now.table[1], node, port)) {
-                write_entry(MAZE_LINKS_AT, node, port, MAZE_CIRCUIT(node, port));
-                write_entry(MAZE_RECEIVES_AT, node ^ 1u << port, port, MAZE_CIRCUIT(node, port));
-            }
+    hold_all(dimension);
     for (unsigned i = 0; i < 80; i++) {
         unsigned node = one_in(3) ? source ^ 1u << below(dimension) : source, port = below(dimension);
         switch (below(6)) {
         case 0: make_call(plain('C', node, port)); break;
         case 1: make_call(plain('C', target ^ 1u << port, port)); break;
         case 2: make_call(on_circuit('C', dimension)); break;
-        default: make_call(sending(node, free_channel(node), one_in(8) ? any_node(dimension) : target, good_type(), any_vector(dimension, node, target)));
+        default: make_call(sending(node, free_channel(node), one_in(8) ? near_to(fold_mask(), node, any_node(dimension)) : target, good_type(), any_vector(dimension, node, target)));
         }
     }
 }
@@ -974,14 +1091,10 @@ static void booked(unsigned dimension) {
     arm_nodes(dimension, 1);
     for (unsigned round = 0; round < rounds; round++) {
         unsigned sends = below(8 << round);
-        if (round + 1 == rounds && one_in(3)) { /* each free link a circuit of its own */
-            anew(dimension);
+        if (round + 1 == rounds && one_in(3)) { /* every link held */
+            make_table(dimension);
             for (unsigned node = 0; node < nodes; node++) make_call(plain('P', MAZE_ARMED_AT + node, 255));
-            for (unsigned node = 0; node < nodes; node++)
-                for (unsigned port = 0; port < dimension; port++) {
-                    write_entry(MAZE_LINKS_AT, node, port, MAZE_CIRCUIT(node, port));
-                    write_entry(MAZE_RECEIVES_AT, node ^ 1u << port, port, MAZE_CIRCUIT(node, port));
-                }
+            hold_all(dimension);
         } else {
             for (unsigned i = 0; i < sends; i++) make_call(any_send(dimension));
             if (one_in(2)) make_call(on_circuit('C', dimension));
@@ -1031,7 +1144,7 @@ static void judged(unsigned dimension) {
     unsigned rounds = 3 + below(3);
     for (unsigned round = 0; round < rounds && !differs; round++) {
         unsigned sends = below(16 << round), how = below(3);
-        make_call(plain('F', dimension, 0));
+        make_table(dimension);
         if (!one_in(3)) arm_nodes(dimension, 1 + below(2));
         else
             for (unsigned node = 0; node < 1u << dimension; node++) make_call(plain('P', MAZE_ARMED_AT + node, 1u << below(8)));
@@ -1051,7 +1164,7 @@ static void judged(unsigned dimension) {
             unsigned place = below((unsigned)last_hops), old = now.ports[1][place];
             switch (below(7)) {
             case 0: case 1:
-                make_call(plain('V', place, below(one_in(4) ? 256 : dimension)));
+                make_call(plain('V', place, one_in(4) ? below(256) : one_in(3) ? (17 - old) % 256 : any_port(dimension)));
                 make_call(own_judging());
                 make_call(plain('V', place, old));
                 break;
@@ -1061,7 +1174,7 @@ static void judged(unsigned dimension) {
                 make_call(own_judging());
                 make_call(plain('W', place, old));
                 break;
-            case 3: make_call(plain('B', any_node(dimension), below(dimension))); break;
+            case 3: make_call(plain('B', any_node(dimension), any_port(dimension))); break;
             case 4: make_call(on_receive('D', dimension)); break;
             case 5: make_call(any_send(dimension)); break;
             default: make_call(any_judging());
@@ -1071,6 +1184,7 @@ static void judged(unsigned dimension) {
     }
 }
 
+#ifndef WIDE
 /* A table with circuits and some links blocked: one to join. */
 static void half(unsigned dimension) {
     unsigned sends = one_in(5) ? 0 : below(6u << below(dimension + 1)), blocks = one_in(2) ? 0 : below(1u << dimension);
@@ -1104,6 +1218,7 @@ static void joined(unsigned dimension) {
         for (unsigned i = 0; i < 40; i++) make_call(any_call(dimension + 1));
     }
 }
+#endif
 
 static const struct {
     const char *name;
@@ -1111,7 +1226,10 @@ static const struct {
 } kinds[] = {
     {"mixed", mixed},     {"refusals", refusals},   {"filled", filled}, {"thinned", thinned},     {"walled", walled},
     {"damaged", damaged}, {"rewritten", rewritten}, {"laid", laid},     {"contended", contended}, {"stopped", stopped},
-    {"together", together}, {"booked", booked},     {"judged", judged}, {"joined", joined},
+    {"together", together}, {"booked", booked},     {"judged", judged},
+#ifndef WIDE
+    {"joined", joined},
+#endif
 };
 
 static void print_seen(void) {
@@ -1153,9 +1271,16 @@ static void print_seen(void) {
     for (int fault = 1; fault < FAULTS; fault++) printf("%s %s: %lu", fault > 1 ? ";" : "", fault_names[fault], seen.fault[fault]);
     printf("\njudged and accepted: books of several circuits: %lu, of more than 64: %lu, beside open circuits: %lu; refused with their circuits open: %lu; closed and not armed: %lu",
            seen.judged_several, seen.judged_long, seen.judged_beside, seen.judged_open, seen.judged_unarmed);
+#ifdef WIDE
+    printf("\nfold masks that gained dimensions: %lu, that lost some: %lu, set again: %lu; opens over a partner: %lu, beside another circuit on a pair: %lu, back over the partner: %lu, "
+           "on from port 17: %lu\n11 with all eight channels armed: %lu; partners blocked: %lu; books of more than 2,048 hops: %lu",
+           seen.folded, seen.unfolded, seen.folded_alike, seen.partner_opened, seen.both_of_pair, seen.back_by_partner, seen.from_last, seen.full_and_armed, seen.partner_blocked,
+           seen.book_folded);
+#else
     printf("\njoined with circuits in both: %lu, with more than 256 in all: %lu; the table first: %lu, second: %lu, both: %lu; opens over the new port: %lu", seen.joined_circuits,
            seen.joined_long, seen.joined_orders[0], seen.joined_orders[1], seen.joined_orders[2], seen.joined_crossed);
     printf("\njoinings with a byte changed: %lu, still sound: %lu", seen.joined_damaged, seen.joined_damaged_sound);
+#endif
     printf("\nrejected after 1,000 scouts or more: %lu; after 10,000 or more: %lu; most scouts of a send: %lu\n", seen.rejected_1000,
            seen.rejected_10000, seen.most_scouts);
     printf("opens with nine tenths of the links held: %lu, accepted: %lu; with all held: %lu; with all receive channels held: %lu\n",
@@ -1167,30 +1292,40 @@ static void print_seen(void) {
     printf("wrong lengths: %lu; short buffers: %lu\n", seen.wrong_length, seen.short_buffer);
 }
 
+static unsigned long passed;
+
+static void run_stream(size_t kind, unsigned dimension, uint64_t seed) {
+    random_state = seed;
+    calls = jobs = 0;
+    last_circuits = last_hops = 0;
+    start(&now);
+    make_table(dimension);
+    kinds[kind].run(dimension);
+    if (differs) {
+        report(dimension, kinds[kind].name, seed);
+        printf("%lu passed, 1 failed\n", passed);
+        exit(1);
+    }
+    passed++;
+}
+
 int main(int count, char **arguments) {
-    unsigned long streams = count > 1 ? strtoul(arguments[1], NULL, 10) : 20;
+    const unsigned long enough = MAZE_PORTS == 8 ? 20 : 10;
+    unsigned long streams = count > 1 ? strtoul(arguments[1], NULL, 10) : enough;
     uint64_t seed = count > 2 ? strtoull(arguments[2], NULL, 10) : 1;
-    unsigned long passed = 0;
     for (unsigned long stream = 0; stream < streams; stream++)
         for (size_t kind = 0; kind < sizeof kinds / sizeof *kinds; kind++)
-            for (unsigned dimension = 1; dimension <= MAZE_DIMENSION_LARGEST; dimension++) {
-                uint64_t own = seed * 1000000007u + stream * 1009 + kind * 16 + dimension;
-                random_state = own;
-                calls = jobs = 0;
-                last_circuits = last_hops = 0;
-                start(&now);
-                make_call(plain('F', dimension, 0));
-                kinds[kind].run(dimension);
-                if (differs) {
-                    report(dimension, kinds[kind].name, own);
-                    printf("%lu passed, 1 failed\n", passed);
-                    return 1;
-                }
-                passed++;
-            }
+            for (unsigned dimension = 1; dimension <= MAZE_DIMENSION_LARGEST; dimension++) run_stream(kind, dimension, seed * 1000000007u + stream * 1009 + kind * 16 + dimension);
+#ifdef WIDE
+    for (unsigned dimension = 1; dimension <= MAZE_DIMENSION_LARGEST; dimension++)
+        for (unsigned mask = 0; mask < 1u << dimension && streams >= enough; mask++) {
+            wanted_mask = mask;
+            for (unsigned i = 0; i < (dimension < 6 ? 4 : 1); i++) run_stream((mask + dimension + 2 * i) % (sizeof kinds / sizeof *kinds), dimension, seed * 1000000009u + 4096 * i + 256 * dimension + mask);
+        }
+#endif
     print_seen();
     /* Streams that no longer reach the edges compare nothing worth comparing. */
-    if (streams >= 20) {
+    if (streams >= enough) {
         const struct {
             const char *what;
             unsigned long times;
@@ -1261,7 +1396,9 @@ int main(int count, char **arguments) {
             {"a book of no circuit", seen.book_empty},
             {"a book of several circuits", seen.book_several},
             {"a book of more than 256 circuits", seen.book_long},
+#ifndef WIDE
             {"a book of 2,048 hops", seen.book_whole},
+#endif
             {"a book in buffers that just hold it", seen.book_exact},
             {"a book with short ports alone", seen.ports_short},
             {"a book with a short index alone", seen.index_short},
@@ -1302,6 +1439,22 @@ int main(int count, char **arguments) {
             {"a judged book with too few channels", seen.answers[letter_place('G')][MAZE_RECEIVE_REJECTED]},
             {"a book judged by a table that is not sound", seen.answers[letter_place('G')][MAZE_NOT_SOUND]},
             {"a book judged by a table of a wrong length", seen.answers[letter_place('G')][MAZE_BAD_LENGTH]},
+#ifdef WIDE
+            {"a dimension folded", seen.folded},
+            {"a dimension unfolded", seen.unfolded},
+            {"a fold mask set again", seen.folded_alike},
+            {"a fold bit at or above the dimension", seen.answers[letter_place('M')][MAZE_BAD_PORT]},
+            {"a held partner not unfolded", seen.answers[letter_place('M')][MAZE_LINK_HELD]},
+            {"a fold mask for a table that is not sound", seen.answers[letter_place('M')][MAZE_NOT_SOUND]},
+            {"a fold mask for a table of a wrong length", seen.answers[letter_place('M')][MAZE_BAD_LENGTH]},
+            {"an open over a partner", seen.partner_opened},
+            {"an open beside another circuit on a pair", seen.both_of_pair},
+            {"a way back over the partner", seen.back_by_partner},
+            {"a hop behind port 17", seen.from_last},
+            {"11 with all eight channels armed", seen.full_and_armed},
+            {"a partner blocked", seen.partner_blocked},
+            {"a book of more than 2,048 hops", seen.book_folded},
+#else
             {"a joining of tables with circuits in both", seen.joined_circuits},
             {"a joining with more than 256 circuits", seen.joined_long},
             {"a joining of the table and the second one", seen.joined_orders[0]},
@@ -1314,6 +1467,7 @@ int main(int count, char **arguments) {
             {"a joining of tables of no dimension", seen.answers[letter_place('N')][MAZE_BAD_DIMENSION]},
             {"a joining of tables that are not sound", seen.answers[letter_place('N')][MAZE_NOT_SOUND]},
             {"a joining of halves that do not fit", seen.answers[letter_place('N')][MAZE_BAD_HALVES]},
+#endif
             {"a wrong length", seen.wrong_length},
             {"a short buffer", seen.short_buffer},
         };

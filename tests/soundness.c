@@ -1,6 +1,6 @@
 /*
- * Sound tables: an independent reading of document 01, "The cube and its
- * table" and "Which paths a scout may walk", and of request (a) of document 02.
+ * Sound tables: an independent reading of Soundness and of what it rests on,
+ * Cube, Tables and Paths in docs/SPECIFICATION.md.
  *
  * The program lays circuits into tables of every dimension, changes each
  * table one bit at a time and one byte at a time, and counts how many of the
@@ -11,21 +11,31 @@
  * what one of the two has wrong shows in the other's test.  A circuit is judged
  * by looking for a permitted path among all the paths that its own links allow,
  * by an exhaustive depth-first search.
+ *
+ * With -DWIDE the tables are wide, and some of them folded.  There is no proved
+ * program for those, so with -DLIBRARY the same counts are those of the library:
+ * maze.h, and a trace on each table.
  */
 #include <stddef.h>
 #include <stdint.h>
 #include <stdio.h>
 #include <string.h>
+#ifdef LIBRARY
+#include <maze.h>
+#endif
+
+#ifdef WIDE
+enum { TABLE_BYTES = 14338, PORTS = 18, MASK_BYTES = 3, ENABLE_AT = 2, WHICH = 5 };
+#else
+enum { TABLE_BYTES = 8705, PORTS = 8, MASK_BYTES = 1, ENABLE_AT = 1, WHICH = 2 };
+#endif
 
 enum {
-    TABLE_BYTES = 8705,
     NODES = 256,
-    SLOTS = 8,                              /* ports, or channels, per node */
-    WORDS = NODES * SLOTS,                  /* circuit numbers per section */
-    ENABLE_AT = 1,
-    LINK_AT = ENABLE_AT + NODES,
-    RECEIVE_AT = LINK_AT + 2 * WORDS,
-    ARMED_AT = RECEIVE_AT + 2 * WORDS,
+    CHANNELS = 8,
+    LINK_AT = ENABLE_AT + MASK_BYTES * NODES,
+    RECEIVE_AT = LINK_AT + 2 * PORTS * NODES,
+    ARMED_AT = RECEIVE_AT + 2 * CHANNELS * NODES,
     MAX_DIMENSION = 8,
     MAX_HOPS = MAX_DIMENSION + 1
 };
@@ -61,9 +71,10 @@ struct holding {
 static size_t collect(const unsigned char *section, int is_link,
                       struct entry *out)
 {
+    const size_t slots = is_link ? PORTS : CHANNELS;
     size_t found = 0;
 
-    for (size_t first = 0; first < WORDS; first += 4) {
+    for (size_t first = 0; first < NODES * slots; first += 4) {
         uint64_t four;
 
         memcpy(&four, section + 2 * first, sizeof four);
@@ -75,13 +86,35 @@ static size_t collect(const unsigned char *section, int is_link,
             if (circuit == 0)
                 continue;
             out[found].circuit = circuit;
-            out[found].node = (unsigned)(w / SLOTS);
-            out[found].slot = (unsigned)(w % SLOTS);
+            out[found].node = (unsigned)(w / slots);
+            out[found].slot = (unsigned)(w % slots);
             out[found].is_link = is_link;
             found++;
         }
     }
     return found;
+}
+
+/* The bit of a node that a port changes: 17 - p is the partner of p. */
+static unsigned axis_of(unsigned port)
+{
+    return port < 9 ? port : 17 - port;
+}
+
+/* The fold mask, and the ports that it and the dimension give to every node. */
+static unsigned fold_of(const unsigned char *b)
+{
+    return ENABLE_AT == 2 ? b[1] : 0;
+}
+
+static unsigned ports_of(const unsigned char *b)
+{
+    unsigned ports = (1u << b[0]) - 1u;
+
+    for (unsigned p = 0; p < b[0]; p++)
+        if (fold_of(b) >> p & 1)
+            ports |= 1u << (17 - p);
+    return ports;
 }
 
 /*
@@ -96,7 +129,7 @@ static int path_goes_on(const struct holding *h, unsigned node,
         return walked == (1u << h->links) - 1u;
 
     for (unsigned i = 0; i < h->links; i++) {
-        unsigned bit = 1u << h->port[i];
+        unsigned bit = 1u << axis_of(h->port[i]);
 
         if (h->node[i] != node)
             continue;
@@ -135,19 +168,33 @@ static int circuit_is_sound(const struct entry *entries, size_t count,
     return h.receives == 1 && path_goes_on(&h, h.source, 0);
 }
 
+/* The enabled links of a node, and bits that are no port's. */
+static unsigned enabled_links(const unsigned char *b, unsigned node)
+{
+    unsigned mask = 0;
+
+    for (unsigned i = MASK_BYTES; i > 0; i--)
+        mask = mask << 8 | b[ENABLE_AT + MASK_BYTES * node + i - 1];
+    return mask;
+}
+
 static int is_sound(const unsigned char *b)
 {
-    static struct entry entries[2 * WORDS];
+    static struct entry entries[NODES * (PORTS + CHANNELS)];
     unsigned dimension = b[0];
     unsigned nodes = 1u << dimension;
+    unsigned ports = ports_of(b);
     size_t count;
+
+    if (fold_of(b) >= nodes)
+        return 0;
 
     /* Enable bits of absent nodes and of absent ports; armed channels of
      * absent nodes. */
     for (unsigned n = 0; n < NODES; n++) {
-        unsigned enabled = b[ENABLE_AT + n];
+        unsigned enabled = enabled_links(b, n);
 
-        if (n >= nodes ? enabled != 0 : enabled >> dimension != 0)
+        if (n >= nodes ? enabled != 0 : (enabled & ~ports) != 0)
             return 0;
         if (n >= nodes && b[ARMED_AT + n] != 0)
             return 0;
@@ -160,11 +207,12 @@ static int is_sound(const unsigned char *b)
      * held receive channels that are not armed. */
     for (size_t i = 0; i < count; i++) {
         const struct entry *e = &entries[i];
-        unsigned mask = b[(e->is_link ? ENABLE_AT : ARMED_AT) + e->node];
+        unsigned mask = e->is_link ? enabled_links(b, e->node)
+                                   : b[ARMED_AT + e->node];
 
         if (e->node >= nodes)
             return 0;
-        if (e->is_link && e->slot >= dimension)
+        if (e->is_link && (ports >> e->slot & 1) == 0)
             return 0;
         if ((mask >> e->slot & 1) == 0)
             return 0;
@@ -186,6 +234,16 @@ static int is_sound(const unsigned char *b)
 /* The answer of the tests on a lent table: the number of the refusal, or 0. */
 static int refuse(const unsigned char *b, size_t length)
 {
+#ifdef LIBRARY
+#ifdef WIDE
+    unsigned number = maze_wide_check_table(b, length);
+#else
+    unsigned number = maze_check_table(b, length);
+#endif
+
+    (void)is_sound;
+    return (int)number;
+#else
     if (length != TABLE_BYTES)
         return BAD_LENGTH;
     if (b[0] < 1 || b[0] > MAX_DIMENSION)
@@ -193,6 +251,7 @@ static int refuse(const unsigned char *b, size_t length)
     if (!is_sound(b))
         return NOT_SOUND;
     return ACCEPTED;
+#endif
 }
 
 /* ---- the tables ---- */
@@ -202,13 +261,14 @@ static void make(unsigned char *b, unsigned dimension)
     memset(b, 0, TABLE_BYTES);
     b[0] = (unsigned char)dimension;
     for (unsigned n = 0; n < 1u << dimension; n++)
-        b[ENABLE_AT + n] = (unsigned char)((1u << dimension) - 1u);
+        b[ENABLE_AT + MASK_BYTES * n] = (unsigned char)((1u << dimension) - 1u);
 }
 
-static void put(unsigned char *section, unsigned node, unsigned slot,
+static void put(unsigned char *b, unsigned part, unsigned node, unsigned slot,
                 unsigned circuit)
 {
-    unsigned char *word = section + 2 * (SLOTS * node + slot);
+    const unsigned slots = part == LINK_AT ? PORTS : CHANNELS;
+    unsigned char *word = b + part + 2 * (slots * node + slot);
 
     word[0] = (unsigned char)(circuit % 256);
     word[1] = (unsigned char)(circuit / 256);
@@ -218,7 +278,7 @@ static void put(unsigned char *section, unsigned node, unsigned slot,
 static void receive(unsigned char *b, unsigned node, unsigned channel,
                     unsigned circuit)
 {
-    put(b + RECEIVE_AT, node, channel, circuit);
+    put(b, RECEIVE_AT, node, channel, circuit);
     b[ARMED_AT + node] |= (unsigned char)(1u << channel);
 }
 
@@ -233,10 +293,20 @@ static void lay(unsigned char *b, unsigned s, unsigned c,
     unsigned node = s;
 
     for (unsigned i = 0; i < n; i++) {
-        put(b + LINK_AT, node, ports[i], circuit);
-        node ^= 1u << ports[i];
+        put(b, LINK_AT, node, ports[i], circuit);
+        node ^= 1u << axis_of(ports[i]);
     }
     receive(b, node, k, circuit);
+}
+
+/* Folds dimensions of a made wide table. */
+static void fold(unsigned char *b, unsigned mask)
+{
+    b[1] = (unsigned char)(mask & ((1u << b[0]) - 1u));
+    for (unsigned n = 0; n < 1u << b[0]; n++)
+        for (unsigned i = 0; i < MASK_BYTES; i++)
+            b[ENABLE_AT + MASK_BYTES * n + i] =
+                (unsigned char)(ports_of(b) >> 8 * i);
 }
 
 static void build(unsigned char *b, unsigned dimension, int which)
@@ -252,6 +322,35 @@ static void build(unsigned char *b, unsigned dimension, int which)
         for (unsigned p = dimension; p > 0; p--)
             ports[n++] = p - 1;
         lay(b, (1u << dimension) - 1u, 7, ports, n, 3);
+    } else if (which == 3) {
+        /* All dimensions folded: back to the source over the partner and on, by
+         * partners; and the two links of a pair. */
+        fold(b, 255);
+        if (dimension >= 2) {
+            ports[0] = 1;
+            lay(b, 0, 0, ports, 1, 0);
+            ports[0] = 16;
+            lay(b, 0, 1, ports, 1, 1);
+        }
+        ports[n++] = 0;
+        for (unsigned p = 0; p < dimension; p++)
+            ports[n++] = 17 - p;
+        lay(b, 1, 5, ports, n, 6);
+    } else if (which == 4) {
+        /* Every second one: to the node itself over a pair, and from the last
+         * node down, by partners where there are some. */
+        fold(b, 85);
+        ports[0] = 17;
+        ports[1] = 0;
+        lay(b, 0, 2, ports, 2, 7);
+        for (unsigned p = dimension; p > 0; p--)
+            ports[n++] = p % 2 ? 18 - p : p - 1;
+        lay(b, (1u << dimension) - 1u, 7, ports, n, 3);
+    } else if (which == 5) {
+        /* Folded, with every partner blocked: the mask alone may change. */
+        b[1] = 1;
+        ports[0] = 0;
+        lay(b, 0, 0, ports, 1, 0);
     } else {
         /* Out and back through the source, then on; and two hops. */
         ports[n++] = 0;
@@ -339,14 +438,14 @@ static void print_single(unsigned char *b, unsigned which)
 
     make(b, 3);
     for (const char *p = x->ports; *p; p++) {
-        put(b + LINK_AT, node, (unsigned)(*p - '0'), 1);
+        put(b, LINK_AT, node, (unsigned)(*p - '0'), 1);
         node ^= 1u << (*p - '0');
     }
     for (unsigned i = 0; i < x->receive_count; i++)
         receive(b, x->receives[i].node, x->receives[i].channel, 1);
     if (x->loop_at_6) {
-        put(b + LINK_AT, 6, 0, 1);
-        put(b + LINK_AT, 7, 0, 1);
+        put(b, LINK_AT, 6, 0, 1);
+        put(b, LINK_AT, 7, 0, 1);
     }
     if (x->other_armed)
         b[ARMED_AT + 1] = 2;
@@ -392,7 +491,7 @@ static void print_sums(unsigned char *b, unsigned which)
         unsigned node = x->ways[i].from;
 
         for (const char *p = x->ways[i].ports; *p; p++) {
-            put(b + LINK_AT, node, (unsigned)(*p - '0'), x->ways[i].circuit);
+            put(b, LINK_AT, node, (unsigned)(*p - '0'), x->ways[i].circuit);
             node ^= 1u << (*p - '0');
         }
     }
@@ -408,7 +507,7 @@ int main(void)
     unsigned refused = 0;
 
     for (unsigned dimension = 1; dimension <= MAX_DIMENSION; dimension++) {
-        for (int which = 1; which <= 2; which++) {
+        for (int which = 1; which <= WHICH; which++) {
             build(table, dimension, which);
             print_changed(table, dimension, which);
             print_cleared(table, dimension, which);

@@ -1,13 +1,20 @@
 /* How many bytes of stack a call takes: each is made on a stack of its own, filled before with one byte, and what it changed is measured. The header says that
- * maze_open_all takes less than 16 kilobytes, maze_open less than 8 and every other call less than 1. A call takes the most where a search is deepest: nine hops, in a cube of dimension 8. */
+ * maze_open_all takes less than 16 kilobytes, maze_wide_open_all less than 24, maze_open and maze_wide_open less than 8, maze_judge less than 2, every other call on a wide
+ * table and the conversions less than 3, and every other call less than 1. With -DWIDE the
+ * calls are those on wide tables. A call takes the most where a search is deepest: nine hops, in a cube of dimension 8. */
 #define _GNU_SOURCE
 #include "expect.h"
+#include "subject.h"
 
-#include <maze.h>
 #include <string.h>
 #include <ucontext.h>
 
-enum { STACK_BYTES = 65536, FILLED = 0xa5, OPEN_BYTES = 8192, JOB_BYTES = 16384, OTHER_BYTES = 1024 };
+#ifdef WIDE
+enum { JOB_BYTES = 24576, JUDGE_BYTES = 3072, OTHER_BYTES = 3072 };
+#else
+enum { JOB_BYTES = 16384, JUDGE_BYTES = 2048, OTHER_BYTES = 1024 };
+#endif
+enum { STACK_BYTES = 65536, FILLED = 0xa5, OPEN_BYTES = 8192, CONVERT_BYTES = 3072 };
 
 static _Alignas(16) unsigned char stack[STACK_BYTES];
 static uint8_t table[MAZE_TABLE_BYTES], ports[MAZE_TRACE_BYTES];
@@ -42,10 +49,22 @@ static void lookup(void) {
 static void judge(void) {
     answer = maze_judge(table, sizeof table, book_ports, sizeof book_ports, book_index, sizeof book_index, booked.circuits, booked.hops);
 }
+#ifdef WIDE
+static void fold(void) { answer = maze_wide_fold(table, sizeof table, 255); }
+static void convert(void) {
+    static uint8_t other[8705];
+    answer = maze_narrow(table, sizeof table, other, sizeof other);
+}
+#else
+static void convert(void) {
+    static uint8_t other[MAZE_WIDE_TABLE_BYTES];
+    answer = maze_widen(table, sizeof table, other, sizeof other);
+}
 static void join(void) {
     static uint8_t half[MAZE_TABLE_BYTES], whole[MAZE_TABLE_BYTES];
     answer = maze_make(half, sizeof half, 7) + (unsigned)maze_join(half, sizeof half, half, sizeof half, whole, sizeof whole);
 }
+#endif
 static void word_read(void) { answer = maze_word_read(2437).number; }
 static void word_write(void) { answer = maze_word_write(6, 5).number; }
 static void arbitrate(void) { answer = maze_arbitrate(&arbiter, 0x3ffffffu).number; }
@@ -130,7 +149,29 @@ int main(void) {
     holds("maze_trace", taken_by(trace, MAZE_ACCEPTED, "maze_trace"), OTHER_BYTES);
     expect(bytes_of(close_one) - bytes_of(nothing) < OTHER_BYTES && answer == MAZE_ACCEPTED, "maze_close", answer, 0);
     maze_arm(table, sizeof table, 254, 0);
-    holds("maze_judge", taken_by(judge, MAZE_ACCEPTED, "maze_judge"), OTHER_BYTES);
+    holds("maze_judge", taken_by(judge, MAZE_ACCEPTED, "maze_judge"), JUDGE_BYTES);
+    holds("a conversion", taken_by(convert, MAZE_ACCEPTED, "a conversion"), CONVERT_BYTES);
+#ifdef WIDE
+    make();
+    maze_arm(table, sizeof table, 254, 0);
+    holds("maze_wide_fold", taken_by(fold, MAZE_ACCEPTED, "maze_wide_fold"), OTHER_BYTES);
+    given[0] = 0, given[1] = 254, given[2] = MAZE_TYPE_ALTERNATE_MAZE, given[3] = 1;
+    holds("maze_wide_open, nine hops, folded", bytes_of(open_one) - bytes_of(nothing), OPEN_BYTES);
+    expect(answer == MAZE_ACCEPTED && maze_trace(table, sizeof table, 0, 0, ports, sizeof ports).hops == 9, "nine hops in a folded cube", answer, 0);
+    holds("maze_wide_trace, folded", taken_by(trace, MAZE_ACCEPTED, "maze_wide_trace"), OTHER_BYTES);
+    holds("maze_wide_book, folded", taken_by(book, MAZE_ACCEPTED, "maze_wide_book"), OTHER_BYTES);
+    close_one();
+    for (uint16_t port = 0; port < 8; port++)
+        for (uint16_t link = port; link < 18; link = (uint16_t)(link == port ? 17 - port : 18)) maze_block(table, sizeof table, (uint16_t)(254 ^ 1 << port), link);
+    given[2] = MAZE_TYPE_MAZE, given[3] = 2;
+    holds("maze_wide_open, folded and rejected", bytes_of(open_one) - bytes_of(nothing), OPEN_BYTES);
+    expect(answer == MAZE_NO_ROUTE, "a walled target in a folded cube", answer, 0);
+    given[2] = MAZE_TYPE_HELIX, given[3] = 255;
+    holds("maze_wide_open of type 1, folded and rejected", bytes_of(open_one) - bytes_of(nothing), OPEN_BYTES);
+    maze_arm(table, sizeof table, 254, 0);
+    holds("maze_wide_judge, folded", taken_by(judge, MAZE_BAD_BOOK_LINK, "maze_wide_judge"), OTHER_BYTES);
+#else
     holds("maze_join", taken_by(join, MAZE_ACCEPTED, "maze_join"), OTHER_BYTES);
+#endif
     return verdict();
 }

@@ -5,9 +5,10 @@
  * First tables worked by hand, of circuits that come through their source again, and every set of links that one circuit can hold in a small cube. Then
  * each table holds circuits that were opened, and then one deed is done to it that keeps the number of held links equal to the hops to all receive
  * channels, or that a test by counting may not see for another reason. Calls at random never make such tables. 300 tables of each deed without an
- * argument. */
+ * argument, 150 with -DWIDE, where the tables are wide and most of them folded. */
 #include "draw.h"
 #include "expect.h"
+#include "near.h"
 #include "reference.h"
 #include "subject.h"
 
@@ -17,10 +18,34 @@
 static uint8_t table[MAZE_TABLE_BYTES];
 static unsigned dimension, nodes;
 
+/* ---- the ports of the cube ---- */
+
+static unsigned fold_mask(void) {
+#ifdef WIDE
+    return table[MAZE_WIDE_FOLD_AT];
+#else
+    return 0;
+#endif
+}
+
+/* The bit of a node that a port changes: of port p and of its partner 17 - p it is bit p. */
+static unsigned step(unsigned port) {
+    return 1u << (port < 9 ? port : 17 - port);
+}
+
+static int has_port(unsigned port) {
+    return port < dimension || (port > 17 - dimension && port < 18 && (fold_mask() & step(port)));
+}
+
+static unsigned any_port(void) {
+    unsigned port = below(dimension);
+    return (fold_mask() >> port & 1) && below(2) ? 17 - port : port;
+}
+
 /* ---- entries ---- */
 
 static uint8_t *entry(unsigned part, unsigned node, unsigned slot) {
-    return table + part + 2 * (MAZE_PORTS * node + slot);
+    return table + (part == MAZE_LINKS_AT ? link_at(node, slot) : receive_at(node, slot));
 }
 
 static unsigned get(unsigned part, unsigned node, unsigned slot) {
@@ -35,10 +60,10 @@ static void put(unsigned part, unsigned node, unsigned slot, unsigned circuit) {
 }
 
 /* A free entry of the cube at random, or of one node where that is given: 0 if there is none. */
-static int free_entry(unsigned part, unsigned slots, const unsigned *only, unsigned *node, unsigned *slot) {
+static int free_entry(unsigned part, const unsigned *only, unsigned *node, unsigned *slot) {
     for (unsigned tries = 0; tries < 64; tries++) {
         *node = only ? *only : below(nodes);
-        *slot = below(slots);
+        *slot = part == MAZE_LINKS_AT ? any_port() : below(MAZE_CHANNELS);
         if (get(part, *node, *slot) == 0) return 1;
     }
     return 0;
@@ -47,7 +72,7 @@ static int free_entry(unsigned part, unsigned slots, const unsigned *only, unsig
 /* A receive channel of a node for a circuit, armed. */
 static int receive(unsigned node, unsigned circuit) {
     unsigned at, channel;
-    if (!free_entry(MAZE_RECEIVES_AT, MAZE_CHANNELS, &node, &at, &channel)) return 0;
+    if (!free_entry(MAZE_RECEIVES_AT, &node, &at, &channel)) return 0;
     put(MAZE_RECEIVES_AT, node, channel, circuit);
     table[MAZE_ARMED_AT + node] |= (uint8_t)(1u << channel);
     return 1;
@@ -67,7 +92,7 @@ static void open_some(unsigned count) {
     opened_count = 0;
     for (unsigned i = 0; i < count; i++) {
         struct opened *o = &opened[opened_count];
-        unsigned source = below(nodes), channel = below(8), target = below(nodes);
+        unsigned source = below(nodes), channel = below(8), target = near_to(fold_mask(), source, below(nodes));
         uint8_t ports[MAZE_TRACE_BYTES];
         if (ref_open(table, MAZE_TABLE_BYTES, (uint16_t)source, (uint16_t)channel, (uint16_t)target, (uint16_t)(4 * below(2)), (uint16_t)(1 + below(nodes - 1))).number) continue;
         o->circuit = MAZE_CIRCUIT(source, channel);
@@ -75,7 +100,7 @@ static void open_some(unsigned count) {
         o->node[0] = source;
         for (unsigned h = 0; h < o->hops; h++) {
             o->port[h] = ports[h];
-            o->node[h + 1] = o->node[h] ^ 1u << ports[h];
+            o->node[h + 1] = o->node[h] ^ step(ports[h]);
         }
         opened_count++;
     }
@@ -101,7 +126,7 @@ static int strays(unsigned count) {
         struct opened *o = any_opened();
         unsigned node, port, circuit = below(3) ? o->circuit : MAZE_CIRCUIT(below(nodes), below(8));
         unsigned by = below(2) ? o->node[below(o->hops + 1)] : below(nodes);
-        if (!free_entry(MAZE_LINKS_AT, dimension, below(4) ? &by : NULL, &node, &port) && !free_entry(MAZE_LINKS_AT, dimension, NULL, &node, &port)) return 0;
+        if (!free_entry(MAZE_LINKS_AT, below(4) ? &by : NULL, &node, &port) && !free_entry(MAZE_LINKS_AT, NULL, &node, &port)) return 0;
         put(MAZE_LINKS_AT, node, port, circuit);
     }
     return 1;
@@ -135,11 +160,42 @@ static int ends_exchanged(void) {
 static int link_moved(void) {
     struct opened *o = any_opened();
     unsigned h = below(o->hops), node, port;
-    if (!free_entry(MAZE_LINKS_AT, dimension, below(2) ? &o->node[h] : NULL, &node, &port)) return 0;
+    if (!free_entry(MAZE_LINKS_AT, below(2) ? &o->node[h] : NULL, &node, &port)) return 0;
     put(MAZE_LINKS_AT, o->node[h], o->port[h], 0);
     put(MAZE_LINKS_AT, node, port, o->circuit);
     return 1;
 }
+
+#ifdef WIDE
+/* A hop of a path is over the other link of its pair: sound where that is free. */
+static int over_the_partner(void) {
+    struct opened *o = any_opened();
+    unsigned h = below(o->hops), other = 17 - o->port[h];
+    if (!has_port(other) || get(MAZE_LINKS_AT, o->node[h], other)) return 0;
+    put(MAZE_LINKS_AT, o->node[h], o->port[h], 0);
+    put(MAZE_LINKS_AT, o->node[h], other, o->circuit);
+    return 1;
+}
+
+/* A circuit holds both links of a pair, and is received once more, at the first node of its path. */
+static int whole_pair(void) {
+    struct opened *o = any_opened();
+    unsigned h = below(o->hops), other = 17 - o->port[h];
+    if (!has_port(other) || get(MAZE_LINKS_AT, o->node[h], other)) return 0;
+    put(MAZE_LINKS_AT, o->node[h], other, o->circuit);
+    return below(2) || receive(o->node[1], o->circuit);
+}
+
+/* The fold mask loses dimensions, whether a partner of theirs is held or not, or gains some; the enabled links go with it, or stay. */
+static int mask_changed(void) {
+    unsigned to = below(nodes);
+    table[MAZE_WIDE_FOLD_AT] = (uint8_t)to;
+    for (unsigned node = 0; node < nodes && below(2); node++)
+        for (unsigned port = 0; port < 18; port++)
+            if (!has_port(port)) table[enabled_at(node) + port / 8] &= (uint8_t)~(1u << port % 8);
+    return 1;
+}
+#endif
 
 /* Two circuits exchange a link. */
 static int links_exchanged(void) {
@@ -152,23 +208,28 @@ static int links_exchanged(void) {
 
 /* A circuit goes out over an absent port and comes back. */
 static int absent_port(void) {
-    unsigned source = below(nodes), circuit = unused_circuit(source), port;
+    unsigned source = below(nodes), circuit = unused_circuit(source), port, other;
     if (dimension == MAZE_PORTS || !circuit) return 0;
-    port = dimension + below(MAZE_PORTS - dimension);
+    do port = dimension + below(MAZE_PORTS - dimension);
+    while (has_port(port));
+    /* the node behind it is none, or that of its partner 17 - port in a wide table */
+    other = source ^ 1u << (port < 8 ? port : port > 9 ? 17 - port : 0);
     put(MAZE_LINKS_AT, source, port, circuit);
-    put(MAZE_LINKS_AT, source ^ 1u << port, port, circuit);
+    put(MAZE_LINKS_AT, other, port, circuit);
     if (below(2)) {
-        table[MAZE_ENABLED_AT + source] |= (uint8_t)(1u << port);
-        table[MAZE_ENABLED_AT + (source ^ 1u << port)] |= (uint8_t)(1u << port);
+        table[enabled_at(source) + port / 8] |= (uint8_t)(1u << port % 8);
+        table[enabled_at(other) + port / 8] |= (uint8_t)(1u << port % 8);
     }
     return receive(source, circuit);
 }
 
 /* A circuit is received at two neighbours of its source, to each of which it can go by way of the other and the source; strays make up for it. */
 static int two_ways_round(void) {
-    unsigned source = below(nodes), circuit = unused_circuit(source), a = below(dimension), b = below(dimension);
-    unsigned at[4][2] = {{source, a}, {source ^ 1u << a, a}, {source, b}, {source ^ 1u << b, b}};
-    if (!circuit || a == b) return 0;
+    unsigned source = below(nodes), circuit = unused_circuit(source), a = any_port(), b = any_port();
+    unsigned at[4][2] = {{source, a}, {source ^ step(a), a}, {source, b}, {source ^ step(b), b}};
+    if (!circuit || step(a) == step(b)) return 0;
+    for (unsigned i = 1; i < 4; i += 2) /* back over the other link of a pair */
+        if (has_port(17 - at[i][1]) && below(2)) at[i][1] = 17 - at[i][1];
     for (unsigned i = 0; i < 4; i++)
         if (get(MAZE_LINKS_AT, at[i][0], at[i][1])) return 0;
     for (unsigned i = 0; i < 4; i++) put(MAZE_LINKS_AT, at[i][0], at[i][1], circuit);
@@ -183,7 +244,7 @@ static int renamed(void) {
     for (unsigned n = 0; n < nodes; n++)
         for (unsigned k = 0; k < MAZE_PORTS; k++) {
             if (get(MAZE_LINKS_AT, n, k) == o->circuit) put(MAZE_LINKS_AT, n, k, circuit);
-            if (get(MAZE_RECEIVES_AT, n, k) == o->circuit) put(MAZE_RECEIVES_AT, n, k, circuit);
+            if (k < MAZE_CHANNELS && get(MAZE_RECEIVES_AT, n, k) == o->circuit) put(MAZE_RECEIVES_AT, n, k, circuit);
         }
     return 1;
 }
@@ -192,7 +253,7 @@ static int renamed(void) {
 static int link_more_and_received_again(void) {
     struct opened *o = any_opened(), *short_one = any_opened();
     unsigned node, port;
-    if (!free_entry(MAZE_LINKS_AT, dimension, &o->node[below(o->hops)], &node, &port) || short_one->hops != 1) return 0;
+    if (!free_entry(MAZE_LINKS_AT, &o->node[below(o->hops)], &node, &port) || short_one->hops != 1) return 0;
     put(MAZE_LINKS_AT, node, port, o->circuit);
     return receive(short_one->node[1], short_one->circuit);
 }
@@ -211,6 +272,11 @@ static const struct {
     {"two ways round, and strays", two_ways_round, 0, 1},
     {"renamed", renamed, 1, 1},
     {"a link more, and another received again", link_more_and_received_again, 0, 1},
+#ifdef WIDE
+    {"a hop over the partner", over_the_partner, 1, 0},
+    {"a whole pair, received again", whole_pair, 0, 1},
+    {"another fold mask", mask_changed, 1, 1},
+#endif
 };
 
 /* ---- tables worked by hand ---- */
@@ -270,30 +336,46 @@ static void tables_by_hand(void) {
     }
 }
 
-/* Every set of links that one circuit can hold in a cube of dimension 2, from every source to every node, beside the reference. */
-static void every_set_of_links(void) {
+/* Every set of links that one circuit can hold in a small cube, from every source to every node, beside the reference; where dimensions are folded, every set of up to five
+ * from one source. */
+static void every_set_of_links(unsigned of, unsigned mask) {
     uint8_t buffer[MAZE_TRACE_BYTES];
-    unsigned long sound = 0;
-    for (unsigned source = 0; source < 4; source++)
-        for (unsigned end = 0; end < 4; end++)
-            for (unsigned set = 0; set < 256; set++) {
+    unsigned links[18][2], count = 0;
+    unsigned long sound = 0, all = 0;
+    empty(of);
+#ifdef WIDE
+    ref_wide_fold(table, MAZE_TABLE_BYTES, (uint16_t)mask);
+#endif
+    for (unsigned node = 0; node < nodes; node++)
+        for (unsigned port = 0; port < 18; port++)
+            if (has_port(port)) links[count][0] = node, links[count++][1] = port;
+    for (unsigned source = 0; source < (mask ? 1 : nodes); source++)
+        for (unsigned end = 0; end < nodes; end++)
+            for (unsigned set = 0; set < 1u << count; set++) {
                 uint16_t number;
-                empty(2);
-                for (unsigned link = 0; link < 8; link++)
-                    if (set >> link & 1) put(MAZE_LINKS_AT, link / 2, link % 2, MAZE_CIRCUIT(source, 3));
-                receive(end, MAZE_CIRCUIT(source, 3));
+                unsigned size = 0;
+                for (unsigned link = 0; link < count; link++) size += set >> link & 1;
+                if (mask && size > 5) continue;
+                all++;
+                for (unsigned link = 0; link < count; link++) put(MAZE_LINKS_AT, links[link][0], links[link][1], set >> link & 1 ? MAZE_CIRCUIT(source, 3) : 0);
+                for (unsigned node = 0; node < nodes; node++) put(MAZE_RECEIVES_AT, node, 0, node == end ? MAZE_CIRCUIT(source, 3) : 0);
                 number = ref_trace(table, MAZE_TABLE_BYTES, 0, 8, buffer, sizeof buffer).number;
                 sound += number == MAZE_BAD_CHANNEL;
-                answers("a set of links", 1024 * source + 256 * end + set, number);
+                answers("a set of links", (1u << count) * (nodes * source + end) + set, number);
             }
-    printf("%-42s %6lu sound %6lu not sound\n", "every set of links of one circuit", sound, 4096 - sound);
+    printf("every set of links of one circuit, mask %u  %6lu sound %6lu not sound\n", mask, sound, all - sound);
 }
 
 int main(int count, char **arguments) {
-    unsigned long tables = count > 1 ? strtoul(arguments[1], NULL, 10) : 300;
+    unsigned long tables = count > 1 ? strtoul(arguments[1], NULL, 10) : MAZE_PORTS == 8 ? 300 : 150;
     random_state = count > 2 ? strtoul(arguments[2], NULL, 10) : 1;
     tables_by_hand();
-    every_set_of_links();
+    every_set_of_links(2, 0);
+#ifdef WIDE
+    every_set_of_links(1, 1);
+    every_set_of_links(2, 1);
+    every_set_of_links(2, 2);
+#endif
     for (size_t d = 0; d < sizeof deeds / sizeof *deeds; d++) {
         unsigned long sound = 0, unsound = 0;
         for (unsigned long done = 0; done < tables;) {
@@ -303,6 +385,9 @@ int main(int count, char **arguments) {
             nodes = 1u << dimension;
             ref_make(table, MAZE_TABLE_BYTES, (uint16_t)dimension);
             memset(table + MAZE_ARMED_AT, 255, nodes);
+#ifdef WIDE
+            if (below(4)) ref_wide_fold(table, MAZE_TABLE_BYTES, (uint16_t)(below(3) ? below(nodes) : nodes - 1));
+#endif
             open_some(1 + below(MOST));
             if (opened_count == 0 || !deeds[d].deed()) continue;
             done++;

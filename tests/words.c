@@ -1,5 +1,5 @@
 /* Command words from C: every one of the 65,536 words read, and every command written with every carried number, beside a
- * check written separately from document 01's list and from the patent's patterns of status bits. */
+ * check written separately from Words 3 and from the patent's patterns of status bits. */
 #include "expect.h"
 
 #include <maze.h>

@@ -22,13 +22,14 @@ use Rattle.paths.specs.Search.{hop_or, trying, arriving, holding}
 use Rattle.paths.proofs.Words.{free_link}
 use Rattle.paths.proofs.Depth.{trying_cons}
 use Rattle.paths.proofs.LinksAhead.{trying_same, holding_after}
-use Rattle.layout.specs.Layout.{entry_place, link_part, word_at, owner_at, entry_at}
+use Rattle.layout.specs.Resources.{ports_same, width_in, width_least, IsTable}
+use Rattle.layout.specs.Layout.{ports_in, entry_place, link_part, word_at, owner_at, entry_at}
 use Rattle.layout.specs.LayoutContracts.{put_word}
 use Rattle.entries.specs.EntryContracts.{put_entry, put_owner, Within}
 use Rattle.table.specs.View.{View, view, held_in, set_at, set_owner, receive, available}
 use Rattle.table.proofs.Receives.{chosen}
 use Rattle.layout.proofs.Entries.{within}
-use Rattle.table.proofs.Views.{view_put_owner}
+use Rattle.table.proofs.Views.{view_put_owner_of}
 use Rattle.answers.specs.declared.LinkState as State
 use Rattle.answers.specs.declared.LinkState.TheVariants.{Free, Held, Blocked}
 use Rattle.answers.specs.SendOnTable.{state_in, free_in, AnswerOnBytes, answer_on_bytes}
@@ -45,14 +46,22 @@ given_word b i c e =
     ∙ ap (λ x. set x (i + 1) 0) (ap (set b i) (sym low) ∙ set-get_or b i 0)
     ∙ ap (set b (i + 1)) (sym high) ∙ set-get_or b (i + 1) 0
 
-pub given_back : (b : List ℕ) (n p c : ℕ) → Within b n p → owner_at b n p ≡ 0 → put_owner (put_owner b n p c) n p 0 ≡ b
+pub given_back_in : (b : List ℕ) (n p c : ℕ) → n < 256 → p < ports_in b → owner_at b n p ≡ 0 → put_owner (put_owner b n p c) n p 0 ≡ b
 unfolding put_owner put_entry owner_at entry_at
-given_back b n p c w e = given_word b (entry_place link_part n p) c (rw (within n p w.node w.port) at e)
+given_back_in b n p c h l e =
+    let place : ℕ = entry_place (ports_in b) (link_part (ports_in b)) n p in
+    let long : length (put_word b place c) ≡ length b = length-set (set b place (c % 256)) (place + 1) (c / 256) ∙ length-set b place (c % 256) in
+    rw (ports_same b (put_word b place c) long) (given_word b place c (rw (within {w = ports_in b} n p h l) at e))
+
+pub given_back : (b : List ℕ) (n p c : ℕ) → Within b n p → owner_at b n p ≡ 0 → put_owner (put_owner b n p c) n p 0 ≡ b
+given_back b n p c w e = given_back_in b n p c w.node (omega (arith, w.port, width_least (width_in b))) e
 
 -- a hop held leaves as many bytes
 pub owner_length : (b : List ℕ) (n p c : ℕ) → length (put_owner b n p c) ≡ length b
 unfolding put_owner put_entry
-owner_length b n p c = length-set (set b (entry_place link_part n p) (c % 256)) (entry_place link_part n p + 1) (c / 256) ∙ length-set b (entry_place link_part n p) (c % 256)
+owner_length b n p c =
+    let place : ℕ = entry_place (ports_in b) (link_part (ports_in b)) n p in
+    length-set (set b place (c % 256)) (place + 1) (c / 256) ∙ length-set b place (c % 256)
 
 -- While a link is held, it alone is no longer free.
 pub free_held : (v : View) (n p c : ℕ) → c ≢ 0 → free_in (set_owner v n p c) ≡ holding (free_in v) n p
@@ -116,10 +125,10 @@ unfolding free_in state_in held_in
 free_owner v n p e = eqb-true _ 0 (not-false _ ((free_link _ _).0 e).1)
 
 -- The arrival behind a hop just held finds what it would find on the table before.
-module _ (N : Network) (t : ℕ) (near : Nearing N t) (b : List ℕ) (n p c : ℕ) (w : Within b n p) (small : c < 65536) (h : c ≢ 0) where
+module _ (N : Network) (t : ℕ) (near : Nearing N t) (b : List ℕ) (n p c : ℕ) (l : IsTable b) (i : n < 256) (j : p < ports_in b) (small : c < 65536) (h : c ≢ 0) where
   pub arrival_after_lem : (k s : ℕ) → arriving k N (free_in (view (put_owner b n p c))) t (N.next n p) p s ≡ arriving k N (free_in (view b)) t (N.next n p) p s
   arrival_after_lem k s =
-      ap (λ f. arriving k N f t (N.next n p) p s) (ap free_in (view_put_owner b n p c w small) ∙ free_held (view b) n p c h)
+      ap (λ f. arriving k N f t (N.next n p) p s) (ap free_in (view_put_owner_of b l n p c i j small) ∙ free_held (view b) n p c h)
       ∙ holding_after near (free_in (view b)) k n p s
 
 -- the parts of an answer

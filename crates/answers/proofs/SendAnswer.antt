@@ -1,27 +1,14 @@
--- What the answer of a send tells, and the order in which a send tries its ports.
+-- What the answer of a send tells.
 -- Assumes nothing.
-use mathlib.Core.Path.{◌≡◌, refl, sym, ◌∙◌}
+use mathlib.Core.Path.{◌≡◌, refl}
 use mathlib.Core.Logic.{◌≢◌}
 use mathlib.Core.Bool.{Bool, true, false}
 use mathlib.Core.List.{List}
-use Prim.Native.Nat.{ℕ, ◌≤◌}
+use Prim.Native.Nat.{ℕ}
 use native.Mathlib.Omega.{arith}
-use Rattle.cube.specs.Cube.{largest_dimension, port_count, VectorOf}
-use Rattle.cube.specs.Helical.{helical, ports_of}
-use Rattle.cube.proofs.Order.{helical_last, ports_wider, ports_mem}
 use Rattle.paths.specs.Send.{Outcome, acknowledged, route_rejected, receive_rejected, send_goes_on}
-use Rattle.paths.specs.CubeNetwork.{send_ports}
-use Rattle.paths.proofs.CubeNetwork.{unfolded_send_ports}
-use Rattle.layout.specs.Layout.{dimension_at}
-use Rattle.table.specs.View.{view, shape_of}
 use Rattle.answers.specs.SendOnTable.{answer_on_bytes, answer_of_outcome}
 use Rattle.answers.specs.SendAnswer.{bytes_after_send, send_answer}
-
--- "a send tries ports from 0 upward", as after an arrival on port 7
-pub ports_in_turn : (b : List ℕ) (vector : ℕ) → dimension_at b ≤ largest_dimension → VectorOf (dimension_at b) vector → helical 7 (ports_of port_count vector) ≡ send_ports (shape_of (view b)) vector
-ports_in_turn b vector fits small =
-    helical_last 7 (ports_of port_count vector) (λ p m. let r = ports_mem 8 vector m in omega arith)
-    ∙ (unfold view in ports_wider (dimension_at b) 8 vector fits small ∙ sym (unfolded_send_ports (shape_of (view b)) fits refl vector))
 
 -- What the answer of a send tells: whether another pass follows, as one does after a route rejection alone; that a rejection leaves each byte as it was;
 -- and its scouts.

@@ -1,4 +1,4 @@
--- A send says what the users' second demand asks: for every routing type, on any table of a cube up to dimension 8.
+-- A send says what Promises 3 and 4 ask: for every routing type, on any table of a cube up to dimension 8.
 -- Assumes nothing.
 use mathlib.Core.Path.{◌≡◌, refl, ap, ◌∙◌, subst}
 use mathlib.Core.Logic.{◌≢◌, ◌↔◌}
@@ -13,17 +13,19 @@ use Rattle.paths.specs.Send.{lowest_available, none_available, Outcome, acknowle
 use Rattle.paths.specs.Sentences.{AttemptsSay}
 use Rattle.paths.specs.CubeNetwork.{attempts, send}
 use Rattle.paths.proofs.Attempts.{Route, not_route_rejected, acknowledged_route, route_acknowledged, receive_rejected_route}
-use Rattle.paths.proofs.Send.{send_says, send_bounded}
-use Rattle.layout.specs.Layout.{dimension_at}
+use Rattle.paths.proofs.Send.{send_says, send_bounded, send_folded}
+use Rattle.layout.specs.Layout.{length_of, dimension_at}
 use Rattle.table.specs.View.{View, view, receive, available, net, shape_of}
+use Rattle.table.proofs.CubeRows.{row_of}
 use Rattle.table.proofs.Receives.{chosen, none_chosen}
 use Rattle.paths.proofs.Words.{free_link}
 use Rattle.paths.proofs.Waiting.{waiting_exactly, blocked_exactly, found_waits}
 use Rattle.answers.specs.SendOnTable.{state_in, free_in, answer_on_bytes, waiting_helps, answer_of_outcome, send_in}
-use Rattle.answers.specs.SendAnswer.{bytes_after_send, send_answer, sent_on_bytes, MaySend}
+use Rattle.answers.specs.SendAnswer.{bytes_after_send, send_answer, sent_on_bytes, MaySendIn}
 use Rattle.answers.specs.SendSays.{SomeRoute, CouldRoute, BlockedRoutes, Available, Lowest, SendSays}
 use Rattle.answers.proofs.SendAnswer.{sent_leaves, sent_bytes, sent_numbers, sent_scouts}
-use Rattle.answers.proofs.AfterSend.{Fits, view_after_send_lem, sent_fits, send_encoded}
+use Rattle.layout.specs.Resources.{Width, is_table, layout_laws}
+use Rattle.answers.proofs.AfterSend.{Fits, view_after_send_lem, sent_fits, send_encoded_over}
 
 -- what the choice of a receive channel says
 module _ (v : View) (t : ℕ) where
@@ -108,7 +110,7 @@ pub free_enabled : (v : View) (n p : ℕ) → free_in v n p ≡ true → v.enabl
 unfolding free_in state_in
 free_enabled v n p e = ((free_link _ _).0 e).0
 
--- whether waiting helps, in the words of the request
+-- Searches 13: whether waiting helps
 module _ (b : List ℕ) (s t type vector : ℕ) (fits : (shape_of (view b)).dimension ≤ largest_dimension) (source : NodeOf (shape_of (view b)).dimension s) (target : NodeOf (shape_of (view b)).dimension t) where
   pub could_route : (waiting_helps (view b) s t type vector ≡ true) ↔ CouldRoute (view b) s t (attempts (shape_of (view b)) type vector)
   unfolding waiting_helps
@@ -122,28 +124,29 @@ module _ (b : List ℕ) (s t type vector : ℕ) (fits : (shape_of (view b)).dime
   unfolding waiting_helps
   found_helps = found_waits (shape_of (view b)) fits s t type vector source target (free_in (view b)) (view b).enabled (free_enabled (view b)) (receive (view b) t)
 
--- The users' second demand: of any answer that the contract of `send::send` allows.
-pub demand_2 : (b : List ℕ) (s t c type vector : ℕ) → MaySend b s t c vector → (x h k n : ℕ) (b' : List ℕ)
-    → answer_on_bytes x h k n b' ≡ sent_on_bytes b s t c type vector → SendSays b s t c type vector x h k n b'
+-- Promises 3, Promises 4: of any answer that the contract of `send::send` allows.
+pub demand_2 : (q : ℕ) → Width q → (b : List ℕ) (s t c type vector : ℕ) → MaySendIn (length_of q) b s t c vector → (x h k n : ℕ) (b' : List ℕ)
+    → answer_on_bytes x h k n b' ≡ sent_on_bytes b s t c type vector → SendSays q b s t c type vector x h k n b'
 unfolding sent_on_bytes
-demand_2 b s t c type vector may x h k n b' q =
+demand_2 q width b s t c type vector may x h k n b' e =
     record {
       outcome = o;
       says = rw counted said;
-      answer = sent_numbers b c s t helps o m q;
-      shows = ap view same ∙ view_after_send_lem c may.small (dimension_at b) may.fits b may.bytes s t may.source may.target o ports;
-      written = λ small. same ∙ send_encoded b (record { long = may.bytes; small = small }) c s t o may.fits may.small may.source may.target ports;
+      answer = sent_numbers b c s t helps o m e;
+      shows = ap view same ∙ (unfold view in view_after_send_lem c may.small (shape_of (view b)) fits b (is_table (layout_laws q width) b may.bytes) (row_of b may.fits) s t may.source may.target o ports);
+      written = λ small. same ∙ send_encoded_over width b (record { long = may.bytes; small = small }) c s t o may.fits may.small may.source may.target ports;
       exactly = (
         (λ z. let r = route z in (r.0, let l = channel_lowest (view b) t k r.1 in (k, l.small, l.is_available))),
-        (λ y. acknowledged_number b c s t helps o m x h k n b' q
+        (λ y. acknowledged_number b c s t helps o m x h k n b' e
             (route_acknowledged (net (view b)) s t (free_in (view b)) (receive (view b) t) tried o m said y.0 (some_available (view b) t y.1))),
       );
       rejected_route = which.0;
       rejected_blocked = which.1;
       rejected_receive = which.2;
       lowest = λ z. channel_lowest (view b) t k (route z).1;
-      unchanged = λ f. sent_leaves b c s t helps o m q f;
-      bounded = rw counted (send_bounded (shape_of (view b)) (free_in (view b)) (receive (view b) t) s vector t type fits refl);
+      unchanged = λ f. sent_leaves b c s t helps o m e f;
+      bounded = λ z. rw counted (send_bounded (shape_of (view b)) (free_in (view b)) (receive (view b) t) s vector t type fits z);
+      bounded_folded = rw counted (send_folded (shape_of (view b)) (free_in (view b)) (receive (view b) t) s vector t type fits);
     }
   where
     helps : Bool
@@ -162,12 +165,12 @@ demand_2 b s t c type vector may x h k n b' q =
     tried = attempts (shape_of (view b)) type vector
 
     counted : n ≡ m
-    counted = sent_scouts b c s t helps o m q
+    counted = sent_scouts b c s t helps o m e
 
     same : b' ≡ bytes_after_send b c s t o
-    same = sent_bytes b c s t helps o m q
+    same = sent_bytes b c s t helps o m e
 
-    ports : Fits (dimension_at b) o
+    ports : Fits (shape_of (view b)) o
     ports = unfold view in sent_fits (view b) s t type vector may.fits may.source may.target
 
     fits : (shape_of (view b)).dimension ≤ largest_dimension
@@ -185,10 +188,10 @@ demand_2 b s t c type vector may x h k n b' q =
     which : Rejections b c s t tried helps (could_route b s t type vector fits source target) (routes_blocked b s t type vector fits source target) x
     which =
         rejections b c s t tried helps (could_route b s t type vector fits source target) (routes_blocked b s t type vector fits source target) o m x h k n b'
-        (found_helps b s t type vector fits source target) q said
+        (found_helps b s t type vector fits source target) e said
 
     route : x ≡ 0 → Route (net (view b)) s t (free_in (view b)) (receive (view b) t) tried × (receive (view b) t ≡ lowest_available k)
     route z =
-        let a = number_acknowledged b c s t helps o m x h k n b' q z in
+        let a = number_acknowledged b c s t helps o m x h k n b' e z in
         acknowledged_route (net (view b)) s t (free_in (view b)) (receive (view b) t) tried a.0 k m
         (subst (λ (u : Outcome). AttemptsSay (net (view b)) s t (free_in (view b)) (receive (view b) t) tried u m) a.1 said)

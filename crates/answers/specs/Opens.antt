@@ -5,12 +5,12 @@ use Rattle.common.specs.Refusals.{number_of}
 use Rattle.answers.specs.declared.Acknowledged.{Acknowledged}
 use Rattle.answers.specs.declared.Rejected.{Rejected}
 
--- "Success is 0", and a refusal its number
+-- Calls 14: 0, or the number of the refusal
 abbrev pub opened_number : Result Acknowledged Rejected → ℕ
 opened_number (Ok a) = 0
 opened_number (Err r) = number_of r.refusal
 
--- the hops, the receive channel and the scouts: a refusal has no hops and no channel
+-- Calls 14: the hops, the receive channel and the scouts; a refusal has 0 hops and channel 0.
 abbrev pub opened_values : Result Acknowledged Rejected → List ℕ
 opened_values (Ok a) = a.hops ∷ a.receive ∷ a.scouts ∷ []
 opened_values (Err r) = 0 ∷ 0 ∷ r.scouts ∷ []

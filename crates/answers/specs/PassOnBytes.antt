@@ -21,9 +21,9 @@ unfoldable pub hold_path : List ℕ → ℕ → ℕ → Path → List ℕ
 hold_path b c n [] = b
 hold_path b c n (p ∷ w) = hold_path (put_owner b n p c) c (next n p) w
 
--- "With none, route rejected. With one", the target takes the receive channel that is there to take; where there is none, receive rejected. The path's links are
--- held where it is acknowledged; where it is rejected each byte is as it was. The receive channel is answered here and not yet held: that is for
--- the pass above. h hops were made before the search came to node n.
+-- With no free path, route rejected (Searches 12). With one, the target takes the receive channel that is there to take; where there is none, receive rejected
+-- (Searches 11). The path's links are held where it is acknowledged; where it is rejected each byte is as it was (Searches 16). The receive channel is answered
+-- here and not yet held: that is for the pass above. h hops were made before the search came to node n.
 unfoldable pub answer_of_pass : List ℕ → ℕ → ℕ → ℕ → Receive → PassResult → AnswerOnBytes
 answer_of_pass b c n h r (none s) = answer_on_bytes 10 0 0 s b
 answer_of_pass b c n h (lowest_available k) (found w s) = answer_on_bytes 0 (h + length w) k s (hold_path b c n w)

@@ -9,15 +9,15 @@ use Rattle.paths.specs.Waiting.{some_attempt}
 use Rattle.paths.specs.CubeNetwork.{attempts, send}
 use Rattle.table.specs.View.{View, held_in, set_owner, set_receiver, receive, net, shape_of}
 
--- what a table shows of a link. Document 02, (c): "The smallest question, whether one link is free, shall answer one of three: free, held or blocked."
+-- Cube 13: what a table shows of a link, one of three: free, held or blocked
 unfoldable pub state_in : View → ℕ → ℕ → LinkState
 state_in v n p = link_state (v.enabled n p) (held_in v n p)
 
--- "A link is free if enabled and held by nobody."
+-- Cube 13: a link is free if it is enabled and no circuit holds it.
 unfoldable pub free_in : View → ℕ → ℕ → Bool
 free_in v n p = is_free (state_in v n p)
 
--- the send of a routing type from s to t over the ports of a vector, read on what a table shows
+-- Searches 1, Searches 15: the send of a routing type from s to t over the ports of a vector, read on what a table shows
 abbrev pub send_in : View → ℕ → ℕ → ℕ → ℕ → SendResult
 send_in v s t type vector = send type (shape_of v) (free_in v) (receive v t) s vector t
 
@@ -26,14 +26,14 @@ unfoldable pub hold_links : View → ℕ → ℕ → Path → View
 hold_links v c n [] = v
 hold_links v c n (p ∷ w) = hold_links (set_owner v n p c) c (next n p) w
 
--- "An acknowledged send holds each link of the path and that receive channel. Nothing else in the table changes." The circuit is c, its source s, its target t.
+-- Searches 10: acknowledged, the circuit holds every link of the path, and the channel; nothing else changes. The circuit is c, its source s, its target t.
 unfoldable pub view_after_send : View → ℕ → ℕ → ℕ → Outcome → View
 view_after_send v c s t (acknowledged w k) = set_receiver (hold_links v c s w) t k c
 view_after_send v c s t route_rejected = v
 view_after_send v c s t receive_rejected = v
 
--- Document 02, (c): waiting can help a send that finds no free path where some path that its type may try, "were all circuits closed", crosses no blocked
--- link. (`some_attempt` says it over the attempts of the send, with "enabled" in place of "free".)
+-- Searches 13: waiting can help where one of the type's paths has no blocked link. (`some_attempt` says it over the attempts of the send, with "enabled" in
+-- place of "free".)
 unfoldable pub waiting_helps : View → ℕ → ℕ → ℕ → ℕ → Bool
 waiting_helps v s t type vector = some_attempt (net v) v.enabled s t (attempts (shape_of v) type vector)
 
@@ -41,8 +41,8 @@ waiting_helps v s t type vector = some_attempt (net v) v.enabled s t (attempts (
 pub data AnswerOnBytes : Type 0 where
   answer_on_bytes : (number hops receive scouts : ℕ) → List ℕ → AnswerOnBytes
 
--- the answer of an outcome, with the scouts that were sent and the bytes after it: a route rejection is 10, or "22, beside 10 after the search, carrying ..
--- the same scouts", where waiting does not help
+-- Calls 14: the answer of an outcome, with the scouts that were sent and the bytes after it. A route rejection is 10 (Refusals 10), or 22 where waiting does
+-- not help (Refusals 22); a receive rejection is 11 (Refusals 11).
 unfoldable pub answer_of_outcome : (helps : Bool) → Outcome → ℕ → List ℕ → AnswerOnBytes
 answer_of_outcome helps (acknowledged w k) n b = answer_on_bytes 0 (length w) k n b
 answer_of_outcome helps route_rejected n b = answer_on_bytes (cond helps 10 22) 0 0 n b

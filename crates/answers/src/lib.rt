@@ -3,16 +3,17 @@
 
 ghost use Rattle.std.specs.Prelude.{◌≡◌, ◌<◌};
 ghost use Rattle.cube.specs.Cube.{channels, circuit_of};
-ghost use Rattle.entries.specs.EntryContracts.{Within};
+ghost use Rattle.entries.specs.EntryContracts.{InTable};
 ghost use Rattle.table.specs.View.{view};
 ghost use Rattle.answers.specs.SendOnTable.{state_in};
 ghost use Rattle.answers.specs.PassOnBytes.{state_of};
 
 use common::refusal::Refusal;
 use cube::{Circuit, Node, Port};
+use layout::Layout;
 use table::Links;
 
-// A link: free, held by a circuit, or blocked: document 02 asks that the smallest question answers one of these three.
+// Cube 13: a link is free, held by a circuit, or blocked: the smallest question has these three answers.
 #[derive(Clone, Copy)]
 pub enum LinkState {
     Free,
@@ -20,14 +21,24 @@ pub enum LinkState {
     Blocked,
 }
 
-// The state of a link, where it is known whether it is enabled. Every hop of every search asks this; the search has dropped blocked ports before, and to look twice is slower (docs/PERFORMANCE.md).
-pub fn link_state(t: &[u8], n: Node, p: Port, enabled: bool) -> LinkState
-    requires within { Within t.now n.0 p.0 }
+// The state of a link.
+#[tactic(auto, unfolding(table::specs::View::view))]
+pub fn link_state<L: Layout>(t: &[u8], n: Node, p: Port) -> LinkState
+    requires within { InTable L.LENGTH L.PORTS t.now n.0 p.0 }
+    ensures { state_of result ≡ state_in (view t.now) n.0 p.0 }
+{
+    let enabled = table::enabled::<Links<L>>(t, n, p);
+    link_state_given::<L>(t, n, p, enabled)
+}
+
+// The same, where it is known whether the link is enabled. Every hop of every pass asks this; the search has dropped blocked ports before, and to look twice is slower (docs/PERFORMANCE.md).
+pub fn link_state_given<L: Layout>(t: &[u8], n: Node, p: Port, enabled: bool) -> LinkState
+    requires within { InTable L.LENGTH L.PORTS t.now n.0 p.0 }
     requires enabled_value { enabled ≡ (view t.now).enabled n.0 p.0 }
     ensures { state_of result ≡ state_in (view t.now) n.0 p.0 }
 {
     if enabled {
-        if table::owner::<Links>(t, n, p).0 == 0 {
+        if table::owner::<Links<L>>(t, n, p).0 == 0 {
             LinkState::Free
         } else {
             LinkState::Held
@@ -37,7 +48,7 @@ pub fn link_state(t: &[u8], n: Node, p: Port, enabled: bool) -> LinkState
     }
 }
 
-// What a send is asked for: a circuit from a source to a target, over the ports of a vector. That its nodes and ports are those of a table (`MaySend`) stands in the contracts:
+// What a send is asked for: a circuit from a source to a target, over the ports of a vector. That its nodes and ports are those of a table (`MaySendIn`) stands in the contracts:
 // it is a fact of the table's bytes too, and a struct that lends these to be written needs one more clause in each, that its slice is the caller's. Nor is `vector ≢ 0` a
 // fact of each request: the second pass of routing type 4 may have no port.
 #[derive(Clone, Copy, Debug, PartialEq, Eq)]

@@ -89,7 +89,7 @@ pub one_of_them : (last requests : ℕ) → last < 26 → requests < 2 ^ 26 → 
 one_of_them last requests stored inside None z = search rules
 one_of_them last requests stored inside (Some r) f = let c = found last requests stored inside f in search rules
 
--- A call gives what the plain words say,
+-- A call gives what CallSays says,
 pub call_says : (last requests : ℕ) → CallSays last requests (arbitrated last requests)
 call_says last requests =
     ⊎_elim

@@ -1,4 +1,4 @@
--- The definitions of request (l), computed on small examples.
+-- The arbiter's definitions, computed on small examples; Examples 22 is among them.
 -- Assumes nothing.
 use Rattle.std.specs.Prelude.{◌≡◌, refl, [], ◌∷◌, ◌++◌, map, ℕ, ◌+◌, ◌-◌, ◌^◌, replicate}
 use Rattle.common.specs.Lists.{keep, from}

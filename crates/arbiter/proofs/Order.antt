@@ -98,14 +98,14 @@ module _ (last : ℕ) (stored : last < 26) where
       (λ x y m k. let a = above x m in let b = round y k in omega arith)
 
   module _ (requests : ℕ) where
-    -- where somebody asks, the choice is as the plain words say
+    -- where somebody asks, the choice is as Chosen says
     pub chosen_says : (r : ℕ) → r < 26 → is_asking requests r ≡ true → Chosen last requests (chosen last requests)
     unfolding chosen
     chosen_says r h e =
         let f = first_says (steps last) (is_asking requests) 26 (order last) r order_pairwise (order_mem r h) e in
         record { requester = order_below _ f.member; requested = f.passes; nearest = λ j l t. f.least j (order_mem j l) t }
 
-    -- and nobody else is as they say
+    -- and nobody else is
     pub chosen_is : (r : ℕ) → Chosen last requests r → chosen last requests ≡ r
     unfolding chosen
     chosen_is r c =

@@ -1,4 +1,4 @@
--- Who asks, bit by bit; and the first bit after the record is the requester that the plain words choose.
+-- Who asks, bit by bit; and the first bit after the record is the requester that Chosen chooses.
 -- Assumes nothing.
 use mathlib.Core.Path.{◌≡◌, sym, ◌∙◌}
 use mathlib.Core.Logic.{⊎_elim}
@@ -47,7 +47,7 @@ pub none_asks : (q : ℕ) → ((r : ℕ) → is_asking q r ≡ false) → q ≡ 
 unfolding is_asking
 none_asks q h = ⊎_elim (λ l. absurd (let a = lowest_set q q (λ e. omega arith) (power_above q) in clash a (h (count_trailing_zeros q q)))) (λ l. omega arith) (below_or q 0)
 
--- The first bit after the record is the choice in plain words.
+-- The first bit after the record is the choice of Chosen.
 module _ (last q : ℕ) (stored : last < 26) (inside : q < 2 ^ 26) where
   pub found : {r : ℕ} → FirstAfter q last r → Chosen last q r
   unfolding is_asking

@@ -95,12 +95,12 @@ waiting : (list : List ℕ) → Waits list
 waiting [] = λ n r last some near k. absurd (let z : length (take {A = ArbiterCall} n []) ≡ n = rw (no_calls last) at k.count in not_none n some z)
 waiting (q ∷ more) = one_more q more (waiting more)
 
--- "A requester that keeps asking is served within 26 accepted calls, however others ask"
+-- Arbiter 8.
 pub served_within : ServedWithin limit
 unfolding ServedWithin
 served_within r last list k = waiting list limit r last (omega arith) (λ h l. let range = steps_range last r h l in omega arith) k
 
--- "that limit is reached": from record r, where all 26 ask in each of 26 calls
+-- Arbiter 9: from record r, where all 26 ask in each of 26 calls
 none_of : {A : Type 0} (f : A → Bool) (xs : List A) → any f xs ≡ false → (x : A) → x ∈ xs → f x ≡ false
 unfolding any
 none_of f [] e x m = absurd (Memᴰ.not-nil m)

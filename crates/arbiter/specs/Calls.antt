@@ -1,4 +1,4 @@
--- Lists of calls, where "the record is left to the arbiter between them": each call with its requests and what it gave, and how long a requester waits.
+-- Lists of calls between which nobody else writes the record: each call with its requests and what it gave, and how long a requester waits.
 -- Assumes nothing.
 use Rattle.std.specs.Prelude.{◌≡◌, true, List, [], ◌∷◌, map, ℕ, ◌-◌, eqb, length, take}
 use Rattle.common.specs.Lists.{◌∈◌, keep}
@@ -30,18 +30,17 @@ pub record KeepsAsking (n r : ℕ) (cs : List ArbiterCall) : Type 0 where
   pub count : length cs ≡ n
   pub asking : (c : ArbiterCall) → c ∈ cs → is_asking c.requests r ≡ true
 
--- "A requester that keeps asking is served within 26 accepted calls, however others ask", with n for 26: from any record and in any list of calls, where r asks
--- in each of the first n that are accepted, one of these serves r
+-- Arbiter 8, with n for 26: from any record and in any list of calls, where r asks in each of the first n that are accepted, one of these serves r.
 unfoldable pub ServedWithin : ℕ → Type 0
 ServedWithin n = (r last : ℕ) (list : List ℕ) → KeepsAsking n r (take n (accepted_calls last list)) → r ∈ map served_by (take n (accepted_calls last list))
 
--- "that limit is reached": there is a list of calls in which r asks in each of the first n that are accepted and the n - 1 before the last do not serve r
+-- Arbiter 9: there is a list of calls in which r asks in each of the first n that are accepted and the n - 1 before the last do not serve r.
 pub record ServedLast (n r : ℕ) : Type 0 where
   pub last : ℕ
   pub list : List ℕ
   pub asked : KeepsAsking n r (take n (accepted_calls last list))
   pub not_before : r ∈ map served_by (take (n - 1) (accepted_calls last list)) → ⊥
 
--- "within 26 accepted calls"
+-- Arbiter 8: within 26 accepted calls
 abbrev pub limit : ℕ
 limit = 26

@@ -1,4 +1,4 @@
--- A call a second time, in plain words and with no list: who is chosen asks, and nobody who asks comes sooner after the record.
+-- A call a second time, with no list: who is chosen asks, and nobody who asks comes sooner after the record (Arbiter 4).
 -- Assumes nothing.
 use Rattle.std.specs.Prelude.{◌≡◌, cond, true, false, ℕ, ◌+◌, ◌-◌, ◌≤◌, ◌<◌, ltb}
 use Rattle.arbiter.specs.Arbiter.{Choice, is_asking}
@@ -12,13 +12,13 @@ pub record Chosen (last requests r : ℕ) : Type 0 where
   pub requested : is_asking requests r ≡ true
   pub nearest : (j : ℕ) → j < 26 → is_asking requests j ≡ true → steps last r ≤ steps last j
 
--- what a call gives, case by case: its number, the requester, and the record after it
+-- Arbiter 4 to 7: what a call gives, case by case: its number, the requester, and the record after it
 pub data CallSays (last requests : ℕ) : Choice → Type 0 where
-  -- "A request bit at 26 or above"
+  -- a request bit beyond requester 25
   bad_request : (r : ℕ) → 26 ≤ r → is_asking requests r ≡ true → CallSays last requests (record { number = 31; requester = 0; last = last })
-  -- "a stored record above 25"
+  -- a record above 25
   bad_record : 25 < last → CallSays last requests (record { number = 31; requester = 0; last = last })
-  -- "with no request nobody is served, the answer is 0 and 26, and the record is unchanged"
+  -- nobody asks: 0 and 26, and the record stays
   nobody_asks : last ≤ 25 → ((r : ℕ) → is_asking requests r ≡ false) → CallSays last requests (record { number = 0; requester = 26; last = last })
-  -- "A choice answers 0 and the requester", who is then "the last requester served"
+  -- 0 and the requester, who is the record then
   one_served : (r : ℕ) → last ≤ 25 → ((j : ℕ) → 26 ≤ j → is_asking requests j ≡ false) → Chosen last requests r → CallSays last requests (record { number = 0; requester = r; last = r })

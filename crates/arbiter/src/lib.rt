@@ -1,9 +1,10 @@
-// The routing arbiter of document 02, request (l): a round-robin choice among 26 requesters, 18 input ports and then 8 send channels. Each has one bit of
-// a 32-bit number, from bit 0 on.
+// The routing arbiter: a round-robin choice (Arbiter 4) among 26 requesters, 18 input ports and then 8 send channels (Arbiter 1). Each has one bit of a 32-bit
+// number, from bit 0 on.
 #![tactic(auto)]
 
-ghost use Rattle.std.specs.Prelude.{◌≡◌, ◌<◌, IfOk, IfSome};
+ghost use Rattle.std.specs.Prelude.{◌≡◌, ◌<◌, ℕ, IfOk, IfSome};
 ghost use Rattle.arbiter.specs.Arbiter.{arbitrated, choice, last_after};
+ghost use Rattle.arbiter.specs.Calls.{ServedWithin, ServedLast};
 
 use common::bits;
 use common::refusal::Refusal;
@@ -14,7 +15,7 @@ pub const REQUESTERS: u16 = 26;
 // The lowest number with a bit that no requester has.
 pub const REQUESTS_END: u32 = 67108864;
 
-// The record, kept by the caller, who may be C: the last requester served.
+// Arbiter 3: the record, kept by the caller, who may be C: the last requester served.
 #[repr(C)]
 #[derive(Clone, Copy)]
 pub struct Arbiter {
@@ -45,3 +46,10 @@ impl Arbiter {
         Ok(chosen)
     }
 }
+
+// Arbiter 8, Arbiter 9: a requester that keeps asking is served within 26 accepted calls; and each of the 26 may have to wait so long. It does nothing: its contract is the promise.
+#[tactic(auto, using(crate::proofs::Waiting::served_within, crate::proofs::Waiting::limit_reached))]
+pub fn waits_are_bounded()
+    ensures within { ServedWithin 26 }
+    ensures reached { (r : ℕ) → r < 26 → ServedLast 26 r }
+{}

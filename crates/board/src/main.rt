@@ -12,6 +12,7 @@ use common::refusal::{self, Refusal};
 use cube::Node;
 use receiver::{Channel, Followed};
 use std::io;
+use table::Narrow;
 
 // Opens the circuit of a send channel of node 0 to node 7 and starts the receive channel that it takes there: two doublewords to an address
 // from which the second wraps round to 0, ends of message ignored.
@@ -25,7 +26,7 @@ fn open(t: &mut [u8], channel: u16) -> Result<Followed, Refusal>
         routing: 0,
         vector: 7,
     };
-    let opened = router::open(t, x);
+    let opened = router::open::<Narrow>(t, x);
     receiver::follow(opened, 4294967280, 2, 1)
 }
 
@@ -112,8 +113,14 @@ fn run(rt: &impl Print, start: Channel) -> io::Result<()> {
 
 fn main(rt: HostRuntime) -> io::Result<()> {
     let mut t = [0u8; table::BYTES];
-    println!(&rt; "make {}", refusal::answer(router::make(&mut t, 3)))?;
-    println!(&rt; "arm {}", refusal::answer(router::arm(&mut t, Node(7), 0)))?;
+    println!(&rt;
+        "make {}",
+        refusal::answer(router::make::<Narrow>(&mut t, 3))
+    )?;
+    println!(&rt;
+        "arm {}",
+        refusal::answer(router::arm::<Narrow>(&mut t, Node(7), 0))
+    )?;
     let channel = show_open(&rt, open(&mut t, 0))?;
     // The send channel has its circuit: a second open is refused.
     let none = show_open(&rt, open(&mut t, 0))?;
@@ -121,6 +128,6 @@ fn main(rt: HostRuntime) -> io::Result<()> {
     run(&rt, channel)?;
     println!(&rt;
         "close {}",
-        refusal::answer(router::close(&mut t, Node(0), 0))
+        refusal::answer(router::close::<Narrow>(&mut t, Node(0), 0))
     )
 }

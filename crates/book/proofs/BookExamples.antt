@@ -1,4 +1,4 @@
--- Document 02, (e), computed: the bytes of a small book, lookups in it, and books that are not well formed.
+-- Books computed: the bytes of a small one, lookups in it, and some that are not well formed.
 -- Assumes nothing.
 use Rattle.std.specs.Prelude.{◌≡◌, refl, Bool, true, false, List, [], ◌∷◌, ℕ, replicate}
 use Rattle.common.specs.Lists.{any}

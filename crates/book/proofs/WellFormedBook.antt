@@ -1,4 +1,4 @@
--- The computed test of a book and the plain words for it agree.
+-- The computed test of a book agrees with Books 9 as WellFormed says it.
 -- Assumes nothing.
 use mathlib.Core.Path.{◌≡◌, refl, ap, ap₂, sym, ◌∙◌, fun_ext}
 use mathlib.Core.Logic.{◌↔◌}
@@ -43,7 +43,7 @@ unfolding index_lines
 lines_at zero b = refl
 lines_at (suc n) b = ap (line_at b 0 ∷◌) (lines_at n (drop 6 b) ∙ ap (λ (x : ℕ → IndexLine). first_of x n) (fun_ext (next_line b)))
 
--- the words of WellFormed for n lines behind one with the number `above`, whose ports should run from `at` to `total`
+-- WellFormed for n lines behind one with the number `above`, whose ports should run from `at` to `total`
 record Run (x : ℕ → IndexLine) (n above at total : ℕ) : Type 0 where
   first : 0 < n → above < (x 0).number
   most : (i : ℕ) → i < n → (x i).number ≤ 2048
@@ -137,7 +137,7 @@ least_all : (x : ℕ → IndexLine) (n at total : ℕ) → Run x n 0 at total �
 least_all x n at total r zero h = r.first h
 least_all x n at total r (suc i) h = let l = least_all x n at total r i (omega arith) in omega (arith, r.rise i h)
 
--- "A book is well formed if ..": the computed test says exactly what the words say.
+-- Books 9: the computed test passes exactly where the book is well formed.
 pub well_formed_exactly : (ports index : List ℕ) (circuits hops : ℕ) → (well_formed ports index circuits hops ≡ true) ↔ WellFormed ports index circuits hops
 well_formed_exactly ports index circuits hops = (to, from)
   where

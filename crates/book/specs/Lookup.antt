@@ -1,4 +1,4 @@
--- Document 02, (e): reading a book, whoever wrote it: when it is well formed, and what a lookup gives.
+-- Reading a book, whoever wrote it: when it is well formed, and what a lookup gives.
 -- Assumes nothing.
 use Rattle.std.specs.Prelude.{Bool, cond, not, ◌&&◌, List, [], ◌∷◌, ℕ, zero, suc, ◌+◌, ◌*◌, eqb, leb, ltb, length, take, drop}
 use Rattle.common.specs.Tests.{Test, test, refusal}
@@ -7,7 +7,7 @@ use Rattle.layout.specs.Layout.{word_at}
 use Rattle.circuit_path.specs.Traced.{traced_into}
 use Rattle.book.specs.Book.{line_length}
 
--- a line of the index: "each circuit's number, then the pair of offset and length"
+-- Books 3: a line of the index
 pub record IndexLine : Type 0 where
   pub number : ℕ
   pub offset : ℕ
@@ -21,8 +21,7 @@ unfoldable pub index_lines : ℕ → List ℕ → List IndexLine
 index_lines zero b = []
 index_lines (suc n) b = first_line b ∷ index_lines n (drop line_length b)
 
--- "circuit numbers rise within 1 to 2,048, lengths are 1 to 9, and the pairs run from 0 to the hop count without gap or overlap": a line behind one with the
--- number `above`, where its ports should begin at `at`; and all lines from there on
+-- Books 9: a line behind one with the number `above`, where its ports should begin at `at`; and all lines from there on, up to the count of hops
 unfoldable pub line_fits : ℕ → ℕ → IndexLine → Bool
 line_fits above at x = ltb above x.number && (leb x.number 2048 && (eqb x.offset at && (leb 1 x.hops && leb x.hops 9)))
 
@@ -30,7 +29,7 @@ unfoldable pub lines_fit : ℕ → ℕ → List IndexLine → ℕ → Bool
 lines_fit above at [] total = eqb at total
 lines_fit above at (x ∷ xs) total = line_fits above at x && lines_fit x.number (at + x.hops) xs total
 
--- "A book is well formed if both counts fit their buffers", and its lines fit
+-- Books 9: both counts fit their buffers, and the lines fit.
 unfoldable pub well_formed : (ports index : List ℕ) (circuits hops : ℕ) → Bool
 well_formed ports index circuits hops = leb (line_length * circuits) (length index) && (leb hops (length ports) && lines_fit 0 0 (index_lines circuits index) hops)
 
@@ -45,7 +44,7 @@ listed_line c (x ∷ xs) = cond (eqb x.number c) x (listed_line c xs)
 abbrev pub ports_of_line : List ℕ → IndexLine → List ℕ
 ports_of_line ports x = take x.hops (drop x.offset ports)
 
--- "a lookup gives 25 for a book not well formed, then 12, then 14"
+-- Books 11: 25, then 12, then 14
 unfoldable pub lookup_tests : (ports index : List ℕ) (circuits hops c : ℕ) (buffer : List ℕ) → List Test
 lookup_tests ports index circuits hops c buffer =
     test (not (well_formed ports index circuits hops)) 25 ∷ test (not (is_listed c (index_lines circuits index))) 12 ∷ test (ltb (length buffer) 9) 14 ∷ []
@@ -56,7 +55,7 @@ pub record LookupResult : Type 0 where
   pub hops : ℕ
   pub buffer : List ℕ
 
--- "A lookup takes both buffers, both counts, a circuit number and a buffer for the ports, and gives what the book says", and "writes nothing when refused"
+-- Books 10: a lookup of circuit c in a book. Books 12: the hops of its line, whose ports are put into the buffer; refused, 0 hops, and nothing is written.
 unfoldable pub looked_up : (ports index : List ℕ) (circuits hops c : ℕ) (buffer : List ℕ) → LookupResult
 looked_up ports index circuits hops c buffer =
     let n = refusal (lookup_tests ports index circuits hops c buffer) in

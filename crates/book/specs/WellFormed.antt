@@ -1,4 +1,4 @@
--- Document 02, (e): when a book is well formed, once more, by places in the index and without a computed test.
+-- Books 9: when a book is well formed, once more, by places in the index and without a computed test.
 -- Assumes nothing.
 use Rattle.std.specs.Prelude.{◌≡◌, List, ℕ, suc, ◌+◌, ◌*◌, ◌≤◌, ◌<◌, length}
 use Rattle.layout.specs.Layout.{word_at}
@@ -14,7 +14,7 @@ abbrev pub length_at : List ℕ → ℕ → ℕ
 length_at index i = word_at index (6 * i + 4)
 
 pub record WellFormed (ports index : List ℕ) (circuits hops : ℕ) : Type 0 where
-  -- "both counts fit their buffers,
+  -- Both counts fit their buffers,
   pub index_fits : 6 * circuits ≤ length index
   pub ports_fit : hops ≤ length ports
   -- circuit numbers rise within 1 to 2,048,
@@ -23,7 +23,7 @@ pub record WellFormed (ports index : List ℕ) (circuits hops : ℕ) : Type 0 wh
   pub rise : (i : ℕ) → suc i < circuits → circuit_number_at index i < circuit_number_at index (suc i)
   -- lengths are 1 to 9,
   pub lengths : (i : ℕ) → i < circuits → (1 ≤ length_at index i) × (length_at index i ≤ 9)
-  -- and the pairs run from 0 to the hop count without gap or overlap"
+  -- the first offset is 0, each later one the end before it, and the last end is the count of hops.
   pub from_zero : 0 < circuits → offset_at index 0 ≡ 0
   pub no_gap : (i : ℕ) → suc i < circuits → offset_at index (suc i) ≡ offset_at index i + length_at index i
   pub to_count : (i : ℕ) → suc i ≡ circuits → offset_at index i + length_at index i ≡ hops

@@ -1,5 +1,5 @@
-// A book of circuits in two buffers: the ports of all circuits end to end, and an index with a line of six bytes for each circuit. What is read of one here may
-// come from anywhere.
+// A book of circuits in two buffers: the ports of all circuits end to end (Books 2), and an index with a line of six bytes for each circuit (Books 3). What is read
+// of one here may come from anywhere.
 #![tactic(auto)]
 
 ghost use Rattle.std.specs.Prelude.{◌≡◌, ◌+◌, ◌*◌, ◌^◌, ◌≤◌, ◌<◌, length};
@@ -152,7 +152,7 @@ impl Book<'_> {
         }
     }
 
-    // Whether a book is well formed.
+    // Books 9: whether a book is well formed.
     #[tactic(auto, unfolding(crate::specs::Lookup::well_formed))]
     pub fn well_formed(&self) -> bool
         ensures { result ≡ well_formed self.now.ports.now self.now.index.now self.now.circuits self.now.hops }
@@ -162,7 +162,7 @@ impl Book<'_> {
             && lines_fit(self.lines(), self.hops)
     }
 
-    // Writes the ports of a circuit of a book to the start of a buffer, and answers how many they are. A refused lookup writes nothing.
+    // Books 10, Books 12: writes the ports of a circuit of a book to the start of a buffer, and answers how many they are. A refused lookup writes nothing.
     pub fn lookup(&self, c: Circuit, buffer: &mut [u8]) -> Result<u16, Refusal>
         ensures { lookup_result result buffer.new ≡ looked_up self.now.ports.now self.now.index.now self.now.circuits self.now.hops c.0 buffer.old }
     {

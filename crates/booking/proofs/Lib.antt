@@ -1,3 +1,4 @@
 -- What writing a book and judging one come to.
 pub mod BookStep
 pub mod JudgeStep
+pub mod Sizes

@@ -12,9 +12,11 @@ ghost use Rattle.ownership.specs.TableFacts.{open_in};
 ghost use Rattle.ownership.specs.OnTable.{facts_of};
 
 use common::refusal::Refusal;
-use cube::{Node, Port, RoutingType};
+use cube::{Board, Node, Port, RoutingType};
+use layout::Layout;
+use std::marker::PhantomData;
 
-// A node has send channels 0 to 7, and as many receive channels.
+// Cube 9, Cube 10: a node has send channels 0 to 7, and as many receive channels.
 const LAST_CHANNEL: u16 = cube::CHANNELS - 1;
 
 pub(crate) fn channel_exists(c: u16) -> Result<(), Refusal>
@@ -34,24 +36,28 @@ pub(crate) fn type_exists(routing: u16) -> Result<(), Refusal>
 }
 
 // A table that passed its tests.
-#[derive(Clone, Copy)]
-pub struct SoundTable<'a> {
+#[derive(Drop)]
+pub struct SoundTable<'a, L: Layout> {
     pub bytes: &'a [u8],
-    pub ghost passed: { refusal (table_tests bytes.now) ≡ 0 },
+    pub layout: PhantomData<L>,
+    pub ghost passed: { refusal (table_tests L.PORTS bytes.now) ≡ 0 },
 }
 
-impl SoundTable<'_> {
+impl<'a, L: Layout> SoundTable<'a, L> {
     // The lent table, or the refusal of the first of its tests that it fails.
-    pub(crate) fn of(t: &[u8]) -> Result<SoundTable, Refusal>
-        ensures answers { answer_of result ≡ refusal (table_tests t.now) }
+    pub(crate) fn of(t: &'a [u8]) -> Result<SoundTable<'a, L>, Refusal>
+        ensures answers { answer_of result ≡ refusal (table_tests L.PORTS t.now) }
         ensures lent { IfOk result (λ table. table.bytes.now ≡ t.now) }
     {
-        soundness::check(t)?;
-        Ok(SoundTable { bytes: t })
+        soundness::check::<L>(t)?;
+        Ok(SoundTable {
+            bytes: t,
+            layout: PhantomData,
+        })
     }
 
-    pub(crate) fn node_exists(self, n: Node) -> Result<(), Refusal>
-        ensures { answer_of result ≡ refusal (node (facts_of (view self.entry.bytes.now)) n.0 ∷ []) }
+    pub(crate) fn node_exists(&self, n: Node) -> Result<(), Refusal>
+        ensures { answer_of result ≡ refusal (node (facts_of (view self.now.bytes.now)) n.0 ∷ []) }
     {
         if n.0 >= cube::node_count(table::dimension(self.bytes)) {
             return Err(Refusal::Node);
@@ -59,17 +65,18 @@ impl SoundTable<'_> {
         Ok(())
     }
 
-    pub(crate) fn port_exists(self, p: Port) -> Result<(), Refusal>
-        ensures { answer_of result ≡ refusal (port (facts_of (view self.entry.bytes.now)) p.0 ∷ []) }
+    pub(crate) fn port_exists(&self, p: Port) -> Result<(), Refusal>
+        ensures { answer_of result ≡ refusal (port (facts_of (view self.now.bytes.now)) p.0 ∷ []) }
     {
-        if p.0 >= table::dimension(self.bytes) {
+        let fold = L::board(self.bytes).fold_mask();
+        if !cube::present(table::dimension(self.bytes), fold, p) {
             return Err(Refusal::Port);
         }
         Ok(())
     }
 
-    pub(crate) fn vector_fits(self, vector: u16) -> Result<(), Refusal>
-        ensures { answer_of result ≡ refusal (send_vector (facts_of (view self.entry.bytes.now)) vector ∷ []) }
+    pub(crate) fn vector_fits(&self, vector: u16) -> Result<(), Refusal>
+        ensures { answer_of result ≡ refusal (send_vector (facts_of (view self.now.bytes.now)) vector ∷ []) }
     {
         if vector == 0 || vector >= cube::node_count(table::dimension(self.bytes)) {
             return Err(Refusal::SendVector);
@@ -78,11 +85,11 @@ impl SoundTable<'_> {
     }
 
     // Whether a send channel of a node has an open circuit.
-    pub(crate) fn has_circuit(self, s: Node, c: u16) -> bool
-        requires node { absent (facts_of (view self.bytes.now)) s.0 ≡ false }
+    pub(crate) fn has_circuit(&self, s: Node, c: u16) -> bool
+        requires node { absent (facts_of (view self.now.bytes.now)) s.0 ≡ false }
         requires channel { c < channels }
-        ensures { result ≡ open_in (view self.entry.bytes.now) s.0 c }
+        ensures { result ≡ open_in (view self.now.bytes.now) s.0 c }
     {
-        circuit_path::is_open(self.bytes, cube::circuit_of(s, c))
+        circuit_path::is_open::<L>(self.bytes, cube::circuit_of(s, c))
     }
 }

@@ -1,53 +1,56 @@
-// Which test stops a call: the refusal of the first that applies. A function for each call has its tests in the order of its list. A test that only one or two of
-// them make, by one comparison, stands there; the others are functions or methods of their own, which answer their refusal where they apply.
+// Calls 4: which test stops a call: the refusal of the first that applies. A function for each call has its tests in the order of its row in Calls 1. A test that
+// only one or two of them make, by one comparison, stands there; the others are functions or methods of their own, which answer their refusal where they apply.
 #![tactic(auto, using(crate::proofs::Stopping::calls), unfolding(common::specs::Tests::refusal, table::specs::View::view, table::specs::View::held_in, ownership::specs::TableFacts::taken_in, ownership::specs::Calls::call_tests, ownership::specs::OnTable::stopped_at, ownership::specs::OnTable::lent_tests, ownership::specs::OnTable::facts_of))]
 
 mod arguments;
+mod folding;
 
 ghost use Rattle.std.specs.Prelude.{◌≡◌};
 ghost use Rattle.common.specs.Refusals.{answer_of};
 ghost use Rattle.common.specs.Tests.{refusal};
+ghost use Rattle.layout.specs.Layout.{wide_ports};
 ghost use Rattle.table.specs.View.{view};
-ghost use Rattle.ownership.specs.Calls.{blocking, unblocking, opening, closing, tracing, arming, disarming, opening_all, call_tests};
+ghost use Rattle.ownership.specs.Calls.{blocking, unblocking, opening, closing, tracing, arming, disarming, opening_all, folding, call_tests};
 ghost use Rattle.ownership.specs.OnTable.{facts_of, stopped_at};
 
-use answers::Opening;
+use answers::{LinkState, Opening};
 pub use arguments::SoundTable;
 use arguments::{channel_exists, type_exists};
 use common::refusal::Refusal;
 use cube::{Node, Port};
-use table::{Channels, Links};
+use layout::Layout;
+use table::{Channels, Wide};
 
-// A list of sends has ten bytes for each, and 64 at most.
+// Jobs 2: a list of sends has ten bytes for each, and 64 at most.
 pub const SEND_BYTES: usize = 10;
 
 const LONGEST_LIST: usize = 640;
 
 // Of each call the tests of its list, in their order. Those of its arguments are methods of a table that passed its own, in `arguments`.
-pub fn block(t: &[u8], node: Node, port: Port) -> Result<(), Refusal>
-    ensures { answer_of result ≡ stopped_at t.now (blocking node.0 port.0) }
+pub fn block<L: Layout>(t: &[u8], node: Node, port: Port) -> Result<(), Refusal>
+    ensures { answer_of result ≡ stopped_at L.PORTS t.now (blocking node.0 port.0) }
 {
-    let table = SoundTable::of(t)?;
+    let table = SoundTable::<L>::of(t)?;
     table.node_exists(node)?;
     table.port_exists(port)?;
-    if table::owner::<Links>(table.bytes, node, port).0 != 0 {
-        return Err(Refusal::LinkHeld);
+    match answers::link_state::<L>(table.bytes, node, port) {
+        LinkState::Held => Err(Refusal::LinkHeld),
+        LinkState::Free | LinkState::Blocked => Ok(()), // a blocked one may be blocked again
     }
-    Ok(())
 }
 
-pub fn unblock(t: &[u8], node: Node, port: Port) -> Result<(), Refusal>
-    ensures { answer_of result ≡ stopped_at t.now (unblocking node.0 port.0) }
+pub fn unblock<L: Layout>(t: &[u8], node: Node, port: Port) -> Result<(), Refusal>
+    ensures { answer_of result ≡ stopped_at L.PORTS t.now (unblocking node.0 port.0) }
 {
-    let table = SoundTable::of(t)?;
+    let table = SoundTable::<L>::of(t)?;
     table.node_exists(node)?;
     table.port_exists(port)
 }
 
-impl SoundTable<'_> {
+impl<L: Layout> SoundTable<'_, L> {
     // The tests of an open behind those of the table, which a job makes once for all its sends.
-    pub fn open_arguments(self, x: Opening) -> Result<(), Refusal>
-        ensures { answer_of result ≡ refusal (call_tests (facts_of (view self.entry.bytes.now)) (opening x.source.0 x.channel x.target.0 x.routing x.vector)) }
+    pub fn open_arguments(&self, x: Opening) -> Result<(), Refusal>
+        ensures { answer_of result ≡ refusal (call_tests (facts_of (view self.now.bytes.now)) (opening x.source.0 x.channel x.target.0 x.routing x.vector)) }
     {
         self.node_exists(x.source)?;
         self.node_exists(x.target)?;
@@ -61,16 +64,16 @@ impl SoundTable<'_> {
     }
 }
 
-pub fn open(t: &[u8], x: Opening) -> Result<(), Refusal>
-    ensures { answer_of result ≡ stopped_at t.now (opening x.source.0 x.channel x.target.0 x.routing x.vector) }
+pub fn open<L: Layout>(t: &[u8], x: Opening) -> Result<(), Refusal>
+    ensures { answer_of result ≡ stopped_at L.PORTS t.now (opening x.source.0 x.channel x.target.0 x.routing x.vector) }
 {
-    SoundTable::of(t)?.open_arguments(x)
+    SoundTable::<L>::of(t)?.open_arguments(x)
 }
 
-pub fn close(t: &[u8], source: Node, channel: u16) -> Result<(), Refusal>
-    ensures { answer_of result ≡ stopped_at t.now (closing source.0 channel) }
+pub fn close<L: Layout>(t: &[u8], source: Node, channel: u16) -> Result<(), Refusal>
+    ensures { answer_of result ≡ stopped_at L.PORTS t.now (closing source.0 channel) }
 {
-    let table = SoundTable::of(t)?;
+    let table = SoundTable::<L>::of(t)?;
     table.node_exists(source)?;
     channel_exists(channel)?;
     if !table.has_circuit(source, channel) {
@@ -79,10 +82,10 @@ pub fn close(t: &[u8], source: Node, channel: u16) -> Result<(), Refusal>
     Ok(())
 }
 
-pub fn trace(t: &[u8], source: Node, channel: u16, buffer: &[u8]) -> Result<(), Refusal>
-    ensures { answer_of result ≡ stopped_at t.now (tracing source.0 channel buffer.now) }
+pub fn trace<L: Layout>(t: &[u8], source: Node, channel: u16, buffer: &[u8]) -> Result<(), Refusal>
+    ensures { answer_of result ≡ stopped_at L.PORTS t.now (tracing source.0 channel buffer.now) }
 {
-    let table = SoundTable::of(t)?;
+    let table = SoundTable::<L>::of(t)?;
     table.node_exists(source)?;
     channel_exists(channel)?;
     if !table.has_circuit(source, channel) {
@@ -94,32 +97,43 @@ pub fn trace(t: &[u8], source: Node, channel: u16, buffer: &[u8]) -> Result<(), 
     Ok(())
 }
 
-pub fn arm(t: &[u8], node: Node, channel: u16) -> Result<(), Refusal>
-    ensures { answer_of result ≡ stopped_at t.now (arming node.0 channel) }
+pub fn arm<L: Layout>(t: &[u8], node: Node, channel: u16) -> Result<(), Refusal>
+    ensures { answer_of result ≡ stopped_at L.PORTS t.now (arming node.0 channel) }
 {
-    let table = SoundTable::of(t)?;
+    let table = SoundTable::<L>::of(t)?;
     table.node_exists(node)?;
     channel_exists(channel) // an armed one may be armed again
 }
 
-pub fn disarm(t: &[u8], node: Node, channel: u16) -> Result<(), Refusal>
-    ensures { answer_of result ≡ stopped_at t.now (disarming node.0 channel) }
+pub fn disarm<L: Layout>(t: &[u8], node: Node, channel: u16) -> Result<(), Refusal>
+    ensures { answer_of result ≡ stopped_at L.PORTS t.now (disarming node.0 channel) }
 {
-    let table = SoundTable::of(t)?;
+    let table = SoundTable::<L>::of(t)?;
     table.node_exists(node)?;
     channel_exists(channel)?;
-    if table::owner::<Channels>(table.bytes, node, channel).0 != 0 {
+    if table::owner::<Channels<L>>(table.bytes, node, channel).0 != 0 {
         return Err(Refusal::ChannelHeld);
     }
     Ok(())
 }
 
-pub fn open_all(t: &[u8], sends: &[u8]) -> Result<(), Refusal>
-    ensures { answer_of result ≡ stopped_at t.now (opening_all sends.now) }
+pub fn open_all<L: Layout>(t: &[u8], sends: &[u8]) -> Result<(), Refusal>
+    ensures { answer_of result ≡ stopped_at L.PORTS t.now (opening_all sends.now) }
 {
-    soundness::check(t)?;
+    soundness::check::<L>(t)?;
     if sends.len() % SEND_BYTES != 0 || sends.len() > LONGEST_LIST {
         return Err(Refusal::SendList);
+    }
+    Ok(())
+}
+
+pub fn fold(t: &[u8], mask: u16) -> Result<(), Refusal>
+    ensures { answer_of result ≡ stopped_at wide_ports t.now (folding mask) }
+{
+    let table = SoundTable::<Wide>::of(t)?;
+    table.fold_fits(mask)?;
+    if table.partner_held(mask) {
+        return Err(Refusal::LinkHeld);
     }
     Ok(())
 }

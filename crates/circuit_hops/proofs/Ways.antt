@@ -1,36 +1,39 @@
--- Walking over links that are a circuit's only uphill ones at their nodes.
+-- Walking over links that are the only ones offered of those that a circuit holds at their nodes.
 -- Assumes nothing.
-use mathlib.Core.Path.{◌≡◌, refl, ap, ap₂, sym, ◌∙◌, subst}
+use mathlib.Core.Path.{◌≡◌, refl, ap, sym, ◌∙◌, subst}
 use mathlib.Core.Logic.{◌⊎◌, inl, inr, ⊎_elim, ◌≢◌}
-use mathlib.Core.Bool.{true, not, ◌&&◌}
+use mathlib.Core.Bool.{Bool, true, not, ◌&&◌}
 use lib.Dec.{eqb}
 use borrow.Author.Tests.{eqb-false, not-true}
 use mathlib.Core.List.{List, [], ◌∷◌}
 use Prim.Native.Nat.{ℕ, ◌+◌, ◌^◌, ◌≤◌, ◌<◌}
 use native.Mathlib.Omega.{arith}
-use lib.Bits.{bit_xor, bit_and, and_le_l}
+use native.Mathlib.Nat.{lt_of_le_of_lt, lt_of_lt_of_le}
+use lib.Bits.{bit_and, bit_xor, and_le_l, xor_lt}
 use lib.Pow.{pow_pos}
+use Rattle.common.specs.Decides.{Decides}
 use Rattle.common.specs.Lists.{◌∈◌, from}
 use Rattle.common.proofs.Lists.{length_keep}
 use Rattle.common.proofs.From.{length_from}
-use Rattle.common.proofs.Tests.{below_or, clash, both, and}
-use Rattle.cube.specs.Bits.{has, flip}
-use Rattle.cube.specs.CubeContracts.{UphillVector}
-use Rattle.cube.specs.Cube.{largest_dimension, port_count, NodeOf, next, uphill}
-use Rattle.cube.proofs.Axes.{axis_low, next_inside}
-use Rattle.cube.proofs.Bits.{has_and, bit_high, flip_xor}
+use Rattle.common.proofs.Tests.{both, and}
+use Rattle.cube.specs.Bits.{has}
+use Rattle.cube.specs.CubeContracts.{UphillVector, WithPartners, PortsInside}
+use Rattle.cube.specs.Axes.{present}
+use Rattle.cube.specs.Cube.{largest_dimension, cube_nodes, NodeOf, next, uphill}
+use Rattle.cube.proofs.Bits.{has_and}
 use Rattle.paths.specs.Network.{Path, offered}
 use Rattle.paths.specs.Permitted.{Onward}
 use Rattle.paths.specs.CubeNetwork.{network}
-use Rattle.paths.proofs.CubeNetwork.{offered_port, port_offered, unfolded_port, cube_nearing}
+use Rattle.paths.proofs.CubeNetwork.{offered_port, port_inside, cube_nearing}
+use Rattle.paths.proofs.FoldedCube.{has_offered, offered_has}
 use Rattle.paths.proofs.Links.{On, on_cases, on_first_lem, on_later, on_none, onward_past}
-use Rattle.layout.specs.Layout.{dimension_at}
-use Rattle.table.specs.TableContracts.{HeldBy, links_held}
+use Rattle.layout.specs.Layout.{dimension_at, fold_at}
+use Rattle.table.specs.TableContracts.{HeldIn, links_held_of}
 use Rattle.table.specs.View.{View, view, shape_of, net, held_by}
 use Rattle.std.proofs.Common.{Option, Some, None}
 use Rattle.circuit_hops.specs.CountHops.{OnePort, Sole, SoleWay, Walks}
 use Rattle.circuit_hops.proofs.OneKept.{few_kept}
-use Rattle.circuit_hops.proofs.OneBit.{sole_bit, some_bit, bit_has, bit_only}
+use Rattle.circuit_hops.proofs.OneBit.{sole_bit, some_bit, bit_has, bit_only, has_below}
 
 module _ (v : View) (c t : ℕ) where
   -- such a way is one of uphill hops, over links of the circuit
@@ -44,29 +47,21 @@ module _ (v : View) (c t : ℕ) where
   way_owned n [] x m q o = absurd (on_none (net v) n m q o)
   way_owned n (p ∷ w) x m q o = ⊎_elim (λ e. rw (e.0, e.1) x.2.0) (λ k. way_owned (next n p) w x.3 m q k) (on_cases (net v) n p w m q o)
 
-  -- a port that is offered is one of those that a node has
-  pub offered_below : v.dimension ≤ largest_dimension → (n q : ℕ) → q ∈ offered (net v) t n → q < port_count
-  offered_below h n q m = let k = (unfolded_port (shape_of v) h refl q).0 (offered_port (shape_of v) t n q m).0 in omega arith
-
-  -- and uphill
-  pub offered_uphill : v.dimension ≤ largest_dimension → (n q : ℕ) → q ∈ offered (net v) t n → uphill t n q ≡ true
-  offered_uphill h n q m = rw (axis_low q (omega (arith, offered_below h n q m))) at (offered_port (shape_of v) t n q m).1
-
-  pub onward_uphill : v.dimension ≤ largest_dimension → (n : ℕ) (w : Path) → Onward (net v) t n w → (m q : ℕ) → On (net v) n w m q → uphill t m q ≡ true
+  -- each of its links is offered at its node
+  pub onward_offered : (n : ℕ) (w : Path) → Onward (net v) t n w → (m q : ℕ) → On (net v) n w m q → q ∈ offered (net v) t m
   unfolding Onward network
-  onward_uphill h n [] o m q i = absurd (on_none (net v) n m q i)
-  onward_uphill h n (p ∷ w) o m q i =
-      ⊎_elim (λ e. rw (e.0, e.1) (offered_uphill h n p o.1)) (λ k. onward_uphill h (next n p) w o.2 m q k) (on_cases (net v) n p w m q i)
+  onward_offered n [] o m q i = absurd (on_none (net v) n m q i)
+  onward_offered n (p ∷ w) o m q i = ⊎_elim (λ e. rw (e.0, e.1) o.1) (λ k. onward_offered (next n p) w o.2 m q k) (on_cases (net v) n p w m q i)
 
   -- it is the only way of uphill hops over links of the circuit
-  pub way_only : v.dimension ≤ largest_dimension → (n : ℕ) (w u : Path) → SoleWay v c t n w → Onward (net v) t n u → ((m q : ℕ) → On (net v) n u m q → held_by v c m q ≡ true) → u ≡ w
+  pub way_only : (n : ℕ) (w u : Path) → SoleWay v c t n w → Onward (net v) t n u → ((m q : ℕ) → On (net v) n u m q → held_by v c m q ≡ true) → u ≡ w
   unfolding SoleWay Sole Onward network
-  way_only h n [] [] x o own = refl
-  way_only h n [] (p ∷ u) x o own = absurd (o.0 x)
-  way_only h n (p ∷ w) [] x o own = absurd (x.0 o)
-  way_only h n (p ∷ w) (q ∷ u) x o own =
-      let same : q ≡ p = x.2.1 q (offered_below h n q o.1) (own n q (on_first_lem (net v) n q u)) (offered_uphill h n q o.1) in
-      ap (q ∷◌) (way_only h (next n q) w u (subst (λ (z : ℕ). SoleWay v c t (next n z) w) (sym same) x.3) o.2 (λ m r i. own m r (on_later (net v) n q u m r i))) ∙ ap (◌∷ w) same
+  way_only n [] [] x o own = refl
+  way_only n [] (p ∷ u) x o own = absurd (o.0 x)
+  way_only n (p ∷ w) [] x o own = absurd (x.0 o)
+  way_only n (p ∷ w) (q ∷ u) x o own =
+      let same : q ≡ p = x.2.1 q o.1 (own n q (on_first_lem (net v) n q u)) in
+      ap (q ∷◌) (way_only (next n q) w u (subst (λ (z : ℕ). SoleWay v c t (next n z) w) (sym same) x.3) o.2 (λ m r i. own m r (on_later (net v) n q u m r i))) ∙ ap (◌∷ w) same
 
   -- uphill hops whose links are the only uphill ones at their nodes are such a way
   pub onward_way : (n : ℕ) (w : Path) → Onward (net v) t n w → ((m q : ℕ) → On (net v) n w m q → Sole v c t m q) → SoleWay v c t n w
@@ -90,10 +85,10 @@ module _ (v : View) (c t : ℕ) where
       go (inr k) (inl f) ih = absurd (past q f.0 k)
       go (inr k) (inr l) ih = ih k l
 
--- the link out of node n that circuit c holds and that is uphill towards node t, as a vector, if that is one
+-- the link out of node n that circuit c holds and that is offered towards node t, as a vector, if that is one
 abbrev pub SoleUphill : View → ℕ → ℕ → ℕ → Option ℕ → Type 0
-SoleUphill v c t n (Some on) = (p : ℕ) × (p < port_count) × (on ≡ 2 ^ p) × Sole v c t n p × (uphill t n p ≡ true)
-SoleUphill v c t n None = (p : ℕ) → p < port_count → Sole v c t n p → uphill t n p ≡ true → ⊥
+SoleUphill v c t n (Some on) = (p : ℕ) × (on ≡ 2 ^ p) × Sole v c t n p × (p ∈ offered (net v) t n)
+SoleUphill v c t n None = (p : ℕ) → Sole v c t n p → p ∈ offered (net v) t n → ⊥
 
 -- nodes that a test found to differ
 pub differ : {m n : ℕ} → true ≡ not (eqb m n) → m ≢ n
@@ -102,35 +97,68 @@ differ {m} {n} e = eqb-false m n (not-true _ (sym e))
 -- a vector of one port is not empty
 pub not_none : {x : ℕ} → OnePort x → x ≢ 0
 unfolding OnePort
-not_none p e = omega (arith, p.2, pow_pos p.0)
+not_none p e = omega (arith, p.1, pow_pos p.0)
 
--- the links held at node n that are uphill, as a vector
-module _ {b : List ℕ} {c n t held vector : ℕ} (f : HeldBy b c n held) (u : UphillVector n t vector) where
-  pub uphill_small : bit_and held vector < 256
-  uphill_small = omega (arith, and_le_l held vector, f.small)
+-- the ports that are offered at node n towards node t, as a vector of so many positions
+pub record OfferedVector (width : ℕ) (v : View) (n t vector : ℕ) : Type 0 where
+  pub small : vector < 2 ^ width
+  pub there : (q : ℕ) → has vector q ≡ true → q ∈ offered (net v) t n
+  pub every : (q : ℕ) → q ∈ offered (net v) t n → has vector q ≡ true
 
-  uphill_bits : (p : ℕ) → p < port_count → has (bit_and held vector) p ≡ (held_by (view b) c n p && uphill t n p)
+-- the uphill vector has no port above 7,
+pub uphill_small : {n t vector x : ℕ} → n < 256 → t < 256 → UphillVector n t vector → x ≡ vector → x < 256
+uphill_small {n} {t} h l u same = omega (arith, same, u.value, xor_lt 8 n t h l)
+
+-- and with its partners it is that
+pub offered_vector : (b : List ℕ) {n t x vector wide fold width : ℕ} → dimension_at b ≤ largest_dimension → NodeOf (dimension_at b) n → NodeOf (dimension_at b) t → UphillVector n t vector → x ≡ vector → fold ≡ fold_at b → WithPartners fold x wide × (wide < 2 ^ width)
+    → OfferedVector width (view b) n t wide
+unfolding view
+offered_vector b {n} {t} {x} {vector} {wide} {fold} d i l u same f w =
+    let partners : WithPartners (fold_at b) (bit_xor n t) wide = rw (← f, ← u.value, ← same) w.0 in
+    record {
+      small = w.1;
+      there = has_offered (shape_of (view b)) d n t wide i l partners;
+      every = offered_has (shape_of (view b)) d n t wide i l partners;
+    }
+
+-- whether every port of a vector is the cube's, as its board answers
+pub ports_there : (b : List ℕ) (vector : ℕ) {fold nodes : ℕ} {answer : Bool} → dimension_at b ≤ largest_dimension → nodes ≡ cube_nodes (dimension_at b) → fold ≡ fold_at b → PortsInside fold vector nodes answer
+    → Decides ((p : ℕ) → has vector p ≡ true → present (view b).dimension (view b).fold p ≡ true) answer
+unfolding view PortsInside
+ports_there b vector {answer = answer} d m f x = subst (λ (y : ℕ). Decides ((p : ℕ) → has vector p ≡ true → present (dimension_at b) y p ≡ true) answer) f (x (dimension_at b) d m)
+
+-- the links held at node n that are offered, as a vector
+module _ (w : ℕ) {b : List ℕ} {width c n t held up : ℕ} (f : HeldIn w b c n held) (u : OfferedVector width (view b) n t up) (room : width ≤ w) where
+  both_small : bit_and held up < 2 ^ w
+  both_small = lt_of_le_of_lt (and_le_l held up) f.small
+
+  -- a port that is offered is one of those that a node has
+  offered_below : (q : ℕ) → q ∈ offered (net (view b)) t n → q < w
+  offered_below q m = lt_of_lt_of_le (has_below width up q u.small (u.every q m)) room
+
+  both_bits : (p : ℕ) → p < w → has (bit_and held up) p ≡ (held_by (view b) c n p && has up p)
   unfolding view
-  uphill_bits p l = has_and held vector p ∙ ap₂ ◌&&◌ (f.held p l) (u.bits p)
+  both_bits p l = has_and held up p ∙ ap (◌&& has up p) (f.held p l)
 
-  -- one port in it is that of the only one, and of no more than one link one at most is uphill
-  pub one_sole : OnePort (bit_and held vector) → SoleUphill (view b) c t n (Some (bit_and held vector))
+  -- one port in it is that of the only one, and of no more than one link one at most is offered
+  pub one_sole : OnePort (bit_and held up) → SoleUphill (view b) c t n (Some (bit_and held up))
   unfolding Sole OnePort
   one_sole one =
       let p = one.0 in
-      let r = both (held_by (view b) c n p) (uphill t n p) (sym (uphill_bits p one.1) ∙ ap (λ x. has x p) one.2 ∙ bit_has p) in
-      (p, one.1, one.2, (r.0, λ q k h s. bit_only p q (ap (λ x. has x q) (sym one.2) ∙ uphill_bits q k ∙ and h s)), r.1)
+      let there : has (bit_and held up) p ≡ true = ap (λ x. has x p) one.1 ∙ bit_has p in
+      let r = both (held_by (view b) c n p) (has up p) (sym (both_bits p (has_below w _ p both_small there)) ∙ there) in
+      (p, one.1, (r.0, λ q m h. bit_only p q (ap (λ x. has x q) (sym one.1) ∙ both_bits q (offered_below q m) ∙ and h (u.every q m))), u.there p r.1)
 
-  pub sole_one : {p : ℕ} → p < port_count → Sole (view b) c t n p → uphill t n p ≡ true → OnePort (bit_and held vector)
+  pub sole_one : {p : ℕ} → Sole (view b) c t n p → p ∈ offered (net (view b)) t n → OnePort (bit_and held up)
   unfolding Sole OnePort
-  sole_one {p} l s h = (p, l, sole_bit uphill_small uphill_bits l (and s.0 h) (λ q k x. let r = both _ _ x in s.1 q k r.0 r.1))
+  sole_one {p} s m = (p, sole_bit w both_small both_bits (offered_below p m) (and s.0 (u.every p m)) (λ q k x. let r = both _ _ x in s.1 q (u.there q r.1) r.0))
 
-  pub few_one : links_held (view b) c n ≤ 1 → bit_and held vector ≢ 0 → OnePort (bit_and held vector)
-  unfolding Sole links_held
+  pub few_one : links_held_of w (view b) c n ≤ 1 → bit_and held up ≢ 0 → OnePort (bit_and held up)
+  unfolding Sole links_held_of
   few_one few h =
-      let p = some_bit uphill_small uphill_bits h in
+      let p = some_bit w both_small both_bits h in
       let r = both _ _ p.2 in
-      sole_one p.1 (r.0, λ q k x s. few_kept (held_by (view b) c n) few p.0 p.1 r.0 q k x) r.1
+      sole_one (r.0, λ q m x. few_kept w (held_by (view b) c n) few p.0 p.1 r.0 q (offered_below q m) x) (u.there p.0 r.1)
 
 pub shown : (b : List ℕ) → (view b).dimension ≡ dimension_at b
 unfolding view
@@ -140,7 +168,7 @@ pub one_nearer : (v : View) (t n p : ℕ) → p ∈ offered (net v) t n → (net
 unfolding network
 one_nearer v t n p m = let near = (cube_nearing (shape_of v) t).nearer n p m in omega arith
 
--- what one hop of the walk finds at node n, towards t: the port of the one link held that is uphill, and the node that it leads to
+-- what one hop of the walk finds at node n, towards t: the port of the one link held that is offered, and the node that it leads to
 pub record WalkStep (b : List ℕ) (c n t to : ℕ) : Type 0 where
   pub port : ℕ
   pub sole : Sole (view b) c t n port
@@ -150,37 +178,27 @@ pub record WalkStep (b : List ℕ) (c n t to : ℕ) : Type 0 where
   pub nearer : (net (view b)).distance t n ≡ 1 + (net (view b)).distance t to
 
 -- the branches of the walk: at node n, towards t, after some hops
-module _ (b : List ℕ) (c n t hops : ℕ) (d : dimension_at b ≤ largest_dimension) where
-  small : (view b).dimension ≤ largest_dimension
-  small = omega (arith, shown b)
-
+module _ (b : List ℕ) (c n t hops : ℕ) where
   pub walks_here : n ≡ t → hops ≤ 9 → Walks (view b) c t n hops (Some hops)
   unfolding SoleWay
   walks_here e l = record { way = ([], e, omega arith); most = l }
 
-  -- not one link that is held there is uphill
+  -- not one link that is held there is offered
   pub walks_none : n ≢ t → SoleUphill (view b) c t n None → Walks (view b) c t n hops None
   walks_none h none [] s = unfold SoleWay in h s
-  walks_none h none (p ∷ w) s = unfold SoleWay in none p (offered_below (view b) c t small n p s.1) s.2 (offered_uphill (view b) c t small n p s.1)
+  walks_none h none (p ∷ w) s = unfold SoleWay in none p s.2 s.1
 
-  -- a port is uphill only where the cube has it
-  uphill_below : NodeOf (dimension_at b) n → NodeOf (dimension_at b) t → (p : ℕ) → uphill t n p ≡ true → p < dimension_at b
-  unfolding uphill
-  uphill_below h l p u = ⊎_elim (λ k. k) (λ k. absurd (clash u (rw (bit_high _ n p h k, bit_high _ t p l k)))) (below_or (dimension_at b) p)
-
-  pub walk_hop : {on : ℕ} → SoleUphill (view b) c t n (Some on) → NodeOf (dimension_at b) n → NodeOf (dimension_at b) t → WalkStep b c n t (bit_xor n on)
-  walk_hop {on} one i j =
+  pub walk_hop : {on to : ℕ} → SoleUphill (view b) c t n (Some on) → NodeOf (dimension_at b) n → ((p : ℕ) → on ≡ 2 ^ p → to ≡ next n p) → WalkStep b c n t to
+  walk_hop {on} {to} one i leads =
       let p = one.0 in
-      let low : p < dimension_at b = uphill_below i j p one.4 in
-      let to : bit_xor n on ≡ next n p = ap (bit_xor n) one.2 ∙ flip_xor n p ∙ ap (flip n) (sym (axis_low p (omega arith))) in
-      let mine : p ∈ offered (net (view b)) t n = port_offered (shape_of (view b)) t n p ((unfolded_port (shape_of (view b)) small refl p).1 (rw (shown b) low)) (rw (axis_low p (omega arith)) one.4) in
+      let there : to ≡ next n p = leads p one.1 in
       record {
         port = p;
-        sole = one.3;
-        is_offered = mine;
-        there = to;
-        inside = rw to (next_inside (dimension_at b) n p d i low);
-        nearer = one_nearer (view b) t n p mine ∙ ap (λ x. 1 + (net (view b)).distance t x) (sym to);
+        sole = one.2;
+        is_offered = one.3;
+        there = there;
+        inside = rw there (unfold network view in port_inside (shape_of (view b)) n p i (offered_port (shape_of (view b)) t n p one.3).0);
+        nearer = one_nearer (view b) t n p one.3 ∙ ap (λ x. 1 + (net (view b)).distance t x) (sym there);
       }
 
   module _ {to : ℕ} (h : n ≢ t) (x : WalkStep b c n t to) where
@@ -191,7 +209,7 @@ module _ (b : List ℕ) (c n t hops : ℕ) (d : dimension_at b ≤ largest_dimen
     unfolding SoleWay Sole
     no_way none [] s = h s
     no_way none (q ∷ w) s =
-        let same : q ≡ x.port = x.sole.1 q (offered_below (view b) c t small n q s.1) s.2.0 (offered_uphill (view b) c t small n q s.1) in
+        let same : q ≡ x.port = x.sole.1 q s.1 s.2.0 in
         none w (subst (λ (y : ℕ). SoleWay (view b) c t y w) (ap (next n) same ∙ sym x.there) s.3)
 
     pub walks_on : (r : Option ℕ) → Walks (view b) c t to (hops + 1) r → Walks (view b) c t n hops r

@@ -1,25 +1,26 @@
 -- Counting the hops of a circuit to a node: what the functions that count them answer.
 -- Assumes nothing.
-use Rattle.std.specs.Prelude.{◌≡◌, ◌⊎◌, ◌≢◌, true, List, [], ◌∷◌, ℕ, ◌+◌, ◌^◌, ◌≤◌, ◌<◌, length, Option, Some, None}
+use Rattle.std.specs.Prelude.{◌≡◌, ◌⊎◌, ◌≢◌, true, List, [], ◌∷◌, ℕ, ◌+◌, ◌^◌, ◌≤◌, length, Option, Some, None}
 use Rattle.common.specs.Lists.{◌∈◌}
 use Rattle.cube.specs.Bits.{has}
-use Rattle.cube.specs.Cube.{port_count, next, source_of, uphill}
+use Rattle.cube.specs.Axes.{present}
+use Rattle.cube.specs.Cube.{next, source_of}
 use Rattle.paths.specs.Network.{Path, links, offered, Exactly}
 use Rattle.paths.specs.Permitted.{Permitted}
-use Rattle.paths.specs.CubeNetwork.{ports, circuit_count}
+use Rattle.paths.specs.CubeNetwork.{LinkOf, ports, circuit_count}
 use Rattle.table.specs.View.{View, shape_of, net, held_by}
 use Rattle.circuit_path.specs.CircuitSound.{end_for, CircuitSound}
 use Rattle.circuit_hops.specs.Seen.{seen_at, Seen}
 
 -- a vector of one port
 unfoldable pub OnePort : ℕ → Type 0
-OnePort vector = (p : ℕ) × (p < port_count) × (vector ≡ 2 ^ p)
+OnePort vector = (p : ℕ) × (vector ≡ 2 ^ p)
 
--- of the links that circuit c holds at node n, the one out of port p alone is uphill towards node t
+-- of the links that circuit c holds at node n, the one out of port p alone is offered towards node t
 unfoldable pub Sole : View → ℕ → ℕ → ℕ → ℕ → Type 0
-Sole v c t n p = (held_by v c n p ≡ true) × ((q : ℕ) → q < port_count → held_by v c n q ≡ true → uphill t n q ≡ true → q ≡ p)
+Sole v c t n p = (held_by v c n p ≡ true) × ((q : ℕ) → q ∈ offered (net v) t n → held_by v c n q ≡ true → q ≡ p)
 
--- w leads on from node n to node t, uphill at every hop, over links of circuit c that are its only uphill ones at their nodes
+-- w leads on from node n to node t, uphill at every hop, over links of circuit c that are the only ones offered of those that it holds at their nodes
 unfoldable pub SoleWay : View → ℕ → ℕ → ℕ → Path → Type 0
 SoleWay v c t n [] = n ≡ t
 SoleWay v c t n (p ∷ w) = (n ≢ t) × (p ∈ offered (net v) t n) × Sole v c t n p × SoleWay v c t (next n p) w
@@ -46,7 +47,7 @@ StandsNowhere v c t = (s : CircuitSound v c) → end_for v c s.path ≡ t → �
 -- of the links that circuit c holds at its source, the one by which a path to node t may leave it, as a vector
 pub record Leaving (v : View) (c t first : ℕ) : Type 0 where
   pub one : OnePort first
-  pub held : (p : ℕ) → p < port_count → has first p ≡ true → (held_by v c (source_of c) p ≡ true) × (p < v.dimension)
+  pub held : (p : ℕ) → has first p ≡ true → (held_by v c (source_of c) p ≡ true) × (present v.dimension v.fold p ≡ true)
   pub leaves : (a : ℕ) (w : Path) → HoldsPath v c t a w → has first a ≡ true
 
 -- and where there is none, the circuit stands on no such path
@@ -67,7 +68,7 @@ pub record HopsCounted (v : View) (c t : ℕ) (before after : List ℕ) (hops : 
   pub in_range : c ≤ circuit_count (shape_of v)
   pub found : FollowedPath v c t hops
   pub unseen : Seen v before c → ⊥
-  pub marks : (s p : ℕ) → s < 256 → p < port_count → (seen_at after s p ≡ true → (seen_at before s p ≡ true) ⊎ (v.owner s p ≡ c))
+  pub marks : (s p : ℕ) → LinkOf (shape_of v) s p → (seen_at after s p ≡ true → (seen_at before s p ≡ true) ⊎ (v.owner s p ≡ c))
       × (seen_at before s p ≡ true → seen_at after s p ≡ true) × ((s ≡ source_of c) → held_by v c s p ≡ true → seen_at after s p ≡ true)
   pub most : hops ≤ 9
 

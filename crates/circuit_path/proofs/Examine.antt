@@ -1,114 +1,80 @@
 -- Looking at a circuit, as the code's branches meet it.
 -- Assumes nothing.
-use mathlib.Core.Path.{◌≡◌, refl, ap, ap₂, sym, ◌∙◌}
-use mathlib.Core.Logic.{⊎_elim}
-use mathlib.Core.Bool.{Bool, true, false, not, ◌&&◌}
+use mathlib.Core.Path.{◌≡◌, ap, sym, ◌∙◌}
+use mathlib.Core.Logic.{⊎_elim, ◌≢◌}
+use mathlib.Core.Bool.{true}
 use mathlib.Core.List.{List, [], ◌∷◌}
 use Prim.Native.Nat.{ℕ, ◌-◌, ◌^◌, ◌≤◌, ◌<◌}
 use native.Mathlib.Omega.{arith}
-use lib.Dec.{eqb, ltb, lit<}
 use lib.ListN.{length}
-use lib.Bits.{bit_and, and_le_l}
-use borrow.Author.Tests.{ltb-true, lt-ltb, le-ltb, eqb-true, eqb-false}
-use Rattle.cube.specs.Axes.{positions}
-use Rattle.common.specs.Lists.{any, from}
-use Rattle.common.proofs.Tests.{below_or, clash, is_false, both, and}
-use Rattle.common.proofs.Every.{decide}
-use Rattle.common.proofs.Lists.{keep_same, keep_all, any_some, some_any}
-use Rattle.common.proofs.From.{keep_wider, mem_from, length_from, from_below}
+use lib.Pow.{pow_pos}
+use borrow.Author.Tests.{lt-ltb}
+use Rattle.common.specs.Lists.{any}
+use Rattle.common.proofs.Lists.{keep_all}
+use Rattle.common.proofs.Tests.{below_or}
+use Rattle.cube.specs.Axes.{axis}
 use Rattle.cube.specs.Bits.{has}
-use Rattle.cube.specs.CubeContracts.{NodeCount}
-use Rattle.cube.specs.Cube.{largest_dimension, port_count, cube_nodes, next, source_of}
+use Rattle.cube.specs.CubeContracts.{WithPartners}
+use Rattle.cube.specs.Cube.{largest_dimension, next, source_of}
 use Rattle.cube.specs.Helical.{ports_of}
-use Rattle.cube.proofs.Bits.{has_and, zero_has, no_ports}
-use Rattle.cube.proofs.Ports.{count_of}
-use Rattle.paths.specs.Network.{take_first}
-use Rattle.paths.specs.CubeNetwork.{ports, network}
-use Rattle.paths.specs.Recover.{walk_from, first_hop_choices, path_of_links}
-use Rattle.paths.proofs.CubeNetwork.{unfolded_ports}
-use Rattle.paths.proofs.Walks.{walk_fuel}
-use Rattle.layout.specs.Layout.{dimension_at}
-use Rattle.entries.specs.EntryContracts.{Within}
-use Rattle.table.specs.TableContracts.{HeldBy}
-use Rattle.table.specs.View.{View, view, shape_of, net, held_by}
+use Rattle.cube.proofs.Order.{byte_vector, ports_wider}
+use Rattle.paths.specs.CubeNetwork.{Shape, ports, network, send_ports}
+use Rattle.paths.proofs.Apart.{apart_permitted}
+use Rattle.paths.proofs.CubeNetwork.{port_axis, path_hops}
+use Rattle.paths.proofs.FoldedCube.{partners_send}
+use Rattle.paths.proofs.Following as On
+use Rattle.paths.proofs.Walks.{path_apart}
+use Rattle.entries.specs.EntryContracts.{InTable}
+use Rattle.table.specs.View.{View, shape_of, held_by}
+use Rattle.circuit_path.specs.CircuitSound.{end_for}
 use Rattle.circuit_path.specs.PathOf.{path_of}
 use Rattle.circuit_path.specs.OpenCircuit.{is_open_in}
-use Rattle.circuit_path.specs.Follow.{links_followed, first_hop, HasSource}
-use Rattle.table.proofs.Made.{ones}
+use Rattle.circuit_path.specs.Follow.{links_followed, first_hop, BoardHere, HasSourceIn}
+use Rattle.cube.proofs.PortsInside.{ones}
 use Rattle.circuit_path.proofs.CircuitSound.{not_empty, open_path}
-use Rattle.circuit_path.proofs.Hops.{first_none, first_is, hop_port}
 
--- the vector of all ports of a cube
-ports_of_cube : (D : ℕ) → D ≤ largest_dimension → ports_of port_count (2 ^ D - 1) ≡ from 0 D
-unfolding ports_of
-ports_of_cube D h =
-    keep_same (has (2 ^ D - 1)) (λ p. ltb p D) (from 0 8) (λ p m. ones D p h (from_below 8 p m))
-    ∙ keep_wider (λ p. ltb p D) 0 D 8 (omega arith) (λ p l. le-ltb p D (omega arith))
-    ∙ keep_all (λ p. ltb p D) (from 0 D) (λ p m. lt-ltb p D (from_below D p m))
+-- a circuit's path has 9 hops at most
+pub path_few : (v : View) (c : ℕ) → v.dimension ≤ largest_dimension → path_of v c ≢ [] → length (path_of v c) ≤ 9
+unfolding path_of
+path_few v c h some =
+    let S = shape_of v in
+    let permitted = apart_permitted S (source_of c) (path_of v c) (path_apart S (held_by v c) (source_of c) some) in
+    omega (arith, h, (path_hops S (source_of c) (ports S) (end_for v c (path_of v c)) (path_of v c) permitted).1)
 
--- the vector of all ports of a table's cube
-abbrev pub all_ports : View → ℕ
-all_ports v = 2 ^ v.dimension - 1
+module _ {q w f : ℕ} (v : View) (h : v.dimension ≤ largest_dimension) (c : ℕ) (board : BoardHere q w f v) {wide : ℕ} (all : WithPartners f (2 ^ v.dimension - 1) wide × (wide < 2 ^ w)) where
+  abbrev S : Shape
+  S = shape_of v
 
-module _ (v : View) (h : v.dimension ≤ largest_dimension) (c : ℕ) where
-  hops : List ℕ
-  hops = first_hop_choices (net v) (ports_of port_count (all_ports v)) (held_by v c) (source_of c)
+  -- the vector of all ports of a cube
+  every : send_ports S (2 ^ v.dimension - 1) ≡ ports S
+  unfolding send_ports
+  every =
+      keep_all (λ q. has (2 ^ v.dimension - 1) (axis q)) (ports S)
+      (λ q m. let l = port_axis S q m in ones v.dimension (axis q) h (omega (arith, h, l)) ∙ lt-ltb (axis q) v.dimension l)
 
-  path_over : path_of v c ≡ take_first hops (λ a. walk_from positions (net v) (ports_of port_count (all_ports v)) (held_by v c) ((net v).next (source_of c) a))
-  unfolding path_of path_of_links hops
-  path_over =
-      ap (λ ps. take_first (first_hop_choices (net v) ps (held_by v c) (source_of c)) (λ a. walk_from positions (net v) ps (held_by v c) ((net v).next (source_of c) a))) (unfolded_ports (shape_of v) (omega arith) refl ∙ sym (ports_of_cube v.dimension h))
+  pub whole : ports_of w wide ≡ ports S
+  whole =
+      sym (ports_wider w 18 wide board.most all.1)
+      ∙ partners_send S h (2 ^ v.dimension - 1) wide (omega (arith, pow_pos v.dimension)) (rw (← board.folded) all.0) ∙ every
 
   -- the path that the code follows: its first hop, and what is followed behind it
-  pub path_first : {a : ℕ} → a ≡ first_hop v c (source_of c) (all_ports v) → a < port_count → path_of v c ≡ a ∷ links_followed v c (next (source_of c) a) (all_ports v)
-  unfolding first_hop links_followed take_first hops network
-  path_first {a} e l =
-      let r = first_is hops a (sym e) l in
-      let short : length (ports_of port_count (all_ports v)) ≡ v.dimension = ap length (ports_of_cube v.dimension h) ∙ length_from 0 v.dimension in
-      path_over ∙ ap (λ ps. take_first ps (λ a. walk_from positions (net v) (ports_of port_count (all_ports v)) (held_by v c) ((net v).next (source_of c) a))) r.1
-      ∙ ap (a ∷◌) (walk_fuel (net v) (held_by v c) 18 8 (ports_of port_count (all_ports v)) (next (source_of c) a) (omega arith) (omega arith))
+  pub path_first : {s a start : ℕ} → s ≡ source_of c → a ≡ first_hop w v c s wide → a < w → start ≡ next s a → path_of v c ≡ a ∷ links_followed w v c start wide
+  unfolding first_hop links_followed path_of network
+  path_first {s} {a} q e l to = rw (to, q) (On.path_first S (held_by v c) (source_of c) w wide a whole (rw q at e) l)
 
-  pub path_none : {a : ℕ} → a ≡ first_hop v c (source_of c) (all_ports v) → port_count ≤ a → path_of v c ≡ []
-  unfolding first_hop take_first hops
-  path_none e l =
-      path_over ∙ ap (λ ps. take_first ps (λ a. walk_from positions (net v) (ports_of port_count (all_ports v)) (held_by v c) ((net v).next (source_of c) a))) (first_none hops (λ p m. hop_port v c (source_of c) (all_ports v) p m) (omega arith))
-
--- the same, of the numbers that the code has: the dimension, the count of nodes and the source
-module _ (v : View) (c : ℕ) {D nodes : ℕ} (d : D ≡ v.dimension) (h : D ≤ largest_dimension) (m : nodes ≡ cube_nodes D) where
-  below : v.dimension ≤ largest_dimension
-  below = omega arith
-
-  every_port : {s a : ℕ} → s ≡ source_of c → a ≡ first_hop v c s (nodes - 1) → a ≡ first_hop v c (source_of c) (all_ports v)
-  every_port q e = e ∙ ap₂ (first_hop v c) q (ap (◌- 1) (count_of d m))
+  path_none : {s a : ℕ} → s ≡ source_of c → a ≡ first_hop w v c s wide → w ≤ a → path_of v c ≡ []
+  unfolding first_hop path_of
+  path_none {s} {a} q e l = On.path_none S (held_by v c) (source_of c) w wide a whole (rw q at e) l
 
   -- an open circuit has a first hop
-  pub hop_below : is_open_in v c ≡ true → {s a : ℕ} → s ≡ source_of c → a ≡ first_hop v c s (nodes - 1) → a < port_count
-  hop_below o {s} {a} q e = ⊎_elim (λ l. l) (λ l. absurd (not_empty (path_of v c) (sym (open_path v c) ∙ o) (path_none v below c (every_port q e) l))) (below_or 8 a)
+  pub hop_below : is_open_in v c ≡ true → {s a : ℕ} → s ≡ source_of c → a ≡ first_hop w v c s wide → a < w
+  hop_below o {s} {a} q e = ⊎_elim (λ l. l) (λ l. absurd (not_empty (path_of v c) (sym (open_path v c) ∙ o) (path_none q e l))) (below_or w a)
 
-  -- and its path is that hop and what is followed behind it
-  pub path_after : {s a start : ℕ} → s ≡ source_of c → a ≡ first_hop v c s (nodes - 1) → a < port_count → start ≡ next s a → path_of v c ≡ a ∷ links_followed v c start (nodes - 1)
-  path_after {s} {a} q e g to =
-      path_first v below c (every_port q e) g ∙ ap (a ∷◌) (ap₂ (links_followed v c) (sym (to ∙ ap (λ x. next x a) q)) (sym (ap (◌- 1) (count_of d m))))
-
--- a circuit is open where the vector of the links that it holds at its source has a port of the cube
-pub open_vector : {b : List ℕ} {c D nodes s held : ℕ} → D ≡ dimension_at b → D ≤ largest_dimension → nodes ≡ cube_nodes D → s ≡ source_of c → HeldBy b c s held → not (eqb (bit_and held (nodes - 1)) 0) ≡ is_open_in (view b) c
-unfolding is_open_in view
-open_vector {b} {c} {D} {nodes} {s} {held} d h m q f = rw all (go (eqb (bit_and held (nodes - 1)) 0) refl)
-  where
-    all : ports (shape_of (view b)) ≡ from 0 D
-    all = unfolded_ports (shape_of (view b)) (omega arith) refl ∙ ap (from 0) (sym d)
-
-    bits : (p : ℕ) → p < port_count → has (bit_and held (nodes - 1)) p ≡ (held_by (view b) c (source_of c) p && ltb p D)
-    bits p l = has_and held (nodes - 1) p ∙ ap₂ ◌&&◌ (f.held p l ∙ ap (λ n. held_by (view b) c n p) q) (ap (λ k. has (k - 1) p) m ∙ ones D p h l)
-
-    go : (x : Bool) → eqb (bit_and held (nodes - 1)) 0 ≡ x → not x ≡ any (held_by (view b) c (source_of c)) (from 0 D)
-    go true e = sym (is_false _ (λ o. let r = any_some _ (from 0 D) o in let l = from_below D r.0 r.1 in
-        clash (bits r.0 (omega arith) ∙ and r.2 (lt-ltb r.0 D l)) (ap (λ x. has x r.0) (eqb-true _ 0 e) ∙ zero_has r.0)))
-    go false e =
-        ⊎_elim (λ r. let z = both _ _ (sym (bits r.0 r.1) ∙ r.2) in sym (some_any _ (from 0 D) (mem_from 0 D r.0 (omega arith) (omega (arith, ltb-true r.0 D z.1))) z.0))
-        (λ r. absurd (eqb-false _ 0 e (no_ports 8 _ (omega (arith, and_le_l held (nodes - 1), f.small)) r))) (decide 8 (has (bit_and held (nodes - 1))))
+  -- a circuit is open where it holds a link out of its source
+  pub open_vector : {s : ℕ} → s ≡ source_of c → any (held_by v c s) (ports_of q wide) ≡ is_open_in v c
+  unfolding is_open_in
+  open_vector at_source = rw at_source (ap (any (held_by v c (source_of c))) (ports_wider w q wide board.row all.1 ∙ whole))
 
 -- a circuit's source is a node within the bytes
-pub source_within : {b : List ℕ} {c D nodes s : ℕ} → HasSource b c → D ≡ dimension_at b → NodeCount D nodes → s ≡ source_of c → Within b s 0
-source_within known d m q =
-    record { bytes = known.bytes; node = omega (arith, known.source, m.most, count_of d m.value); port = lit< tt }
+pub source_within : {long q : ℕ} {b : List ℕ} {c s : ℕ} → 0 < q → HasSourceIn long b c → s ≡ source_of c → InTable long q b s 0
+source_within some known e = record { bytes = known.bytes; node = rw e (byte_vector known.fits known.source); port = some }

@@ -1,4 +1,4 @@
--- Document 01, "The cube and its table": what a sound table says of a circuit number that occurs (soundness/Sound.Sound).
+-- What a sound table says of a circuit number that occurs (soundness/Sound.Sound).
 -- Assumes nothing.
 use Rattle.std.specs.Prelude.{◌≡◌, ℕ, ◌<◌}
 use Rattle.cube.specs.Cube.{channels, source_of}
@@ -11,8 +11,8 @@ use Rattle.table.specs.View.{View, shape_of, net, held_by}
 abbrev pub end_for : View → ℕ → Path → ℕ
 end_for v c w = end (net v) (source_of c) w
 
--- circuit number c "stands on exactly the links of one permitted path from its source, and on exactly one receive channel, at that path's end".
--- The path is permitted for some send vector, so its first hop is any port of the cube, and its target is its end.
+-- Soundness 7: circuit c has a permitted path whose links, and no others, it holds, and one receive channel, at the node where that path ends.
+-- Soundness 8: the path is permitted for some send vector, so its first hop is any port of the cube, and its target is its end.
 pub record CircuitSound (v : View) (c : ℕ) : Type 0 where
   pub path : Path
   pub permitted : Permitted (net v) (source_of c) (ports (shape_of v)) (end_for v c path) path

@@ -1,4 +1,4 @@
--- Document 01, tests 9 and 12: when a circuit is open.
+-- When a circuit is open, as Refusals 9 and Refusals 12 ask.
 -- Assumes nothing.
 use Rattle.std.specs.Prelude.{Bool, ℕ}
 use Rattle.common.specs.Lists.{any}
@@ -6,6 +6,6 @@ use Rattle.cube.specs.Cube.{source_of}
 use Rattle.paths.specs.CubeNetwork.{ports}
 use Rattle.table.specs.View.{View, shape_of, held_by}
 
--- circuit number c is open: it holds a link out of its source
+-- Calls 17: circuit c is open if it holds a link out of its source.
 unfoldable pub is_open_in : View → ℕ → Bool
 is_open_in v c = any (held_by v c (source_of c)) (ports (shape_of v))

@@ -6,7 +6,7 @@ use Rattle.paths.specs.Network.{Path}
 use Rattle.paths.specs.Recover.{path_of_links}
 use Rattle.table.specs.View.{View, shape_of, held_by}
 
--- the path that the links held by circuit c make
+-- Soundness 9: the path that the links held by circuit c make
 unfoldable pub path_of : View → ℕ → Path
 path_of v c = path_of_links (shape_of v) (held_by v c) (source_of c)
 

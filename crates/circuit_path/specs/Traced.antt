@@ -1,8 +1,8 @@
--- Document 01: what a trace writes.
+-- What a trace writes.
 -- Assumes nothing.
 use Rattle.std.specs.Prelude.{List, ◌++◌, ℕ, length, drop}
 use Rattle.paths.specs.Network.{Path}
 
--- "Tracing writes the ports of a circuit, one byte per hop in path order, from the start of a lent buffer; later bytes keep their content."
+-- Calls 16: the ports of a circuit at the front of a buffer, a byte a hop, the first hop first; later bytes stay as they were.
 unfoldable pub traced_into : Path → List ℕ → List ℕ
 traced_into w buffer = w ++ drop (length w) buffer

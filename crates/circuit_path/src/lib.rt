@@ -1,18 +1,24 @@
 // The path of a circuit, recovered from the links that it holds.
 #![tactic(auto)]
 
-ghost use Rattle.std.specs.Prelude.{◌≡◌, true, ◌≤◌, ◌<◌, length};
-ghost use Rattle.entries.specs.EntryContracts.{Within};
-ghost use Rattle.common.specs.Lists.{lowest};
-ghost use Rattle.cube.specs.Cube.{port_count};
+ghost use Rattle.std.specs.Prelude.{◌≡◌, true, ◌-◌, ◌^◌, ◌≤◌, ◌<◌, length};
+ghost use Rattle.entries.specs.EntryContracts.{InTable};
+ghost use Rattle.common.specs.Lists.{any, lowest};
+ghost use Rattle.cube.specs.Cube.{largest_dimension};
+ghost use Rattle.cube.specs.CubeContracts.{WithPartners};
+ghost use Rattle.cube.specs.Helical.{ports_of};
+ghost use Rattle.paths.specs.BoardPorts.{BoardPorts};
+ghost use Rattle.paths.specs.HelixLinks.{largest};
+ghost use Rattle.layout.specs.Layout.{dimension_at};
 ghost use Rattle.table.specs.View.{view, held_by};
 ghost use Rattle.circuit_path.specs.CircuitSound.{end_for};
 ghost use Rattle.circuit_path.specs.PathOf.{path_of};
 ghost use Rattle.circuit_path.specs.OpenCircuit.{is_open_in};
 ghost use Rattle.circuit_path.specs.Traced.{traced_into};
-ghost use Rattle.circuit_path.specs.Follow.{holds_port, comes_back, first_hop, port_is, HasSource};
+ghost use Rattle.circuit_path.specs.Follow.{holds_port, comes_back, first_hop, port_is, BoardHere, HasSourceIn};
 
-use cube::{Circuit, Node, Port};
+use cube::{Board, Circuit, Node, Port};
+use layout::Layout;
 use table::Links;
 
 // How many hops a path has, which a trace answers to C, and the node where it ends.
@@ -31,41 +37,67 @@ pub struct CircuitPath<'a> {
 
 // Whether a circuit holds the link out of a port. Table, circuit, node and vector are parameters here and below: each hop asks of another node and vector.
 #[tactic(auto, unfolding(table::specs::View::view))]
-fn holds(t: &[u8], c: Circuit, n: Node, p: Port) -> bool
-    requires { Within t.now n.0 p.0 }
+fn holds<L: Layout>(t: &[u8], c: Circuit, n: Node, p: Port) -> bool
+    requires { InTable L.LENGTH L.PORTS t.now n.0 p.0 }
     ensures { result ≡ held_by (view t.now) c.0 n.0 p.0 }
 {
-    table::owner::<Links>(t, n, p) == c
+    table::owner::<Links<L>>(t, n, p) == c
+}
+
+// Whether it holds the link out of some port of a vector.
+fn some_held<L: Layout>(t: &[u8], c: Circuit, n: Node, vector: u32) -> bool
+    requires { InTable L.LENGTH L.PORTS t.now n.0 0 × (vector < 2 ^ L.PORTS) }
+    ensures { result ≡ any (held_by (view t.now) c.0 n.0) (ports_of L.PORTS vector) }
+{
+    table::ports_held::<L>(t, c, n) & vector != 0
 }
 
 // Whether a port is in a vector and a circuit holds the link out of it.
 #[tactic(auto, unfolding(crate::specs::Follow::holds_port, cube::specs::Bits::has, cube::specs::Bits::bit_at))]
-fn holds_port(t: &[u8], c: Circuit, n: Node, vector: u16, p: Port) -> bool
-    requires { Within t.now n.0 p.0 }
+fn holds_port<L: Layout>(t: &[u8], c: Circuit, n: Node, vector: u32, p: Port) -> bool
+    requires { InTable L.LENGTH L.PORTS t.now n.0 p.0 }
     ensures { result ≡ holds_port (view t.now) c.0 n.0 vector p.0 }
 {
     let q = p.0;
-    (vector >> q) % 2 == 1 && holds(t, c, n, p)
+    (vector >> q) % 2 == 1 && holds::<L>(t, c, n, p)
 }
 
-// Whether it holds the way back too.
-#[tactic(auto, unfolding(crate::specs::Follow::comes_back))]
-fn comes_back(t: &[u8], c: Circuit, n: Node, vector: u16, p: Port) -> bool
-    requires { Within t.now n.0 p.0 }
-    ensures { result ≡ comes_back (view t.now) c.0 n.0 vector p.0 }
+// Whether it holds a way back too, over some port of the axis.
+fn comes_back<L: Layout, B: Board>(
+    t: &[u8],
+    c: Circuit,
+    n: Node,
+    vector: u32,
+    p: Port,
+    board: B,
+) -> bool
+    requires within { InTable L.LENGTH L.PORTS t.now n.0 p.0 }
+    requires board_here { BoardHere L.PORTS B.width (B.fold board) (view t.now) }
+    requires small { p.0 < B.width }
+    requires vector_ports { BoardPorts B.width (largest (B.fold board)) vector }
+    ensures { result ≡ comes_back B.width (view t.now) c.0 n.0 vector p.0 }
 {
-    holds_port(t, c, n, vector, p) && holds(t, c, cube::neighbour(n, p), p)
+    holds_port::<L>(t, c, n, vector, p)
+        && some_held::<L>(t, c, board.neighbour(n, p), vector & board.axis_ports(p))
 }
 
 // The lowest port of a vector whose link a circuit holds at a node. No port below the lowest of the vector is looked at.
-fn held_port(t: &[u8], c: Circuit, n: Node, vector: u16) -> Option<Port>
-    requires { Within t.now n.0 0 × (vector < 256) }
-    ensures { port_is (lowest (holds_port (view t.now) c.0 n.0 vector) port_count 0) result }
+fn held_port<L: Layout, B: Board>(
+    t: &[u8],
+    c: Circuit,
+    n: Node,
+    vector: u32,
+    board: B,
+) -> Option<Port>
+    requires within { InTable L.LENGTH L.PORTS t.now n.0 0 }
+    requires board_here { BoardHere L.PORTS B.width (B.fold board) (view t.now) }
+    requires small { vector < 2 ^ B.width }
+    ensures { port_is B.width (lowest (holds_port (view t.now) c.0 n.0 vector) B.width 0) result }
 {
-    let first = cube::lowest_of(vector)?;
+    let first = cube::lowest_port(vector)?;
     // Tried with `find` and `map`, speed: the book of a full table takes 30 % more time.
-    for p in first..cube::PORTS {
-        if holds_port(t, c, n, vector, Port(p)) {
+    for p in first..B::SEND_ARRIVAL + 1 {
+        if holds_port::<L>(t, c, n, vector, Port(p)) {
             return Some(Port(p));
         }
     }
@@ -74,14 +106,22 @@ fn held_port(t: &[u8], c: Circuit, n: Node, vector: u16) -> Option<Port>
 
 // The first hop of a circuit's path from its source: one whose way back it holds too, or else the lowest.
 // One loop looks for both, for speed: a `find` for each took 14 % more instructions for the paths of a full table.
-fn first_hop(t: &[u8], c: Circuit, s: Node, vector: u16) -> Option<Port>
-    requires { Within t.now s.0 0 }
-    ensures { port_is (first_hop (view t.now) c.0 s.0 vector) result }
+fn first_hop<L: Layout, B: Board>(
+    t: &[u8],
+    c: Circuit,
+    s: Node,
+    vector: u32,
+    board: B,
+) -> Option<Port>
+    requires within { InTable L.LENGTH L.PORTS t.now s.0 0 }
+    requires board_here { BoardHere L.PORTS B.width (B.fold board) (view t.now) }
+    requires vector_ports { BoardPorts B.width (largest (B.fold board)) vector }
+    ensures { port_is B.width (first_hop B.width (view t.now) c.0 s.0 vector) result }
 {
     let mut found = None;
-    for p in 0..cube::PORTS {
-        if holds_port(t, c, s, vector, Port(p)) {
-            if comes_back(t, c, s, vector, Port(p)) {
+    for p in 0..B::SEND_ARRIVAL + 1 {
+        if holds_port::<L>(t, c, s, vector, Port(p)) {
+            if comes_back::<L, B>(t, c, s, vector, Port(p), board) {
                 return Some(Port(p));
             }
             found = found.or(Some(Port(p)));
@@ -90,19 +130,41 @@ fn first_hop(t: &[u8], c: Circuit, s: Node, vector: u16) -> Option<Port>
     found
 }
 
+// All ports of a table's cube, as a vector.
+fn cube_ports<L: Layout, B: Board>(t: &[u8], board: B) -> u32
+    requires { (length t.now ≡ L.LENGTH) × (dimension_at t.now ≤ largest_dimension) }
+    ensures { WithPartners (B.fold board) (2 ^ dimension_at t.now - 1) result × (result < 2 ^ B.width) }
+{
+    board.with_partners(u32::from(cube::node_count(table::dimension(t)) - 1))
+}
+
 // Whether a circuit is open. `HasSource` says of a table and a circuit that its source is a node of the cube. It is a clause here and below, and that the circuit is open is one of `write_path`,
 // `path` and `release::release`, which writes the bytes: a struct that lends them would be made for one call each time.
-pub fn is_open(t: &[u8], c: Circuit) -> bool
-    requires { HasSource t.now c.0 }
+fn is_open_on<L: Layout, B: Board>(t: &[u8], c: Circuit, board: B) -> bool
+    requires has_source { HasSourceIn L.LENGTH t.now c.0 }
+    requires board_here { BoardHere L.PORTS B.width (B.fold board) (view t.now) }
     ensures { result ≡ is_open_in (view t.now) c.0 }
 {
-    let nodes = cube::node_count(table::dimension(t));
-    table::ports_held(t, c, cube::source_of(c)) & (nodes - 1) != 0
+    some_held::<L>(t, c, cube::source_of(c), cube_ports::<L, B>(t, board))
+}
+
+#[tactic(auto, unfolding(table::specs::View::view))]
+pub fn is_open<L: Layout>(t: &[u8], c: Circuit) -> bool
+    requires { HasSourceIn L.LENGTH t.now c.0 }
+    ensures { result ≡ is_open_in (view t.now) c.0 }
+{
+    is_open_on::<L, L::Board>(t, c, L::board(t))
 }
 
 // Writes the ports of an open circuit from the start of a buffer, one byte a hop in path order.
-pub fn write_path(t: &[u8], c: Circuit, buffer: &mut [u8]) -> WrittenPath
-    requires has_source { HasSource t.now c.0 }
+fn write_path_on<L: Layout, B: Board>(
+    t: &[u8],
+    c: Circuit,
+    buffer: &mut [u8],
+    board: B,
+) -> WrittenPath
+    requires has_source { HasSourceIn L.LENGTH t.now c.0 }
+    requires board_here { BoardHere L.PORTS B.width (B.fold board) (view t.now) }
     requires c_value { is_open_in (view t.now) c.0 ≡ true }
     requires in_bounds { 9 ≤ length buffer.old }
     ensures hops_value { result.hops ≡ length (path_of (view t.now) c.0) }
@@ -110,32 +172,45 @@ pub fn write_path(t: &[u8], c: Circuit, buffer: &mut [u8]) -> WrittenPath
     ensures end_value { result.end.0 ≡ end_for (view t.now) c.0 (path_of (view t.now) c.0) }
     ensures buffer_after { buffer.new ≡ traced_into (path_of (view t.now) c.0) buffer.old }
 {
-    let mut left = cube::node_count(table::dimension(t)) - 1;
+    let mut left = cube_ports::<L, B>(t, board);
     let source = cube::source_of(c);
-    let first = first_hop(t, c, source, left).unwrap();
-    // A port is below 8: `try_from` would answer a failure that cannot come, here and below.
+    let first = first_hop::<L, B>(t, c, source, left, board).unwrap();
+    // A port is below 18: `try_from` would answer a failure that cannot come, here and below.
     buffer[0] = first.0 as u8;
-    // The port of the first hop may be taken again; behind it each port is taken once. No iterator as `paths::HelixPath` is: the node where the path ends is a part of the answer.
-    let mut at = cube::neighbour(source, first);
+    // The axis of the first hop may be taken again; behind it each axis is taken once. No iterator as `paths::HelixPath` is: the node where the path ends is a part of the answer.
+    let mut at = board.neighbour(source, first);
     let mut hops: u16 = 1;
-    while let Some(p) = held_port(t, c, at, left) {
+    while let Some(p) = held_port::<L, B>(t, c, at, left, board) {
         buffer[usize::from(hops)] = p.0 as u8;
         hops += 1;
-        at = cube::neighbour(at, p);
-        left = cube::without(left, p);
+        at = board.neighbour(at, p);
+        left ^= left & board.axis_ports(p);
     }
     WrittenPath { hops, end: at }
 }
 
+#[tactic(auto, unfolding(table::specs::View::view))]
+pub fn write_path<L: Layout>(t: &[u8], c: Circuit, buffer: &mut [u8]) -> WrittenPath
+    requires has_source { HasSourceIn L.LENGTH t.now c.0 }
+    requires c_value { is_open_in (view t.now) c.0 ≡ true }
+    requires in_bounds { 9 ≤ length buffer.old }
+    ensures hops_value { result.hops ≡ length (path_of (view t.now) c.0) }
+    ensures few { result.hops ≤ 9 }
+    ensures end_value { result.end.0 ≡ end_for (view t.now) c.0 (path_of (view t.now) c.0) }
+    ensures buffer_after { buffer.new ≡ traced_into (path_of (view t.now) c.0) buffer.old }
+{
+    write_path_on::<L, L::Board>(t, c, buffer, L::board(t))
+}
+
 // The path of an open circuit, its ports written to a buffer.
-pub fn path<'a>(t: &[u8], c: Circuit, buffer: &'a mut [u8; 9]) -> CircuitPath<'a>
-    requires has_source { HasSource t.now c.0 }
+pub fn path<'a, L: Layout>(t: &[u8], c: Circuit, buffer: &'a mut [u8; 9]) -> CircuitPath<'a>
+    requires has_source { HasSourceIn L.LENGTH t.now c.0 }
     requires c_value { is_open_in (view t.now) c.0 ≡ true }
     ensures ports_value { result.ports.now ≡ path_of (view t.now) c.0 }
     ensures few { length result.ports.now ≤ 9 }
     ensures end_value { result.end.0 ≡ end_for (view t.now) c.0 (path_of (view t.now) c.0) }
 {
-    let written = write_path(t, c, buffer);
+    let written = write_path::<L>(t, c, buffer);
     CircuitPath {
         ports: &buffer[..usize::from(written.hops)],
         end: written.end,

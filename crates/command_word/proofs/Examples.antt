@@ -1,4 +1,4 @@
--- Document 01, "Examples at the edges", 8, and what it says of each of the sixteen commands: the definitions compute to what the paper says.
+-- Examples 8, and what is seen of each of the sixteen commands: the definitions compute to what they say.
 -- Assumes nothing.
 use Rattle.std.specs.Prelude.{◌≡◌, refl, List, [], ◌∷◌, map, ℕ, ◌+◌, ◌*◌, eqb, length}
 use Rattle.common.specs.Lists.{keep, from}
@@ -12,17 +12,17 @@ read n c k = record { number = n; command = c; carried = k }
 abbrev written : ℕ → ℕ → WordWritten
 written n w = record { number = n; word = w }
 
--- "word 2175 reads as command 1 carrying 0", "2437 is command 6 carrying 5", "3649 is command 9 carrying 1", "3136 gives 17, 2240 gives 18"
+-- Examples 8: the words that are read,
 example_8_read : map read_word (2175 ∷ 2437 ∷ 3649 ∷ 3136 ∷ 2240 ∷ []) ≡ read 0 1 0 ∷ read 0 6 5 ∷ read 0 9 1 ∷ read 17 0 0 ∷ read 18 0 0 ∷ []
 unfolding refusal commands values_in values reserved read_tests reading read_word
 example_8_read = refl
 
--- "that writes 2112"
+-- and the one that is written.
 example_8_written : write_word 1 0 ≡ written 0 2112
 unfolding refusal commands values_in values reserved write_tests writing write_word
 example_8_written = refl
 
--- the numbers of the tests, "in rising order"
+-- Words 7, Words 9: the numbers of the tests, in their order
 read_numbers : (word : ℕ) → map (λ (t : Test). t.number) (read_tests word) ≡ 15 ∷ 16 ∷ 17 ∷ 18 ∷ []
 unfolding read_tests
 read_numbers word = refl
@@ -31,7 +31,7 @@ write_numbers : (command carried : ℕ) → map (λ (t : Test). t.number) (write
 unfolding write_tests
 write_numbers command carried = refl
 
--- "Reserved: 3, 10, 11, 15."
+-- Words 4
 reserved_commands : keep reserved (from 0 16) ≡ 3 ∷ 10 ∷ 11 ∷ 15 ∷ []
 unfolding keep from commands values_in values reserved
 reserved_commands = refl
@@ -60,22 +60,22 @@ seen c =
       reads = map (λ status. (read_word (word + status)).carried) (0 ∷ 1 ∷ 62 ∷ 63 ∷ []);
     }
 
--- The sentences of document 01, each by what is seen where it holds.
--- "Commands 0 to 7 go with type 2, commands 8 to 15 with type 3": packet types 0 and 1 give 16, the other command type 17
+-- Rules of Words, each by what is seen where it holds.
+-- Words 2: packet types 0 and 1 give 16, the other command type 17.
 abbrev type2 : List ℕ
 type2 = 16 ∷ 16 ∷ 0 ∷ 17 ∷ []
 
 abbrev type3 : List ℕ
 type3 = 16 ∷ 16 ∷ 17 ∷ 0 ∷ []
 
--- "Reserved": 18, in the type that the command goes with
+-- Words 4: 18, in the type that the command goes with
 abbrev reserved2 : FieldsSeen
 reserved2 = record { types = 16 ∷ 16 ∷ 18 ∷ 17 ∷ []; carries = []; above = 18 ∷ 18 ∷ []; word = 0; reads = 0 ∷ 0 ∷ 0 ∷ 0 ∷ [] }
 
 abbrev reserved3 : FieldsSeen
 reserved3 = record { types = 16 ∷ 16 ∷ 17 ∷ 18 ∷ []; carries = []; above = 18 ∷ 18 ∷ []; word = 0; reads = 0 ∷ 0 ∷ 0 ∷ 0 ∷ [] }
 
--- "carry 0 or 1", "carry 0 to 63", "the others carry 0": any other number is refused with 19, and other status bits are ignored
+-- Words 5: any larger number than the command carries is refused with 19, and other status bits are ignored.
 abbrev carrying0 : List ℕ → ℕ → FieldsSeen
 carrying0 types word = record { types = types; carries = 0 ∷ []; above = 19 ∷ 19 ∷ []; word = word; reads = 0 ∷ 0 ∷ 0 ∷ 0 ∷ [] }
 
@@ -85,7 +85,7 @@ carrying1 types word = record { types = types; carries = 0 ∷ 1 ∷ []; above =
 abbrev carrying63 : List ℕ → ℕ → FieldsSeen
 carrying63 types word = record { types = types; carries = from 0 64; above = 19 ∷ 19 ∷ []; word = word; reads = 0 ∷ 1 ∷ 62 ∷ 63 ∷ [] }
 
--- Commands 0 to 15 in turn, as document 01 has them.
+-- Words 3, Words 4: commands 0 to 15 in turn.
 commands_seen : map seen (from 0 16) ≡
     -- packet acknowledge, route acknowledge, route rejected
     carrying0 type2 (2 * 1024)

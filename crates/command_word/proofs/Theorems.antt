@@ -1,4 +1,4 @@
--- The promises of document 01, "Command words", about reading and writing together.
+-- Reading and writing together (Promises 19).
 -- Assumes nothing.
 use mathlib.Core.Path.{◌≡◌, refl, ap, sym, ◌∙◌, subst}
 use mathlib.Core.Logic.{◌≢◌}
@@ -96,7 +96,7 @@ module _ (t c k : ℕ) (h : c ≤ 15) (l : k < 64) where
   made_status : status_of (word_of t c k) ≡ k
   made_status = omega arith
 
--- "What is written reads back as given."
+-- Words 11.
 pub written_reads_back : (command carried : ℕ) → (write_word command carried).number ≡ 0
     → read_word (write_word command carried).word ≡ record { number = 0; command = command; carried = carried }
 written_reads_back command carried e =
@@ -131,7 +131,7 @@ written_reads_back command carried e =
 accepted_word : (word : ℕ) → (read_word word).number ≡ 0 → ReadReason word 0
 accepted_word word e = subst (ReadReason word) e (every_word word)
 
--- "Reading and writing again gives the word with its ignored bits cleared."
+-- Words 12.
 pub read_writes_cleared : (word : ℕ) → (read_word word).number ≡ 0
     → write_word (read_word word).command (read_word word).carried ≡ record { number = 0; word = cleared word }
 unfolding cleared
@@ -145,7 +145,7 @@ read_writes_cleared word e = go (accepted_word word e)
         rw (← read_accepted word (command_of word) (carried_of word) (readable h t m z) refl refl)
         (sym (write_accepted (command_of word) k (cleared word) (writable (omega arith) below) same))
 
--- Command 7 carries its whole status: "upper two status bits code, lower four error".
+-- Words 6: command 7 carries its whole status, a code above an error.
 seven_carries : (word : ℕ) → command_of word ≡ end_to_end_not_acknowledged → carried_of word ≡ status_of word
 unfolding commands values_in values
 seven_carries word e = rw e (omega arith)

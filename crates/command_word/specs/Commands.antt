@@ -1,8 +1,8 @@
--- Document 01, "Command words": the fields of a word, and the commands that exist.
+-- The fields of a command word, and the commands that exist.
 -- Assumes nothing.
 use Rattle.std.specs.Prelude.{Bool, cond, List, [], ◌∷◌, ℕ, suc, ◌+◌, ◌*◌, ◌/◌, ◌%◌, eqb, leb}
 
--- "Here a word is type·1024 + command·64 + status."
+-- Words 1
 abbrev pub word_of : ℕ → ℕ → ℕ → ℕ
 word_of type command status = type * 1024 + command * 64 + status
 
@@ -16,11 +16,11 @@ command_of word = word / 64 % 16
 abbrev pub status_of : ℕ → ℕ
 status_of word = word % 64
 
--- "Commands 0 to 7 go with type 2, commands 8 to 15 with type 3."
+-- Words 2: commands below 8 go with type 2, the others with type 3.
 abbrev pub type_for : ℕ → ℕ
 type_for command = cond (leb command 7) 2 3
 
--- the commands by name
+-- Words 3: the commands by name
 abbrev pub packet_acknowledge : ℕ
 packet_acknowledge = 0
 
@@ -65,8 +65,7 @@ pub record Command : Type 0 where
 abbrev carrying : ℕ → ℕ → Command
 carrying c l = record { number = c; largest = l }
 
--- The list of commands, with what each carries: "Commands 4, 9 and 14 carry 0 or 1; 6 and 7 carry 0 to 63; the others carry 0."
--- "Reserved: 3, 10, 11, 15": those are not in the list.
+-- Words 3: the commands, with the largest number that each carries, and what it says (Words 6). Words 4: reserved ones are not in the list.
 unfoldable pub commands : List Command
 commands =
     carrying packet_acknowledge 0
@@ -88,14 +87,14 @@ commands =
     ∷ carrying flush_path 1
     ∷ []
 
--- "7 end-to-end not acknowledged, upper two status bits code, lower four error": the code and the error in what command 7 carries
+-- Words 6: the code and the error in what command 7 carries
 abbrev pub code_of : ℕ → ℕ
 code_of carried = carried / 16
 
 abbrev pub error_of : ℕ → ℕ
 error_of carried = carried % 16
 
--- how many numbers, from 0 upward, a command of a list carries; none where the list does not have it
+-- Words 5: how many numbers, from 0 upward, a command of a list carries; none where the list does not have it
 unfoldable pub values_in : List Command → ℕ → ℕ
 values_in [] c = 0
 values_in (x ∷ xs) c = cond (eqb c x.number) (suc x.largest) (values_in xs c)
@@ -104,7 +103,7 @@ unfoldable pub values : ℕ → ℕ
 unfolding commands values_in
 values c = values_in commands c
 
--- a command that is not in the list
+-- Words 4: a command that is not in the list
 unfoldable pub reserved : ℕ → Bool
 unfolding values
 reserved c = eqb (values c) 0

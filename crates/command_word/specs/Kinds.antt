@@ -1,4 +1,4 @@
--- The packet types and the commands as the code names them, by their numbers in document 01.
+-- The packet types and the commands as the code names them, by their numbers.
 -- Assumes nothing.
 use Rattle.std.specs.Prelude.{◌≡◌, ℕ, Result, MatchResult}
 use Rattle.common.specs.declared.refusal.Refusal.{Refusal}
@@ -9,7 +9,7 @@ use Rattle.command_word.specs.declared.kinds.Command.{Command}
 use Rattle.command_word.specs.declared.kinds.Command.TheVariants.{PacketAcknowledge, RouteAcknowledge, RouteRejected, ReceiveRejected, ForwardedRouteRejected, EndToEndAcknowledge, EndToEndNotAcknowledged, EndOfMessage, EndOfTransmission, ResetCpu, ResetNode, FlushPath}
 use Rattle.command_word.specs.Commands.{packet_acknowledge, route_acknowledge, route_rejected, receive_rejected, forwarded_route_rejected, end_to_end_acknowledge, end_to_end_not_acknowledged, end_of_message, end_of_transmission, reset_cpu, reset_node, flush_path, values}
 
--- "packet type: 0 address, 1 data, 2 back-track, 3 forward"
+-- Words 2: the packet types
 abbrev pub packet_type_number : PacketType → ℕ
 packet_type_number Address = 0
 packet_type_number Data = 1

@@ -1,4 +1,4 @@
--- The command word of document 01: its fields and its command list, what reading and writing answer, and why either is refused.
+-- The command word: its fields and its command list, what reading and writing answer, and why either is refused.
 pub mod Commands
 pub mod Kinds
 pub mod Word

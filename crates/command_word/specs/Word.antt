@@ -1,4 +1,4 @@
--- Document 01, "Command words" and numbers 15 to 19 of "Where each call is stopped": what reading and writing a word answer.
+-- What reading and writing a word answer.
 -- Assumes nothing.
 use Rattle.std.specs.Prelude.{cond, not, ◌||◌, List, [], ◌∷◌, ℕ, ◌+◌, ◌*◌, ◌/◌, ◌%◌, eqb, leb, ltb, Result, Ok, Err}
 use Rattle.common.specs.Tests.{Test, test, refusal}
@@ -9,18 +9,18 @@ use Rattle.command_word.specs.declared.Reading.{Reading}
 use Rattle.command_word.specs.Commands.{word_of, type_of, command_of, status_of, type_for, values, reserved}
 use Rattle.command_word.specs.Kinds.{command_number}
 
--- "reading a word, number, command and carried number"
+-- Words 8: what a reading answers: a number, the command and the number carried
 pub record WordRead : Type 0 where
   pub number : ℕ
   pub command : ℕ
   pub carried : ℕ
 
--- "writing one, number and word"
+-- Words 10: what a writing answers: a number and the word
 pub record WordWritten : Type 0 where
   pub number : ℕ
   pub word : ℕ
 
--- the tests of reading: 15 above 4,095; 16 packet type 0 or 1; 17 type does not go with the command; 18 reserved command
+-- Words 7: the tests of reading, in their order
 unfoldable pub read_tests : ℕ → List Test
 read_tests word =
     test (ltb 4095 word) 15
@@ -29,15 +29,15 @@ read_tests word =
     ∷ test (reserved (command_of word)) 18
     ∷ []
 
--- "Reading gives command and carried number and ignores the other status bits": what the command carries stands lowest
+-- Words 5: what the command carries stands lowest in the status. Words 8: the other status bits are ignored.
 abbrev pub carried_of : ℕ → ℕ
 carried_of word = status_of word % values (command_of word)
 
--- "reading a word, number, command and carried number"
+-- Words 8: 0, the command and the number carried
 unfoldable pub reading : ℕ → WordRead
 reading word = record { number = 0; command = command_of word; carried = carried_of word }
 
--- "When refused, all but the number are 0"
+-- Words 8: refused, command and carried number are 0.
 abbrev pub no_reading : ℕ → WordRead
 no_reading number = record { number = number; command = 0; carried = 0 }
 
@@ -45,12 +45,12 @@ no_reading number = record { number = number; command = 0; carried = 0 }
 unfoldable pub read_word : ℕ → WordRead
 read_word word = let number = refusal (read_tests word) in cond (eqb number 0) (reading word) (no_reading number)
 
--- the tests of writing: 18 reserved command, also above 15; 19 carried number too large for the command
+-- Words 9: the tests of writing, in their order
 unfoldable pub write_tests : ℕ → ℕ → List Test
 write_tests command carried =
     test (ltb 15 command || reserved command) 18 ∷ test (leb (values command) carried) 19 ∷ []
 
--- "writing one, number and word"; "writing sets those [the other status bits] to 0"
+-- Words 10: 0 and the word, which has the type of its command, and as its status the number carried. Refused, the word is 0. Words 11: it reads back (Theorems).
 unfoldable pub writing : ℕ → ℕ → WordWritten
 writing command carried = record { number = 0; word = word_of (type_for command) command carried }
 
@@ -70,6 +70,6 @@ abbrev pub write_answer : Result CommandWord Refusal → WordWritten
 write_answer (Ok word) = record { number = 0; word = word.0 }
 write_answer (Err e) = no_writing (number_of e)
 
--- the word with its ignored bits cleared: below the command, only what the command carries is left
+-- Words 12: the word with its ignored bits cleared: below the command, only what the command carries is left
 unfoldable pub cleared : ℕ → ℕ
 cleared word = word / 64 * 64 + word % 64 % values (command_of word)

@@ -5,7 +5,7 @@ ghost use Rattle.command_word.specs.Kinds.{command_number, packet_type_number, N
 
 use common::refusal::Refusal;
 
-// The packet types of source document 001. Only the last two carry commands.
+// The packet types (Words 2). Only the last two carry commands.
 #[derive(Clone, Copy, PartialEq, Eq)]
 pub enum PacketType {
     Address = 0,
@@ -42,7 +42,7 @@ impl PacketType {
     }
 }
 
-// The commands. 3, 10, 11 and 15 are reserved.
+// The commands (Words 3). 3, 10, 11 and 15 are reserved (Words 4).
 #[derive(Clone, Copy, PartialEq, Eq)]
 pub enum Command {
     PacketAcknowledge = 0,

@@ -1,4 +1,4 @@
-// Command words: packet type, command and status of source document 001's command packets, stored in one number.
+// Command words: packet type, command and status of the patent's command packets, stored in one number (Words 1).
 #![tactic(auto)]
 
 ghost use Rattle.std.specs.Prelude.{◌≡◌, ◌≤◌, ◌<◌};
@@ -24,7 +24,7 @@ pub struct Reading {
 }
 
 impl CommandWord {
-    // The fields: what one of each is worth in a word, and how many there are. Numbers, since a word is stored as one, and C's header shows them so.
+    // Forms 6: the fields, what one of each is worth in a word, and how many there are. Numbers, since a word is stored as one, and C's header shows them so.
     pub const TYPE_PLACE: u16 = 1024;
 
     pub const COMMAND_PLACE: u16 = 64;
@@ -74,7 +74,7 @@ impl CommandWord {
         )
     }
 
-    // The fields of a word. Document 01's list of forms asks for readers without self. No `TryFrom`: a word up to 4,095 has one of four types, and none can fail.
+    // The fields of a word. Forms 6: readers that need no word beforehand, so without self. No `TryFrom`: a word up to 4,095 has one of four types, and none can fail.
     fn packet_type(word: CommandWord) -> PacketType
         requires { word.0 ≤ 4095 }
         ensures { packet_type_number result ≡ type_of word.0 }
@@ -99,7 +99,7 @@ impl CommandWord {
         word.0 / CommandWord::STATUS_PLACE % CommandWord::STATUSES
     }
 
-    // Reads any number as a command word.
+    // Words 7, Words 8: reads any number as a command word.
     pub fn read(word: u16) -> Result<Reading, Refusal>
         ensures { read_answer result ≡ read_word word }
     {
@@ -121,7 +121,7 @@ impl CommandWord {
         })
     }
 
-    // The word of a command, any number, with the number that it carries.
+    // Words 9, Words 10: the word of a command, any number, with the number that it carries.
     pub fn write(command: u16, carried: u16) -> Result<CommandWord, Refusal>
         ensures { write_answer result ≡ write_word command carried }
     {

@@ -2,7 +2,7 @@
 -- Assumes nothing.
 use mathlib.Core.Logic.{◌≢◌}
 use Rattle.common.specs.declared.refusal.Refusal.{Refusal}
-use Rattle.common.specs.declared.refusal.Refusal.TheVariants.{TableLength, Dimension, NotSound, Node, Channel, Port, RoutingType, SendVector, ChannelInUse, RouteRejected, ReceiveRejected, NoCircuit, LinkHeld, BufferShort, WordTooLarge, NotACommand, WrongType, ReservedCommand, CarriedTooLarge, UnreadableLine, ChannelHeld, NoRoute, BookShort, Book, BookCircuit, BookLink, SendList, Halves, ChannelStopped, Requester}
+use Rattle.common.specs.declared.refusal.Refusal.TheVariants.{TableLength, Dimension, NotSound, Node, Channel, Port, RoutingType, SendVector, ChannelInUse, RouteRejected, ReceiveRejected, NoCircuit, LinkHeld, BufferShort, WordTooLarge, NotACommand, WrongType, ReservedCommand, CarriedTooLarge, UnreadableLine, ChannelHeld, NoRoute, BookShort, Folded, Book, BookCircuit, BookLink, SendList, Halves, ChannelStopped, Requester}
 use Rattle.common.specs.Refusals.{number_of}
 use Rattle.std.proofs.Common.{arith}
 
@@ -30,6 +30,7 @@ refused UnreadableLine = λ h. omega (arith, h)
 refused ChannelHeld = λ h. omega (arith, h)
 refused NoRoute = λ h. omega (arith, h)
 refused BookShort = λ h. omega (arith, h)
+refused Folded = λ h. omega (arith, h)
 refused Book = λ h. omega (arith, h)
 refused BookCircuit = λ h. omega (arith, h)
 refused BookLink = λ h. omega (arith, h)

@@ -1,4 +1,4 @@
--- The first bit of a number after a place, as the function that finds it promises it.
+-- The first bit of a number after a place, as the function that finds it promises it: for Order 1 and Arbiter 4.
 -- Assumes nothing.
 use Rattle.std.specs.Prelude.{◌≡◌, true, Bool, ℕ, ◌/◌, ◌%◌, ◌^◌, ◌≤◌, ◌<◌, eqb}
 

@@ -2,9 +2,9 @@
 -- Assumes nothing.
 use Rattle.std.specs.Prelude.{ℕ, Result, Ok, Err}
 use Rattle.common.specs.declared.refusal.Refusal.{Refusal}
-use Rattle.common.specs.declared.refusal.Refusal.TheVariants.{TableLength, Dimension, NotSound, Node, Channel, Port, RoutingType, SendVector, ChannelInUse, RouteRejected, ReceiveRejected, NoCircuit, LinkHeld, BufferShort, WordTooLarge, NotACommand, WrongType, ReservedCommand, CarriedTooLarge, UnreadableLine, ChannelHeld, NoRoute, BookShort, Book, BookCircuit, BookLink, SendList, Halves, ChannelStopped, Requester}
+use Rattle.common.specs.declared.refusal.Refusal.TheVariants.{TableLength, Dimension, NotSound, Node, Channel, Port, RoutingType, SendVector, ChannelInUse, RouteRejected, ReceiveRejected, NoCircuit, LinkHeld, BufferShort, WordTooLarge, NotACommand, WrongType, ReservedCommand, CarriedTooLarge, UnreadableLine, ChannelHeld, NoRoute, BookShort, Folded, Book, BookCircuit, BookLink, SendList, Halves, ChannelStopped, Requester}
 
--- documents 01 and 02, the tables of refusals: "No."
+-- Refusals 1 to 31.
 abbrev pub number_of : Refusal → ℕ
 number_of TableLength = 1
 number_of Dimension = 2
@@ -29,6 +29,7 @@ number_of UnreadableLine = 20
 number_of ChannelHeld = 21
 number_of NoRoute = 22
 number_of BookShort = 23
+number_of Folded = 24
 number_of Book = 25
 number_of BookCircuit = 26
 number_of BookLink = 27
@@ -37,7 +38,7 @@ number_of Halves = 29
 number_of ChannelStopped = 30
 number_of Requester = 31
 
--- "Success is 0."
+-- Refusals 0, Calls 7: 0 for success.
 abbrev pub answer_of : {A : Type 0} → Result A Refusal → ℕ
 answer_of (Ok a) = 0
 answer_of (Err e) = number_of e

@@ -1,8 +1,8 @@
--- How a call's tests decide its number: document 01, "Where each call is stopped".
+-- How a call's tests decide its number.
 -- Assumes nothing.
 use Rattle.std.specs.Prelude.{Bool, cond, List, [], ◌∷◌, ℕ}
 
--- a row of the table of refusals: when it applies, and its number
+-- a test: when it applies, and its number
 pub record Test : Type 0 where
   pub when : Bool
   pub number : ℕ
@@ -10,7 +10,7 @@ pub record Test : Type 0 where
 abbrev pub test : Bool → ℕ → Test
 test b n = record { when = b; number = n }
 
--- "The first that applies is the answer, and a test that does not apply never refuses." "Success is 0."
+-- Calls 4: the first test that applies decides the number. Refusals 0: 0 where none does.
 unfoldable pub refusal : List Test → ℕ
 refusal [] = 0
 refusal (t ∷ ts) = cond t.when t.number (refusal ts)

@@ -1,8 +1,8 @@
-// Why a call is refused: the numbers of document 01, "Where each call is stopped", and of document 02.
+// Why a call is refused: the numbers of Refusals.
 ghost use Rattle.std.specs.Prelude.{◌≡◌};
 ghost use Rattle.common.specs.Refusals.{number_of, answer_of};
 
-// A refusal is its number to C: 1 to 31, as the papers have them. Success is 0, which is no refusal.
+// A refusal is its number to C, from 1 to 31. Success is 0, which is no refusal.
 #[derive(Clone, Copy, Debug, PartialEq, Eq)]
 pub enum Refusal {
     // The lent table.
@@ -32,21 +32,24 @@ pub enum Refusal {
     CarriedTooLarge = 19,
     // The printed list.
     UnreadableLine = 20,
-    // Disarm (document 02): a circuit holds the receive channel.
+    // Disarm: a circuit holds the receive channel.
     ChannelHeld = 21,
     // Open, after the search: beside a route rejection, where waiting does not help.
     NoRoute = 22,
-    // A book of circuits (document 02): a buffer cannot hold its part; a book that is read is not well formed.
+    // A book of circuits: a buffer cannot hold its part.
     BookShort = 23,
+    // A wide table going back to a narrow one: a dimension is folded.
+    Folded = 24,
+    // A book that is read: it is not well formed.
     Book = 25,
     // A book that is judged: a circuit's source, path or send channel; a link that is blocked, taken or shared.
     BookCircuit = 26,
     BookLink = 27,
-    // A job (document 02): a length that no list of sends has.
+    // A job: a length that no list of sends has.
     SendList = 28,
-    // Two half cabinets (document 02): tables that cannot be joined.
+    // Two half cabinets: tables that cannot be joined.
     Halves = 29,
-    // A packet to a receive channel (document 02).
+    // A packet to a receive channel: it is stopped.
     ChannelStopped = 30,
     // The arbiter: a request or a record that is no requester.
     Requester = 31,

@@ -55,6 +55,10 @@ pub bit_xor_lem : (n m p : ℕ) → bit_at (bit_xor n m) p ≡ bit_xor (bit_at n
 unfolding bit_at
 bit_xor_lem n m p = rw (xor_shr n m p) (xor_mod (n / 2 ^ p) (m / 2 ^ p) 1)
 
+pub has_xor : (n m p : ℕ) → has (bit_xor n m) p ≡ not (beq (has n p) (has m p))
+unfolding has
+has_xor n m p = rw (bit_xor_lem n m p) (two_bits (λ x y. eqb (bit_xor x y) 1 ≡ not (beq (eqb x 1) (eqb y 1))) refl refl refl refl (bit_at n p) (bit_at m p) (bit_lt n p) (bit_lt m p))
+
 -- the bits of `&`
 bit_and_lem : (n m p : ℕ) → bit_at (bit_and n m) p ≡ bit_and (bit_at n p) (bit_at m p)
 unfolding bit_at

@@ -1,4 +1,4 @@
--- Document 01's entries of the table of first ports, which any table that keeps the rule has; one circuit number; and the ports of small cubes.
+-- Three entries of the table of first ports, which any table that keeps the rule has; one circuit number; and the ports of small cubes.
 -- Assumes nothing.
 use Rattle.std.specs.Prelude.{◌≡◌, refl, List, [], ◌∷◌, ℕ, get_or}
 use Rattle.std.proofs.Common.{lit<}
@@ -8,7 +8,7 @@ use Rattle.cube.specs.Axes.{axis, present}
 use Rattle.cube.specs.Cube.{circuit_of}
 use Rattle.cube.specs.Helical.{first_port, FirstPorts}
 
--- "Entry 40 is 2 (vector 5, arrival 0), entry 42 is 0, entry 8 is 0."
+-- Examples 11.
 module _ (table : List ℕ) (rule : FirstPorts table) where
   entry_40 : get_or table 40 0 ≡ 2
   unfolding first_port
@@ -22,7 +22,7 @@ module _ (table : List ℕ) (rule : FirstPorts table) where
   unfolding first_port
   entry_8 = rule.entry 1 0 (lit< tt) (lit< tt)
 
--- "The circuit of send channel c at node s has the number 8·s + c + 1": send channel 3 of node 200
+-- Examples 33: the circuit of send channel 3 of node 200.
 circuit_1604 : circuit_of 200 3 ≡ 1604
 circuit_1604 = refl
 

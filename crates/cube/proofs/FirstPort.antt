@@ -16,10 +16,11 @@ use Rattle.common.proofs.Lists.{keep_mem, mem_keep, keep_pairwise}
 use Rattle.common.proofs.LowestBit.{found_above, found_round}
 use Rattle.common.proofs.Tests.{below_or, clash}
 use Rattle.cube.specs.Bits.{bit_at, has}
-use Rattle.cube.specs.Helical.{ports_of, helical, first_or}
+use Rattle.cube.specs.Helical.{ports_of, helical, first_or, first_port, FirstPorts}
+use Rattle.cube.specs.declared.first_port_table.TheConstants.{FIRST_PORTS}
 use Rattle.cube.specs.CubeContracts.{FirstTried, FirstByRule}
 use Rattle.cube.proofs.Bits.{high_has}
-use Rattle.cube.proofs.Order.{ports_mem, mem_ports, ports_pairwise, helical_last, first_tried}
+use Rattle.cube.proofs.Order.{ports_mem, mem_ports, ports_pairwise, helical_last, first_tried, ports_wider, table_of}
 
 -- the first of a rising list is its least member, also with a list behind it
 first_least : (p : ℕ) (xs ys : List ℕ) → Pairwise ◌<◌ xs → p ∈ xs → ((j : ℕ) → j ∈ xs → p ≤ j) → first_or 0 (xs ++ ys) ≡ p
@@ -60,3 +61,16 @@ module _ (v a : ℕ) (room : v < 2 ^ 32) (some : v ≢ 0) where
 
   pub rule_round : v / 2 ^ (a + 1) ≡ 0 → FirstByRule v a (count_trailing_zeros 32 v)
   rule_round z = by_rule v a _ some (found_round 32 v a room some z)
+
+-- So is the entry of the table of first ports, whose vectors have 8 positions, at every width: no vector of its has more.
+same_ports : (w v : ℕ) → v < 2 ^ w → v < 256 → ports_of w v ≡ ports_of 8 v
+same_ports w v h l = ⊎_elim (λ k. sym (ports_wider w 8 v (omega (arith, k)) h)) (λ k. ports_wider 8 w v k l) (below_or 8 w)
+
+pub rule_table : (v a p : ℕ) → v < 256 → v ≢ 0 → p ≡ first_port v a → FirstByRule v a p
+unfolding first_port
+rule_table v a p l some e = record { tried = λ w h. rw (e, ← same_ports w v h l) (first_tried 8 w v a h some) }
+
+-- the constant table's entries follow the rule: one computed test
+pub first_ports : FirstPorts FIRST_PORTS
+unfolding first_port
+first_ports = table_of FIRST_PORTS refl refl

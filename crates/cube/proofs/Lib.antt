@@ -7,3 +7,5 @@ pub mod FirstPort
 pub mod Axes
 pub mod Examples
 pub mod PortsLeft
+pub mod PartnerPorts
+pub mod PortsInside

@@ -40,7 +40,7 @@ unfolding helical
 helical_keep a f ps =
     rw (keep_append f (keep (λ p. ltb a p) ps) (keep (λ p. leb p a) ps), keep_swap f (λ p. ltb a p) ps, keep_swap f (λ p. leb p a) ps)
 
--- after an arrival on the last port or above, ports are tried as they stand: "Sends use arrival port 7"
+-- after an arrival on the last port or above, ports are tried as they stand: Order 2, Order 7
 pub helical_last : (a : ℕ) (ps : List ℕ) → ((p : ℕ) → p ∈ ps → p ≤ a) → helical a ps ≡ ps
 unfolding helical
 helical_last a ps h =
@@ -141,11 +141,6 @@ table_of xs l t = record { entries = l; entry = λ v a h k. at v a h k }
 -- a vector, or a node, of a cube of dimension 8 or less is below 256
 pub byte_vector : {D x : ℕ} → D ≤ largest_dimension → VectorOf D x → x < 256
 byte_vector h l = lt_of_lt_of_le l (pow_mono h)
-
--- the port tried first
-pub port_tried : (D v a p : ℕ) → D ≤ largest_dimension → VectorOf D v → v ≢ 0 → p ≡ first_port v a → FirstTried port_count v a p
-unfolding first_port
-port_tried D v a p h l z e = rw e (first_tried 8 8 v a (byte_vector h l) z)
 
 pub low_port : (D v p : ℕ) → VectorOf D v → has v p ≡ true → p < D
 low_port D v p l e = go (ltb p D) refl

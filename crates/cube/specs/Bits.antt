@@ -7,12 +7,12 @@ use Rattle.std.specs.Bool.{beq}
 unfoldable pub bit_at : ℕ → ℕ → ℕ
 bit_at n p = n / 2 ^ p % 2
 
--- bit p of n is set: a vector has port p
+-- bit p of n is set: a vector has port p (Paths 2)
 unfoldable pub has : ℕ → ℕ → Bool
 unfolding bit_at
 has n p = eqb (bit_at n p) 1
 
--- n with bit p changed, and no other
+-- Cube 6: n with bit p changed, and no other
 unfoldable pub flip : ℕ → ℕ → ℕ
 unfolding has
 flip n p = cond (has n p) (n - 2 ^ p) (n + 2 ^ p)

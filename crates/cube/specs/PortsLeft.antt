@@ -2,8 +2,8 @@
 -- Assumes nothing.
 use Rattle.std.specs.Prelude.{List, ℕ}
 use Rattle.cube.specs.declared.vector_ports.VectorPorts.{VectorPorts}
-use Rattle.cube.specs.Cube.{port_count}
+use Rattle.cube.specs.Axes.{positions}
 use Rattle.cube.specs.Helical.{ports_of}
 
 abbrev pub ports_left : VectorPorts → List ℕ
-ports_left ports = ports_of port_count ports.left
+ports_left ports = ports_of positions ports.left

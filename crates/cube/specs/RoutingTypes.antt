@@ -6,14 +6,14 @@ use Rattle.common.specs.declared.refusal.Refusal.TheVariants as Refused
 use Rattle.cube.specs.declared.routing_type.RoutingType.{RoutingType}
 use Rattle.cube.specs.declared.routing_type.RoutingType.TheVariants.{Maze, Helix, Fixed, AlternateMaze}
 
--- documents 01 and 02: the number of each type
+-- the number of each type: Searches 8 has 1, Searches 7 has 3, Searches 3 and Searches 4 have 0 and 4
 abbrev pub routing_number : RoutingType → ℕ
 routing_number Maze = 0
 routing_number Helix = 1
 routing_number Fixed = 3
 routing_number AlternateMaze = 4
 
--- a number read as a type: "routing type neither 0 nor 4", and since document 02, (b), neither 1 nor 3, is refused
+-- Refusals 7: a number read as a type; one that is none of these is refused.
 abbrev pub ReadsType : ℕ → Result RoutingType Refusal → Type 0
 ReadsType n (Ok type) = n ≡ routing_number type
 ReadsType n (Err e) = (e ≡ Refused.RoutingType) × (n ≢ 0) × (n ≢ 1) × (n ≢ 3) × (n ≢ 4)

@@ -1,6 +1,6 @@
 // The table of first ports: at 8 * vector + arrival port stands the port that is tried first in the helical order, or 8 for vector zero.
 // Each row is a vector, named at its end, with the arrival ports 0 to 7 in it.
-pub const FIRST_PORTS: [u8; 2048] = [
+pub static FIRST_PORTS: [u8; 2048] = [
     8, 8, 8, 8, 8, 8, 8, 8, // 0
     0, 0, 0, 0, 0, 0, 0, 0, // 1
     1, 1, 1, 1, 1, 1, 1, 1, // 2

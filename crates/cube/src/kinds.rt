@@ -1,5 +1,5 @@
-// Node numbers, port numbers and circuit numbers: three kinds, none of which is taken for another. The public calls take any
-// 16-bit number as one of them and test it; the functions below say in their `requires` what has been tested by then.
+// Forms 1: node numbers, port numbers and circuit numbers, three kinds, none of which is taken for another. The public calls
+// take any 16-bit number as one of them and test it (Calls 3); the functions below say in their `requires` what was tested.
 ghost use Rattle.std.specs.Prelude.{◌≡◌, ◌<◌};
 ghost use Rattle.cube.specs.Cube.{channels, circuit_of, source_of, channel_of};
 
@@ -9,9 +9,6 @@ pub const LARGEST_DIMENSION: u16 = 8;
 pub const PORTS: u16 = 8;
 
 pub const CHANNELS: u16 = 8;
-
-// "Sends use arrival port 7": behind it the order begins with port 0.
-pub const SEND_ARRIVAL: u16 = 7;
 
 #[derive(Clone, Copy, Debug, PartialEq, Eq)]
 pub struct Node(pub u16);

@@ -1,24 +1,24 @@
 // The ports of a vector, one by one.
-ghost use Rattle.std.specs.Prelude.{◌≡◌, ◌<◌};
-ghost use Rattle.cube.specs.Cube.{port_count};
+ghost use Rattle.std.specs.Prelude.{◌≡◌, ◌<◌, ◌^◌};
+ghost use Rattle.cube.specs.Axes.{positions};
 ghost use Rattle.cube.specs.Helical.{ports_of};
 
 use crate::kinds::Port;
-use crate::vectors::{lowest_of, without};
+use crate::vectors::{lowest_port, wide_without};
 
 // Those that are still to come, from the lowest upward.
 #[derive(Clone, Copy)]
 pub struct VectorPorts {
-    left: u16,
-    ghost byte: { left < 256 },
+    left: u32,
+    ghost few: { left < 2 ^ positions },
 }
 
 impl VectorPorts {
     ghost use Rattle.cube.specs.PortsLeft.{ports_left};
 
-    pub fn new(vector: u16) -> VectorPorts
-        requires { vector < 256 }
-        ensures { ports_left result ≡ ports_of port_count vector }
+    pub fn new(vector: u32) -> VectorPorts
+        requires { vector < 2 ^ positions }
+        ensures { ports_left result ≡ ports_of positions vector }
     {
         VectorPorts { left: vector }
     }
@@ -35,8 +35,8 @@ impl Iterator for VectorPorts {
     ghost remaining = { item_count ports_left };
 
     fn next(&mut self) -> Option<Port> {
-        let port = Port(lowest_of(self.left)?);
-        self.left = without(self.left, port);
+        let port = Port(lowest_port(self.left)?);
+        self.left = wide_without(self.left, port);
         Some(port)
     }
 }

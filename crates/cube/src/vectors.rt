@@ -1,10 +1,10 @@
-// Where a port leads, and vectors of ports: bit p of a vector stands for port p. A vector, as a dimension, is a plain number whose bound stands in the contracts: the papers name three kinds,
-// nodes, ports and circuits.
-ghost use Rattle.std.specs.Prelude.{◌≡◌, true, ◌≤◌, ◌<◌};
+// Where a port leads, and vectors of ports: bit p of a vector stands for port p. A vector, as a dimension, is a plain number whose bound stands in the contracts: of the three kinds (Forms 1)
+// it is none.
+ghost use Rattle.std.specs.Prelude.{◌≡◌, true, ◌≤◌, ◌<◌, ◌^◌};
 ghost use Rattle.common.specs.Lists.{lowest};
 ghost use Rattle.common.specs.SomeBelow.{some_below};
 ghost use Rattle.cube.specs.Bits.{has};
-ghost use Rattle.cube.specs.Axes.{own_axes};
+ghost use Rattle.cube.specs.Axes.{positions, own_axes};
 ghost use Rattle.cube.specs.CubeContracts.{NodeCount, UphillVector, Without};
 ghost use Rattle.cube.specs.Cube.{largest_dimension, port_count, next};
 
@@ -46,6 +46,15 @@ pub fn without(vector: u16, port: Port) -> u16
     vector ^ (1 << p)
 }
 
+// The same of a vector of 32 bits, which has room for 18 ports.
+pub fn wide_without(vector: u32, port: Port) -> u32
+    requires { (port.0 < 32) × (has vector port.0 ≡ true) }
+    ensures { Without vector port.0 result }
+{
+    let p = port.0;
+    vector ^ (1u32 << p)
+}
+
 // The lowest bit that is set of eight.
 pub fn lowest_of(vector: u16) -> Option<u16>
     requires { vector < 256 }
@@ -56,5 +65,17 @@ pub fn lowest_of(vector: u16) -> Option<u16>
     } else {
         // At most 16: a conversion that can fail would say less than the cast.
         Some(u16::trailing_zeros(vector) as u16)
+    }
+}
+
+// The lowest port of a vector of 18 positions.
+pub fn lowest_port(vector: u32) -> Option<u16>
+    requires { vector < 2 ^ positions }
+    ensures { result ≡ some_below positions (lowest (has vector) positions 0) }
+{
+    if vector == 0 {
+        None
+    } else {
+        Some(u32::trailing_zeros(vector) as u16)
     }
 }

@@ -14,7 +14,8 @@ use Rattle.paths.specs.HelixLinks.{LinkInside, helix_links}
 use Rattle.paths.specs.CubeNetwork.{Shape, network}
 use Rattle.paths.proofs.CubeNetwork.{distance_within}
 use Rattle.paths.proofs.Helix.{helix_short}
-use Rattle.paths.proofs.HelixLinks.{length_links, free_path_test, front_links, links_of}
+use Rattle.paths.proofs.HelixLinks.{length_links, free_path_test, front_links, links_of, port_largest}
+use Rattle.paths.proofs.FoldedCube.{port_listed}
 use Rattle.entries.specs.EntryContracts.{put_owner}
 use Rattle.table.specs.View.{view, net, shape_of}
 use Rattle.answers.specs.SendOnTable.{free_in}
@@ -26,28 +27,30 @@ unfolding hold_path links network
 hold_links S c b n [] = refl
 hold_links S c b n (p ∷ w) = hold_links S c (put_owner b n p c) (next n p) w
 
-module _ {b : List ℕ} {s t p : ℕ} (may : MayFollow b s t p) where
-  pub starts_inside : LinkInside s p
-  starts_inside = (byte_vector may.fits may.node, omega (arith, may.port, may.fits))
+module _ {long q w f : ℕ} {b : List ℕ} {s t p : ℕ} (may : MayFollow long q w f b s t p) where
+  pub starts_inside : LinkInside w f s p
+  unfolding view
+  starts_inside = (byte_vector may.fits may.node, may.port, rw may.board.folded (port_largest (shape_of (view b)) may.fits t may.target p may.there))
 
-  its_links : links (net (view b)) s (helix_in b s t p) ≡ helix_links s t p
-  its_links = unfold view in links_of (shape_of (view b)) may.fits refl t may.target s p may.node may.port
+  its_links : links (net (view b)) s (helix_in b s t p) ≡ helix_links f s t p
+  unfolding view
+  its_links = rw may.board.folded (links_of (shape_of (view b)) may.fits t may.target s p may.node (port_listed (shape_of (view b)) p may.there))
 
   pub few_path : length (helix_in b s t p) ≤ 9
   few_path =
       let fits : (shape_of (view b)).dimension ≤ largest_dimension = unfold view in may.fits in
       omega (arith, helix_short (net (view b)) s t p, distance_within (shape_of (view b)) t ((net (view b)).next s p), fits)
 
-  pub few_links : length (helix_links s t p) ≤ 9
+  pub few_links : length (helix_links f s t p) ≤ 9
   few_links = let long = ap length (sym its_links) ∙ length_links (net (view b)) s (helix_in b s t p) in omega (arith, long, few_path)
 
-  pub front : front_in b s (helix_in b s t p) ≡ prefix_len (link_is_free b) (helix_links s t p)
+  pub front : front_in b s (helix_in b s t p) ≡ prefix_len (link_is_free b) (helix_links f s t p)
   front = front_links (net (view b)) (free_in (view b)) s (helix_in b s t p) ∙ ap (prefix_len (link_is_free b)) its_links
 
-  pub whole : free_all b s (helix_in b s t p) ≡ list_all (link_is_free b) (helix_links s t p)
+  pub whole : free_all b s (helix_in b s t p) ≡ list_all (link_is_free b) (helix_links f s t p)
   whole = free_path_test (net (view b)) (free_in (view b)) s (helix_in b s t p) ∙ ap (list_all (link_is_free b)) its_links
 
-  pub held : (c : ℕ) → hold_path b c s (helix_in b s t p) ≡ fold (hold_link c) b (helix_links s t p)
+  pub held : (c : ℕ) → hold_path b c s (helix_in b s t p) ≡ fold (hold_link c) b (helix_links f s t p)
   held c = hold_links (shape_of (view b)) c b s (helix_in b s t p) ∙ ap (fold (hold_link c) b) its_links
 
 -- What holds while the front of a path is looked at, with some free hops behind it: the links still to come give the whole.

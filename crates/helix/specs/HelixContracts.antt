@@ -4,26 +4,30 @@ use Rattle.std.specs.Prelude.{◌≡◌, Bool, true, false, List, map, ℕ, ◌�
 use Rattle.common.specs.declared.refusal.Refusal.TheVariants.{RouteRejected}
 use Rattle.std.specs.List.{list_all, prefix_len}
 use Rattle.paths.specs.Network.{Path, Link, free_path}
-use Rattle.paths.specs.HelixLinks.{helix_links}
-use Rattle.paths.specs.LinksLeft.{links_left}
+use Rattle.paths.specs.BoardPorts.{BoardPorts}
 use Rattle.entries.specs.EntryContracts.{put_owner}
-use Rattle.cube.specs.Cube.{largest_dimension, NodeOf, VectorOf}
+use Rattle.cube.specs.Axes.{positions, present}
+use Rattle.cube.specs.Cube.{largest_dimension, NodeOf}
+use Rattle.cube.specs.Helical.{ports_of}
 use Rattle.paths.specs.Pass.{PassResult, none, found}
 use Rattle.paths.specs.Helix.{helix_path, free_front, try_paths}
-use Rattle.paths.specs.CubeNetwork.{send_ports}
-use Rattle.layout.specs.Layout.{table_length, dimension_at}
-use Rattle.table.specs.View.{view, net, shape_of}
+use Rattle.paths.specs.Send.{one_result}
+use Rattle.layout.specs.Layout.{dimension_at}
+use Rattle.table.specs.View.{view, net, shape_of, receive}
 use Rattle.answers.specs.declared.Rejected.{Rejected}
-use Rattle.answers.specs.SendOnTable.{free_in}
+use Rattle.answers.specs.SendOnTable.{free_in, AnswerOnBytes}
+use Rattle.answers.specs.SendAnswer.{BoardIn, send_answer}
 use Rattle.helix.specs.declared.FreePath.{FreePath}
 
--- a table of a cube up to dimension 8, two nodes and a port of it: a helix path may be tried there
-pub record MayFollow (b : List ℕ) (n t p : ℕ) : Type 0 where
-  pub bytes : length b ≡ table_length
+-- a table of a cube up to dimension 8 and a board for it, two nodes and a port of it: a helix path may be tried there
+pub record MayFollow (long q w f : ℕ) (b : List ℕ) (n t p : ℕ) : Type 0 where
+  pub board : BoardIn q w f (view b)
+  pub bytes : length b ≡ long
   pub fits : dimension_at b ≤ largest_dimension
   pub node : NodeOf (dimension_at b) n
   pub target : NodeOf (dimension_at b) t
-  pub port : p < dimension_at b
+  pub port : p < w
+  pub there : present (shape_of (view b)).dimension (shape_of (view b)).fold p ≡ true
 
 -- the free hops at the front of a path from n, in what a table shows; and whether all of it is free
 abbrev pub front_in : List ℕ → ℕ → Path → ℕ
@@ -48,31 +52,35 @@ pub record FreeFrontOf (b : List ℕ) (links : List Link) (hops : ℕ) (whole : 
   pub count : hops ≡ prefix_len (link_is_free b) links
   pub all : whole ≡ list_all (link_is_free b) links
 
--- what going along it answers: its hops where it is free, and else the free hops at its front
+-- Scouts 7: what going along it answers: its hops where it is free, and else the free hops at its front
 abbrev pub FrontLooked : List ℕ → List Link → Result ℕ ℕ → Type 0
 FrontLooked b links (Ok hops) = FreeFrontOf b links hops true
 FrontLooked b links (Err hops) = FreeFrontOf b links hops false
 
--- what trying the helix paths of a vector's ports from s to t comes to
+-- what trying the helix paths of the ports of a vector with its partners from s to t comes to
 unfoldable pub tried_in : List ℕ → ℕ → ℕ → ℕ → PassResult
-tried_in b s t vector = try_paths (net (view b)) (free_in (view b)) s 0 (map (helix_in b s t) (send_ports (shape_of (view b)) vector))
+tried_in b s t ports = try_paths (net (view b)) (free_in (view b)) s 0 (map (helix_in b s t) (ports_of positions ports))
 
-pub record MayTryPaths (b : List ℕ) (s t vector : ℕ) : Type 0 where
-  pub bytes : length b ≡ table_length
+pub record MayTryPaths (long q w f : ℕ) (b : List ℕ) (s t ports : ℕ) : Type 0 where
+  pub board : BoardIn q w f (view b)
+  pub bytes : length b ≡ long
   pub fits : dimension_at b ≤ largest_dimension
   pub source : NodeOf (dimension_at b) s
   pub target : NodeOf (dimension_at b) t
-  pub ports : VectorOf (dimension_at b) vector
+  pub vector_ports : BoardPorts w (shape_of (view b)) ports
 
--- the first of those paths that is free, by its links
-pub record FreePathFound (b : List ℕ) (s t vector : ℕ) (links : List Link) (hops scouts : ℕ) : Type 0 where
-  pub port : ℕ
-  pub path : tried_in b s t vector ≡ found (helix_in b s t port) scouts
-  pub there : port < dimension_at b
-  pub links_of : links ≡ helix_links s t port
+-- the first of those paths that is free, by its port
+pub record FreePathFound (w : ℕ) (b : List ℕ) (s t ports port hops scouts : ℕ) : Type 0 where
+  pub path : tried_in b s t ports ≡ found (helix_in b s t port) scouts
+  pub small : port < w
+  pub there : present (shape_of (view b)).dimension (shape_of (view b)).fold port ≡ true
   pub long : hops ≡ length (helix_in b s t port)
 
 -- and where none is, a route rejection
-abbrev pub FirstFree : List ℕ → ℕ → ℕ → ℕ → Result FreePath Rejected → Type 0
-FirstFree b s t vector (Ok x) = FreePathFound b s t vector (links_left x.path) x.hops x.scouts
-FirstFree b s t vector (Err r) = (r.refusal ≡ RouteRejected) × (tried_in b s t vector ≡ none r.scouts)
+abbrev pub FirstFree : ℕ → List ℕ → ℕ → ℕ → ℕ → Result FreePath Rejected → Type 0
+FirstFree w b s t ports (Ok x) = FreePathFound w b s t ports x.port.0 x.hops x.scouts
+FirstFree w b s t ports (Err r) = (r.refusal ≡ RouteRejected) × (tried_in b s t ports ≡ none r.scouts)
+
+-- a send of the paths of some ports, as one attempt
+unfoldable pub sent_over : List ℕ → ℕ → ℕ → ℕ → ℕ → AnswerOnBytes
+sent_over b s t c ports = send_answer true b c s t (one_result (receive (view b) t) (tried_in b s t ports))

@@ -1,31 +1,35 @@
-// Routing types 1 and 3: helix paths, tried one after another. A path is looked at first and held when it is known to be free, so that a rejection has
-// nothing to give back.
+// Routing types 1 and 3: helix paths (Searches 6), tried one after another. A path is looked at first and held when it is known to be free, so that a rejection
+// has nothing to give back.
 #![tactic(auto)]
 
-ghost use Rattle.std.specs.Prelude.{◌≡◌, ◌≢◌, ◌≤◌, length};
+ghost use Rattle.std.specs.Prelude.{◌≡◌, ◌≢◌, length};
 ghost use Rattle.std.specs.List.{fold};
-ghost use Rattle.layout.specs.Layout.{table_length};
-ghost use Rattle.paths.specs.LinksLeft.{links_left};
+ghost use Rattle.paths.specs.HelixLinks.{helix_links};
+ghost use Rattle.table.specs.View.{view};
 ghost use Rattle.answers.specs.PassOnBytes.{opened_answer};
-ghost use Rattle.answers.specs.SendAnswer.{MaySend, searched};
-ghost use Rattle.helix.specs.HelixContracts.{hold_link, FrontLooked, MayTryPaths, FirstFree};
+ghost use Rattle.answers.specs.SendAnswer.{MaySendIn, BoardIn, searched};
+ghost use Rattle.helix.specs.HelixContracts.{hold_link, FrontLooked, MayFollow, MayTryPaths, FirstFree, sent_over};
 
 use answers::{Acknowledged, LinkState, Rejected, SendRequest};
 use common::refusal::Refusal;
-use cube::{Circuit, FirstPortTable, Port, VectorPorts};
+use cube::{Board, Circuit, Port, VectorPorts};
+use layout::Layout;
 use paths::HelixPath;
 use table::{Channels, Links};
 
-// Goes along a path until a link is not free or the target is reached: the hops of a path that is free, or the free hops at the front of one that is not.
-fn free_front(t: &[u8], path: HelixPath) -> Result<u16, u16>
-    requires bytes { length t.now ≡ table_length }
-    requires few { length (links_left path) ≤ 9 }
-    ensures { FrontLooked t.now (links_left path.entry) result }
+// Goes along the helix path of a port until a link is not free or the target is reached: the hops of a path that is free, or the free hops at the front of one that is not.
+fn free_front<L: Layout, B: Board>(
+    t: &[u8],
+    request: SendRequest,
+    port: Port,
+    board: B,
+) -> Result<u16, u16>
+    requires may_follow { MayFollow L.LENGTH L.PORTS B.width (B.fold board) t.now request.source.0 request.target.0 port.0 }
+    ensures { FrontLooked t.now (helix_links (B.fold board) request.source.0 request.target.0 port.0) result }
 {
     let mut hops: u16 = 0;
-    for (node, port) in path {
-        let enabled = table::enabled::<Links>(t, node, port);
-        let LinkState::Free = answers::link_state(t, node, port, enabled) else {
+    for (node, port) in HelixPath::new(request.source, request.target, port, board) {
+        let LinkState::Free = answers::link_state::<L>(t, node, port) else {
             return Err(hops);
         };
         hops += 1;
@@ -33,40 +37,40 @@ fn free_front(t: &[u8], path: HelixPath) -> Result<u16, u16>
     Ok(hops)
 }
 
-// Gives the links of a path to a circuit.
-fn hold_helix(t: &mut [u8], path: HelixPath, c: Circuit)
-    requires bytes { length t.old ≡ table_length }
-    ensures { t.new ≡ fold (hold_link c.0) t.old (links_left path.entry) }
+// Gives the links of a helix path to the circuit.
+fn hold_helix<L: Layout, B: Board>(t: &mut [u8], request: SendRequest, port: Port, board: B)
+    requires may_follow { MayFollow L.LENGTH L.PORTS B.width (B.fold board) t.old request.source.0 request.target.0 port.0 }
+    ensures { t.new ≡ fold (hold_link request.circuit.0) t.old (helix_links (B.fold board) request.source.0 request.target.0 port.0) }
 {
-    for (node, port) in path {
-        table::set_owner::<Links>(t, node, port, c);
+    for (node, port) in HelixPath::new(request.source, request.target, port, board) {
+        table::set_owner::<Links<L>>(t, node, port, request.circuit);
     }
 }
 
-// A helix path that was found free, its hops, and the scouts sent until then.
+// The port of a helix path that was found free, its hops, and the scouts sent until then.
 #[derive(Clone, Copy)]
-struct FreePath<'a> {
-    path: HelixPath<'a>,
+struct FreePath {
+    port: Port,
     hops: u16,
     scouts: u32,
 }
 
-// Tries the helix path of each port of the vector, from the lowest port upward, until one is free.
-fn first_free<'a>(
+// Tries the helix path of each port of a vector, from the lowest port upward, until one is free.
+fn first_free<L: Layout, B: Board>(
     t: &[u8],
     request: SendRequest,
-    first: &'a FirstPortTable,
-) -> Result<FreePath<'a>, Rejected>
-    requires may_try_paths { MayTryPaths t.now request.source.0 request.target.0 request.vector }
-    ensures { FirstFree t.now request.source.0 request.target.0 request.vector result }
+    ports: u32,
+    board: B,
+) -> Result<FreePath, Rejected>
+    requires may_try_paths { MayTryPaths L.LENGTH L.PORTS B.width (B.fold board) t.now request.source.0 request.target.0 ports }
+    ensures { FirstFree B.width t.now request.source.0 request.target.0 ports result }
 {
     let mut scouts: u32 = 0;
-    for port in VectorPorts::new(request.vector) {
-        let path = HelixPath::new(request.source, request.target, port, first);
-        match free_front(t, path) {
+    for port in VectorPorts::new(ports) {
+        match free_front::<L, B>(t, request, port, board) {
             Ok(hops) => {
                 return Ok(FreePath {
-                    path,
+                    port,
                     hops,
                     scouts: scouts + u32::from(hops),
                 });
@@ -80,22 +84,23 @@ fn first_free<'a>(
     })
 }
 
-// Routing type 1: the helix path of each port of the vector, in rising order, until one is free.
-pub fn try_each(
+// The helix path of each port of a vector, in rising order, until one is free; that one is held.
+fn try_ports<L: Layout, B: Board>(
     t: &mut [u8],
     request: SendRequest,
-    first: &FirstPortTable,
+    ports: u32,
+    board: B,
 ) -> Result<Acknowledged, Rejected>
-    requires may_send { MaySend t.old request.source.0 request.target.0 request.circuit.0 request.vector }
-    ensures { opened_answer result t.new ≡ searched t.old request.source.0 request.target.0 request.circuit.0 1 request.vector }
+    requires may_try_paths { MayTryPaths L.LENGTH L.PORTS B.width (B.fold board) t.old request.source.0 request.target.0 ports }
+    ensures { opened_answer result t.new ≡ sent_over t.old request.source.0 request.target.0 request.circuit.0 ports }
 {
-    let free = first_free(t, request, first)?;
-    let receive = table::available_channel(t, request.target).ok_or(Rejected {
+    let free = first_free::<L, B>(t, request, ports, board)?;
+    let receive = table::available_channel::<L>(t, request.target).ok_or(Rejected {
         refusal: Refusal::ReceiveRejected,
         scouts: free.scouts,
     })?;
-    hold_helix(t, free.path, request.circuit);
-    table::set_owner::<Channels>(t, request.target, receive, request.circuit);
+    hold_helix::<L, B>(t, request, free.port, board);
+    table::set_owner::<Channels<L>>(t, request.target, receive, request.circuit);
     Ok(Acknowledged {
         hops: free.hops,
         receive,
@@ -103,18 +108,32 @@ pub fn try_each(
     })
 }
 
-// Routing type 3: the helix path of the lowest port of the vector, and no other.
-pub fn try_lowest(
+// Searches 8, routing type 1: the helix path of each port of the send vector, with the partners of its folded ports.
+pub fn try_each<L: Layout, B: Board>(
     t: &mut [u8],
     request: SendRequest,
-    first: &FirstPortTable,
+    board: B,
 ) -> Result<Acknowledged, Rejected>
-    requires may_send { MaySend t.old request.source.0 request.target.0 request.circuit.0 request.vector }
+    requires board_of { BoardIn L.PORTS B.width (B.fold board) (view t.old) }
+    requires may_send { MaySendIn L.LENGTH t.old request.source.0 request.target.0 request.circuit.0 request.vector }
+    ensures { opened_answer result t.new ≡ searched t.old request.source.0 request.target.0 request.circuit.0 1 request.vector }
+{
+    let ports = board.with_partners(u32::from(request.vector));
+    try_ports::<L, B>(t, request, ports, board)
+}
+
+// Searches 7, routing type 3: the helix path of the lowest of them, and no other: not that of its partner.
+pub fn try_lowest<L: Layout, B: Board>(
+    t: &mut [u8],
+    request: SendRequest,
+    board: B,
+) -> Result<Acknowledged, Rejected>
+    requires board_of { BoardIn L.PORTS B.width (B.fold board) (view t.old) }
+    requires may_send { MaySendIn L.LENGTH t.old request.source.0 request.target.0 request.circuit.0 request.vector }
     requires vector_nonzero { request.vector ≢ 0 }
     ensures { opened_answer result t.new ≡ searched t.old request.source.0 request.target.0 request.circuit.0 3 request.vector }
 {
-    let lowest = first.first_port(request.vector, Port(cube::SEND_ARRIVAL));
-    let others = cube::without(request.vector, lowest);
-    let vector = request.vector - others;
-    try_each(t, SendRequest { vector, ..request }, first)
+    let ports = board.with_partners(u32::from(request.vector));
+    let lowest = board.first_port(ports, Port(B::SEND_ARRIVAL));
+    try_ports::<L, B>(t, request, 1 << lowest.0, board)
 }

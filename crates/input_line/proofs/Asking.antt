@@ -14,10 +14,10 @@ use Rattle.std.proofs.lemmas.Slice.{between_to_end}
 use lib.Seq.{drop-cons}
 use borrow.Author.Tests.{eq-eqb, ne_eqb, le-leb, lt-leb}
 use Rattle.common.proofs.Tests.{same?}
-use Rattle.ownership.specs.Calls.{Call, making, blocking, unblocking, opening, closing, arming, disarming}
+use Rattle.ownership.specs.Calls.{Call, making, blocking, unblocking, opening, closing, arming, disarming, folding}
 use Rattle.text.specs.Text.{space, field_number}
 use Rattle.text.specs.Lines.{on_first, cut, fields}
-use Rattle.input_line.specs.Line.{letter_b, letter_c, letter_d, letter_e, letter_f, letter_r, letter_s, in_front, numbers, numbers_of, asked, by_letter, with_numbers, of_fields, longest, asks}
+use Rattle.input_line.specs.Line.{letter_b, letter_c, letter_d, letter_e, letter_f, letter_m, letter_r, letter_s, in_front, numbers, numbers_of, asked, by_letter, with_numbers, of_fields, longest, asks}
 use Rattle.text.proofs.Reading.{IfRead, number_small}
 
 -- numbers that were read, in front of those of the fields that are left
@@ -57,22 +57,24 @@ unread x m e = ap (with_numbers x) e
 -- What holds of the count and the call of each letter, and of those of another byte, holds of every byte.
 pub each_letter : (P : ℕ → (ℕ → ℕ → ℕ → ℕ → ℕ → Option Call) → Type 0) → P 1 (λ a b c d e. some (making a)) → P 2 (λ a b c d e. some (blocking a b))
     → P 2 (λ a b c d e. some (unblocking a b)) → P 5 (λ a b c d e. some (opening a b c d e)) → P 2 (λ a b c d e. some (closing a b))
-    → P 2 (λ a b c d e. some (arming a b)) → P 2 (λ a b c d e. some (disarming a b)) → P 0 (λ a b c d e. none) → (x : ℕ) → P (numbers_of x) (asked x)
+    → P 2 (λ a b c d e. some (arming a b)) → P 2 (λ a b c d e. some (disarming a b)) → P 1 (λ a b c d e. some (folding a)) → P 0 (λ a b c d e. none) → (x : ℕ)
+    → P (numbers_of x) (asked x)
 unfolding numbers_of asked
-each_letter P make block unblock opens close arm disarm other x =
-    go (eqb x letter_f) (eqb x letter_b) (eqb x letter_e) (eqb x letter_s) (eqb x letter_c) (eqb x letter_r) (eqb x letter_d)
+each_letter P make block unblock opens close arm disarm fold other x =
+    go (eqb x letter_f) (eqb x letter_b) (eqb x letter_e) (eqb x letter_s) (eqb x letter_c) (eqb x letter_r) (eqb x letter_d) (eqb x letter_m)
   where
-    go : (p q r s t u v : Bool) → P (cond p 1 (cond q 2 (cond r 2 (cond s 5 (cond t 2 (cond u 2 (cond v 2 0)))))))
+    go : (p q r s t u v w : Bool) → P (cond p 1 (cond q 2 (cond r 2 (cond s 5 (cond t 2 (cond u 2 (cond v 2 (cond w 1 0))))))))
         (λ a b c d e. cond p (some (making a)) (cond q (some (blocking a b)) (cond r (some (unblocking a b)) (cond s (some (opening a b c d e))
-        (cond t (some (closing a b)) (cond u (some (arming a b)) (cond v (some (disarming a b)) none)))))))
-    go true q r s t u v = make
-    go false true r s t u v = block
-    go false false true s t u v = unblock
-    go false false false true t u v = opens
-    go false false false false true u v = close
-    go false false false false false true v = arm
-    go false false false false false false true = disarm
-    go false false false false false false false = other
+        (cond t (some (closing a b)) (cond u (some (arming a b)) (cond v (some (disarming a b)) (cond w (some (folding a)) none))))))))
+    go true q r s t u v w = make
+    go false true r s t u v w = block
+    go false false true s t u v w = unblock
+    go false false false true t u v w = opens
+    go false false false false true u v w = close
+    go false false false false false true v w = arm
+    go false false false false false false true w = disarm
+    go false false false false false false false true = fold
+    go false false false false false false false false = other
 
 -- a letter with another count than its own
 other_count : (x : ℕ) (ns : List ℕ) → length ns ≢ numbers_of x → by_letter x ns ≡ none
@@ -82,7 +84,7 @@ other_count x ns h = rw (ne_eqb (length ns) (numbers_of x) h)
 -- more than five numbers go with no letter
 over_five : (x : ℕ) (ns : List ℕ) → 5 < length ns → by_letter x ns ≡ none
 over_five x ns h =
-    let few = each_letter (λ n f. n ≤ 5) (lit≤ tt) (lit≤ tt) (lit≤ tt) (lit≤ tt) (lit≤ tt) (lit≤ tt) (lit≤ tt) (lit≤ tt) x in
+    let few = each_letter (λ n f. n ≤ 5) (lit≤ tt) (lit≤ tt) (lit≤ tt) (lit≤ tt) (lit≤ tt) (lit≤ tt) (lit≤ tt) (lit≤ tt) (lit≤ tt) x in
     other_count x ns (λ e. omega arith)
 
 -- What holds of no numbers, and stays with one more in front, holds of the numbers that fields say.
@@ -115,7 +117,7 @@ own_count_lem x k (a ∷ []) l e = absurd (omega arith)
 own_count_lem x k (a ∷ b ∷ []) l e = absurd (omega arith)
 own_count_lem x k (a ∷ b ∷ c ∷ []) l e = absurd (omega arith)
 own_count_lem x k (a ∷ b ∷ c ∷ d ∷ []) l e = absurd (omega arith)
-own_count_lem x k (a ∷ b ∷ c ∷ d ∷ f ∷ []) l e = rw e (each_letter Own refl refl refl refl refl refl refl refl x)
+own_count_lem x k (a ∷ b ∷ c ∷ d ∷ f ∷ []) l e = rw e (each_letter Own refl refl refl refl refl refl refl refl refl x)
   where
     Own : ℕ → (ℕ → ℕ → ℕ → ℕ → ℕ → Option Call) → Type 0
     Own n g =
@@ -134,7 +136,7 @@ of_line l h = rw (le-leb (length l) longest h)
 
 -- no number goes with no letter
 none_counted : (x a b c d e : ℕ) → cond (eqb 0 (numbers_of x)) (asked x a b c d e) none ≡ none
-none_counted x a b c d e = each_letter (λ n f. cond (eqb 0 n) (f a b c d e) none ≡ none) refl refl refl refl refl refl refl refl x
+none_counted x a b c d e = each_letter (λ n f. cond (eqb 0 n) (f a b c d e) none ≡ none) refl refl refl refl refl refl refl refl refl x
 
 letter_alone : (x : ℕ) → of_fields ((x ∷ []) ∷ []) ≡ none
 unfolding of_fields with_numbers numbers by_letter
@@ -174,11 +176,11 @@ either_none true = refl
 either_none false = refl
 
 -- a byte that is no call letter, whatever the count of numbers behind it
-pub other_letter : (x k a b c d e : ℕ) → x ≢ letter_f → x ≢ letter_b → x ≢ letter_e → x ≢ letter_s → x ≢ letter_c → x ≢ letter_r → x ≢ letter_d
+pub other_letter : (x k a b c d e : ℕ) → x ≢ letter_f → x ≢ letter_b → x ≢ letter_e → x ≢ letter_s → x ≢ letter_c → x ≢ letter_r → x ≢ letter_d → x ≢ letter_m
     → cond (eqb k (numbers_of x)) (asked x a b c d e) none ≡ none
 unfolding numbers_of asked
-other_letter x k a b c d e f g h i j l m =
-    rw (ne_eqb x letter_f f, ne_eqb x letter_b g, ne_eqb x letter_e h, ne_eqb x letter_s i, ne_eqb x letter_c j, ne_eqb x letter_r l, ne_eqb x letter_d m)
+other_letter x k a b c d e f g h i j l m n =
+    rw (ne_eqb x letter_f f, ne_eqb x letter_b g, ne_eqb x letter_e h, ne_eqb x letter_s i, ne_eqb x letter_c j, ne_eqb x letter_r l, ne_eqb x letter_d m, ne_eqb x letter_m n)
     (either_none (eqb k 0))
 
 -- as a space is

@@ -1,4 +1,4 @@
--- What an input line asks: document 01, section "The printed list".
+-- What an input line asks (Listing 4 to 8).
 pub mod Line
 pub mod Sentences
 pub mod ReadLine

@@ -2,7 +2,7 @@
 -- Assumes nothing.
 use Rattle.std.specs.Prelude.{cond, List, [], ◌∷◌, ℕ, eqb, leb, length, get_or}
 use Rattle.std.proofs.Math.Option.{Option, none, some}
-use Rattle.ownership.specs.Calls.{Call, making, blocking, unblocking, opening, closing, arming, disarming}
+use Rattle.ownership.specs.Calls.{Call, making, blocking, unblocking, opening, closing, arming, disarming, folding}
 use Rattle.text.specs.Text.{field_number}
 use Rattle.text.specs.Lines.{fields}
 
@@ -22,6 +22,9 @@ letter_e = 69
 abbrev pub letter_f : ℕ
 letter_f = 70
 
+abbrev pub letter_m : ℕ
+letter_m = 77
+
 abbrev pub letter_r : ℕ
 letter_r = 82
 
@@ -38,9 +41,7 @@ unfoldable pub numbers : List (List ℕ) → Option (List ℕ)
 numbers [] = some []
 numbers (f ∷ fs) = in_front (field_number f) (numbers fs)
 
--- "`F D` make, `B node port` block, `E node port` unblock, `S node channel target type vector` open, `C node channel` close"; document 02, (a):
--- "`R node channel` arm and `D node channel` disarm". How many numbers stand behind a call letter, 0 behind another byte, and the call that a letter
--- asks for, with as many of five numbers as it has:
+-- Listing 8: how many numbers stand behind a call letter, 0 behind another byte; and the call that a letter asks for, with as many of five numbers as it has
 unfoldable pub numbers_of : ℕ → ℕ
 numbers_of x =
     cond (eqb x letter_f) 1
@@ -49,7 +50,8 @@ numbers_of x =
     (cond (eqb x letter_s) 5
     (cond (eqb x letter_c) 2
     (cond (eqb x letter_r) 2
-    (cond (eqb x letter_d) 2 0))))))
+    (cond (eqb x letter_d) 2
+    (cond (eqb x letter_m) 1 0)))))))
 
 unfoldable pub asked : ℕ → ℕ → ℕ → ℕ → ℕ → ℕ → Option Call
 asked x a b c d e =
@@ -59,7 +61,8 @@ asked x a b c d e =
     (cond (eqb x letter_s) (some (opening a b c d e))
     (cond (eqb x letter_c) (some (closing a b))
     (cond (eqb x letter_r) (some (arming a b))
-    (cond (eqb x letter_d) (some (disarming a b)) none))))))
+    (cond (eqb x letter_d) (some (disarming a b))
+    (cond (eqb x letter_m) (some (folding a)) none)))))))
 
 -- a letter and the numbers behind it, where they are as many as it has
 unfoldable pub by_letter : ℕ → List ℕ → Option Call
@@ -76,10 +79,10 @@ of_fields ([] ∷ fs) = none
 of_fields ((x ∷ []) ∷ fs) = with_numbers x (numbers fs)
 of_fields ((x ∷ y ∷ xs) ∷ fs) = none
 
--- "lines of at most 40 bytes"
+-- Listing 5: a readable line has 40 bytes at most.
 abbrev pub longest : ℕ
 longest = 40
 
--- the call that a line asks for, where it can be read
+-- Listing 5, Refusals 20: the call that a line asks for, where it can be read
 unfoldable pub asks : List ℕ → Option Call
 asks l = cond (leb (length l) longest) (of_fields (fields l)) none

@@ -3,9 +3,9 @@
 use Rattle.std.specs.Prelude.{◌≡◌, List, ℕ, IfSome, IfNone, Some, None}
 use Rattle.std.specs.declared.option.Option.{Option as Answer}
 use Rattle.std.proofs.Math.Option.{Option, none, some}
-use Rattle.ownership.specs.Calls.{Call, making, blocking, unblocking, opening, closing, arming, disarming}
+use Rattle.ownership.specs.Calls.{Call, making, blocking, unblocking, opening, closing, arming, disarming, folding}
 use Rattle.input_line.specs.declared.Asked.{Asked}
-use Rattle.input_line.specs.declared.Asked.TheVariants.{Make, Block, Unblock, Open, Close, Arm, Disarm}
+use Rattle.input_line.specs.declared.Asked.TheVariants.{Make, Block, Unblock, Open, Close, Arm, Disarm, Fold}
 use Rattle.input_line.specs.Line.{numbers, with_numbers}
 
 -- the call of what a line was read as
@@ -17,6 +17,7 @@ call_of (Some (Open x)) = some (opening x.source.0 x.channel x.target.0 x.routin
 call_of (Some (Close s c)) = some (closing s.0 c)
 call_of (Some (Arm n k)) = some (arming n.0 k)
 call_of (Some (Disarm n k)) = some (disarming n.0 k)
+call_of (Some (Fold m)) = some (folding m)
 call_of None = none
 
 -- the numbers of some fields were read; None where no letter goes with these fields

@@ -8,7 +8,7 @@ use Rattle.text.specs.Row.{spaced}
 unfoldable pub call_line : ℕ → List ℕ → List ℕ
 call_line x ns = spaced ((x ∷ []) ∷ map decimal ns)
 
--- numbers that a line can give: "0 to 65,535"
+-- Listing 7: numbers that a line can give, 0 to 65,535
 unfoldable pub CanBeGiven : List ℕ → Type 0
 CanBeGiven [] = Unit
 CanBeGiven (n ∷ ns) = (n ≤ largest_number) × CanBeGiven ns

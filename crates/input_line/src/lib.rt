@@ -81,6 +81,7 @@ pub enum Asked {
     Close(Node, u16),
     Arm(Node, u16),
     Disarm(Node, u16),
+    Fold(u16),
 }
 
 // What a letter and the numbers behind it ask, where they are as many as it has. The letters stand here as they are read, and in `line_answer` as they are printed.
@@ -102,6 +103,7 @@ fn by_letter(letter: u8, numbers: &[u16]) -> Option<Asked>
         (b'C', [source, channel]) => Some(Asked::Close(Node(*source), *channel)),
         (b'R', [node, channel]) => Some(Asked::Arm(Node(*node), *channel)),
         (b'D', [node, channel]) => Some(Asked::Disarm(Node(*node), *channel)),
+        (b'M', [mask]) => Some(Asked::Fold(*mask)),
         _ => None,
     }
 }

@@ -8,14 +8,14 @@ use Rattle.ownership.specs.Sends.{Send, send_at}
 use Rattle.ownership.specs.InTurn.{Job}
 use Rattle.ownership.specs.JobSays.{opens_on}
 
--- one send of a list: the number that it answers, and the bytes that it leaves
-pub record OpenedAt (b sends : List ℕ) (i number : ℕ) (after : List ℕ) : Type 0 where
-  pub number_is : number ≡ (opens_on b (send_at sends i)).result.number
-  pub bytes_are : after ≡ (opens_on b (send_at sends i)).state
+-- one send of a list, on a table with q ports to a node: the number that it answers, and the bytes that it leaves
+pub record OpenedAt (q : ℕ) (b sends : List ℕ) (i number : ℕ) (after : List ℕ) : Type 0 where
+  pub number_is : number ≡ (opens_on q b (send_at sends i)).result.number
+  pub bytes_are : after ≡ (opens_on q b (send_at sends i)).state
 
 -- what it asks: a table that passes its tests, and a list that has the send
-pub record MayOpen (b sends : List ℕ) (i : ℕ) : Type 0 where
-  pub tests : refusal (table_tests b) ≡ 0
+pub record MayOpen (q : ℕ) (b sends : List ℕ) (i : ℕ) : Type 0 where
+  pub tests : refusal (table_tests q b) ≡ 0
   pub room : 10 * i + 10 ≤ length sends
 
 -- the sends of a list in turn: bytes, number and count of a job

@@ -1,5 +1,7 @@
-// A job: sends that are opened together, all of them or none (document 02, (j)). The bytes before it are kept, and copied back at the first refusal.
+// A job: sends that are opened together, all of them or none (Jobs 1). The bytes before one of two sends or more are kept, and copied back at the first refusal (Jobs 6).
 #![tactic(auto)]
+
+mod kept_table;
 
 ghost use Rattle.std.specs.Prelude.{◌≡◌, [], ◌∷◌, ◌+◌, ◌*◌, ◌≤◌, length};
 ghost use Rattle.common.specs.Refusals.{answer_of};
@@ -16,7 +18,10 @@ ghost use Rattle.job.specs.JobContracts.{MayOpen, OpenedAt, job_of, read_as};
 use answers::Opening;
 use call_tests::{SEND_BYTES, SoundTable};
 use common::refusal::Refusal;
-use cube::{FirstPortTable, Node};
+use cube::Node;
+pub use kept_table::KeptTable;
+use layout::Layout;
+use std::marker::PhantomData;
 
 // Why a job is refused: the first refusal, and the place of its send, from 0.
 #[derive(Clone, Copy, Debug, PartialEq, Eq)]
@@ -25,7 +30,7 @@ pub struct JobRefused {
     pub place: u16,
 }
 
-// A test of the table or of the whole list is numbered with place 0.
+// Jobs 6: a refusal of the table or of the whole list has place 0.
 impl From<Refusal> for JobRefused {
     ghost from_gives = { λ refusal refused. refused ≡ record { refusal = refusal; place = 0 } };
 
@@ -34,7 +39,7 @@ impl From<Refusal> for JobRefused {
     }
 }
 
-// The send at a place of a list, from 0. Its five numbers take two bytes each, low byte first.
+// The send at a place of a list, from 0. Jobs 2: its five numbers take two bytes each, the low one first.
 #[tactic(auto, using(crate::proofs::SendsInTurn::send_is))]
 fn read_send(sends: &[u8], place: usize) -> Opening
     requires { 10 * place + 10 ≤ length sends.now }
@@ -52,32 +57,35 @@ fn read_send(sends: &[u8], place: usize) -> Opening
 
 // Opens the send at a place of a list, from 0, on a table that passed its tests.
 #[tactic(auto, using(crate::proofs::SendsInTurn::one_send))]
-fn open_at(t: &mut [u8], sends: &[u8], place: usize, first: &FirstPortTable) -> Result<(), Refusal>
-    requires may_open { MayOpen t.old sends.now place }
-    ensures { OpenedAt t.old sends.now place (answer_of result) t.new }
+fn open_at<L: Layout>(t: &mut [u8], sends: &[u8], place: usize) -> Result<(), Refusal>
+    requires may_open { MayOpen L.PORTS t.old sends.now place }
+    ensures { OpenedAt L.PORTS t.old sends.now place (answer_of result) t.new }
 {
     let x = read_send(sends, place);
-    SoundTable { bytes: t }.open_arguments(x)?;
+    let table = SoundTable::<L> {
+        bytes: t,
+        layout: PhantomData,
+    };
+    table.open_arguments(x)?;
     // Tried with `map_err` and `?`, speed: a job of one send takes 16 % more time.
-    match send::send_by(t, x.request(), x.routing, first) {
+    match send::send::<L>(t, x.request(), x.routing) {
         Ok(_) => Ok(()),
         Err(rejected) => Err(rejected.refusal),
     }
 }
 
-// Opens the sends of a list one after another, up to the first that is refused. The table of first ports is taken once for all of them.
+// Opens the sends of a list one after another, up to the first that is refused.
 #[tactic(auto, using(crate::proofs::SendsInTurn::sends_in_turn))]
-fn open_in_turn(t: &mut [u8], sends: &[u8]) -> Result<u16, JobRefused>
-    requires t_value { refusal (table_tests t.old) ≡ 0 }
+fn open_in_turn<L: Layout>(t: &mut [u8], sends: &[u8]) -> Result<u16, JobRefused>
+    requires t_value { refusal (table_tests L.PORTS t.old) ≡ 0 }
     requires sends_len_bound { length sends.now ≤ 640 }
-    ensures { job_of t.new (job_number result) (job_sends result) ≡ in_turn opens_on t.old (sends_in sends.now) }
+    ensures { job_of t.new (job_number result) (job_sends result) ≡ in_turn (opens_on L.PORTS) t.old (sends_in sends.now) }
 {
-    let first = FirstPortTable::new();
     // 64 at most, so no cast cuts a place or the count off; u16::try_from would answer a failure that cannot come.
     let count = sends.len() / SEND_BYTES;
     // By place, since a refusal names it. Tried over `chunks_exact` with `enumerate`: the check finds no proof of a turn, nor of either return.
     for place in 0..count {
-        if let Err(refusal) = open_at(t, sends, place, &first) {
+        if let Err(refusal) = open_at::<L>(t, sends, place) {
             return Err(JobRefused {
                 refusal,
                 place: place as u16,
@@ -89,15 +97,19 @@ fn open_in_turn(t: &mut [u8], sends: &[u8]) -> Result<u16, JobRefused>
 
 // Opens all sends of a list, or none: answers how many there are.
 #[tactic(auto, using(crate::proofs::SendsInTurn::whole_job))]
-pub fn open_all(t: &mut [u8], sends: &[u8]) -> Result<u16, JobRefused>
-    ensures { done t.new (job_number result) (job_sends result ∷ []) (sends.now ∷ []) ≡ table_step t.old (opening_all sends.now) }
+pub fn open_all<L: KeptTable>(t: &mut [u8], sends: &[u8]) -> Result<u16, JobRefused>
+    ensures { done t.new (job_number result) (job_sends result ∷ []) (sends.now ∷ []) ≡ table_step L.PORTS t.old (opening_all sends.now) }
 {
-    call_tests::open_all(t, sends)?;
-    let mut kept = [0u8; table::BYTES];
-    kept.copy_from_slice(t);
-    let answer = open_in_turn(t, sends);
+    call_tests::open_all::<L>(t, sends)?;
+    // A refused open leaves every byte as it was: without a send before it nothing has to be kept.
+    let one_at_most = sends.len() <= SEND_BYTES;
+    if one_at_most {
+        return open_in_turn::<L>(t, sends);
+    }
+    let kept = L::keep(t);
+    let answer = open_in_turn::<L>(t, sends);
     if answer.is_err() {
-        t.copy_from_slice(&kept);
+        L::put_back(&kept, t);
     }
     answer
 }

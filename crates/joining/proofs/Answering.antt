@@ -11,7 +11,7 @@ use lib.ListN.{length}
 use borrow.Author.Tests.{eq-eqb, ne_eqb}
 use Rattle.common.specs.Tests.{refusal}
 use Rattle.common.proofs.Tests.{or_left, or_right, refused, passed, accepted, refusal_after, refusal_before}
-use Rattle.cube.specs.Cube.{largest_dimension}
+use Rattle.cube.specs.Cube.{port_count, largest_dimension}
 use Rattle.layout.specs.Layout.{table_length, dimension_at}
 use Rattle.table.specs.View.{view}
 use Rattle.table.specs.Encode.{encode}
@@ -22,33 +22,33 @@ use Rattle.joining.specs.Joined.{joined_view, halves_test, join_tests, join_step
 use Rattle.joining.specs.JoinContracts.{Joinable}
 
 -- a table that passes its tests has the right length
-pub tested_long : (b : List ℕ) → 0 ≡ refusal (table_tests b) → length b ≡ table_length
-tested_long b z = (pass_tests b (sym z)).0
+pub tested_long : (b : List ℕ) → 0 ≡ refusal (table_tests port_count b) → length b ≡ table_length
+tested_long b z = (pass_tests port_count b (sym z)).0
 
 module _ (a b c : List ℕ) where
   join_stopped : {n : ℕ} → n ≡ refusal (join_tests a b c) → n ≢ 0 → done c n [] [] ≡ join_step a b c
   unfolding join_step
   join_stopped {n} e f = rw (← e, ne_eqb n 0 f)
 
-  in_order : refusal (join_tests a b c) ≡ refusal (table_tests a ++ (table_tests b ++ (length_test c ∷ halves_test (view a) (view b) ∷ [])))
+  in_order : refusal (join_tests a b c) ≡ refusal (table_tests port_count a ++ (table_tests port_count b ++ (length_test port_count c ∷ halves_test (view a) (view b) ∷ [])))
   unfolding join_tests
-  in_order = ap refusal (append_assoc (table_tests a) (table_tests b) (length_test c ∷ halves_test (view a) (view b) ∷ []))
+  in_order = ap refusal (append_assoc (table_tests port_count a) (table_tests port_count b) (length_test port_count c ∷ halves_test (view a) (view b) ∷ []))
 
   -- a test of the first stops it
-  pub first_stops : {n : ℕ} → n ≡ refusal (table_tests a) → n ≢ 0 → done c n [] [] ≡ join_step a b c
-  first_stops e f = join_stopped (e ∙ sym (refusal_before (table_tests a) _ (λ z. f (e ∙ z))) ∙ sym in_order) f
+  pub first_stops : {n : ℕ} → n ≡ refusal (table_tests port_count a) → n ≢ 0 → done c n [] [] ≡ join_step a b c
+  first_stops e f = join_stopped (e ∙ sym (refusal_before (table_tests port_count a) _ (λ z. f (e ∙ z))) ∙ sym in_order) f
 
-  module _ (first : 0 ≡ refusal (table_tests a)) where
-    after_first : refusal (join_tests a b c) ≡ refusal (table_tests b ++ length_test c ∷ halves_test (view a) (view b) ∷ [])
-    after_first = in_order ∙ refusal_after (table_tests a) _ (table_numbered a) (sym first)
+  module _ (first : 0 ≡ refusal (table_tests port_count a)) where
+    after_first : refusal (join_tests a b c) ≡ refusal (table_tests port_count b ++ length_test port_count c ∷ halves_test (view a) (view b) ∷ [])
+    after_first = in_order ∙ refusal_after (table_tests port_count a) _ (table_numbered port_count a) (sym first)
 
     -- one of the second
-    pub second_stops : {n : ℕ} → n ≡ refusal (table_tests b) → n ≢ 0 → done c n [] [] ≡ join_step a b c
-    second_stops e f = join_stopped (e ∙ sym (refusal_before (table_tests b) _ (λ z. f (e ∙ z))) ∙ sym after_first) f
+    pub second_stops : {n : ℕ} → n ≡ refusal (table_tests port_count b) → n ≢ 0 → done c n [] [] ≡ join_step a b c
+    second_stops e f = join_stopped (e ∙ sym (refusal_before (table_tests port_count b) _ (λ z. f (e ∙ z))) ∙ sym after_first) f
 
-    module _ (second : 0 ≡ refusal (table_tests b)) where
-      after_second : refusal (join_tests a b c) ≡ refusal (length_test c ∷ halves_test (view a) (view b) ∷ [])
-      after_second = after_first ∙ refusal_after (table_tests b) _ (table_numbered b) (sym second)
+    module _ (second : 0 ≡ refusal (table_tests port_count b)) where
+      after_second : refusal (join_tests a b c) ≡ refusal (length_test port_count c ∷ halves_test (view a) (view b) ∷ [])
+      after_second = after_first ∙ refusal_after (table_tests port_count b) _ (table_numbered port_count b) (sym second)
 
       -- the length of the third
       pub third_stops : length c ≢ table_length → done c 1 [] [] ≡ join_step a b c
@@ -78,8 +78,8 @@ module _ (a b c : List ℕ) where
           halves_joined q = rw (none_stops, q)
 
 -- What passes the tests of both halves and has their dimension in common can be joined.
-pub joinable : (a b : List ℕ) (D : ℕ) → 0 ≡ refusal (table_tests a) → 0 ≡ refusal (table_tests b) → D ≡ dimension_at a → D ≡ dimension_at b → D ≢ largest_dimension → Joinable a b D
+pub joinable : (a b : List ℕ) (D : ℕ) → 0 ≡ refusal (table_tests port_count a) → 0 ≡ refusal (table_tests port_count b) → D ≡ dimension_at a → D ≡ dimension_at b → D ≢ largest_dimension → Joinable a b D
 joinable a b D first second e f h =
-    let x = pass_tests a (sym first) in
-    let y = pass_tests b (sym second) in
+    let x = pass_tests port_count a (sym first) in
+    let y = pass_tests port_count b (sym second) in
     record { first_long = x.0; second_long = y.0; first = e; second = f; room = omega (arith, x.2, h); first_sound = x.3; second_sound = y.3 }

@@ -29,7 +29,7 @@ eqb_behind b n m = go (eqb n m) refl
     go true e = eq-eqb (n + b) (m + b) (ap (◌+ b) (eqb-true n m e))
     go false e = ne_eqb (n + b) (m + b) (λ i. eqb-false n m e (omega arith))
 
--- "Its circuits gain 8·2^D": the number of a circuit of the second half
+-- Joining 4: the number of a circuit of the second half
 pub number_behind : (D : ℕ) (x : Circuit) → number_for (circuit_behind (2 ^ D) x) ≡ renumbered (8 * 2 ^ D) (number_for x)
 unfolding renumbered
 number_behind D x = rw (ne_eqb (circuit_of x.source x.channel) 0 (λ z. omega arith)) (omega arith)

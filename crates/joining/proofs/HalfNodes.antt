@@ -1,25 +1,34 @@
 -- The nodes of a half in the joined cube, where each gains the same number: ports below D lead, and are offered, as in the half.
 -- Assumes nothing.
-use mathlib.Core.Path.{◌≡◌, refl, ap, ◌∙◌}
+use mathlib.Core.Path.{◌≡◌, refl, ap, sym, ◌∙◌}
 use mathlib.Core.Bool.{Bool, true, false, cond}
 use Prim.Native.Nat.{ℕ, suc, ◌+◌, ◌-◌, ◌^◌, ◌≤◌, ◌<◌}
 use native.Mathlib.Omega.{arith}
 use native.Mathlib.Nat.{le_refl, pow-succ'}
+use borrow.Author.Tests.{lt-ltb, ltb-true}
 use Rattle.common.specs.Lists.{◌∈◌}
 use Rattle.cube.specs.Bits.{bit_at, has, flip}
-use Rattle.cube.specs.Axes.{axis}
+use Rattle.cube.specs.Axes.{axis, present}
 use Rattle.cube.specs.Cube.{largest_dimension, uphill}
 use Rattle.cube.proofs.Bits.{bit_kept, high_has, has_room}
+use Rattle.cube.proofs.PartnerPorts.{unfolded_present}
 use Rattle.paths.specs.Network.{offered}
 use Rattle.paths.specs.CubeNetwork.{unfolded, ports, network}
 use Rattle.paths.proofs.CubeNetwork.{port_axis, offered_port, port_offered, unfolded_port}
+
+-- the ports of a cube with nothing folded: those below its dimension
+pub port_below : (D fold p : ℕ) → fold ≡ 0 → D ≤ largest_dimension → present D fold p ≡ true → p < D
+port_below D fold p plain small e = ltb-true p D (sym (unfolded_present D p (omega (arith, small))) ∙ ap (λ f. present D f p) (sym plain) ∙ e)
+
+pub below_port : (D p : ℕ) → D ≤ largest_dimension → p < D → present D 0 p ≡ true
+below_port D p small l = unfolded_present D p (omega (arith, small)) ∙ lt-ltb p D l
 
 -- What the nodes of a cube of dimension D gain: no more than 2^D, and they keep their bits below D.
 pub record Half (D behind : ℕ) : Type 0 where
   pub low : (n p : ℕ) → n < 2 ^ D → p < D → bit_at (n + behind) p ≡ bit_at n p
   pub most : behind ≤ 2 ^ D
 
--- "Nodes of the second gain 2^D", those of the first nothing: to gain 2^D is to have bit D set.
+-- Joining 3: nodes of the second gain 2^D, those of the first nothing: to gain 2^D is to have bit D set.
 pub first_gains : (D : ℕ) → Half D 0
 first_gains D = record { low = λ n p h l. let z : n + 0 ≡ n = omega arith in ap (λ m. bit_at m p) z; most = omega arith }
 

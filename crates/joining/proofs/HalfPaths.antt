@@ -4,22 +4,16 @@ use mathlib.Core.Path.{◌≡◌, refl, ap}
 use mathlib.Core.List.{[], ◌∷◌, map}
 use Prim.Native.Nat.{ℕ, suc, ◌+◌, ◌^◌, ◌<◌}
 use native.Mathlib.Omega.{arith}
-use Rattle.cube.specs.Cube.{largest_dimension, next}
+use Rattle.cube.specs.Cube.{largest_dimension}
 use Rattle.paths.specs.Network.{Network, Path, links}
 use Rattle.paths.specs.Permitted.{Onward, Permitted}
-use Rattle.paths.specs.CubeNetwork.{Shape, unfolded, ports, network}
+use Rattle.paths.specs.CubeNetwork.{unfolded, ports, network}
 use Rattle.paths.proofs.CubeNetwork.{offered_port, port_inside}
 use Rattle.joining.proofs.HalfNodes.{Half, next_behind, port_behind, offered_behind}
 
 -- a link, or a receive channel, of the node `behind` farther
 abbrev pub link_behind : ℕ → ℕ × ℕ → ℕ × ℕ
 link_behind behind l = (l.0 + behind, l.1)
-
--- the links of a path do not depend on the dimension
-pub same_links : (S T : Shape) (n : ℕ) (w : Path) → links (network S) n w ≡ links (network T) n w
-unfolding links network
-same_links S T n [] = refl
-same_links S T n (p ∷ w) = ap ((n, p) ∷◌) (same_links S T (next n p) w)
 
 module _ {D behind : ℕ} (half : Half D behind) (room : D < largest_dimension) where
   abbrev N : Network

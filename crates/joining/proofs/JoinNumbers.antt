@@ -11,7 +11,7 @@ use lib.ListN.{length}
 use borrow.Author.Tests.{eq-eqb, ne_eqb, eqb-true, eqb-false, not-false}
 use Rattle.common.specs.Tests.{Test, refusal}
 use Rattle.common.proofs.Tests.{refused, passed, accepted, first_passed, neither, or_left, or_right, refusal_after, refusal_both, refusal_before}
-use Rattle.cube.specs.Cube.{largest_dimension}
+use Rattle.cube.specs.Cube.{port_count, largest_dimension}
 use Rattle.layout.specs.Layout.{table_length}
 use Rattle.table.specs.View.{View, view}
 use Rattle.table.specs.Encode.{encode, AllBytes}
@@ -28,16 +28,16 @@ use Rattle.joining.proofs.JoinedHistory.{joined_represents}
 use Rattle.joining.proofs.JoinSays.{represented_says}
 
 -- a table that represents a history shows its dimension
-pub dimension_known : {a : List ℕ} {h : History} → Represents a h → (view a).dimension ≡ h.dimension
+pub dimension_known : {a : List ℕ} {h : History} → Represents port_count a h → (view a).dimension ≡ h.dimension
 unfolding view_of
 dimension_known k = ap (λ (v : View). v.dimension) k.shows
 
--- Two sound tables of one dimension below 8 are joined as the document says.
+-- Two sound tables of one dimension below 8 are joined as Joining has it.
 pub sound_says : (a b : List ℕ) → AllBytes a → AllBytes b → PassesTests a → PassesTests b → (view a).dimension ≡ (view b).dimension → (view a).dimension ≢ largest_dimension
     → JoinSays (view a).dimension a b (encode (joined_view (view a) (view b)))
 sound_says a b small its p q e ne =
-    let one = sound_represents a small p in
-    let other = sound_represents b its q in
+    let one = sound_represents port_count a small p in
+    let other = sound_represents port_count b its q in
     represented_says a b (history_of (view a)) (history_of (view b)) one other (sym (dimension_known one) ∙ e ∙ dimension_known other) (λ i. ne (dimension_known one ∙ i))
 
 module _ (a b c : List ℕ) where
@@ -46,24 +46,24 @@ module _ (a b c : List ℕ) where
 
   -- the tests behind those of the second, and behind those of the first
   abbrev last_tests : List Test
-  last_tests = length_test c ∷ halves_test (view a) (view b) ∷ []
+  last_tests = length_test port_count c ∷ halves_test (view a) (view b) ∷ []
 
   abbrev later_tests : List Test
-  later_tests = table_tests b ++ last_tests
+  later_tests = table_tests port_count b ++ last_tests
 
   -- the number is that of the first test that applies, so that the tests before it may be left out
-  pub join_number : n ≡ refusal (table_tests a ++ later_tests)
+  pub join_number : n ≡ refusal (table_tests port_count a ++ later_tests)
   unfolding join_step join_tests
-  join_number = ap refusal (append_assoc (table_tests a) (table_tests b) last_tests)
+  join_number = ap refusal (append_assoc (table_tests port_count a) (table_tests port_count b) last_tests)
 
-  refused_by_first : (PassesTests a → ⊥) → n ≡ refusal (table_tests a)
-  refused_by_first f = join_number ∙ refusal_before (table_tests a) later_tests f
+  refused_by_first : (PassesTests a → ⊥) → n ≡ refusal (table_tests port_count a)
+  refused_by_first f = join_number ∙ refusal_before (table_tests port_count a) later_tests f
 
   past_first : PassesTests a → n ≡ refusal later_tests
-  past_first p = join_number ∙ refusal_after (table_tests a) later_tests (table_numbered a) p
+  past_first p = join_number ∙ refusal_after (table_tests port_count a) later_tests (table_numbered port_count a) p
 
   past_second : PassesTests a → PassesTests b → n ≡ refusal last_tests
-  past_second p q = past_first p ∙ refusal_after (table_tests b) last_tests (table_numbered b) q
+  past_second p q = past_first p ∙ refusal_after (table_tests port_count b) last_tests (table_numbered port_count b) q
 
   past_third : PassesTests a → PassesTests b → length c ≡ table_length → n ≡ refusal (halves_test (view a) (view b) ∷ [])
   past_third p q l = past_second p q ∙ passed 1 _ (ap not (eq-eqb (length c) table_length l))
@@ -71,18 +71,18 @@ module _ (a b c : List ℕ) where
   -- where no number is answered, every test has passed
   passed_all : n ≡ 0 → PassesTests a × PassesTests b × (length c ≡ table_length) × ((view a).dimension ≡ (view b).dimension) × ((view a).dimension ≢ largest_dimension)
   passed_all z =
-      let x = refusal_both (table_tests a) later_tests (table_numbered a) (sym join_number ∙ z) in
-      let y = refusal_both (table_tests b) last_tests (table_numbered b) x.1 in
+      let x = refusal_both (table_tests port_count a) later_tests (table_numbered port_count a) (sym join_number ∙ z) in
+      let y = refusal_both (table_tests port_count b) last_tests (table_numbered port_count b) x.1 in
       let l = first_passed _ 1 _ (λ e. omega arith) y.1 in
       let h = neither (not (eqb (view a).dimension (view b).dimension)) (eqb (view a).dimension largest_dimension) (first_passed _ 29 _ (λ e. omega arith) l.1).0 in
       (x.0, y.0, eqb-true (length c) table_length (not-false _ l.0), eqb-true _ _ (not-false _ h.0), eqb-false _ _ h.1)
 
-  -- "Numbers 1 to 3 apply to the first, then the second, then 1 to the third; unequal dimensions or D of 8 give 29, and the third is unchanged."
+  -- Joining 2
   pub join_numbers : JoinNumber a b c n (join_step a b c).state
   join_numbers =
       record {
         first = refused_by_first;
-        second = λ p f. past_first p ∙ refusal_before (table_tests b) last_tests f;
+        second = λ p f. past_first p ∙ refusal_before (table_tests port_count b) last_tests f;
         third = λ p q f. past_second p q ∙ refused 1 _ (ap not (ne_eqb (length c) table_length f));
         unjoinable = λ p q l u. past_third p q l ∙ refused 29 [] (⊎_elim (λ ne. or_left _ (ap not (ne_eqb _ _ ne))) (λ e. or_right _ (eq-eqb _ _ e)) u);
         accepted = (passed_all, λ r. past_third r.0 r.1 r.2 ∙ passed 29 [] (λ i. not (eq-eqb _ _ r.3 i) || ne_eqb _ _ r.4 i) ∙ accepted);
@@ -95,14 +95,14 @@ module _ (a b c : List ℕ) where
   join_leaves z = rw (eq-eqb _ 0 z)
 
   -- which represent the history of both,
-  pub join_represents : (h g : History) → Represents a h → Represents b g → n ≡ 0 → Represents (join_step a b c).state (joined_history h g)
+  pub join_represents : (h g : History) → Represents port_count a h → Represents port_count b g → n ≡ 0 → Represents port_count (join_step a b c).state (joined_history h g)
   join_represents h g one other z =
       let r = passed_all z in
       let e = dimension_known one in
       let d = dimension_known other in
       rw (join_leaves z) (joined_represents a b h g one other (sym e ∙ r.3 ∙ d) (λ i. r.4 (e ∙ i)))
 
-  -- and of which holds what the document says.
+  -- and of which holds what Joining says.
   pub join_says : AllBytes a → AllBytes b → n ≡ 0 → JoinSays (view a).dimension a b (join_step a b c).state
   join_says small its z =
       let r = passed_all z in

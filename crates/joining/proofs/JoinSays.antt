@@ -1,7 +1,7 @@
--- Document 02, (k), in plain words, of the joined view and of traces on it.
+-- What JoinSays says of the joined view and of traces on it.
 -- Assumes nothing.
 use mathlib.Core.Path.{◌≡◌, refl, ap, sym, ◌∙◌, subst}
-use mathlib.Core.Logic.{◌≢◌}
+use mathlib.Core.Logic.{inl, ◌≢◌}
 use mathlib.Core.Bool.{Bool, true, cond, not}
 use mathlib.Core.List.{List, [], ◌∷◌}
 use Prim.Native.Nat.{ℕ, ◌+◌, ◌*◌, ◌^◌, ◌<◌}
@@ -11,7 +11,7 @@ use lib.ListN.{length}
 use borrow.Author.Tests.{eq-eqb, ne_eqb, lt-ltb}
 use Rattle.common.specs.Lists.{◌∈◌}
 use Rattle.common.specs.Tests.{test, refusal}
-use Rattle.cube.specs.Cube.{largest_dimension}
+use Rattle.cube.specs.Cube.{port_count, largest_dimension}
 use Rattle.paths.specs.Network.{Path}
 use Rattle.table.specs.View.{View, view}
 use Rattle.table.specs.Encode.{encode}
@@ -21,7 +21,7 @@ use Rattle.ownership.specs.OnTable.{table_step}
 use Rattle.ownership.specs.History.{Circuit, History, open_on, listed, facts_on, stopped_on, history_step}
 use Rattle.ownership.specs.HistoryView.{view_of}
 use Rattle.ownership.specs.Invariant.{Valid, Represents}
-use Rattle.ownership.proofs.Agreement.{represents_sound, represents_not_stopped, represents_step}
+use Rattle.ownership.proofs.Agreement.{represents_fold, represents_sound, represents_not_stopped, represents_step}
 use Rattle.joining.specs.Joined.{renumbered, joined_view, joined_history}
 use Rattle.joining.specs.JoinSays.{HalfCarried, JoinSays}
 use Rattle.joining.proofs.HalfNodes.{first_gains, second_gains, inside_both}
@@ -101,8 +101,8 @@ module _ (h g : History) (valid : Valid h) where
       (unfold open_on in open_both h.dimension h.circuits g.circuits sources (n + 2 ^ h.dimension) k ∙ of_second h.dimension _ _ n k)
       (listed_both h.dimension h.circuits g.circuits sources (n + 2 ^ h.dimension) k ∙ of_second h.dimension _ _ n k))
 
--- So two tables that represent histories are joined as the document says.
-pub represented_says : (a b : List ℕ) (h g : History) → Represents a h → Represents b g → h.dimension ≡ g.dimension → h.dimension ≢ largest_dimension
+-- So two tables that represent histories are joined as Joining has it.
+pub represented_says : (a b : List ℕ) (h g : History) → Represents port_count a h → Represents port_count b g → h.dimension ≡ g.dimension → h.dimension ≢ largest_dimension
     → JoinSays (view a).dimension a b (encode (joined_view (view a) (view b)))
 represented_says a b h g one other e ne =
     record {
@@ -112,12 +112,12 @@ represented_says a b h g one other e ne =
       new_enabled = λ n l. rw shows (unfold joined_view in new_port (view a).dimension _ _ n ∙ lt-ltb n _ l);
       new_free = λ n l. rw shows (unfold joined_view in new_port (view a).dimension _ _ n);
       traces_first = λ n k buffer l.
-          (represents_step d J both (tracing n k buffer)).result ∙ first_traces h g one.valid n k buffer (rw known at l) ∙ sym (represents_step a h one (tracing n k buffer)).result;
+          (represents_step port_count (inl refl) d J both (tracing n k buffer) tt).result ∙ first_traces h g one.valid n k buffer (rw known at l) ∙ sym (represents_step port_count (inl refl) a h one (tracing n k buffer) tt).result;
       traces_second = λ n k buffer l.
-          subst (λ (D : ℕ). (table_step d (tracing (n + 2 ^ D) k buffer)).result ≡ (table_step b (tracing n k buffer)).result) (sym known)
-          ((represents_step d J both (tracing (n + 2 ^ h.dimension) k buffer)).result ∙ second_traces h g one.valid e n k buffer (rw known at l) ∙ sym (represents_step b g other (tracing n k buffer)).result);
-      sound = represents_not_stopped d J both;
-      is_sound = represents_sound d J both;
+          subst (λ (D : ℕ). (table_step port_count d (tracing (n + 2 ^ D) k buffer)).result ≡ (table_step port_count b (tracing n k buffer)).result) (sym known)
+          ((represents_step port_count (inl refl) d J both (tracing (n + 2 ^ h.dimension) k buffer) tt).result ∙ second_traces h g one.valid e n k buffer (rw known at l) ∙ sym (represents_step port_count (inl refl) b g other (tracing n k buffer) tt).result);
+      sound = represents_not_stopped port_count d J both;
+      is_sound = represents_sound port_count d J both;
     }
   where
     d : List ℕ
@@ -126,11 +126,11 @@ represented_says a b h g one other e ne =
     J : History
     J = joined_history h g
 
-    both : Represents d J
+    both : Represents port_count d J
     both = joined_represents a b h g one other e ne
 
     known : (view a).dimension ≡ h.dimension
     known = unfold view_of in ap (λ (v : View). v.dimension) one.shows
 
     shows : view d ≡ joined_view (view a) (view b)
-    shows = both.shows ∙ (joined_shows h g one.valid other.valid e ne).shows ∙ (λ i. joined_view (sym one.shows i) (sym other.shows i))
+    shows = both.shows ∙ (joined_shows h g one.valid other.valid ((represents_fold port_count a h one).plain refl) ((represents_fold port_count b g other).plain refl) e ne).shows ∙ (λ i. joined_view (sym one.shows i) (sym other.shows i))

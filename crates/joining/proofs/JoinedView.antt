@@ -11,31 +11,35 @@ use native.Mathlib.Nat.{pow-succ'}
 use lib.Dec.{ltb}
 use borrow.Author.Tests.{eq-eqb, ne_eqb, lt-ltb, ltb-true, ltb-false}
 use Rattle.common.specs.Lists.{◌∈◌}
-use Rattle.common.proofs.Tests.{same?, is_false, both, both_below}
+use Rattle.common.proofs.Tests.{same?, is_false}
 use Rattle.common.proofs.Lists.{all_append, all_map}
-use Rattle.cube.specs.Cube.{largest_dimension, NodeOf}
+use Rattle.cube.specs.Axes.{present}
+use Rattle.cube.specs.Cube.{largest_dimension}
+use Rattle.cube.proofs.PartnerPorts.{unfolded_present}
 use Rattle.paths.specs.Network.{Link, has_link}
-use Rattle.paths.specs.CubeNetwork.{unfolded, is_node, LinkOf}
+use Rattle.paths.specs.CubeNetwork.{unfolded, is_node}
 use Rattle.paths.proofs.Links.{true_link}
-use Rattle.ownership.specs.History.{Circuit, History, shape_on, net_on, links_of, holds_link, enabled_on, armed_on}
+use Rattle.ownership.specs.History.{Circuit, History, net_on, links_of, holds_link, enabled_on, armed_on}
 use Rattle.ownership.specs.HistoryView.{first_circuit, view_of}
-use Rattle.ownership.specs.Invariant.{CircuitValid, Valid}
+use Rattle.ownership.specs.Invariant.{Valid}
 use Rattle.ownership.proofs.Circuits.{number_none}
-use Rattle.ownership.proofs.CircuitValid.{holds_link_lem, armed_inside}
+use Rattle.ownership.proofs.CircuitValid.{holds_link_lem, inside}
+use Rattle.ownership.proofs.Ports.{same_links}
 use Rattle.joining.specs.Joined.{of_halves, renumbered, at_new_port, joined_view, joined_history}
-use Rattle.joining.proofs.HalfNodes.{second_gains}
-use Rattle.joining.proofs.HalfPaths.{link_behind, same_links, links_behind}
+use Rattle.joining.proofs.HalfNodes.{second_gains, port_below}
+use Rattle.joining.proofs.HalfPaths.{link_behind, links_behind}
 use Rattle.joining.proofs.FirstOf.{in_halves, of_first, of_second, Apart}
 use Rattle.joining.proofs.BothHalves.{circuit_behind, marks_both, number_both, receive_apart}
 
--- the history of a half with the dimension of the other, and that of both
+-- the history of a half with the dimension of the other and with nothing folded, as in that of a narrow table; and the history of both
 abbrev pub like : History → History → History
-like h g = record { dimension = h.dimension; blocked = g.blocked; circuits = g.circuits; armed = g.armed }
+like h g = record { dimension = h.dimension; fold = 0; blocked = g.blocked; circuits = g.circuits; armed = g.armed }
 
 abbrev pub both_on : History → History → History
 both_on h g =
     record {
       dimension = suc h.dimension;
+      fold = 0;
       blocked = h.blocked ++ map (link_behind (2 ^ h.dimension)) g.blocked;
       circuits = h.circuits ++ map (circuit_behind (2 ^ h.dimension)) g.circuits;
       armed = h.armed ++ map (link_behind (2 ^ h.dimension)) g.armed;
@@ -63,20 +67,19 @@ same_ltb a b c d there back = go (ltb c d) refl
     go true e = lt-ltb a b (back (ltb-true c d e))
     go false e = is_false _ (λ i. omega (arith, there (ltb-true a b i), ltb-false c d e))
 
--- the links and the target of a listed circuit lie in the cube
-pub link_inside : (h : History) (x : Circuit) → CircuitValid h x → (l : Link) → l ∈ links_of (net_on h) x → LinkOf (shape_on h) l.0 l.1
-unfolding enabled_on
-link_inside h x s l m = both_below (both (ltb l.0 (2 ^ h.dimension) && ltb l.1 h.dimension) _ (s.enabled l m)).0
+module _ (given g : History) (valid : Valid (like given given)) (its : Valid (like given g)) (room : given.dimension < largest_dimension) where
+  abbrev h : History
+  h = like given given
 
-pub target_inside : (h : History) → Valid h → (x : Circuit) → x ∈ h.circuits → NodeOf h.dimension x.target
-target_inside h valid x m = (armed_inside h valid x.target x.receive (valid.every_circuit x m).armed).0
-
-module _ (h g : History) (valid : Valid h) (its : Valid (like h g)) (room : h.dimension < largest_dimension) where
   abbrev D : ℕ
   D = h.dimension
 
   abbrev J : History
   J = both_on h g
+
+  -- a port of a half
+  below : (p : ℕ) → present D 0 p ≡ true → p < D
+  below p = port_below D 0 p refl (omega arith)
 
   -- links of the ports that both halves have are enabled as they were, and those of the new port are
   marked : (n p : ℕ) → has_link J.blocked n p ≡ of_halves D (has_link h.blocked) (has_link g.blocked) n p
@@ -86,8 +89,8 @@ module _ (h g : History) (valid : Valid h) (its : Valid (like h g)) (room : h.di
   unfolding enabled_on
   enabled_old p ne = in_halves D (λ n. enabled_on J n p ≡ of_halves D (enabled_on h) (enabled_on (like h g)) n p) one other
     where
-      port : ltb p (suc D) ≡ ltb p D
-      port = same_ltb p (suc D) p D (λ l. omega arith) (λ l. omega arith)
+      port : present (suc D) 0 p ≡ present D 0 p
+      port = unfolded_present (suc D) p (omega arith) ∙ same_ltb p (suc D) p D (λ l. omega arith) (λ l. omega arith) ∙ sym (unfolded_present D p (omega arith))
 
       one : (n : ℕ) → n < 2 ^ D → enabled_on J n p ≡ of_halves D (enabled_on h) (enabled_on (like h g)) n p
       one n l =
@@ -100,11 +103,14 @@ module _ (h g : History) (valid : Valid h) (its : Valid (like h g)) (room : h.di
 
   enabled_new : (n : ℕ) → enabled_on J n D ≡ ltb n (2 ^ suc D)
   unfolding enabled_on
-  enabled_new n = rw (lt-ltb D (suc D) (omega arith), none) (and-true (ltb n (2 ^ suc D) && true) ∙ and-true (ltb n (2 ^ suc D)))
+  enabled_new n = rw (there, none) (and-true (ltb n (2 ^ suc D) && true) ∙ and-true (ltb n (2 ^ suc D)))
     where
+      there : present (suc D) 0 D ≡ true
+      there = unfolded_present (suc D) D (omega arith) ∙ lt-ltb D (suc D) (omega arith)
+
       none : has_link J.blocked n D ≡ false
       none = is_false _ (λ e.
-          let far : (l : Link) → l ∈ J.blocked → l.1 < D = all_append (λ (l : Link). l.1 < D) h.blocked (λ l m. (valid.blocked l m).1) (all_map (λ (l : Link). l.1 < D) (link_behind (2 ^ D)) g.blocked (λ l m. (its.blocked l m).1)) in
+          let far : (l : Link) → l ∈ J.blocked → l.1 < D = all_append (λ (l : Link). l.1 < D) h.blocked (λ l m. below l.1 (valid.blocked l m).1) (all_map (λ (l : Link). l.1 < D) (link_behind (2 ^ D)) g.blocked (λ l m. below l.1 (its.blocked l m).1)) in
           omega (arith, far (n, D) (true_link J.blocked n D e)))
 
   enabled_both : (n p : ℕ) → enabled_on J n p ≡ at_new_port D (is_node (unfolded (suc D))) (of_halves D (enabled_on h) (enabled_on (like h g))) n p
@@ -123,7 +129,7 @@ module _ (h g : History) (valid : Valid h) (its : Valid (like h g)) (room : h.di
   links_apart =
       record {
         first = λ n p l x m. as_before x n p;
-        not_first = λ n p x m. is_false _ (λ e. omega (arith, (link_inside h x (valid.every_circuit x m) (n + 2 ^ D, p) (holds_link_lem (net_on h) (n + 2 ^ D) p x (sym (as_before x (n + 2 ^ D) p) ∙ e))).0));
+        not_first = λ n p x m. is_false _ (λ e. omega (arith, ((inside h valid x m).0 (n + 2 ^ D) p (holds_link_lem (net_on h) (n + 2 ^ D) p x (sym (as_before x (n + 2 ^ D) p) ∙ e))).0));
         second = λ n p y m. moved_links y m (n + 2 ^ D) p ∙ of_second D _ _ n p ∙ unfold holds_link in refl;
         not_second = λ n p l y m. moved_links y m n p ∙ of_first D _ _ n p l ∙ unfold has_link in refl;
       }
@@ -141,12 +147,12 @@ module _ (h g : History) (valid : Valid h) (its : Valid (like h g)) (room : h.di
       ∙ ⊎_elim (λ e. rw e (in_halves D (λ n. owners n D ≡ 0) one other n ∙ sym (new_port D _ _ n))) (λ ne. sym (old_port D _ _ n p ne)) (same? p D)
     where
       one : (n : ℕ) → n < 2 ^ D → owners n D ≡ 0
-      one n l = of_first D _ _ n D l ∙ number_none _ h.circuits (λ x m e. omega (arith, (link_inside h x (valid.every_circuit x m) (n, D) (holds_link_lem (net_on h) n D x e)).1))
+      one n l = of_first D _ _ n D l ∙ number_none _ h.circuits (λ x m e. omega (arith, below D ((inside h valid x m).0 n D (holds_link_lem (net_on h) n D x e)).1))
 
       other : (n : ℕ) → owners (n + 2 ^ D) D ≡ 0
       other n =
           of_second D _ _ n D
-          ∙ ap (renumbered (8 * 2 ^ D)) (number_none _ g.circuits (λ x m e. omega (arith, (link_inside (like h g) x (its.every_circuit x m) (n, D) (holds_link_lem (net_on h) n D x e)).1)))
+          ∙ ap (renumbered (8 * 2 ^ D)) (number_none _ g.circuits (λ x m e. omega (arith, below D ((inside (like h g) its x m).0 n D (holds_link_lem (net_on h) n D x e)).1)))
           ∙ unfold renumbered in refl
 
   -- Its view is the joined view.
@@ -155,8 +161,9 @@ module _ (h g : History) (valid : Valid h) (its : Valid (like h g)) (room : h.di
   view_both = λ i.
       record {
         dimension = suc D;
+        fold = 0;
         enabled = λ n p. enabled_both n p i;
         owner = λ n p. owner_both n p i;
-        receiver = λ n k. number_both D h.circuits g.circuits (receive_apart D h.circuits g.circuits (target_inside h valid)) n k i;
+        receiver = λ n k. number_both D h.circuits g.circuits (receive_apart D h.circuits g.circuits (λ x m. (inside h valid x m).1)) n k i;
         armed = λ n k. marks_both D h.armed g.armed (λ l m. (valid.armed l m).0) n k i;
       }

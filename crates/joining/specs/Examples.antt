@@ -1,7 +1,9 @@
--- Two cubes of two nodes joined into one of four, computed.
+-- Examples 20: two cubes of two nodes joined into one of four, computed.
 -- Assumes nothing.
 use Rattle.std.specs.Prelude.{◌≡◌, refl, true, false, List, [], ◌∷◌, map, ℕ}
 use Rattle.common.specs.Lists.{from}
+use Rattle.cube.specs.Bits.{has, bit_at}
+use Rattle.cube.specs.Axes.{present, axis}
 use Rattle.table.specs.View.{View}
 use Rattle.paths.specs.Network.{has_link, links}
 use Rattle.ownership.specs.History.{History, holds_link, holds_receive, enabled_on, armed_on}
@@ -10,11 +12,11 @@ use Rattle.joining.specs.Joined.{of_halves, renumbered, at_new_port, joined_view
 
 -- In the first half the link from node 1 is blocked, and a circuit goes from node 0 to node 1.
 abbrev first_half : History
-first_half = record { dimension = 1; blocked = (1, 0) ∷ []; circuits = record { source = 0; channel = 0; ports = 0 ∷ []; target = 1; receive = 2 } ∷ []; armed = (1, 2) ∷ [] }
+first_half = record { dimension = 1; fold = 0; blocked = (1, 0) ∷ []; circuits = record { source = 0; channel = 0; ports = 0 ∷ []; target = 1; receive = 2 } ∷ []; armed = (1, 2) ∷ [] }
 
 -- In the second a circuit goes from node 1 to node 0, and channel 5 of node 1 is armed.
 abbrev second_half : History
-second_half = record { dimension = 1; blocked = []; circuits = record { source = 1; channel = 7; ports = 0 ∷ []; target = 0; receive = 0 } ∷ []; armed = (0, 0) ∷ (1, 5) ∷ [] }
+second_half = record { dimension = 1; fold = 0; blocked = []; circuits = record { source = 1; channel = 7; ports = 0 ∷ []; target = 0; receive = 0 } ∷ []; armed = (0, 0) ∷ (1, 5) ∷ [] }
 
 -- all that a function of node and place says of four nodes, each with so many places
 unfoldable rows_of : {A : Type 0} → (ℕ → ℕ → A) → ℕ → List (List A)
@@ -24,6 +26,7 @@ rows_of f k = map (λ n. map (f n) (from 0 k)) (from 0 4)
 both_histories : joined_history first_half second_half
     ≡ record {
       dimension = 2;
+      fold = 0;
       blocked = (1, 0) ∷ [];
       circuits = record { source = 0; channel = 0; ports = 0 ∷ []; target = 1; receive = 2 }
           ∷ record { source = 3; channel = 7; ports = 0 ∷ []; target = 2; receive = 0 }
@@ -43,7 +46,7 @@ owners_joined = refl
 
 -- the link from node 1 is blocked as before; those of port 1 are enabled
 links_enabled : rows_of joined.enabled 3 ≡ (true ∷ true ∷ false ∷ []) ∷ (false ∷ true ∷ false ∷ []) ∷ (true ∷ true ∷ false ∷ []) ∷ (true ∷ true ∷ false ∷ []) ∷ []
-unfolding rows_of from joined_view of_halves view_of at_new_port enabled_on has_link
+unfolding rows_of from joined_view of_halves view_of at_new_port enabled_on has_link present axis has bit_at
 links_enabled = refl
 
 channels_taken : rows_of joined.receiver 3 ≡ (0 ∷ 0 ∷ 0 ∷ []) ∷ (0 ∷ 0 ∷ 1 ∷ []) ∷ (32 ∷ 0 ∷ 0 ∷ []) ∷ (0 ∷ 0 ∷ 0 ∷ []) ∷ []

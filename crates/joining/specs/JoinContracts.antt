@@ -4,6 +4,7 @@ use Rattle.std.specs.Prelude.{◌≡◌, List, ℕ, ◌+◌, ◌*◌, ◌<◌, �
 use Rattle.std.specs.Int.Bits.{bit_or}
 use Rattle.cube.specs.Cube.{largest_dimension, port_count, channels}
 use Rattle.layout.specs.Layout.{table_length, word_at, mask_place, enable_part, dimension_at, entry_place, entry_at}
+use Rattle.layout.specs.LayoutContracts.{SameOutside}
 use Rattle.table.specs.View.{view}
 use Rattle.soundness.specs.Sound.{Sound}
 use Rattle.joining.specs.Joined.{renumbered}
@@ -16,24 +17,19 @@ WordsFit rows gain = (i : ℕ) → 2 * i + 1 < length rows → word_at rows (2 *
 unfoldable pub WordsGained : List ℕ → ℕ → List ℕ → Type 0
 WordsGained rows gain new = (i : ℕ) → 2 * i + 1 < length rows → word_at new (2 * i) ≡ renumbered gain (word_at rows (2 * i))
 
--- bytes that were written between two places alone
-pub record SameOutside (start end : ℕ) (old new : List ℕ) : Type 0 where
-  pub before : (j : ℕ) → j < start → get_or new j 0 ≡ get_or old j 0
-  pub behind : (j : ℕ) → end ≤ j → get_or new j 0 ≡ get_or old j 0
-
 -- The rows of so many nodes, from the first on, hold circuits of these nodes,
 unfoldable pub RowsFit : ℕ → ℕ → List ℕ → Type 0
-RowsFit part nodes b = (n k : ℕ) → n < nodes → k < port_count → entry_at part b n k ≤ channels * nodes
+RowsFit part nodes b = (n k : ℕ) → n < nodes → k < port_count → entry_at 8 part b n k ≤ channels * nodes
 
 -- and are written behind as many rows of another table, each circuit renumbered.
 pub record RowsBehind (part nodes : ℕ) (second old new : List ℕ) : Type 0 where
-  pub others : SameOutside (entry_place part nodes 0) (entry_place part (2 * nodes) 0) old new
-  pub entries : (n k : ℕ) → n < nodes → k < port_count → entry_at part new (nodes + n) k ≡ renumbered (channels * nodes) (entry_at part second n k)
+  pub others : SameOutside (entry_place 8 part nodes 0) (entry_place 8 part (2 * nodes) 0) old new
+  pub entries : (n k : ℕ) → n < nodes → k < port_count → entry_at 8 part new (nodes + n) k ≡ renumbered (channels * nodes) (entry_at 8 part second n k)
 
 -- So are their masks.
 pub record MasksBehind (part nodes : ℕ) (second old new : List ℕ) : Type 0 where
-  pub others : SameOutside (mask_place part nodes) (mask_place part (2 * nodes)) old new
-  pub masks : (n : ℕ) → n < nodes → get_or new (mask_place part (nodes + n)) 0 ≡ get_or second (mask_place part n) 0
+  pub others : SameOutside (mask_place 8 part nodes) (mask_place 8 part (2 * nodes)) old new
+  pub masks : (n : ℕ) → n < nodes → get_or new (mask_place 8 part (nodes + n)) 0 ≡ get_or second (mask_place 8 part n) 0
 
 -- one bit set in each of some masks,
 unfoldable pub PortSet : ℕ → List ℕ → List ℕ → Type 0
@@ -41,8 +37,8 @@ PortSet p old new = (n : ℕ) → n < length old → get_or new n 0 ≡ bit_or (
 
 -- and in those of enabled links of so many nodes, from the first on
 pub record PortEnabled (p nodes : ℕ) (old new : List ℕ) : Type 0 where
-  pub others : SameOutside (mask_place enable_part 0) (mask_place enable_part nodes) old new
-  pub masks : (n : ℕ) → n < nodes → get_or new (mask_place enable_part n) 0 ≡ bit_or (get_or old (mask_place enable_part n) 0) (2 ^ p)
+  pub others : SameOutside (mask_place 8 (enable_part 8) 0) (mask_place 8 (enable_part 8) nodes) old new
+  pub masks : (n : ℕ) → n < nodes → get_or new (mask_place 8 (enable_part 8) n) 0 ≡ bit_or (get_or old (mask_place 8 (enable_part 8) n) 0) (2 ^ p)
 
 -- two sound tables of one dimension, below the largest
 pub record Joinable (a b : List ℕ) (dimension : ℕ) : Type 0 where

@@ -8,7 +8,8 @@ ghost use Rattle.joining.specs.Joined.{joined_view, renumbered};
 ghost use Rattle.joining.specs.JoinContracts.{WordsFit, WordsGained, PortSet, PortEnabled, MasksBehind, RowsFit, RowsBehind, Joinable};
 
 use cube::{Circuit, Node, Port};
-use table::{Channels, Links, Resource};
+use layout::Layout;
+use table::{Channels, Links, Narrow, Resource};
 
 // A circuit of the second half. 0 is no circuit, and stays so.
 #[tactic(auto, unfolding(crate::specs::Joined::renumbered))]
@@ -32,6 +33,7 @@ fn renumber_rows(rows: &[u8], to: &mut [u8], gain: u16)
 
 // The rows of the second half's nodes, of its links or of its receive channels, behind those of the first.
 fn rows_behind<H: Resource>(second: &[u8], joined: &mut [u8], nodes: u16)
+    requires narrow { (H.WIDTH ≡ port_count) × (H.LENGTH ≡ table_length) }
     requires room { (length second.now ≡ table_length) × (length joined.old ≡ table_length) × (0 < nodes) × (2 * nodes ≤ 256) }
     requires fit { RowsFit H.ROWS nodes second.now }
     ensures { RowsBehind H.ROWS nodes second.now joined.old joined.new }
@@ -45,24 +47,14 @@ fn rows_behind<H: Resource>(second: &[u8], joined: &mut [u8], nodes: u16)
     );
 }
 
-// Copies bytes one by one, since the library's copy would ask the caller's C for memmove.
-fn copy(from: &[u8], to: &mut [u8])
-    requires { length to.old ≡ length from.now }
-    ensures { to.new ≡ from.now }
-{
-    for (i, byte) in from.iter().enumerate() {
-        to[i] = *byte;
-    }
-}
-
 // The masks of the second half's nodes, of enabled links or of armed channels, behind those of the first.
 fn masks_behind<H: Resource>(second: &[u8], joined: &mut [u8], nodes: u16)
-    requires { (length second.now ≡ table_length) × (length joined.old ≡ table_length) × (2 * nodes ≤ 256) }
+    requires { (H.WIDTH ≡ port_count) × (H.LENGTH ≡ table_length) × (length second.now ≡ table_length) × (length joined.old ≡ table_length) × (2 * nodes ≤ 256) }
     ensures { MasksBehind H.MASKS nodes second.now joined.old joined.new }
 {
     let nodes = usize::from(nodes);
     let at = H::MASKS + nodes;
-    copy(&second[H::MASKS..at], &mut joined[at..at + nodes]);
+    layout::copy(&second[H::MASKS..at], &mut joined[at..at + nodes]);
 }
 
 // Sets one bit of each of some masks.
@@ -82,7 +74,7 @@ fn enable_port(joined: &mut [u8], port: Port, nodes: u16)
     ensures { PortEnabled port.0 nodes joined.old joined.new }
 {
     set_port(
-        &mut joined[layout::ENABLE..layout::ENABLE + usize::from(nodes)],
+        &mut joined[Narrow::ENABLE..Narrow::ENABLE + usize::from(nodes)],
         port,
     );
 }
@@ -93,7 +85,7 @@ pub fn write(first: &[u8], second: &[u8], joined: &mut [u8], dimension: u16)
     ensures { joined.new ≡ encode (joined_view (view first.now) (view second.now)) }
 {
     let nodes = cube::node_count(dimension);
-    copy(first, joined);
+    layout::copy(first, joined);
     joined[layout::DIMENSION] += 1;
     masks_behind::<Links>(second, joined, nodes);
     masks_behind::<Channels>(second, joined, nodes);

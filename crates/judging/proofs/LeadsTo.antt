@@ -1,15 +1,17 @@
 -- Where ports lead from a node: it is the end of their path in the network, and a node of the cube.
 -- Assumes nothing.
 use mathlib.Core.Path.{◌≡◌, refl}
+use mathlib.Core.Bool.{true}
 use mathlib.Core.List.{[], ◌∷◌}
-use Prim.Native.Nat.{ℕ, suc, ◌≤◌, ◌<◌}
+use Prim.Native.Nat.{ℕ, suc}
 use native.Mathlib.Omega.{arith}
-use lib.ListN.{length, get_or}
-use Rattle.cube.specs.Cube.{largest_dimension, NodeOf, next}
-use Rattle.cube.proofs.Axes.{next_inside}
+use Rattle.cube.specs.Axes.{axis, present}
+use Rattle.cube.specs.Cube.{next}
+use Rattle.cube.proofs.Axes.{present_axis}
+use Rattle.cube.proofs.Bits.{flip_inside}
 use Rattle.paths.specs.Network.{Path, end}
-use Rattle.paths.specs.CubeNetwork.{Shape, network}
-use Rattle.judging.specs.JudgeContracts.{leads_to}
+use Rattle.paths.specs.CubeNetwork.{Shape, Node, network}
+use Rattle.judging.specs.JudgeContracts.{PortsOf, leads_to}
 
 -- the end of a path in the network of a cube
 pub end_leads : (S : Shape) (n : ℕ) (w : Path) → end (network S) n w ≡ leads_to n w
@@ -17,9 +19,12 @@ unfolding end network leads_to
 end_leads S n [] = refl
 end_leads S n (p ∷ w) = end_leads S (next n p) w
 
--- ports below the dimension do not leave the cube
-pub leads_inside : (D n : ℕ) (w : Path) → D ≤ largest_dimension → NodeOf D n → ((i : ℕ) → i < length w → get_or w i 0 < D) → NodeOf D (leads_to n w)
+-- a hop over a port of a cube does not leave it
+pub hop_inside : (S : Shape) (n p : ℕ) → Node S n → present S.dimension S.fold p ≡ true → Node S (next n p)
+hop_inside S n p inside e = flip_inside S.dimension n (axis p) inside (present_axis S.dimension S.fold p e).1
+
+-- nor do its ports
+pub leads_inside : (S : Shape) (n : ℕ) (w : Path) → Node S n → PortsOf S w → Node S (leads_to n w)
 unfolding leads_to
-leads_inside D n [] fits inside below = inside
-leads_inside D n (p ∷ w) fits inside below =
-    leads_inside D (next n p) w fits (next_inside D n p fits inside (below 0 (omega arith))) (λ i l. below (suc i) (omega arith))
+leads_inside S n [] inside there = inside
+leads_inside S n (p ∷ w) inside there = leads_inside S (next n p) w (hop_inside S n p inside (there 0 (omega arith))) (λ i l. there (suc i) (omega arith))

@@ -1,6 +1,7 @@
 -- The laws of judging a book.
+pub mod AllPass
+pub mod PortsOfCube
 pub mod Following
-pub mod CircuitFits
 pub mod LinesInside
 pub mod BookLines
 pub mod Judging
@@ -9,8 +10,11 @@ pub mod CubeLines
 pub mod UsingLinks
 pub mod CountingTargets
 pub mod PermittedTest
+pub mod AxesOnce
+pub mod CircuitFits
 pub mod LinksTest
 pub mod TargetsTest
 pub mod Loadable
 pub mod ReadBack
 pub mod WrittenAccepted
+pub mod FoldedBooks

@@ -1,42 +1,57 @@
--- A yes means exactly this: each test of judging passes exactly where the request's words for it hold, and so no test stops a book exactly where it is loadable.
+-- Judging 2: each test of judging passes exactly where its rule holds, and so no test stops a book exactly where it is loadable.
 -- Assumes nothing.
 use mathlib.Core.Path.{◌≡◌, refl, ap, sym, ◌∙◌}
-use mathlib.Core.Logic.{◌↔◌, ◌≢◌}
+use mathlib.Core.Logic.{⊎_elim, ◌↔◌, ◌≢◌}
 use mathlib.Core.Bool.{Bool, true, not}
-use mathlib.Core.List.Memᴰ
 use mathlib.Core.List.{List, [], ◌∷◌, map}
 use Prim.Native.Nat.{ℕ, ◌^◌, ◌≤◌, ◌<◌}
 use native.Mathlib.Omega.{arith}
 use lib.Dec.{ltb}
 use borrow.Author.Tests.{ltb-true, lt-ltb, not-true, not-false}
 use Rattle.std.specs.List.{list_all}
-use Rattle.common.specs.Lists.{◌∈◌, Pairwise}
+use Rattle.common.specs.Lists.{Pairwise}
 use Rattle.common.specs.Tests.{Test, test, refusal}
-use Rattle.common.proofs.Tests.{both, and, is_false, refused, passed, accepted, avoids, avoiding, never_answered}
-use Rattle.common.proofs.Lists.{all_cons}
-use Rattle.cube.specs.Cube.{largest_dimension, source_of}
+use Rattle.common.proofs.Tests.{below_or, both, and, is_false, refused, passed, accepted, avoids, avoiding, never_answered}
+use Rattle.cube.specs.Axes.{axis, present}
+use Rattle.cube.specs.Bits.{has}
+use Rattle.cube.specs.Cube.{source_of}
+use Rattle.cube.proofs.Axes.{present_low, present_axis}
+use Rattle.cube.proofs.PartnerPorts.{axis_high, present_folded}
 use Rattle.paths.specs.CubeNetwork.{send_ports}
 use Rattle.paths.proofs.Links.{permitted_distinct}
 use Rattle.paths.proofs.CubeNetwork.{cube_nearing}
 use Rattle.book.specs.Book.{BookCircuit}
 use Rattle.book.proofs.WellFormedBook.{well_formed_exactly}
 use Rattle.judging.specs.Judged.{JudgeFacts, judge_shape, judge_net, circuits_in, links_in, target_in, is_permitted, in_cube, circuit_fits, links_fit, all_links, targets_fit, judge_tests}
-use Rattle.judging.specs.Loadable.{CircuitRight, CircuitsRight, LinksFree, ChannelsSuffice, Loadable}
+use Rattle.judging.specs.Loadable.{PortOf, own_port, partner_port, CircuitRight, CircuitsRight, LinksFree, ChannelsSuffice, Loadable}
+use Rattle.judging.proofs.AllPass.{all_pass, pass_all}
 use Rattle.judging.proofs.PermittedTest.{permitted_some, some_permitted}
 use Rattle.judging.proofs.LinksTest.{links_pass, pass_links}
 use Rattle.judging.proofs.TargetsTest.{targets_pass}
 
--- a test passes over a list exactly where every member passes it
-module _ {A : Type 0} (f : A → Bool) where
-  all_pass : (xs : List A) → list_all f xs ≡ true → (x : A) → x ∈ xs → f x ≡ true
-  all_pass [] e = λ x m. absurd (Memᴰ.not-nil m)
-  all_pass (x ∷ xs) e = let r = both (f x) _ e in all_cons (λ x. f x ≡ true) r.0 (all_pass xs r.1)
+-- a port is there exactly where it is one below the dimension, or a partner of a folded dimension
+pub port_exactly : (D fold p : ℕ) → (present D fold p ≡ true) ↔ PortOf D fold p
+port_exactly D fold p = (there, back)
+  where
+    other : 9 ≤ p → p ≢ axis p
+    other h e = omega (arith, e, axis_high p h)
 
-  pass_all : (xs : List A) → ((x : A) → x ∈ xs → f x ≡ true) → list_all f xs ≡ true
-  pass_all [] h = refl
-  pass_all (x ∷ xs) h = and (h x (Memᴰ.head refl)) (pass_all xs (λ y m. h y (Memᴰ.tail m)))
+    there : present D fold p ≡ true → PortOf D fold p
+    there e =
+        let r = present_axis D fold p e in
+        ⊎_elim (λ l. own_port l (ltb-true p D (sym (present_low D fold p l) ∙ e)))
+        (λ h.
+        let a = axis_high p h in
+        let on : has fold (axis p) ≡ true = present_folded D fold p r.0 r.1 (other h) ∙ e in
+        partner_port (omega arith) r.0 (omega (arith, a, r.1)) (rw a at on)) (below_or 9 p)
 
-module _ (a : JudgeFacts) (small : a.dimension ≤ largest_dimension) where
+    back : PortOf D fold p → present D fold p ≡ true
+    back (own_port l k) = present_low D fold p l ∙ lt-ltb p D k
+    back (partner_port h l k on) =
+        let a = axis_high p (omega arith) in
+        sym (present_folded D fold p l (omega (arith, a, k)) (other (omega arith))) ∙ rw a on
+
+module _ (a : JudgeFacts) where
   -- the test of a circuit passes where its source, path and send channel are right,
   fits_right : (x : BookCircuit) → circuit_fits a x ≡ true → CircuitRight a x
   unfolding circuit_fits in_cube
@@ -45,16 +60,16 @@ module _ (a : JudgeFacts) (small : a.dimension ≤ largest_dimension) where
       let i = both (ltb (source_of x.number) (2 ^ a.dimension)) _ r.0 in
       let p = both (is_permitted (judge_net a) (source_of x.number) (target_in (judge_net a) x) x.ports) _ r.1 in
       let inside : source_of x.number < 2 ^ a.dimension = ltb-true _ _ i.0 in
-      let below : (p : ℕ) → p ∈ x.ports → p < a.dimension = λ p m. ltb-true p a.dimension (all_pass (λ p. ltb p a.dimension) x.ports i.1 p m) in
-      let some = permitted_some (judge_shape a) small refl (source_of x.number) x.ports inside below p.0 in
-      record { source = inside; port = below; vector = some.0; vector_small = some.1; target = some.2; permitted = some.3; not_open = not-true _ p.1 }
+      let there = all_pass (present a.dimension a.fold) x.ports i.1 in
+      let some = permitted_some (judge_shape a) (source_of x.number) x.ports inside there p.0 in
+      record { source = inside; port = λ p m. (port_exactly a.dimension a.fold p).0 (there p m); vector = some.0; vector_small = some.1; target = some.2; permitted = some.3; not_open = not-true _ p.1 }
 
   -- and only there
   right_fits : (x : BookCircuit) → CircuitRight a x → circuit_fits a x ≡ true
   unfolding circuit_fits in_cube
   right_fits x h =
-      and (and (lt-ltb _ _ h.source) (pass_all (λ p. ltb p a.dimension) x.ports (λ p m. lt-ltb p a.dimension (h.port p m))))
-      (and (some_permitted (judge_shape a) small refl (source_of x.number) h.vector (target_in (judge_net a) x) x.ports h.permitted) (ap not h.not_open))
+      and (and (lt-ltb _ _ h.source) (pass_all (present a.dimension a.fold) x.ports (λ p m. (port_exactly a.dimension a.fold p).1 (h.port p m))))
+      (and (some_permitted (judge_shape a) (source_of x.number) h.vector (target_in (judge_net a) x) x.ports h.permitted) (ap not h.not_open))
 
   -- and no circuit whose path is right has a link twice
   once : (x : BookCircuit) → CircuitRight a x → Pairwise ◌≢◌ (links_in (judge_net a) x)
@@ -99,31 +114,31 @@ module _ {P : Type 0} {b : Bool} (says : (b ≡ true) ↔ P) (n : ℕ) (ts : Lis
 no_more : (refusal [] ≡ 0) ↔ Unit {0}
 no_more = ((λ e. tt), (λ u. accepted))
 
--- No test stops a book exactly where it is loadable, in a cube of dimension up to the largest.
-pub accepted_exactly : (a : JudgeFacts) → a.dimension ≤ largest_dimension → (ports index : List ℕ) (circuits hops : ℕ)
+-- No test stops a book exactly where it is loadable.
+pub accepted_exactly : (a : JudgeFacts) (ports index : List ℕ) (circuits hops : ℕ)
     → (refusal (judge_tests a ports index circuits hops) ≡ 0) ↔ Loadable a ports index circuits hops
 unfolding judge_tests
-accepted_exactly a small ports index circuits hops =
+accepted_exactly a ports index circuits hops =
     let xs = circuits_in ports index circuits in
     let four =
     first_holds (well_formed_exactly ports index circuits hops) 25 _ (λ z. omega arith)
-    (λ w. first_holds (circuits_exactly a small xs) 26 _ (λ z. omega arith)
-    (λ r. first_holds (links_exactly a small xs r) 27 _ (λ z. omega arith)
-    (λ l. first_holds (targets_exactly a small xs) 11 [] (λ z. omega arith) (λ c. no_more)))) in (
+    (λ w. first_holds (circuits_exactly a xs) 26 _ (λ z. omega arith)
+    (λ r. first_holds (links_exactly a xs r) 27 _ (λ z. omega arith)
+    (λ l. first_holds (targets_exactly a xs) 11 [] (λ z. omega arith) (λ c. no_more)))) in (
       (λ e. let h = four.0 e in record { well_formed = h.0; circuits_right = h.1.0; links_free = h.1.1.0; channels_suffice = h.1.1.1.0 }),
       (λ h. four.1 (h.well_formed, (h.circuits_right, (h.links_free, (h.channels_suffice, tt))))),
     )
 
 -- The answer is 11 only where the three tests before that of the receive channels pass, so it is never that where these leave enough of them.
-pub not_full : (a : JudgeFacts) → a.dimension ≤ largest_dimension → (ports index : List ℕ) (circuits hops : ℕ)
+pub not_full : (a : JudgeFacts) (ports index : List ℕ) (circuits hops : ℕ)
     → (CircuitsRight a (circuits_in ports index circuits) → LinksFree a (circuits_in ports index circuits) → ChannelsSuffice a (circuits_in ports index circuits))
     → refusal (judge_tests a ports index circuits hops) ≢ 11
 unfolding judge_tests avoids
-not_full a small ports index circuits hops enough e =
+not_full a ports index circuits hops enough e =
     let xs = circuits_in ports index circuits in
     let four =
     first_holds (well_formed_exactly ports index circuits hops) 25 _ (λ z. omega arith)
-    (λ w. first_holds (circuits_exactly a small xs) 26 _ (λ z. omega arith)
-    (λ r. first_holds (links_exactly a small xs r) 27 _ (λ z. omega arith)
-    (λ l. first_fails (targets_exactly a small xs) 11 [] refl (omega arith)))) in
+    (λ w. first_holds (circuits_exactly a xs) 26 _ (λ z. omega arith)
+    (λ r. first_holds (links_exactly a xs r) 27 _ (λ z. omega arith)
+    (λ l. first_fails (targets_exactly a xs) 11 [] refl (omega arith)))) in
     let h = four.0 e in h.1.1.1 (enough h.1.0 h.1.1.0)

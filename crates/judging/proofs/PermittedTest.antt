@@ -1,11 +1,10 @@
--- The test of a path: over ports below the dimension it passes exactly where the path is permitted for some send vector to some target.
+-- The test of a path: over ports of the cube it passes exactly where the path is permitted for some send vector to some target.
 -- Assumes nothing.
 use mathlib.Core.Path.{◌≡◌, refl, ap}
 use mathlib.Core.Bool.{true, not, false≢true}
 use mathlib.Core.List.Memᴰ
 use mathlib.Core.List.{List, [], ◌∷◌}
-use Prim.Native.Nat.{ℕ, ◌^◌, ◌≤◌, ◌<◌}
-use native.Mathlib.Omega.{arith}
+use Prim.Native.Nat.{ℕ, ◌^◌, ◌<◌}
 use lib.Dec.{eqb}
 use lib.Pow.{pow-lt}
 use borrow.Author.Tests.{eqb-true, eqb-false, eq-eqb, ne_eqb, not-true}
@@ -13,20 +12,21 @@ use Rattle.common.specs.Lists.{◌∈◌}
 use Rattle.common.proofs.Tests.{both, and}
 use Rattle.common.proofs.From.{kept_below, below_kept}
 use Rattle.cube.specs.Bits.{has}
-use Rattle.cube.specs.Cube.{largest_dimension}
+use Rattle.cube.specs.Axes.{axis, present}
 use Rattle.cube.proofs.Bits.{bit_power}
-use Rattle.cube.proofs.Axes.{axis_low}
+use Rattle.cube.proofs.Axes.{present_axis}
 use Rattle.paths.specs.Network.{Network, Path, offered, end}
 use Rattle.paths.specs.Permitted.{Onward, Permitted}
 use Rattle.paths.specs.CubeNetwork.{Shape, Node, ports, network, send_ports}
 use Rattle.paths.proofs.Sentences.{permitted_end}
-use Rattle.paths.proofs.CubeNetwork.{send_port, unfolded_port}
+use Rattle.paths.proofs.CubeNetwork.{send_port}
+use Rattle.paths.proofs.FoldedCube.{port_listed}
 use Rattle.paths.proofs.Apart.{permitted_inside}
 use Rattle.judging.specs.Judged.{goes_on, is_permitted}
 
 module _ (N : Network) (t : ℕ) where
   -- what the test of a way on lets through is one, over ports of the network
-  goes_onward : (n : ℕ) (w : Path) → ((q : ℕ) → q ∈ w → q < N.port_bound) → goes_on N t n w ≡ true → Onward N t n w
+  pub goes_onward : (n : ℕ) (w : Path) → ((q : ℕ) → q ∈ w → q < N.port_bound) → goes_on N t n w ≡ true → Onward N t n w
   unfolding goes_on Onward offered
   goes_onward n [] h e = eqb-true n t e
   goes_onward n (p ∷ w) h e =
@@ -54,26 +54,26 @@ module _ (N : Network) (t : ℕ) where
   passing_permitted s [] h e = absurd (false≢true e)
   passing_permitted s (p ∷ w) h e = (p, Memᴰ.head refl, λ vector m. (m, goes_onward (N.next s p) w (λ q k. h q (Memᴰ.tail k)) e))
 
--- In a cube none of whose dimensions is folded,
-module _ (S : Shape) (small : S.dimension ≤ largest_dimension) (z : S.fold ≡ 0) where
-  -- a port below the dimension is one that the network counts
-  bounded : (q : ℕ) → q < S.dimension → q < (network S).port_bound
+-- In a cube
+module _ (S : Shape) where
+  -- a port is one that the network counts,
+  pub bounded : (q : ℕ) → present S.dimension S.fold q ≡ true → q < (network S).port_bound
   unfolding network
-  bounded q l = omega arith
+  bounded q e = (present_axis S.dimension S.fold q e).0
 
-  -- a port is sent over with the vector that has its bit alone
-  alone_sent : (p : ℕ) → p < S.dimension → p ∈ send_ports S (2 ^ p)
-  alone_sent p l = (send_port S (2 ^ p) p).1 ((unfolded_port S small z p).1 l, rw (axis_low p (omega arith)) (unfold has in eq-eqb _ 1 (bit_power p)))
+  -- and it is sent over with the vector that has the bit of its axis alone.
+  alone_sent : (p : ℕ) → present S.dimension S.fold p ≡ true → p ∈ send_ports S (2 ^ axis p)
+  alone_sent p e = (send_port S (2 ^ axis p) p).1 (port_listed S p e, unfold has in eq-eqb _ 1 (bit_power (axis p)))
 
-  -- A path over ports below the dimension that passes the test for its own end is permitted for some vector to that end, which is a node of the cube.
-  pub permitted_some : (s : ℕ) (w : Path) → Node S s → ((q : ℕ) → q ∈ w → q < S.dimension) → is_permitted (network S) s (end (network S) s w) w ≡ true
+  -- A path over ports of the cube that passes the test for its own end is permitted for some vector to that end, which is a node of the cube.
+  pub permitted_some : (s : ℕ) (w : Path) → Node S s → ((q : ℕ) → q ∈ w → present S.dimension S.fold q ≡ true) → is_permitted (network S) s (end (network S) s w) w ≡ true
       → (vector : ℕ) × (vector < 2 ^ S.dimension) × (end (network S) s w < 2 ^ S.dimension) × Permitted (network S) s (send_ports S vector) (end (network S) s w) w
-  permitted_some s w i below e =
+  permitted_some s w i there e =
       let t = end (network S) s w in
-      let r = passing_permitted (network S) t s w (λ q m. bounded q (below q m)) e in
-      let l = below r.0 r.1 in
-      let o = r.2 (ports S) ((unfolded_port S small z r.0).1 l) in
-      (2 ^ r.0, pow-lt l, (permitted_inside S s t w i o).1, r.2 (send_ports S (2 ^ r.0)) (alone_sent r.0 l))
+      let r = passing_permitted (network S) t s w (λ q m. bounded q (there q m)) e in
+      let here = there r.0 r.1 in
+      let o = r.2 (ports S) (port_listed S r.0 here) in
+      (2 ^ axis r.0, pow-lt (present_axis S.dimension S.fold r.0 here).1, (permitted_inside S s t w i o).1, r.2 (send_ports S (2 ^ axis r.0)) (alone_sent r.0 here))
 
   -- A path that is permitted, for whatever vector to whatever target, passes it.
   pub some_permitted : (s v t : ℕ) (w : Path) → Permitted (network S) s (send_ports S v) t w → is_permitted (network S) s (end (network S) s w) w ≡ true

@@ -14,7 +14,8 @@ use Rattle.std.proofs.lemmas.List.{length-replicate, get_or-replicate}
 use borrow.Author.Tests.{eq-eqb, ne_eqb}
 use Rattle.common.proofs.Tests.{same?, clash}
 use Rattle.cube.specs.Bits.{has, with_bit}
-use Rattle.cube.specs.Cube.{port_count, next, source_of}
+use Rattle.cube.specs.Axes.{positions}
+use Rattle.cube.specs.Cube.{next, source_of}
 use Rattle.cube.proofs.Bits.{with_bit_same, with_bit_other, zero_has}
 use Rattle.paths.specs.Network.{Network, Path, Link, links, has_link}
 use Rattle.paths.specs.CubeNetwork.{Shape, network}
@@ -32,7 +33,7 @@ used_more marks ls n p small t =
     inside : n < length marks
     inside = omega (arith, t.long)
 
-    go : (m q : ℕ) → m < 256 → q < port_count → (m ≡ n) ⊎ (m ≢ n) → (q ≡ p) ⊎ (q ≢ p)
+    go : (m q : ℕ) → m < 256 → q < positions → (m ≡ n) ⊎ (m ≢ n) → (q ≡ p) ⊎ (q ≢ p)
         → has (get_or (marks_with marks n p) m 0) q ≡ ((eqb m n && eqb q p) || has_link ls m q)
     go m q l k (inl e) (inl f) =
         rw (eq-eqb m n e, eq-eqb q p f, e, f, get_or-set_same marks n (with_bit (get_or marks n 0) p true) 0 inside) (with_bit_same (get_or marks n 0) p true)
@@ -73,7 +74,7 @@ module _ {free : ℕ → ℕ → Bool} where
   unfolding links_fit before_with
   uses_none = record { fits = λ before t. refl; used = λ before t e. t }
 
-  module _ {now : List ℕ} {n p : ℕ} {rest : List Link} (small : n < 256) (port : p < port_count) where
+  module _ {now : List ℕ} {n p : ℕ} {rest : List Link} (small : n < 256) (port : p < positions) where
     -- a link that is free and new is used, and then the rest
     pub uses_next : {after new : List ℕ} {result : Bool} → free n p ≡ true → has (get_or now n 0) p ≡ false → after ≡ marks_with now n p
         → UsesLinks free after new rest result → UsesLinks free now new ((n, p) ∷ rest) result

@@ -1,6 +1,6 @@
 -- The book that is written of a sound table is loadable, and so accepted, by that table with those circuits closed and their receive channels armed.
 -- Assumes nothing.
-use mathlib.Core.Path.{◌≡◌, refl, ap, sym, ◌∙◌}
+use mathlib.Core.Path.{◌≡◌, ap, sym, ◌∙◌}
 use mathlib.Core.Logic.{◌≢◌}
 use mathlib.Core.Bool.{Bool, true, false}
 use mathlib.Core.List.{List}
@@ -13,11 +13,13 @@ use Rattle.common.specs.Tests.{refusal}
 use Rattle.common.specs.Lists.{◌∈◌, keep, from, Pairwise}
 use Rattle.common.proofs.Lists.{all_map, keep_mem, keep_pairwise, pairwise_imp, pairwise_map, no_more_than_places}
 use Rattle.common.proofs.From.{below_kept}
+use Rattle.cube.specs.Axes.{present}
 use Rattle.cube.specs.Cube.{channels, largest_dimension, cube_nodes, source_of, channel_of}
 use Rattle.paths.specs.Network.{Link, links}
 use Rattle.paths.specs.Permitted.{Permitted}
 use Rattle.paths.specs.CubeNetwork.{ports}
-use Rattle.paths.proofs.Apart.{permitted_below}
+use Rattle.paths.proofs.Apart.{permitted_ports}
+use Rattle.paths.proofs.CubeNetwork.{port_there}
 use Rattle.table.specs.View.{View, shape_of, net}
 use Rattle.circuit_path.specs.CircuitSound.{end_for, CircuitSound}
 use Rattle.circuit_path.specs.PathOf.{path_of}
@@ -32,7 +34,7 @@ use Rattle.judging.specs.Judged.{JudgeFacts, judge_net, circuits_in, links_in, j
 use Rattle.judging.specs.Loadable.{CircuitRight, NoneShared, Loadable}
 use Rattle.judging.proofs.PermittedTest.{permitted_passes, permitted_some}
 use Rattle.judging.proofs.TargetsTest.{kept_under}
-use Rattle.judging.proofs.Loadable.{accepted_exactly}
+use Rattle.judging.proofs.Loadable.{port_exactly, accepted_exactly}
 use Rattle.judging.proofs.ReadBack.{circuits_back}
 
 -- A table of a cube up to dimension 8, of which every open circuit stands on its path, every held link is enabled and every held channel armed, as in a sound
@@ -54,15 +56,15 @@ module _ (v : View) (fits : v.dimension ≤ largest_dimension) (stands : (c : �
     source_inside : source_of c < cube_nodes v.dimension
     source_inside = let r = (open_exactly v c).0 m in let low = r.1 in let high = r.2 in omega arith
 
-    -- stands on a permitted path, whose ports are below the dimension,
+    -- stands on a permitted path, whose ports are the cube's,
     sound : CircuitSound v c
     sound = stands c some ((open_exactly v c).0 m).0
 
     permitted : Permitted (net v) (source_of c) (ports (shape_of v)) (target c) (path_of v c)
     permitted = rw (path_is v c sound) sound.permitted
 
-    port_below : (p : ℕ) → p ∈ path_of v c → p < v.dimension
-    port_below = permitted_below (shape_of v) fits refl (source_of c) (target c) (path_of v c) permitted
+    there : (p : ℕ) → p ∈ path_of v c → present v.dimension v.fold p ≡ true
+    there p m = port_there (shape_of v) p (permitted_ports (shape_of v) (source_of c) (target c) (path_of v c) permitted p m)
 
     -- holds the links of that path,
     holds_links : (l : Link) → l ∈ links (net v) (source_of c) (path_of v c) → v.owner l.0 l.1 ≡ c
@@ -79,21 +81,21 @@ module _ (v : View) (fits : v.dimension ≤ largest_dimension) (stands : (c : �
       pairwise_map (λ c d. NoneShared (net v) (written c) (written d)) (NoneShared (net v)) written (open_numbers v) (λ c d h. h)
       (pairwise_imp ◌<◌ _ (open_numbers v) (λ c d m k less l i j. let one = holds_links m l i in let other = holds_links k l j in omega arith) (open_rises v))
 
-  -- What is known of the table with those circuits closed: it has the same dimension, no open send channel, every enabled link free, every armed channel available.
-  module _ (a : JudgeFacts) (dimension : a.dimension ≡ v.dimension) (not_open : (s c : ℕ) → a.is_open s c ≡ false) (free : (n p : ℕ) → a.free n p ≡ v.enabled n p)
+  -- What is known of the table with those circuits closed: it has the same dimension and fold mask, no open send channel, every enabled link free, every armed channel available.
+  module _ (a : JudgeFacts) (dimension : a.dimension ≡ v.dimension) (fold : a.fold ≡ v.fold) (not_open : (s c : ℕ) → a.is_open s c ≡ false) (free : (n p : ℕ) → a.free n p ≡ v.enabled n p)
       (available : (n k : ℕ) → k < channels → a.available n k ≡ v.armed n k) where
     -- So the source, the ports, the path and the send channel of each circuit are right,
     circuit_right : (c : ℕ) → c ∈ open_numbers v → CircuitRight a (written c)
     circuit_right c m =
         let passes = permitted_passes (net v) (target c) (source_of c) (ports (shape_of v)) (path_of v c) (permitted m) in
-        let some = permitted_some (shape_of v) fits refl (source_of c) (path_of v c) (source_inside m) (port_below m) passes in
+        let some = permitted_some (shape_of v) (source_of c) (path_of v c) (source_inside m) (there m) passes in
         record {
           source = rw dimension (source_inside m);
-          port = rw dimension (port_below m);
+          port = λ p i. (port_exactly a.dimension a.fold p).0 (rw (dimension, fold) (there m p i));
           vector = some.0;
           vector_small = rw dimension some.1;
-          target = rw dimension some.2;
-          permitted = rw dimension some.3;
+          target = rw (dimension, fold) some.2;
+          permitted = rw (dimension, fold) some.3;
           not_open = not_open (source_of c) (channel_of c);
         }
 
@@ -147,13 +149,13 @@ module _ (v : View) (fits : v.dimension ≤ largest_dimension) (stands : (c : �
             circuits_right = each (CircuitRight a) circuit_right;
             links_free =
                 record {
-                  free = each (λ x. (l : Link) → l ∈ links_in (judge_net a) x → a.free l.0 l.1 ≡ true) (λ c m. rw dimension (link_free c m));
-                  apart = rw (back, dimension) none_shared;
+                  free = each (λ x. (l : Link) → l ∈ links_in (judge_net a) x → a.free l.0 l.1 ≡ true) (λ c m. rw (dimension, fold) (link_free c m));
+                  apart = rw (back, dimension, fold) none_shared;
                 };
-            channels_suffice = λ t. rw (back, dimension) (channels_enough t);
+            channels_suffice = λ t. rw (back, dimension, fold) (channels_enough t);
           }
 
     -- and so accepted.
     pub written_accepted : (ports index : List ℕ) → hop_count (book_of v) ≤ length ports → 6 * length (book_of v) ≤ length index
         → refusal (judge_tests a (traced_into (port_bytes (book_of v)) ports) (traced_into (index_bytes (book_of v)) index) (length (book_of v)) (hop_count (book_of v))) ≡ 0
-    written_accepted ports index p i = (accepted_exactly a (rw dimension fits) _ _ _ _).1 (written_loadable ports index p i)
+    written_accepted ports index p i = (accepted_exactly a _ _ _ _).1 (written_loadable ports index p i)

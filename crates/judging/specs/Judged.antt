@@ -1,24 +1,26 @@
--- Document 02, (i): the tests by which a book, whoever wrote it, is judged against a table. What it is that no test stops one, Loadable says in the request's
--- words, and that the two agree is proved (Loadable.accepted_exactly).
+-- The tests by which a book, whoever wrote it, is judged against a table. What it is that no test stops one, Loadable says without a test, and that the two agree
+-- is proved (Loadable.accepted_exactly).
 -- Assumes nothing.
 use Rattle.std.specs.Prelude.{Bool, true, false, not, ◌&&◌, List, [], ◌∷◌, ◌++◌, map, ℕ, eqb, ltb, length}
 use Rattle.std.specs.List.{list_all}
 use Rattle.common.specs.Tests.{Test, test}
 use Rattle.common.specs.Lists.{keep, from}
+use Rattle.cube.specs.Axes.{present}
 use Rattle.cube.specs.Cube.{channels, cube_nodes, circuit_of, source_of, channel_of}
 use Rattle.paths.specs.Network.{Network, Path, Link, end, links, has_link}
-use Rattle.paths.specs.CubeNetwork.{Shape, network, unfolded}
+use Rattle.paths.specs.CubeNetwork.{Shape, network}
 use Rattle.table.specs.View.{View, available}
 use Rattle.answers.specs.SendOnTable.{free_in}
 use Rattle.circuit_path.specs.OpenCircuit.{is_open_in}
 use Rattle.book.specs.Book.{BookCircuit}
 use Rattle.book.specs.Lookup.{IndexLine, index_lines, ports_of_line, well_formed}
 
--- what judging asks of whatever a book is judged against
+-- Judging 1: what judging asks of whatever a book is judged against
 pub record JudgeFacts : Type 0 where
-  -- the dimension
+  -- the dimension, and the fold mask
   pub dimension : ℕ
-  -- "an open send channel", by source and channel
+  pub fold : ℕ
+  -- whether a send channel has an open circuit, by source and channel
   pub is_open : ℕ → ℕ → Bool
   -- whether a link is free, by node and port
   pub free : ℕ → ℕ → Bool
@@ -28,10 +30,10 @@ pub record JudgeFacts : Type 0 where
 -- the same of a table, from what it shows
 abbrev pub judge_facts : View → JudgeFacts
 judge_facts v =
-    record { dimension = v.dimension; is_open = λ s c. is_open_in v (circuit_of s c); free = free_in v; available = available v }
+    record { dimension = v.dimension; fold = v.fold; is_open = λ s c. is_open_in v (circuit_of s c); free = free_in v; available = available v }
 
 abbrev pub judge_shape : JudgeFacts → Shape
-judge_shape a = unfolded a.dimension
+judge_shape a = record { dimension = a.dimension; fold = a.fold }
 
 abbrev pub judge_net : JudgeFacts → Network
 judge_net a = network (judge_shape a)
@@ -50,28 +52,28 @@ links_in N x = links N (source_of x.number) x.ports
 abbrev pub target_in : Network → BookCircuit → ℕ
 target_in N x = end N (source_of x.number) x.ports
 
--- "Every later hop is uphill. It ends at its first arrival on the target": what may follow an arrival at n, as a test
+-- Paths 5, Paths 6: what may follow an arrival at n, as a test
 unfoldable pub goes_on : Network → ℕ → ℕ → Path → Bool
 goes_on N t n [] = eqb n t
 goes_on N t n (p ∷ w) = not (eqb n t) && (N.offers t n p && goes_on N t (N.next n p) w)
 
--- "a permitted path for some send vector": the first hop may be over any port, since some send vector has it
+-- Judging 4: a permitted path with any first hop, since some send vector has it (Soundness 8)
 unfoldable pub is_permitted : Network → ℕ → ℕ → Path → Bool
 is_permitted N s t [] = false
 is_permitted N s t (p ∷ w) = goes_on N t (N.next s p) w
 
--- "every source and port lies in the cube"
+-- Judging 4: the source and all ports are the cube's, partners of folded dimensions among them.
 unfoldable pub in_cube : JudgeFacts → BookCircuit → Bool
-in_cube a x = ltb (source_of x.number) (cube_nodes a.dimension) && list_all (λ p. ltb p a.dimension) x.ports
+in_cube a x = ltb (source_of x.number) (cube_nodes a.dimension) && list_all (present a.dimension a.fold) x.ports
 
--- no "bad source, path or send channel"
+-- Judging 4: source, path and send channel of a circuit will do.
 unfoldable pub circuit_fits : JudgeFacts → BookCircuit → Bool
 circuit_fits a x =
     in_cube a x
     && (is_permitted (judge_net a) (source_of x.number) (target_in (judge_net a) x) x.ports && not (a.is_open (source_of x.number) (channel_of x.number)))
 
--- No "blocked, taken or shared link": each link is free and is none of those that came before it. No permitted path has a link twice, so one that came before is
--- another circuit's.
+-- Judging 5: each link is free and is none of those that came before it. No permitted path has a link twice (Paths 10), so one that came before is another
+-- circuit's.
 unfoldable pub links_fit : (ℕ → ℕ → Bool) → List Link → List Link → Bool
 links_fit free before [] = true
 links_fit free before (l ∷ ls) = free l.0 l.1 && (not (has_link before l.0 l.1) && links_fit free (l ∷ before) ls)
@@ -81,14 +83,13 @@ unfoldable pub all_links : Network → List BookCircuit → List Link
 all_links N [] = []
 all_links N (x ∷ xs) = links_in N x ++ all_links N xs
 
--- not "too few receive channels": at each target, fewer circuits of the book came before one than it has available channels
+-- Judging 6: at each target, fewer circuits of the book came before one than it has available channels.
 unfoldable pub targets_fit : (ℕ → ℕ → Bool) → List ℕ → List ℕ → Bool
 targets_fit available before [] = true
 targets_fit available before (t ∷ ts) =
     ltb (length (keep (eqb t) before)) (length (keep (available t) (from 0 channels))) && targets_fit available (t ∷ before) ts
 
--- "a book not well formed is 25, a bad source, path or send channel 26, a blocked, taken or shared link 27, too few receive channels 11, tried in that order over
--- the whole book"
+-- Judging 3: 25, 26, 27 and 11 in this order, each over the whole book. Judging 7: a book of no circuit and no hop passes them all.
 unfoldable pub judge_tests : JudgeFacts → (ports index : List ℕ) (circuits hops : ℕ) → List Test
 judge_tests a ports index circuits hops =
     let xs = circuits_in ports index circuits in

@@ -1,68 +1,59 @@
 // Whether each circuit of a book has a source, a path and a send channel that a table can take.
-ghost use Rattle.std.specs.Prelude.{◌≡◌, map, ◌≤◌, ◌<◌, ltb, length};
+ghost use Rattle.std.specs.Prelude.{◌≡◌, map, ◌≤◌, ◌<◌, length};
 ghost use Rattle.std.specs.List.{list_all};
-ghost use Rattle.table.specs.View.{view};
+ghost use Rattle.table.specs.View.{view, shape_of};
 ghost use Rattle.book.specs.BookContracts.{lines_left};
 ghost use Rattle.judging.specs.Judged.{judge_facts, circuit_on, circuit_fits};
-ghost use Rattle.judging.specs.JudgeContracts.{LinesInside, PortsSmall, leads_to, all_uphill};
+ghost use Rattle.judging.specs.JudgeContracts.{LinesInside, in_vector, path_fits};
 
+use crate::cube_board::cube_ports;
 use book::IndexLines;
-use cube::{Circuit, Node, Port};
+use cube::{Board, Circuit, POSITIONS, Port};
+use layout::Layout;
 use table::CubeTable;
 
-// Whether each port of a path is below the dimension.
-fn ports_exist(path: &[u8], dimension: u16) -> bool
-    ensures { result ≡ list_all (λ p. ltb p dimension) path.now }
+// Whether a port is in a vector of ports. Of a book it may be any byte.
+fn has_port(vector: u32, port: u8) -> bool
+    ensures { result ≡ in_vector vector port }
 {
-    path.iter().all(|p| u16::from(*p) < dimension)
+    u16::from(port) < POSITIONS && layout::mask_bit(vector, u16::from(port))
 }
 
-// The node to which ports lead from another.
-pub fn end_of(from: Node, path: &[u8]) -> Node
-    requires { PortsSmall path.now }
-    ensures { result.0 ≡ leads_to from.0 path.now }
+// Whether the ports of a path are the cube's, and it is permitted to the node where they lead: it is where it takes no axis twice behind the first hop, by whatever port.
+fn path_fits<L: Layout>(table: &CubeTable<L>, path: &[u8]) -> bool
+    requires { 1 ≤ length path.now }
+    ensures { result ≡ path_fits (shape_of (view table.now.bytes.now)) path.now }
 {
-    let mut at = from;
-    for port in path {
-        at = cube::neighbour(at, Port(u16::from(*port)));
+    let board = L::board(table.bytes);
+    let mut left = cube_ports(table);
+    if !has_port(left, path[0]) {
+        return false;
     }
-    at
-}
-
-// Whether each hop from a node is uphill towards a target, and they come there.
-fn all_uphill(from: Node, path: &[u8], target: Node) -> bool
-    requires { PortsSmall path.now }
-    ensures { result ≡ all_uphill target.0 from.0 path.now }
-{
-    let mut at = from;
-    for port in path {
-        let p = Port(u16::from(*port));
-        if (cube::uphill_vector(at, target) >> p.0) & 1 == 0 {
+    let later = &path[1..];
+    for port in later {
+        if !has_port(left, *port) {
             return false;
         }
-        at = cube::neighbour(at, p);
+        left ^= left & board.axis_ports(Port(u16::from(*port)));
     }
-    at == target
+    true
 }
 
 // Whether the source and the ports of a circuit are the cube's, they make a permitted path to the node where they lead, and its send channel has no open circuit.
-fn circuit_fits(table: CubeTable, c: Circuit, path: &[u8]) -> bool
+fn circuit_fits<L: Layout>(table: &CubeTable<L>, c: Circuit, path: &[u8]) -> bool
     requires { (0 < c.0) × (1 ≤ length path.now) }
-    ensures { result ≡ circuit_fits (judge_facts (view table.entry.bytes.now)) (record { number = c.0; ports = path.now }) }
+    ensures { result ≡ circuit_fits (judge_facts (view table.now.bytes.now)) (record { number = c.0; ports = path.now }) }
 {
-    let source = cube::source_of(c);
-    if source.0 >= table.nodes || !ports_exist(path, table::dimension(table.bytes)) {
+    if cube::source_of(c).0 >= table.nodes {
         return false;
     }
-    // The first hop may be over any port.
-    let first = cube::neighbour(source, Port(u16::from(path[0])));
-    all_uphill(first, &path[1..], end_of(source, path)) && !circuit_path::is_open(table.bytes, c)
+    path_fits(table, path) && !circuit_path::is_open::<L>(table.bytes, c)
 }
 
 // Whether each circuit of a book fits the table so.
-pub fn circuits_fit(table: CubeTable, lines: IndexLines, ports: &[u8]) -> bool
+pub fn circuits_fit<L: Layout>(table: &CubeTable<L>, lines: IndexLines, ports: &[u8]) -> bool
     requires { LinesInside ports.now (lines_left lines) }
-    ensures { result ≡ list_all (circuit_fits (judge_facts (view table.entry.bytes.now))) (map (circuit_on ports.now) (lines_left lines.entry)) }
+    ensures { result ≡ list_all (circuit_fits (judge_facts (view table.now.bytes.now))) (map (circuit_on ports.now) (lines_left lines.entry)) }
 {
     for line in lines {
         if !circuit_fits(table, Circuit(line.number), line.path(ports)) {

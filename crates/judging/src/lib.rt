@@ -1,7 +1,8 @@
-// Judging a book of circuits that comes from anywhere against a table (document 02, (i)).
+// Judging a book of circuits that comes from anywhere against a table (Judging 1).
 #![tactic(auto)]
 
 mod circuits;
+mod cube_board;
 mod links;
 mod targets;
 
@@ -13,11 +14,12 @@ ghost use Rattle.judging.specs.Judged.{judge_facts, judge_tests};
 
 use book::Book;
 use common::refusal::Refusal;
+use layout::Layout;
 use table::CubeTable;
 
-// Whether the circuits of a book may be open in a table, all of them. Each test looks at the whole book before the next one does; the first that applies is the refusal.
-pub fn judge(table: CubeTable, book: &Book) -> Result<(), Refusal>
-    ensures { answer_of result ≡ refusal (judge_tests (judge_facts (view table.entry.bytes.now)) book.now.ports.now book.now.index.now book.now.circuits book.now.hops) }
+// Judging 3: whether the circuits of a book may be open in a table, all of them. Each test looks at the whole book before the next one does; the first that applies is the refusal.
+pub fn judge<L: Layout>(table: &CubeTable<L>, book: &Book) -> Result<(), Refusal>
+    ensures { answer_of result ≡ refusal (judge_tests (judge_facts (view table.now.bytes.now)) book.now.ports.now book.now.index.now book.now.circuits book.now.hops) }
 {
     if !book.well_formed() {
         return Err(Refusal::Book);

@@ -5,6 +5,7 @@ use mathlib.Core.List.{List, [], ◌∷◌, ◌++◌, append_assoc}
 use mathlib.Core.Option.{Option, none}
 use Prim.Native.Nat.{ℕ, ◌+◌}
 use lib.ListN.{length, length-append}
+use Rattle.layout.specs.Layout.{wide_ports}
 use Rattle.ownership.specs.Calls.{Call}
 use Rattle.ownership.specs.OnTable.{table_step}
 use Rattle.text.specs.Text.{newline, decimal}
@@ -19,14 +20,14 @@ use Rattle.line_answer.specs.LineWritten.{WroteLine}
 
 -- The line of what was carried out, of which it is known what it asks: how many bytes it takes, and that it was written.
 module _ {b b' w : List ℕ} {n : ℕ} {a a' : Option Call} {r : Row} (e : a ≡ a') (x : Answered b n a w r b') where
-  row_is : row_of w r ≡ row_for table_step b n a'
-  row_is = x.row ∙ ap (row_for table_step b n) e
+  row_is : row_of w r ≡ row_for (table_step wide_ports) b n a'
+  row_is = x.row ∙ ap (row_for (table_step wide_ports) b n) e
 
-  pub line_width : row_width (row_of w r) ≡ length (row_text (row_for table_step b n a'))
+  pub line_width : row_width (row_of w r) ≡ length (row_text (row_for (table_step wide_ports) b n a'))
   line_width = sym (row_length (row_of w r)) ∙ ap (λ (q : PrintedRow). length (row_text q)) row_is
 
   pub line_written : {out out' : List ℕ} {i j : ℕ} → Wrote out i (row_text (row_of w r)) out' j → WroteLine b n a' out i b' out' j
-  line_written t = record { text = retext (ap row_text row_is) t; table = x.table ∙ ap (state_after table_step b) e }
+  line_written t = record { text = retext (ap row_text row_is) t; table = x.table ∙ ap (state_after (table_step wide_ports) b) e }
 
 -- The fields behind the number of a line that cannot be read, and their text, which is the same for each such line.
 abbrev unread_fields : List Field

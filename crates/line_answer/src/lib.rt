@@ -2,6 +2,7 @@
 #![tactic(auto)]
 
 ghost use Rattle.std.specs.Prelude.{◌≡◌, List, ℕ, ◌+◌, ◌≤◌, length};
+ghost use Rattle.layout.specs.Layout.{wide_ports};
 ghost use Rattle.ownership.specs.OnTable.{table_step};
 ghost use Rattle.text.specs.Row.{nothing, shows, row, row_text};
 ghost use Rattle.text.specs.Written.{Wrote, row_of};
@@ -14,18 +15,28 @@ ghost use Rattle.line_answer.specs.LineWritten.{WroteLine};
 use common::refusal;
 use cube::{Node, Port};
 use input_line::Asked;
+use table::Wide;
 use text::row::{Field, Row};
 use text::{put, row};
+
+// The line of a call that shows its answer alone.
+fn of_answer(line: u16, letter: u8, answer: u16) -> Row
+    ensures { (w : List ℕ) → row_of w result ≡ row line letter answer nothing nothing nothing nothing nothing }
+{
+    Row {
+        call: Some(Field::Letter(letter)),
+        ..row::answer_alone(line, answer)
+    }
+}
 
 // The line of a call that shows a node and a port.
 fn of_port(line: u16, letter: u8, answer: u16, node: Node, port: Port) -> Row
     ensures { (w : List ℕ) → row_of w result ≡ row line letter answer (shows node.0) nothing nothing nothing (shows port.0) }
 {
     Row {
-        call: Some(Field::Letter(letter)),
         node: Some(node.0.into()),
         ports: Some(port.0.into()),
-        ..row::answer_alone(line, answer)
+        ..of_answer(line, letter, answer)
     }
 }
 
@@ -36,32 +47,33 @@ fn carry_out(t: &mut [u8], line: u16, asked: Asked, ports: &mut [u8]) -> Row
 {
     match asked {
         Asked::Make(dimension) => {
-            let answer = refusal::answer(router::make(t, dimension));
-            Row {
-                call: Some(Field::Letter(b'F')),
-                ..row::answer_alone(line, answer)
-            }
+            let answer = refusal::answer(router::make::<Wide>(t, dimension));
+            of_answer(line, b'F', answer)
         }
         Asked::Block(node, port) => {
-            let answer = refusal::answer(router::block(t, node, port));
+            let answer = refusal::answer(router::block::<Wide>(t, node, port));
             of_port(line, b'B', answer, node, port)
         }
         Asked::Unblock(node, port) => {
-            let answer = refusal::answer(router::unblock(t, node, port));
+            let answer = refusal::answer(router::unblock::<Wide>(t, node, port));
             of_port(line, b'E', answer, node, port)
         }
         Asked::Open(x) => printed_line::open(t, line, x, ports),
         Asked::Close(source, channel) => {
-            let answer = refusal::answer(router::close(t, source, channel));
+            let answer = refusal::answer(router::close::<Wide>(t, source, channel));
             printed_line::of_channel(line, b'C', answer, source, channel)
         }
         Asked::Arm(node, channel) => {
-            let answer = refusal::answer(router::arm(t, node, channel));
+            let answer = refusal::answer(router::arm::<Wide>(t, node, channel));
             printed_line::of_channel(line, b'R', answer, node, channel)
         }
         Asked::Disarm(node, channel) => {
-            let answer = refusal::answer(router::disarm(t, node, channel));
+            let answer = refusal::answer(router::disarm::<Wide>(t, node, channel));
             printed_line::of_channel(line, b'D', answer, node, channel)
+        }
+        Asked::Fold(mask) => {
+            let answer = refusal::answer(router::fold(t, mask));
+            of_answer(line, b'M', answer)
         }
     }
 }
@@ -79,7 +91,7 @@ fn unreadable(out: &mut [u8], at: usize, line: u16) -> usize
 
 // Reads an input line, carries it out, and writes its printed line from a place on; the answer is the place behind it.
 pub fn answer(t: &mut [u8], out: &mut [u8], at: usize, line: u16, text: &[u8]) -> usize
-    requires { at + length (row_text (row_for table_step t.old line (asks text.now))) ≤ length out.old }
+    requires { at + length (row_text (row_for (table_step wide_ports) t.old line (asks text.now))) ≤ length out.old }
     ensures { WroteLine t.old line (asks text.now) out.old at t.new out.new result }
 {
     let Some(asked) = input_line::read(text) else {

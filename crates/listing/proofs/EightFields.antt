@@ -1,5 +1,5 @@
--- The sentences of document 01 about the lines of the printed list, as theorems over its definition: eight fields with one space between, a newline at the
--- end, one line for each input line, counted from 1.
+-- Rules about the lines of the printed list, as theorems over its definition: eight fields with one space between (Listing 10), a newline at the end (Listing 19),
+-- one line for each input line, counted from 1 (Listing 12).
 -- Assumes nothing.
 use mathlib.Core.Path.{◌≡◌, refl, ap, ap₂, sym, ◌∙◌}
 use mathlib.Core.Bool.{Bool, true, false, cond}
@@ -11,7 +11,7 @@ use lib.ListN.{length, length-map}
 use borrow.Author.Rules.{rules}
 use borrow.Author.Tests.{le-ltb}
 use Rattle.common.specs.Lists.{from}
-use Rattle.ownership.specs.Calls.{Call, making, blocking, unblocking, opening, closing, tracing, arming, disarming, opening_all, booking, judging, CallResult, After}
+use Rattle.ownership.specs.Calls.{Call, making, blocking, unblocking, opening, closing, tracing, arming, disarming, opening_all, booking, judging, folding, CallResult, After}
 use Rattle.text.specs.Text.{newline, space}
 use Rattle.text.specs.Lines.{lines, cut, fields}
 use Rattle.text.specs.Row.{Field, nothing, shows, letter, path, field_bytes, Row, in_order, spaced, ended, row_text, rows_text}
@@ -19,7 +19,7 @@ use Rattle.input_line.specs.Line.{asks}
 use Rattle.printed_line.specs.PrintedLine.{call_row, unreadable, traced_ports, row_for, state_after}
 use Rattle.listing.specs.Listing.{rows, header_words, header, input_limit, listing}
 use Rattle.text.specs.Above.{Above, AllAbove}
-use Rattle.text.proofs.Separated.{fields_spaced, above_decimal, above_turn, ended_line}
+use Rattle.text.proofs.Separated.{fields_spaced, above_decimal, above_path, ended_line}
 
 -- Every field of a printed line is a dash, a number, a call letter or the ports of a path, none of which has a byte up to the space;
 a_dash : Above space (field_bytes nothing)
@@ -37,7 +37,7 @@ a_letter x h = (h, tt)
 a_path : (w : List ℕ) → Above space (field_bytes (path w))
 unfolding field_bytes Above
 a_path [] = (lit< tt, tt)
-a_path (p ∷ w) = above_turn (p ∷ w)
+a_path (p ∷ w) = above_path (p ∷ w)
 
 -- or a dash stands in its place.
 or_dash : (b : Bool) (f : Field) → Above space (field_bytes f) → Above space (field_bytes (cond b f nothing))
@@ -61,12 +61,13 @@ above_eight n (disarming m k) x way = (a_number _, (a_letter _ (lit< tt), (a_num
 above_eight n (opening_all sends) x way = (a_number _, (a_dash, (a_number _, (a_dash, (a_dash, (a_dash, (a_dash, (a_dash, tt))))))))
 above_eight n (booking ports index) x way = (a_number _, (a_dash, (a_number _, (a_dash, (a_dash, (a_dash, (a_dash, (a_dash, tt))))))))
 above_eight n (judging ports index circuits hops) x way = (a_number _, (a_dash, (a_number _, (a_dash, (a_dash, (a_dash, (a_dash, (a_dash, tt))))))))
+above_eight n (folding mask) x way = (a_number _, (a_letter _ (lit< tt), (a_number _, (a_dash, (a_dash, (a_dash, (a_dash, (a_dash, tt))))))))
 
 above_unreadable : (n : ℕ) → AllAbove space (eight (unreadable n))
 unfolding AllAbove in_order unreadable
 above_unreadable n = (a_number _, (a_dash, (a_number _, (a_dash, (a_dash, (a_dash, (a_dash, (a_dash, tt))))))))
 
--- "always eight fields with one space between": cut at every space, a printed line is its eight fields
+-- Listing 10: cut at every space, a printed line is its eight fields.
 row_fields : (r : Row) → AllAbove space (eight r) → fields (spaced (eight r)) ≡ eight r
 unfolding in_order
 row_fields r p = fields_spaced _ _ p
@@ -76,7 +77,7 @@ pub eight_long : (r : Row) → length (eight r) ≡ 8
 unfolding in_order
 eight_long r = refl
 
--- "Every printed line ends in a newline": its text is its eight fields with one space between, and a newline
+-- Listing 19: its text is its eight fields with one space between, and a newline.
 pub row_ends : (r : Row) → row_text r ≡ spaced (eight r) ++ newline ∷ []
 unfolding row_text ended
 row_ends r = refl
@@ -101,6 +102,7 @@ line_shown n (disarming m k) x way = (refl, refl)
 line_shown n (opening_all sends) x way = (refl, refl)
 line_shown n (booking ports index) x way = (refl, refl)
 line_shown n (judging ports index circuits hops) x way = (refl, refl)
+line_shown n (folding mask) x way = (refl, refl)
 
 module _ {S : Type 0} (makes : S → Call → After S) where
   above_row : (s : S) (n : ℕ) (a : Option Call) → AllAbove space (eight (row_for makes s n a))
@@ -119,13 +121,13 @@ module _ {S : Type 0} (makes : S → Call → After S) where
       ap (map fields) (ended_line (eight r) (rows_text (rows makes (state_after makes s (asks l)) (suc n) ls)) p)
       ∙ ap₂ ◌∷◌ (row_fields r p) (eight_fields (state_after makes s (asks l)) (suc n) ls)
 
-  -- "one line per input line"
+  -- Listing 10: one line for each input line
   pub one_line_each : (s : S) (n : ℕ) (ls : List (List ℕ)) → length (rows makes s n ls) ≡ length ls
   unfolding rows
   one_line_each s n [] = refl
   one_line_each s n (l ∷ ls) = ap suc (one_line_each (state_after makes s (asks l)) (suc n) ls)
 
-  -- "input line from 1"
+  -- Listing 12: counted from 1
   pub counts_lines : (s : S) (n : ℕ) (ls : List (List ℕ)) → map (λ (r : Row). r.line) (rows makes s n ls) ≡ map shows (from n (length ls))
   unfolding rows from
   counts_lines s n [] = refl

@@ -1,4 +1,4 @@
--- The sentences of document 01 about what a printed line shows of a refusal, and of a line that cannot be read, as theorems over its definition.
+-- Rules about what a printed line shows of a refusal, and of a line that cannot be read, as theorems over its definition.
 -- Assumes nothing.
 use mathlib.Core.Path.{◌≡◌, refl, ap, sym, ◌∙◌}
 use mathlib.Core.Logic.{◌≢◌, ◌⊎◌, inl, inr, ⊎_elim, ◌↔◌}
@@ -9,6 +9,7 @@ use Prim.Native.Nat.{ℕ, ◌<◌}
 use lib.Dec.{eqb, ltb, lit<}
 use borrow.Author.Rules.{rules}
 use borrow.Author.Tests.{ne_eqb, eqb-true, eqb-false, ltb-true, not-true}
+use Rattle.layout.specs.Layout.{wide_ports}
 use Rattle.common.specs.Tests.{Test, test, refusal}
 use Rattle.common.proofs.Tests.{same?, both, refused, passed, accepted as tests_accepted}
 use Rattle.paths.specs.Send.{Outcome, acknowledged, route_rejected, receive_rejected}
@@ -16,7 +17,7 @@ use Rattle.table.specs.View.{View}
 use Rattle.answers.specs.SendOnTable.{send_in}
 use Rattle.soundness.specs.TableTests.{table_tests}
 use Rattle.judging.specs.Judged.{judge_tests}
-use Rattle.ownership.specs.Calls.{Call, making, blocking, unblocking, opening, closing, tracing, arming, disarming, opening_all, booking, judging, opening_of, answered, carries_scouts, call_tests, result_of, no_job, After}
+use Rattle.ownership.specs.Calls.{Call, making, blocking, unblocking, opening, closing, tracing, arming, disarming, opening_all, booking, judging, folding, opening_of, answered, carries_scouts, call_tests, result_of, no_job, After}
 use Rattle.ownership.specs.InTurn.{single_open}
 use Rattle.ownership.specs.Sends.{Send, sends_in}
 use Rattle.ownership.specs.TableFacts.{facts_with, opened, job_in}
@@ -32,13 +33,13 @@ use Rattle.listing.specs.Sentences.{Shown, IsOpen, WasSent}
 use Rattle.input_line.proofs.Asking.{short_line}
 use Rattle.listing.proofs.EightFields.{line_shown}
 
--- "For number 20 every field but line and answer is `-`."
+-- Listing 17: every field but line and answer is `-`.
 pub unreadable_line : {S : Type 0} (makes : S → Call → After S) (s : S) (n : ℕ) (l : List ℕ) → asks l ≡ none
     → in_order (row_for makes s n (asks l)) ≡ shows n ∷ nothing ∷ shows 20 ∷ nothing ∷ nothing ∷ nothing ∷ nothing ∷ nothing ∷ []
 unfolding in_order row_for unreadable
 unreadable_line makes s n l e = ap (λ (a : Option Call). in_order (row_for makes s n a)) e
 
--- "A refused S shows `-` for receive and ports."
+-- Listing 14, Listing 15: a refused S shows `-` for receive channel and ports.
 module _ {S : Type 0} (makes : S → Call → After S) (state : S) (line s c t y v : ℕ)
     (refused : (makes state (opening s c t y v)).result.number ≢ 0) where
   pub refused_row : ((row_for makes state line (some (opening s c t y v))).receive ≡ nothing)
@@ -46,7 +47,7 @@ module _ {S : Type 0} (makes : S → Call → After S) (state : S) (line s c t y
   unfolding row_for call_row
   refused_row = let e = ne_eqb (makes state (opening s c t y v)).result.number 0 refused in (rw e, rw e)
 
--- "scouts (S answered 0, 10 or 11)", and since document 02, (c), 22: exactly then the field shows a number
+-- Listing 14: the field of the scouts shows a number exactly where S answered 0, 10, 11 or 22.
 shown_if : (b : Bool) (n : ℕ) → Shown (cond b (shows n) nothing) ↔ (b ≡ true)
 unfolding Shown
 shown_if true n = ((λ p. refl), (λ e. tt))
@@ -80,8 +81,9 @@ scouts_row makes state line (disarming n k) = ((λ p. absurd p), (λ p. p.0))
 scouts_row makes state line (opening_all sends) = ((λ p. absurd p), (λ p. p.0))
 scouts_row makes state line (booking ports index) = ((λ p. absurd p), (λ p. p.0))
 scouts_row makes state line (judging ports index circuits hops) = ((λ p. absurd p), (λ p. p.0))
+scouts_row makes state line (folding mask) = ((λ p. absurd p), (λ p. p.0))
 
--- No call answers 20: only a line that cannot be read does. And every answer of a call has at most two digits. Both are one test of a number,
+-- Refusals 20: no call answers 20, only a line that cannot be read does. And every answer of a call has at most two digits. Both are one test of a number,
 abbrev is_answer : ℕ → Bool
 is_answer n = ltb n 100 && not (eqb n 20)
 
@@ -96,7 +98,7 @@ other false n ts h k = rw (passed n ts refl) k
 nil : is_answer (refusal []) ≡ true
 nil = rw tests_accepted refl
 
-stopped_by : (b : List ℕ) (a : Call) → is_answer (stopped_at b a) ≡ true
+stopped_by : (b : List ℕ) (a : Call) → is_answer (stopped_at wide_ports b a) ≡ true
 unfolding stopped_at lent_tests call_tests table_tests
 stopped_by b (making D) = search (other, nil, rules) depth 12
 stopped_by b (blocking n p) = search (other, nil, rules) depth 12
@@ -109,6 +111,7 @@ stopped_by b (disarming n k) = search (other, nil, rules) depth 12
 stopped_by b (opening_all sends) = search (other, nil, rules) depth 12
 stopped_by b (booking ports index) = search (other, nil, rules) depth 12
 stopped_by b (judging ports index circuits hops) = unfold judge_tests in search (other, nil, rules) depth 16
+stopped_by b (folding mask) = search (other, nil, rules) depth 12
 
 -- and what a call answers that none of them stops
 sent_answer : (helps : Bool) (o : Outcome) (n : ℕ) → is_answer (answered helps o n).number ≡ true
@@ -144,29 +147,30 @@ result_answer v (disarming n k) = refl
 result_answer v (opening_all sends) = job_answer v (sends_in sends)
 result_answer v (booking ports index) = refl
 result_answer v (judging ports index circuits hops) = refl
+result_answer v (folding mask) = refl
 
-call_answer : (b : List ℕ) (a : Call) → is_answer (table_step b a).result.number ≡ true
+call_answer : (b : List ℕ) (a : Call) → is_answer (table_step wide_ports b a).result.number ≡ true
 call_answer b a =
-    ⊎_elim (λ e. rw ((table_step_lem b a).result e) (result_answer _ a)) (λ e. rw ((table_step_lem b a).stopped e) (stopped_by b a)) (same? (stopped_at b a) 0)
+    ⊎_elim (λ e. rw ((table_step_lem wide_ports b a).result e) (result_answer _ a)) (λ e. rw ((table_step_lem wide_ports b a).stopped e) (stopped_by b a)) (same? (stopped_at wide_ports b a) 0)
 
-pub two_digits : (b : List ℕ) (a : Call) → (table_step b a).result.number < 100
+pub two_digits : (b : List ℕ) (a : Call) → (table_step wide_ports b a).result.number < 100
 two_digits b a = (is_answer_lem _ (call_answer b a)).0
 
-pub never_twenty : (b : List ℕ) (a : Call) → (table_step b a).result.number ≢ 20
+pub never_twenty : (b : List ℕ) (a : Call) → (table_step wide_ports b a).result.number ≢ 20
 never_twenty b a = (is_answer_lem _ (call_answer b a)).1
 
--- "For number 20 every field but line and answer is `-`": a printed line whose answer is 20 is that of a line that cannot be read.
+-- Listing 17: a printed line whose answer is 20 is that of a line that cannot be read.
 same_shown : {m n : ℕ} → shows m ≡ shows n → m ≡ n
 same_shown e = cc
 
-pub twenty : (b : List ℕ) (n : ℕ) (l : List ℕ) → (row_for table_step b n (asks l)).answer ≡ shows 20 → row_for table_step b n (asks l) ≡ unreadable n
+pub twenty : (b : List ℕ) (n : ℕ) (l : List ℕ) → (row_for (table_step wide_ports) b n (asks l)).answer ≡ shows 20 → row_for (table_step wide_ports) b n (asks l) ≡ unreadable n
 twenty b n l e = go (asks l) e
   where
-    go : (a : Option Call) → (row_for table_step b n a).answer ≡ shows 20 → row_for table_step b n a ≡ unreadable n
+    go : (a : Option Call) → (row_for (table_step wide_ports) b n a).answer ≡ shows 20 → row_for (table_step wide_ports) b n a ≡ unreadable n
     go none k = unfold row_for in refl
     go (some a) k = absurd (never_twenty b a (unfold row_for in same_shown (sym (line_shown n a _ _).1 ∙ k)))
 
--- "An empty line is unreadable"; "Empty input prints the header alone."
+-- Listing 5: an empty line cannot be read. Listing 2: an empty input prints the header alone.
 pub empty_line : asks [] ≡ none
 empty_line = short_line [] (lit< tt)
 

@@ -12,8 +12,9 @@ use lib.Dec.{ltb}
 use lib.ListN.{length, get_or, take, drop, length-drop, length-append, drop_of_length-le}
 use lib.Seq.{sets-eq, drop-cons, get_or-drop}
 use borrow.Author.Tests.{lt-ltb, le-ltb, eq-eqb, ne_eqb}
+use Rattle.layout.specs.Layout.{wide_ports}
 use Rattle.table.specs.View.{fresh}
-use Rattle.table.specs.Encode.{encode}
+use Rattle.table.specs.Encode.{encode_over}
 use Rattle.text.specs.Text.{newline}
 use Rattle.text.specs.Lines.{on_first, cut, lines}
 use Rattle.input_line.specs.Line.{asks}
@@ -30,8 +31,8 @@ use Rattle.listing.proofs.Fitting.{text_fits}
 use Rattle.ownership.specs.OnTable.{table_step}
 
 -- The printed lines from the k-th line on: that of this line, and those behind it.
-pub rows_step : (b : List ℕ) (n : ℕ) (ls : List (List ℕ)) (k : ℕ) → k < length ls → rows_text (rows table_step b n (drop k ls))
-    ≡ row_text (row_for table_step b n (asks (get_or ls k []))) ++ rows_text (rows table_step (state_after table_step b (asks (get_or ls k []))) (n + 1) (drop (k + 1) ls))
+pub rows_step : (b : List ℕ) (n : ℕ) (ls : List (List ℕ)) (k : ℕ) → k < length ls → rows_text (rows (table_step wide_ports) b n (drop k ls))
+    ≡ row_text (row_for (table_step wide_ports) b n (asks (get_or ls k []))) ++ rows_text (rows (table_step wide_ports) (state_after (table_step wide_ports) b (asks (get_or ls k []))) (n + 1) (drop (k + 1) ls))
 unfolding rows_text rows
 rows_step b n ls k h = rw (add-one k, add-one n, drop-cons ls k [] h)
 
@@ -56,22 +57,22 @@ first_line (x ∷ y ∷ xs) (suc m) s h none ends =
 -- that of the first newline from i on, or the input's end.
 pub line_fits_lem : (input : List ℕ) (i j : ℕ) → i < length input → i ≤ j → j ≤ length input → ((p : ℕ) → i ≤ p → p < j → get_or input p 0 ≢ newline)
     → (j < length input → get_or input j 0 ≡ newline) → (b : List ℕ) (n : ℕ)
-    → length (row_text (row_for table_step b n (asks (take (j - i) (drop i input))))) ≤ length (rows_text (rows table_step b n (lines (drop i input))))
+    → length (row_text (row_for (table_step wide_ports) b n (asks (take (j - i) (drop i input))))) ≤ length (rows_text (rows (table_step wide_ports) b n (lines (drop i input))))
 line_fits_lem input i j inside after within none ends b n =
     let l = length-drop i input in
     let f : (0 < length (lines (drop i input))) × (get_or (lines (drop i input)) 0 [] ≡ take (j - i) (drop i input)) =
     first_line (drop i input) (j - i) (omega arith) (omega arith) (λ p q e. none (i + p) (omega arith) (omega arith) (sym (get_or-drop i input p 0) ∙ e))
     (λ q. get_or-drop i input (j - i) 0 ∙ ap (λ m. get_or input m 0) (omega arith) ∙ ends (omega arith)) in
     let e = ap length (rows_step b n (lines (drop i input)) 0 f.0) in
-    rw (← f.1) (omega (arith, e, length-append (row_text (row_for table_step b n (asks (get_or (lines (drop i input)) 0 []))))))
+    rw (← f.1) (omega (arith, e, length-append (row_text (row_for (table_step wide_ports) b n (asks (get_or (lines (drop i input)) 0 []))))))
 
 -- behind the last line nothing is left
-pub rows_end : (b : List ℕ) (n : ℕ) (ls : List (List ℕ)) (k : ℕ) → length ls ≤ k → rows_text (rows table_step b n (drop k ls)) ≡ []
+pub rows_end : (b : List ℕ) (n : ℕ) (ls : List (List ℕ)) (k : ℕ) → length ls ≤ k → rows_text (rows (table_step wide_ports) b n (drop k ls)) ≡ []
 unfolding rows rows_text
 rows_end b n ls k h = rw (drop_of_length-le ls {i = k} h)
 
 -- an empty input has no line
-pub rows_none : (b input : List ℕ) (n : ℕ) → length input ≡ 0 → rows_text (rows table_step b n (lines input)) ≡ []
+pub rows_none : (b input : List ℕ) (n : ℕ) → length input ≡ 0 → rows_text (rows (table_step wide_ports) b n (lines input)) ≡ []
 unfolding lines cut rows rows_text
 rows_none b [] n h = refl
 rows_none b (x ∷ input) n h = absurd (omega arith)
@@ -81,16 +82,16 @@ pub printed_long : (input : List ℕ) → input_limit < length input → too_lon
 unfolding printed listing
 printed_long input h = rw (lt-ltb input_limit (length input) h)
 
-pub printed_rows : (input b : List ℕ) → length input ≤ input_limit → b ≡ encode (fresh 1) → header ++ rows_text (rows table_step b 1 (lines input)) ≡ printed input
+pub printed_rows : (input b : List ℕ) → length input ≤ input_limit → b ≡ encode_over wide_ports (fresh 1) → header ++ rows_text (rows (table_step wide_ports) b 1 (lines input)) ≡ printed input
 unfolding printed listing
 printed_rows input b h e = rw (e, le-ltb input_limit (length input) h)
 
 -- the lines behind the header fit the output
-pub rows_fit : (input b : List ℕ) → length input ≤ input_limit → b ≡ encode (fresh 1) → length header + length (rows_text (rows table_step b 1 (lines input))) ≤ output_bytes
+pub rows_fit : (input b : List ℕ) → length input ≤ input_limit → b ≡ encode_over wide_ports (fresh 1) → length header + length (rows_text (rows (table_step wide_ports) b 1 (lines input))) ≤ output_bytes
 rows_fit input b h e =
     let f = text_fits input in
     let l = ap length (printed_rows input b h e) in
-    omega (arith, length-append header (rows_text (rows table_step b 1 (lines input))))
+    omega (arith, length-append header (rows_text (rows (table_step wide_ports) b 1 (lines input))))
 
 -- an output that is too short stays as it is; one that is not holds the text, and its own bytes behind it
 pub lists_short : (input out : List ℕ) → length out < output_bytes → record { short = true; written = 0; output = out } ≡ lists input out

@@ -56,7 +56,7 @@ module _ (h : History) (s c t y v : ℕ) (w : Path) (k : ℕ) (passes : stopped_
       ap (λ (x : CallResult). take (hops_of x) (buffer_of x)) ((history_step_lem after (tracing s c zero_buffer)).result trace_passes)
       ∙ ap (λ u. take (length u) (u ++ drop (length u) zero_buffer)) listed_path ∙ take-append_seam w (drop (length w) zero_buffer)
 
-  -- "ports in path order": those of the path with which the open was acknowledged
+  -- Listing 15: the ports are those of the path with which the open was acknowledged.
   pub shows_path : (n : ℕ) → (row_for history_step h n (some (opening s c t y v))).ports ≡ path w
   unfolding row_for call_row
   shows_path n = rw (eq-eqb (history_step h (opening s c t y v)).result.number 0 accepted_number) (ap path (ap (λ x. traced_ports history_step x s c) opened ∙ traced_path))

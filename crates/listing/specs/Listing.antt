@@ -1,8 +1,9 @@
--- The printed list of an input: document 01, section "The printed list". It is stated over any state that calls are made on, as its lines are.
+-- The printed list of an input. It is stated over any state that calls are made on, as its lines are.
 -- Assumes nothing.
 use Rattle.std.specs.Prelude.{cond, List, [], ◌∷◌, ◌++◌, ℕ, suc, ltb, length}
+use Rattle.layout.specs.Layout.{wide_ports}
 use Rattle.table.specs.View.{fresh}
-use Rattle.table.specs.Encode.{encode}
+use Rattle.table.specs.Encode.{encode_over}
 use Rattle.ownership.specs.Calls.{Call, After}
 use Rattle.ownership.specs.OnTable.{table_step}
 use Rattle.ownership.specs.History.{history_step, new_history}
@@ -12,12 +13,12 @@ use Rattle.input_line.specs.Line.{asks}
 use Rattle.printed_line.specs.PrintedLine.{row_for, state_after}
 
 module _ {S : Type 0} (makes : S → Call → After S) where
-  -- "one line per input line", counted from n
+  -- Listing 10: one line for each line of the input, counted from n
   unfoldable pub rows : S → ℕ → List (List ℕ) → List Row
   rows s n [] = []
   rows s n (l ∷ ls) = row_for makes s n (asks l) ∷ rows (state_after makes s (asks l)) (suc n) ls
 
--- "line", "call", "answer", "node", "channel", "receive", "scouts", "ports"
+-- Listing 2: `line call answer node channel receive scouts ports`
 abbrev pub header_words : List (List ℕ)
 header_words =
     (108 ∷ 105 ∷ 110 ∷ 101 ∷ [])
@@ -30,11 +31,11 @@ header_words =
     ∷ (112 ∷ 111 ∷ 114 ∷ 116 ∷ 115 ∷ [])
     ∷ []
 
--- "The listing program .. prints a header"
+-- Listing 2: the header, a line of these words
 unfoldable pub header : List ℕ
 header = ended header_words
 
--- "Input above 60,000 bytes prints only `too long`."
+-- Listing 3: more than 60,000 bytes print `too long` alone.
 abbrev pub input_limit : ℕ
 input_limit = 60000
 
@@ -44,9 +45,10 @@ too_long = ended ((116 ∷ 111 ∷ 111 ∷ []) ∷ (108 ∷ 111 ∷ 110 ∷ 103 
 unfoldable pub listing : {S : Type 0} → (S → Call → After S) → S → List ℕ → List ℕ
 listing makes s input = cond (ltb input_limit (length input)) too_long (header ++ rows_text (rows makes s 1 (lines input)))
 
--- "It starts from a made table of dimension 1.": on the bytes of a table, by the definition that the contracts of the calls cite, and in the ownership history
+-- Listing 9: the calls are made on one wide table, at first a made one of dimension 1. On its bytes, by the definition that the contracts of the calls cite, and in
+-- the ownership history:
 unfoldable pub printed : List ℕ → List ℕ
-printed input = listing table_step (encode (fresh 1)) input
+printed input = listing (table_step wide_ports) (encode_over wide_ports (fresh 1)) input
 
 unfoldable pub recorded : List ℕ → List ℕ
 recorded input = listing history_step (new_history 1) input

@@ -5,7 +5,7 @@ use Rattle.std.specs.declared.result.Result.{Result}
 use Rattle.listing.specs.declared.whole.TooShort.{TooShort}
 use Rattle.listing.specs.Listing.{printed}
 
--- the size of an output that is enough for every input: the header, and 24 bytes for each of 60,001 bytes, one more than the longest input has
+-- Listing 20: the size of an output that is enough for every input: the header, and 24 bytes for each of 60,001 bytes, one more than the longest input has
 abbrev pub output_bytes : ℕ
 output_bytes = 51 + 24 * 60001
 
@@ -15,7 +15,7 @@ pub record Filled : Type 0 where
   pub written : ℕ
   pub output : List ℕ
 
--- what the function's result and the bytes of its output afterwards come to; nothing is written where the output is too short
+-- Listing 20: what the function's result and the bytes of its output afterwards come to; nothing is written where the output is too short
 abbrev pub filled : Result ℕ TooShort → List ℕ → Filled
 filled (Ok n) output = record { short = false; written = n; output = output }
 filled (Err e) output = record { short = true; written = 0; output = output }

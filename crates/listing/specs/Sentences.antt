@@ -1,7 +1,7 @@
 -- What the theorems about the printed list say.
 -- Assumes nothing.
 use Rattle.std.specs.Prelude.{◌≡◌, ◌⊎◌}
-use Rattle.ownership.specs.Calls.{Call, making, blocking, unblocking, opening, closing, tracing, arming, disarming, opening_all, booking, judging, CallResult}
+use Rattle.ownership.specs.Calls.{Call, making, blocking, unblocking, opening, closing, tracing, arming, disarming, opening_all, booking, judging, folding, CallResult}
 use Rattle.text.specs.Row.{Field, nothing, shows, letter, path}
 
 -- a field that shows a number
@@ -24,7 +24,8 @@ IsOpen (disarming n k) = ⊥
 IsOpen (opening_all sends) = ⊥
 IsOpen (booking ports index) = ⊥
 IsOpen (judging ports index circuits hops) = ⊥
+IsOpen (folding mask) = ⊥
 
--- "S answered 0, 10 or 11", and 22 of document 02, (c), "carrying and printing the same scouts"
+-- Listing 14: an open that answered 0, 10, 11 or 22
 abbrev pub WasSent : Call → CallResult → Type 0
 WasSent a x = IsOpen a × ((x.number ≡ 0) ⊎ (x.number ≡ 10) ⊎ (x.number ≡ 11) ⊎ (x.number ≡ 22))

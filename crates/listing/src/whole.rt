@@ -1,4 +1,5 @@
 // The whole list.
+ghost use Rattle.layout.specs.Layout.{wide_ports};
 ghost use Rattle.std.specs.Prelude.{◌≡◌, ◌==◌, ◌+◌, ◌<◌, ◌≤◌, length};
 ghost use Rattle.std.specs.List.{slice_split};
 ghost use Rattle.text.specs.Lines.{lines};
@@ -8,7 +9,12 @@ ghost use Rattle.text.specs.Written.{Wrote};
 ghost use Rattle.listing.specs.Printed.{filled, lists};
 ghost use Rattle.ownership.specs.OnTable.{table_step};
 
+use layout::Layout;
+use table::Wide;
 use text::put;
+
+// The size of a wide table.
+const TABLE_BYTES: usize = <Wide as Layout>::LENGTH;
 
 // The most bytes of an input that is listed.
 pub const INPUT_LIMIT: usize = 60000;
@@ -29,8 +35,8 @@ fn without_end(input: &[u8]) -> &[u8]
 
 // The printed lines of an input, from a place on. Each line of input is carried out on the table and printed, with its number, from 1 on; there are fewer than 65,535.
 fn rows(input: &[u8], t: &mut [u8], out: &mut [u8], at: usize) -> usize
-    requires { (length input.now ≤ 60000) × (at + length (rows_text (rows table_step t.old 1 (lines input.now))) ≤ length out.old) }
-    ensures { Wrote out.old at (rows_text (rows table_step t.old 1 (lines input.now))) out.new result }
+    requires { (length input.now ≤ 60000) × (at + length (rows_text (rows (table_step wide_ports) t.old 1 (lines input.now))) ≤ length out.old) }
+    ensures { Wrote out.old at (rows_text (rows (table_step wide_ports) t.old 1 (lines input.now))) out.new result }
 {
     if input.is_empty() {
         return at;
@@ -56,8 +62,8 @@ pub fn list(input: &[u8], output: &mut [u8]) -> Result<usize, TooShort>
     if INPUT_LIMIT < input.len() {
         return Ok(put::text(output, 0, b"too long\n"));
     }
-    let mut t = [0u8; table::BYTES];
-    table::make(&mut t, 1);
+    let mut t = [0u8; TABLE_BYTES];
+    table::make::<Wide>(&mut t, 1);
     let at = put::text(
         output,
         0,

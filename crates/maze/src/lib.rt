@@ -1,11 +1,13 @@
-// The calls that C links, over bare numbers, byte slices and the arbiter's record. Each hands its arguments on to the call that is proved, and promises the same.
+// Forms 2, Forms 7: the calls that C links, over bare numbers, byte slices and the arbiter's record. Each hands its arguments on to the call that is proved, and promises the same.
 #![tactic(auto)]
 
 mod structs;
+mod wide;
 
 ghost use Rattle.std.specs.Prelude.{◌≡◌, [], ◌∷◌};
 ghost use Rattle.arbiter.specs.Arbiter.{arbitrated};
 ghost use Rattle.command_word.specs.Word.{read_word, write_word};
+ghost use Rattle.cube.specs.Cube.{port_count};
 ghost use Rattle.ownership.specs.Calls.{making, blocking, unblocking, opening, closing, tracing, arming, disarming, opening_all, booking, judging};
 ghost use Rattle.book.specs.Lookup.{looked_up};
 ghost use Rattle.joining.specs.Joined.{join_step};
@@ -18,42 +20,43 @@ use book::Book;
 use command_word::CommandWord;
 use common::refusal;
 use cube::{Circuit, Node, Port};
+use layout::Narrow;
 use receiver::Channel;
 use structs::{Booked, Opened, OpenedAll, Received, Served, Traced, WordRead, WordWritten};
 
 #[unsafe(no_mangle)]
 pub extern "C" fn maze_make(table: &mut [u8], dimension: u16) -> u16
-    ensures { done table.new result [] [] ≡ table_step table.old (making dimension) }
+    ensures { done table.new result [] [] ≡ table_step port_count table.old (making dimension) }
 {
-    refusal::answer(router::make(table, dimension))
+    refusal::answer(router::make::<Narrow>(table, dimension))
 }
 
 #[unsafe(no_mangle)]
 pub extern "C" fn maze_block(table: &mut [u8], node: u16, port: u16) -> u16
-    ensures { done table.new result [] [] ≡ table_step table.old (blocking node port) }
+    ensures { done table.new result [] [] ≡ table_step port_count table.old (blocking node port) }
 {
-    refusal::answer(router::block(table, Node(node), Port(port)))
+    refusal::answer(router::block::<Narrow>(table, Node(node), Port(port)))
 }
 
 #[unsafe(no_mangle)]
 pub extern "C" fn maze_unblock(table: &mut [u8], node: u16, port: u16) -> u16
-    ensures { done table.new result [] [] ≡ table_step table.old (unblocking node port) }
+    ensures { done table.new result [] [] ≡ table_step port_count table.old (unblocking node port) }
 {
-    refusal::answer(router::unblock(table, Node(node), Port(port)))
+    refusal::answer(router::unblock::<Narrow>(table, Node(node), Port(port)))
 }
 
 #[unsafe(no_mangle)]
 pub extern "C" fn maze_arm(table: &mut [u8], node: u16, channel: u16) -> u16
-    ensures { done table.new result [] [] ≡ table_step table.old (arming node channel) }
+    ensures { done table.new result [] [] ≡ table_step port_count table.old (arming node channel) }
 {
-    refusal::answer(router::arm(table, Node(node), channel))
+    refusal::answer(router::arm::<Narrow>(table, Node(node), channel))
 }
 
 #[unsafe(no_mangle)]
 pub extern "C" fn maze_disarm(table: &mut [u8], node: u16, channel: u16) -> u16
-    ensures { done table.new result [] [] ≡ table_step table.old (disarming node channel) }
+    ensures { done table.new result [] [] ≡ table_step port_count table.old (disarming node channel) }
 {
-    refusal::answer(router::disarm(table, Node(node), channel))
+    refusal::answer(router::disarm::<Narrow>(table, Node(node), channel))
 }
 
 #[unsafe(no_mangle)]
@@ -65,7 +68,7 @@ pub extern "C" fn maze_open(
     routing: u16,
     vector: u16,
 ) -> Opened
-    ensures { done table.new result.number (result.hops ∷ result.receive ∷ result.scouts ∷ []) [] ≡ table_step table.old (opening node channel target routing vector) }
+    ensures { done table.new result.number (result.hops ∷ result.receive ∷ result.scouts ∷ []) [] ≡ table_step port_count table.old (opening node channel target routing vector) }
 {
     let x = Opening {
         source: Node(node),
@@ -74,35 +77,35 @@ pub extern "C" fn maze_open(
         routing,
         vector,
     };
-    Opened::from(router::open(table, x))
+    Opened::from(router::open::<Narrow>(table, x))
 }
 
 #[unsafe(no_mangle)]
 pub extern "C" fn maze_open_all(table: &mut [u8], sends: &[u8]) -> OpenedAll
-    ensures { done table.new result.number (result.sends ∷ []) (sends.now ∷ []) ≡ table_step table.old (opening_all sends.now) }
+    ensures { done table.new result.number (result.sends ∷ []) (sends.now ∷ []) ≡ table_step port_count table.old (opening_all sends.now) }
 {
-    OpenedAll::from(job::open_all(table, sends))
+    OpenedAll::from(job::open_all::<Narrow>(table, sends))
 }
 
 #[unsafe(no_mangle)]
 pub extern "C" fn maze_close(table: &mut [u8], node: u16, channel: u16) -> u16
-    ensures { done table.new result [] [] ≡ table_step table.old (closing node channel) }
+    ensures { done table.new result [] [] ≡ table_step port_count table.old (closing node channel) }
 {
-    refusal::answer(router::close(table, Node(node), channel))
+    refusal::answer(router::close::<Narrow>(table, Node(node), channel))
 }
 
 #[unsafe(no_mangle)]
 pub extern "C" fn maze_trace(table: &[u8], node: u16, channel: u16, buffer: &mut [u8]) -> Traced
-    ensures { done table.now result.number (result.hops ∷ []) (buffer.new ∷ []) ≡ table_step table.now (tracing node channel buffer.old) }
+    ensures { done table.now result.number (result.hops ∷ []) (buffer.new ∷ []) ≡ table_step port_count table.now (tracing node channel buffer.old) }
 {
-    Traced::from(router::trace(table, Node(node), channel, buffer))
+    Traced::from(router::trace::<Narrow>(table, Node(node), channel, buffer))
 }
 
 #[unsafe(no_mangle)]
 pub extern "C" fn maze_book(table: &[u8], ports: &mut [u8], index: &mut [u8]) -> Booked
-    ensures { done table.now result.number (result.circuits ∷ result.hops ∷ []) (ports.new ∷ index.new ∷ []) ≡ table_step table.now (booking ports.old index.old) }
+    ensures { done table.now result.number (result.circuits ∷ result.hops ∷ []) (ports.new ∷ index.new ∷ []) ≡ table_step port_count table.now (booking ports.old index.old) }
 {
-    Booked::from(booking::book(table, ports, index))
+    Booked::from(booking::book::<Narrow>(table, ports, index))
 }
 
 // A book that C lends.
@@ -140,10 +143,10 @@ pub extern "C" fn maze_judge(
     circuits: u16,
     hops: u16,
 ) -> u16
-    ensures { done table.now result [] (ports.now ∷ index.now ∷ []) ≡ table_step table.now (judging ports.now index.now circuits hops) }
+    ensures { done table.now result [] (ports.now ∷ index.now ∷ []) ≡ table_step port_count table.now (judging ports.now index.now circuits hops) }
 {
     let book = lent_book(ports, index, circuits, hops);
-    refusal::answer(booking::judge(table, &book))
+    refusal::answer(booking::judge::<Narrow>(table, &book))
 }
 
 #[unsafe(no_mangle)]

@@ -1,4 +1,5 @@
-// The structs that C gets of what the calls answer: 0 beside the values, or the refusal's number beside zeros. C knows no generic struct, so each has fields of its own, and its `From` names them.
+// The structs that C gets of what the calls answer: 0 beside the values, or the refusal's number beside zeros, in the widths of Calls 22. C knows no generic struct, so each has fields of its own, and its
+// `From` names them.
 ghost use Rattle.std.specs.Prelude.{◌≡◌, [], ◌∷◌};
 ghost use Rattle.std.specs.Result.{result_unwrap_or};
 ghost use Rattle.answers.specs.Opens.{opened_number, opened_values};

@@ -1,9 +1,10 @@
-// Document 01's examples 1 to 7 and 9, with every receive channel armed first, and document 02's arming through the router's calls: each line is
-// a call with its numbers, a colon, and what it answered. The functions print to one place and change one table: both are lent to each, and no struct would hold them longer than a call.
+// Examples 1 to 7 and 9, with every receive channel armed first, and 25, through the router's calls: each line is a call with its numbers, a colon, and what it
+// answered. The functions print to one place and change one table: both are lent to each, and no struct would hold them longer than a call.
 use answers::Opening;
 use common::refusal::{Refusal, answer};
 use cube::{Node, Port};
 use std::io;
+use table::Narrow;
 
 // A call of an example, of node 0 where no node is named.
 #[derive(Clone, Copy)]
@@ -26,7 +27,7 @@ enum Call {
 // Arms the eight receive channels of each of so many nodes, up to the first that is refused.
 fn arm_all(t: &mut [u8], nodes: u8) -> Result<(), Refusal> {
     for i in 0..8 * u16::from(nodes) {
-        router::arm(t, Node(i / 8), i % 8)?;
+        router::arm::<Narrow>(t, Node(i / 8), i % 8)?;
     }
     Ok(())
 }
@@ -36,7 +37,7 @@ fn open(rt: &impl Print, t: &mut [u8], x: Opening) -> io::Result<()> {
         "open {} {} {} {} {}: ",
         x.source.0, x.channel, x.target.0, x.routing, x.vector
     )?;
-    match router::open(t, x) {
+    match router::open::<Narrow>(t, x) {
         Ok(found) => println!(rt; "0 {} {} {}", found.hops, found.receive, found.scouts),
         Err(rejected) => println!(rt; "{} 0 0 {}", rejected.refusal.number(), rejected.scouts),
     }
@@ -45,7 +46,7 @@ fn open(rt: &impl Print, t: &mut [u8], x: Opening) -> io::Result<()> {
 // The nine bytes of the buffer follow the hops; those behind the path stay 9.
 fn trace(rt: &impl Print, t: &[u8], channel: u16) -> io::Result<()> {
     let mut buffer = [9u8; 9];
-    match router::trace(t, Node(0), channel, &mut buffer) {
+    match router::trace::<Narrow>(t, Node(0), channel, &mut buffer) {
         Ok(hops) => print!(rt; "trace 0 {channel}: 0 {hops}")?,
         Err(refused) => print!(rt; "trace 0 {channel}: {} 0", refused.number())?,
     }
@@ -58,14 +59,27 @@ fn trace(rt: &impl Print, t: &[u8], channel: u16) -> io::Result<()> {
 // A call, and its line.
 fn carry_out(rt: &impl Print, t: &mut [u8], call: Call) -> io::Result<()> {
     match call {
-        Call::Make(d) => println!(rt; "make {d}: {}", answer(router::make(t, d))),
+        Call::Make(d) => println!(rt; "make {d}: {}", answer(router::make::<Narrow>(t, d))),
         Call::ArmAll(nodes) => println!(rt; "arm all of {nodes}: {}", answer(arm_all(t, nodes))),
         Call::Block(n, p) => {
-            println!(rt; "block {} {}: {}", n.0, p.0, answer(router::block(t, n, p)))
+            println!(rt;
+                "block {} {}: {}",
+                n.0,
+                p.0,
+                answer(router::block::<Narrow>(t, n, p))
+            )
         }
-        Call::Arm(n, c) => println!(rt; "arm {} {c}: {}", n.0, answer(router::arm(t, n, c))),
+        Call::Arm(n, c) => println!(rt;
+            "arm {} {c}: {}",
+            n.0,
+            answer(router::arm::<Narrow>(t, n, c))
+        ),
         Call::Disarm(n, c) => {
-            println!(rt; "disarm {} {c}: {}", n.0, answer(router::disarm(t, n, c)))
+            println!(rt;
+                "disarm {} {c}: {}",
+                n.0,
+                answer(router::disarm::<Narrow>(t, n, c))
+            )
         }
         Call::Open(channel, target, routing, vector) => open(
             rt,
@@ -78,7 +92,10 @@ fn carry_out(rt: &impl Print, t: &mut [u8], call: Call) -> io::Result<()> {
                 vector,
             },
         ),
-        Call::Close(c) => println!(rt; "close 0 {c}: {}", answer(router::close(t, Node(0), c))),
+        Call::Close(c) => println!(rt;
+            "close 0 {c}: {}",
+            answer(router::close::<Narrow>(t, Node(0), c))
+        ),
         Call::Trace(c) => trace(rt, t, c),
     }
 }
@@ -90,7 +107,7 @@ fn run(rt: &impl Print, t: &mut [u8], calls: &[Call]) -> io::Result<()> {
     Ok(())
 }
 
-// 1: nothing blocked. 2: figure 7, with two links blocked.
+// 1: nothing blocked. 2: the patent's figure 7, with two links blocked.
 const FIGURES: [Call; 10] = [
     Call::Make(3),
     Call::ArmAll(8),
@@ -159,7 +176,7 @@ const EDGES: [Call; 9] = [
 
 const WRONG_LENGTH: [Call; 2] = [Call::Make(3), Call::Open(0, Node(7), 0, 7)];
 
-// Document 02, (a): a receive channel is taken only where it is armed, is not disarmed while it is held, and is disarmed by the close.
+// 25: a receive channel is taken only where it is armed, is not disarmed while it is held, and is disarmed by the close.
 const ARMING: [Call; 12] = [
     Call::Make(3),
     Call::Open(0, Node(7), 0, 7),

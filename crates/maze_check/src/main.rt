@@ -1,4 +1,4 @@
-// Runs document 01's examples, and a few calls of the arbiter, through the library and prints what it gets; the gate compares that with the stored answers.
+// Runs Examples 1 to 9 and 25, and a few calls of the arbiter, through the library and prints what it gets; the gate compares that with the stored answers.
 #![tactic(auto)]
 
 use std::io;

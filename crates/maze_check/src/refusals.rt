@@ -28,6 +28,7 @@ pub fn names(rt: &impl Print) -> io::Result<()> {
         ("channel held", Refusal::ChannelHeld),
         ("no route", Refusal::NoRoute),
         ("book short", Refusal::BookShort),
+        ("folded", Refusal::Folded),
         ("book", Refusal::Book),
         ("book circuit", Refusal::BookCircuit),
         ("book link", Refusal::BookLink),

@@ -1,9 +1,9 @@
-// Command words: the numbers behind the names, and example 8.
+// Command words: the numbers behind the names, and Examples 8.
 use command_word::{Command, CommandWord, PacketType};
 use common::refusal;
 use std::io;
 
-// Each command by its name in document 01.
+// Each command by its name in Words 3.
 pub fn names(rt: &impl Print) -> io::Result<()> {
     for (name, command) in [
         ("packet acknowledge", Command::PacketAcknowledge),
@@ -94,7 +94,7 @@ fn write(rt: &impl Print, command: u16, carried: u16) -> io::Result<()> {
     println!(rt; "write {command} {carried} {number} {word}")
 }
 
-// Example 8 of "Examples at the edges", then a word for each refusal from 15 to 18.
+// Examples 8, then a word for each refusal from 15 to 18.
 pub fn examples(rt: &impl Print) -> io::Result<()> {
     read(rt, 2175)?;
     write(rt, Command::RouteAcknowledge.number(), 0)?;

@@ -1,4 +1,4 @@
-// The listing program: reads standard input, and writes its printed list to standard output.
+// Listing 1: the listing program reads standard input, and writes its printed list to standard output.
 #![tactic(auto)]
 
 ghost use Rattle.std.specs.Prelude.{◌≡◌, ◌+◌, ◌<◌, ◌≤◌, length, take, drop, IfOk, IfErr, IfSome, OnOk};

@@ -3,20 +3,21 @@
 use mathlib.Core.Path.{◌≡◌, refl, sym, ◌∙◌, ap, ap₂}
 use mathlib.Core.Bool.{Bool, true, false, cond, not, ◌&&◌, ◌||◌, and-true}
 use mathlib.Core.List.{List, [], ◌∷◌}
-use Prim.Native.Nat.{ℕ, ◌^◌}
-use lib.Dec.{eqb, ltb}
+use Prim.Native.Nat.{ℕ}
+use lib.Dec.{eqb}
 use Rattle.common.specs.Lists.{keep}
 use Rattle.cube.specs.Cube.{next, circuit_of}
 use Rattle.paths.specs.Network.{Path, links, has_link}
 use Rattle.paths.specs.Send.{Outcome, acknowledged, route_rejected, receive_rejected, SendResult}
-use Rattle.paths.specs.CubeNetwork.{Shape, network}
+use Rattle.paths.specs.CubeNetwork.{Shape, network, unfolded, is_link_of}
 use Rattle.table.specs.View.{View, set_at, set_owner, set_receiver, set_enabled, set_armed, without_circuit, fresh}
+use Rattle.table.specs.Folding.{set_fold}
 use Rattle.ownership.specs.Sends.{Send, sends_in}
-use Rattle.ownership.specs.Calls.{Call, making, blocking, unblocking, opening, closing, tracing, arming, disarming, opening_all, booking, judging, opening_of, answered, call_tests, result_of, no_job}
+use Rattle.ownership.specs.Calls.{Call, making, blocking, unblocking, opening, closing, tracing, arming, disarming, opening_all, booking, judging, folding, opening_of, answered, call_tests, result_of, no_job}
 use Rattle.ownership.specs.InTurn.{single_open, after_job}
 use Rattle.ownership.specs.TableFacts.{facts_with, opened, job_in}
 use Rattle.ownership.specs.OnTable.{facts_of}
-use Rattle.ownership.specs.History.{Circuit, History, shape_on, net_on, holds_link, holds_receive, belongs, enabled_on, armed_on, stopped_on, send_on, facts_on, facts_on_with, with_opened, opened_on, job_on, applied, new_history}
+use Rattle.ownership.specs.History.{Circuit, History, shape_on, net_on, holds_link, holds_receive, belongs, enabled_on, armed_on, stopped_on, send_on, facts_on, facts_on_with, with_fold, with_opened, opened_on, job_on, applied, new_history}
 use Rattle.ownership.specs.Invariant.{Valid}
 use Rattle.ownership.specs.HistoryView.{first_circuit, view_of}
 use Rattle.answers.specs.SendOnTable.{hold_links, view_after_send}
@@ -28,20 +29,22 @@ use Rattle.ownership.proofs.Stopped.{stopped_same}
 use Rattle.ownership.proofs.ValidAfter.{open_valid}
 use Rattle.ownership.proofs.CircuitValid.{links_once, receives_once}
 use Rattle.ownership.proofs.Allowed.{unblock_facts, close_facts}
-use Rattle.ownership.proofs.Enabled.{block_enabled, unblock_enabled}
+use Rattle.ownership.proofs.Enabled.{block_enabled, unblock_enabled, fold_enabled}
+use Rattle.ownership.proofs.Ports.{same_links}
 use Rattle.ownership.proofs.Armed.{arm_armed, disarm_armed, close_armed}
 
 -- a made table shows the history that a making begins
 pub made_view : (D : ℕ) → view_of (new_history D) ≡ fresh D
 unfolding view_of fresh first_circuit enabled_on armed_on has_link
 made_view D = λ i.
-    record { dimension = D; enabled = λ n p. and-true (ltb n (2 ^ D) && ltb p D) i; owner = λ n p. 0; receiver = λ n k. 0; armed = λ n k. false }
+    record { dimension = D; fold = 0; enabled = λ n p. and-true (is_link_of (unfolded D) n p) i; owner = λ n p. 0; receiver = λ n k. 0; armed = λ n k. false }
 
 -- the view once the links of a path are held
 pub held_path : (v : View) (S : Shape) (c n : ℕ) (w : Path)
     → hold_links v c n w
     ≡ record {
       dimension = v.dimension;
+      fold = v.fold;
       enabled = v.enabled;
       owner = λ m q. cond (has_link (links (network S) n w) m q) c (v.owner m q);
       receiver = v.receiver;
@@ -54,6 +57,7 @@ held_path v S c n (p ∷ w) =
     ∙ (λ i.
     record {
       dimension = v.dimension;
+      fold = v.fold;
       enabled = v.enabled;
       owner = λ m q. joined (eqb m n && eqb q p) (has_link (links (network S) (next n p) w) m q) (v.owner m q) i;
       receiver = v.receiver;
@@ -102,6 +106,7 @@ module _ (h : History) (valid : Valid h) where
   applied_view (blocking n p) e = λ i. unfold set_enabled armed_on in
       record {
         dimension = h.dimension;
+        fold = h.fold;
         enabled = λ m q. block_enabled h n p m q i;
         owner = (view_of h).owner;
         receiver = (view_of h).receiver;
@@ -110,6 +115,7 @@ module _ (h : History) (valid : Valid h) where
   applied_view (unblocking n p) e = λ i. unfold set_enabled armed_on in
       record {
         dimension = h.dimension;
+        fold = h.fold;
         enabled = λ m q. unblock_enabled h n p (unblock_facts h n p e).0 (unblock_facts h n p e).1 m q i;
         owner = (view_of h).owner;
         receiver = (view_of h).receiver;
@@ -119,6 +125,7 @@ module _ (h : History) (valid : Valid h) where
   applied_view (closing s c) e = λ i. unfold without_circuit enabled_on in
       record {
         dimension = h.dimension;
+        fold = h.fold;
         enabled = enabled_on h;
         owner = λ n p. drops (holds_link (net_on h) n p) (links_once (net_on h) n p h.circuits valid.apart) i;
         receiver = λ n k. drops (holds_receive n k) (receives_once (net_on h) n k h.circuits valid.apart) i;
@@ -132,6 +139,7 @@ module _ (h : History) (valid : Valid h) where
   applied_view (arming n k) e = λ i. unfold set_armed enabled_on in
       record {
         dimension = h.dimension;
+        fold = h.fold;
         enabled = enabled_on h;
         owner = (view_of h).owner;
         receiver = (view_of h).receiver;
@@ -140,6 +148,7 @@ module _ (h : History) (valid : Valid h) where
   applied_view (disarming n k) e = λ i. unfold set_armed enabled_on in
       record {
         dimension = h.dimension;
+        fold = h.fold;
         enabled = enabled_on h;
         owner = (view_of h).owner;
         receiver = (view_of h).receiver;
@@ -148,3 +157,12 @@ module _ (h : History) (valid : Valid h) where
   applied_view (opening_all sends) e = job_view h valid (sends_in sends)
   applied_view (booking ports index) e = refl
   applied_view (judging ports index circuits hops) e = refl
+  applied_view (folding mask) e = λ i. unfold with_fold set_fold holds_link armed_on in
+      record {
+        dimension = h.dimension;
+        fold = mask;
+        enabled = λ n q. fold_enabled h mask n q i;
+        owner = λ n p. first_circuit (λ x. has_link (same_links (record { dimension = h.dimension; fold = mask }) (shape_on h) x.source x.ports i) n p) h.circuits;
+        receiver = λ n k. first_circuit (holds_receive n k) h.circuits;
+        armed = armed_on h;
+      }

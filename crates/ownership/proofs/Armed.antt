@@ -33,7 +33,7 @@ pub disarm_armed : (h : History) (n k m q : ℕ) → armed_on (with_armed h (wit
 unfolding armed_on set_at
 disarm_armed h n k m q = dropped n k h.armed m q ∙ off_where (eqb m n && eqb q k) (has_link h.armed m q)
 
--- "Closing a circuit disarms its channel": that whose entry is the circuit's number, and no other
+-- Calls 15: a close disarms the channel whose entry is the circuit's number, and no other
 pub close_armed : (h : History) → Valid h → (s c : ℕ) → c < channels → (n k : ℕ)
     → armed_on (applied h (closing s c)) n k ≡ cond (eqb ((view_of h).receiver n k) (circuit_of s c)) false (armed_on h n k)
 unfolding armed_on applied view_of

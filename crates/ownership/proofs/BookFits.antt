@@ -1,6 +1,6 @@
 -- What it is for the circuits of a book to fit a history, and that those of a book do so which is loadable by a table that agrees with it.
 -- Assumes nothing.
-use mathlib.Core.Path.{◌≡◌, refl, ap, sym, ◌∙◌, subst}
+use mathlib.Core.Path.{◌≡◌, ap, sym, ◌∙◌, subst}
 use mathlib.Core.Bool.{Bool, true, false}
 use mathlib.Core.List.Memᴰ
 use mathlib.Core.List.{List, [], ◌∷◌}
@@ -17,7 +17,9 @@ use Rattle.paths.specs.Network.{Network, Path, Link, end}
 use Rattle.paths.specs.Permitted.{Permitted}
 use Rattle.paths.specs.CubeNetwork.{ports, send_ports}
 use Rattle.paths.proofs.Sentences.{permitted_end}
-use Rattle.paths.proofs.Apart.{permitted_below}
+use Rattle.paths.proofs.Apart.{permitted_ports}
+use Rattle.paths.proofs.CubeNetwork.{port_there}
+use Rattle.cube.specs.Axes.{present}
 use Rattle.book.specs.Book.{BookCircuit}
 use Rattle.book.specs.Lookup.{IndexLine, index_lines, line_fits, lines_fit}
 use Rattle.book.specs.WellFormed.{WellFormed}
@@ -26,6 +28,7 @@ use Rattle.book.proofs.WellFormedBook.{well_formed_exactly}
 use Rattle.judging.specs.Judged.{judge_facts, circuit_on, circuits_in, links_in, target_in}
 use Rattle.judging.specs.Loadable.{CircuitRight, NoneShared, Loadable}
 use Rattle.judging.proofs.PermittedTest.{permitted_passes, permitted_some}
+use Rattle.judging.proofs.Loadable.{port_exactly}
 use Rattle.ownership.specs.TableFacts.{open_in}
 use Rattle.ownership.specs.History.{History, shape_on, net_on, free_on, open_on, available_on}
 use Rattle.ownership.specs.HistoryView.{view_of}
@@ -113,13 +116,14 @@ fits_loadable h valid ports index circuits hops well_formed fits =
     right : (x : BookCircuit) → x ∈ circuits_in ports index circuits → CircuitRight (judge_facts (view_of h)) x
     right x m =
         let permitted = fits.permitted x m in
-        let below = permitted_below (shape_on h) valid.most refl (source_of x.number) (target_in (net_on h) x) x.ports permitted in
+        let there : (p : ℕ) → p ∈ x.ports → present h.dimension h.fold p ≡ true =
+        λ p i. port_there (shape_on h) p (permitted_ports (shape_on h) (source_of x.number) (target_in (net_on h) x) x.ports permitted p i) in
         let some =
-        permitted_some (shape_on h) valid.most refl (source_of x.number) x.ports (fits.source x m) below
+        permitted_some (shape_on h) (source_of x.number) x.ports (fits.source x m) there
         (permitted_passes (net_on h) (target_in (net_on h) x) (source_of x.number) _ x.ports permitted) in
         record {
           source = fits.source x m;
-          port = below;
+          port = λ p i. (port_exactly h.dimension h.fold p).0 (there p i);
           vector = some.0;
           vector_small = some.1;
           target = some.2;

@@ -1,4 +1,4 @@
--- Document 02, (e): the book of a table that agrees with a valid history is the book of the history.
+-- The book of a table that agrees with a valid history is the book of the history.
 -- Assumes nothing.
 use mathlib.Core.Path.{◌≡◌, refl, ap, ap₂, sym, ◌∙◌}
 use mathlib.Core.Bool.{true}

@@ -2,22 +2,22 @@
 -- Assumes nothing.
 use mathlib.Core.Path.{◌≡◌, refl, sym, ◌∙◌, subst}
 use mathlib.Core.Logic.{◌⊎◌, inl, inr, ⊎_elim, ◌≢◌, ◌↔◌}
-use mathlib.Core.Bool.{Bool, true, false, ◌&&◌}
+use mathlib.Core.Bool.{Bool, true, false}
 use mathlib.Core.List.{List}
 use Prim.Native.Nat.{ℕ, ◌*◌, ◌^◌, ◌≤◌, ◌<◌}
 use native.Mathlib.Omega.{arith}
 use lib.Dec.{eqb, ltb}
-use borrow.Author.Tests.{eqb-true, eq-eqb}
+use borrow.Author.Tests.{eqb-true, eq-eqb, ltb-true}
 use Rattle.common.specs.Lists.{◌∈◌, any, Pairwise}
-use Rattle.common.proofs.Tests.{same?, clash, is_false, both_below, both, and}
+use Rattle.common.proofs.Tests.{same?, clash, is_false, both, and}
 use Rattle.common.proofs.Lists.{pairwise_imp, any_some, some_any}
 use Rattle.cube.specs.Cube.{channels, cube_nodes, NodeOf, circuit_of, source_of}
 use Rattle.cube.proofs.Circuits.{source_of_circuit}
 use Rattle.paths.specs.Network.{Network, end}
 use Rattle.paths.proofs.Sentences.{permitted_end}
 use Rattle.paths.proofs.Links.{On, link_true, true_link}
-use Rattle.paths.specs.CubeNetwork.{ports}
-use Rattle.paths.proofs.CubeNetwork.{unfolded_port}
+use Rattle.paths.specs.CubeNetwork.{LinkOf, is_link_of, ports}
+use Rattle.paths.proofs.CubeNetwork.{port_there}
 use Rattle.paths.proofs.Apart.{permitted_inside}
 use Rattle.circuit_path.specs.CircuitSound.{CircuitSound}
 use Rattle.soundness.specs.Sound.{Nowhere, Sound}
@@ -99,13 +99,13 @@ module _ (h : History) (valid : Valid h) where
   receive_held n k z = let r = number_some (holds_receive n k) h.circuits z in (r.0, r.1, holds_receive_lem n k r.0 r.2, r.3)
 
   -- the links and the target of a listed circuit lie in the cube
-  inside : (x : Circuit) → x ∈ h.circuits
-      → ((n p : ℕ) → (n, p) ∈ links_of N x → (NodeOf h.dimension n) × (p < h.dimension)) × NodeOf h.dimension x.target
+  pub inside : (x : Circuit) → x ∈ h.circuits
+      → ((n p : ℕ) → (n, p) ∈ links_of N x → LinkOf (shape_on h) n p) × NodeOf h.dimension x.target
   unfolding On
   inside x m =
       let s = valid.every_circuit x m in
       let r = permitted_inside (shape_on h) x.source x.target x.ports s.source s.permitted in
-      ((λ n p i. ((r.0 n p i).0, (unfolded_port (shape_on h) valid.most refl p).0 (r.0 n p i).1)), subst (λ (n : ℕ). NodeOf h.dimension n) (permitted_end N x.source (ports (shape_on h)) x.target x.ports s.permitted) r.1)
+      ((λ n p i. ((r.0 n p i).0, port_there (shape_on h) p (r.0 n p i).1)), subst (λ (n : ℕ). NodeOf h.dimension n) (permitted_end N x.source (ports (shape_on h)) x.target x.ports s.permitted) r.1)
 
   -- and an armed receive channel is one of the eight of a node of the cube
   pub armed_inside : (n k : ℕ) → armed_on h n k ≡ true → (NodeOf h.dimension n) × (k < channels)
@@ -171,6 +171,7 @@ module _ (h : History) (valid : Valid h) where
   pub valid_sound : Sound (view_of h)
   valid_sound =
       record {
+        fold_bits = unfold view_of in valid.folded;
         absent_link = λ n p o. unfold view_of in (off n p o, ⊎_elim (λ e. e) (λ e. let r = link_held_lem n p e in absurd (o ((inside r.0 r.1).0 n p r.2))) (same? ((view_of h).owner n p) 0));
         absent_receive = λ n k o.
             unfold view_of in ⊎_elim (λ e. e) (λ e. let r = receive_held n k e in absurd (o (subst (λ (m : ℕ). NodeOf h.dimension m) (sym r.2.0) (inside r.0 r.1).1))) (same? ((view_of h).receiver n k) 0);
@@ -183,5 +184,5 @@ module _ (h : History) (valid : Valid h) where
         numbers = occurs;
       }
     where
-      off : (n p : ℕ) → ((NodeOf h.dimension n) × (p < h.dimension) → ⊥) → enabled_on h n p ≡ false
-      off n p o = unfold enabled_on in is_false _ (λ e. o (both_below (both (ltb n (2 ^ h.dimension) && ltb p h.dimension) _ e).0))
+      off : (n p : ℕ) → (LinkOf (shape_on h) n p → ⊥) → enabled_on h n p ≡ false
+      off n p o = unfold enabled_on in is_false _ (λ e. let r = both (ltb n (2 ^ h.dimension)) _ (both (is_link_of (shape_on h) n p) _ e).0 in o (ltb-true n _ r.0, r.1))

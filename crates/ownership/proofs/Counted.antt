@@ -9,7 +9,7 @@ use lib.Dec.{eqb}
 use borrow.Author.Tests.{eq-eqb, ne_eqb}
 use Rattle.common.proofs.Tests.{same?}
 use Rattle.ownership.specs.Sends.{Send, sends_in}
-use Rattle.ownership.specs.Calls.{Call, making, blocking, unblocking, opening, closing, tracing, arming, disarming, opening_all, booking, judging, opening_of, call_tests, result_of, After, call_on}
+use Rattle.ownership.specs.Calls.{Call, making, blocking, unblocking, opening, closing, tracing, arming, disarming, opening_all, booking, judging, folding, opening_of, call_tests, result_of, After, call_on}
 use Rattle.ownership.specs.InTurn.{Job, in_turn, after_job}
 use Rattle.ownership.specs.History.{History, facts_on, stopped_on, job_on, applied, history_step}
 use Rattle.ownership.specs.Agrees.{history_after, history_results, after_calls, call_results}
@@ -34,6 +34,7 @@ single_or_job (arming m k) = inl (λ n. refl)
 single_or_job (disarming m k) = inl (λ n. refl)
 single_or_job (booking ports index) = inl (λ n. refl)
 single_or_job (judging ports index circuits hops) = inl (λ n. refl)
+single_or_job (folding mask) = inl (λ n. refl)
 single_or_job (opening_all sends) = inr (sends, refl)
 
 -- A job in the history is its single calls in turn.
@@ -49,20 +50,20 @@ abbrev with_number : ℕ → List Call → List (Call × ℕ)
 with_number n calls = map (λ (x : Call). (x, n)) calls
 
 -- some calls at the front of a list: the history behind them, and the calls of the list with their numbers
-record Front (h next : History) (n : ℕ) (front calls : List Call) : Type 0 where
+record FrontCounts (h next : History) (n : ℕ) (front calls : List Call) : Type 0 where
   history : history_after h (front ++ calls) ≡ history_after next calls
   numbers : with_answers (front ++ calls) (history_results h (front ++ calls)) ≡ with_number n front ++ with_answers calls (history_results next calls)
 
-no_front : (h : History) (n : ℕ) (calls : List Call) → Front h h n [] calls
+no_front : (h : History) (n : ℕ) (calls : List Call) → FrontCounts h h n [] calls
 no_front h n calls = record { history = refl; numbers = refl }
 
 -- a single call
-one_front : (h : History) (a : Call) → Single a → (calls : List Call) → Front h (history_step h a).state (history_step h a).result.number (a ∷ []) calls
+one_front : (h : History) (a : Call) → Single a → (calls : List Call) → FrontCounts h (history_step h a).state (history_step h a).result.number (a ∷ []) calls
 unfolding after_calls call_results with_answers
 one_front h a single calls = record { history = refl; numbers = rw (single (history_step h a).result.number) }
 
 -- the single opens of an accepted job
-opens_front : (xs : List Send) (h : History) → (in_turn enters h xs).result.number ≡ 0 → (calls : List Call) → Front h (in_turn enters h xs).state 0 (map opening_of xs) calls
+opens_front : (xs : List Send) (h : History) → (in_turn enters h xs).result.number ≡ 0 → (calls : List Call) → FrontCounts h (in_turn enters h xs).state 0 (map opening_of xs) calls
 unfolding after_calls call_results with_answers counts_as
 opens_front [] h e calls = unfold in_turn in no_front h 0 calls
 opens_front (x ∷ more) h e calls =
@@ -85,16 +86,16 @@ job_entered h sends e =
 
 -- what any call counts as
 call_front : (h : History) (a : Call) (calls : List Call)
-    → Front h (history_step h a).state (history_step h a).result.number (counts_as a (history_step h a).result.number) calls
+    → FrontCounts h (history_step h a).state (history_step h a).result.number (counts_as a (history_step h a).result.number) calls
 call_front h a calls = ⊎_elim (λ single. rw (single (history_step h a).result.number) (one_front h a single calls)) (λ k. rw k.1 (job k.0)) (single_or_job a)
   where
-    job : (sends : List ℕ) → Front h (history_step h (opening_all sends)).state (history_step h (opening_all sends)).result.number (counts_as (opening_all sends) (history_step h (opening_all sends)).result.number) calls
+    job : (sends : List ℕ) → FrontCounts h (history_step h (opening_all sends)).state (history_step h (opening_all sends)).result.number (counts_as (opening_all sends) (history_step h (opening_all sends)).result.number) calls
     job sends =
         unfold counts_as in
         ⊎_elim (λ e. let r = job_entered h sends e in rw (e, r.1) (opens_front (sends_in sends) h r.0 calls))
         (λ f. rw (ne_eqb _ 0 f, (history_step_lem h (opening_all sends)).refused f) (no_front h _ calls)) (same? (history_step h (opening_all sends)).result.number 0)
 
--- "The ownership history counts such a call as its single opens, or as nothing": the history after a list of calls is that after what they count as,
+-- Jobs 8: the history after a list of calls is that after what they count as,
 pub counted_after : (calls : List Call) (h : History) → history_after h (counted h calls) ≡ history_after h calls
 unfolding after_calls counted
 counted_after [] h = refl

@@ -14,9 +14,11 @@ use Rattle.common.proofs.Tests.{clash, is_false, both, and}
 use Rattle.common.proofs.Lists.{all_cons, keep_no, keep_all}
 use Rattle.cube.specs.Cube.{circuit_of}
 use Rattle.table.specs.View.{view, set_at}
+use Rattle.layout.specs.Resources.{Width}
 use Rattle.table.specs.Encode.{AllBytes}
 use Rattle.soundness.specs.TableTests.{table_tests}
-use Rattle.ownership.specs.Calls.{Call, closing, arming, CallResult, After, only, result_of}
+use Rattle.ownership.specs.Closing.{Each, no_call, call_more}
+use Rattle.ownership.specs.Calls.{Call, OfKind, closing, arming, CallResult, After, only, result_of}
 use Rattle.ownership.specs.Allowed.{Allowed}
 use Rattle.ownership.specs.History.{Circuit, History, net_on, holds_link, holds_receive, belongs, enabled_on, armed_on, facts_on, stopped_on, applied, history_step}
 use Rattle.ownership.specs.HistoryView.{first_circuit, view_of}
@@ -117,7 +119,7 @@ module _ (h : History) (valid : Valid h) (x : Circuit) (xs : List Circuit) (list
 
   again_emptied : emptied (view_of armed_again) ≡ emptied (view_of h)
   unfolding emptied view_of enabled_on applied
-  again_emptied = λ i. record { dimension = h.dimension; enabled = enabled_on h; owner = λ n p. 0; receiver = λ n k. 0; armed = λ n k. again_armed n k i }
+  again_emptied = λ i. record { dimension = h.dimension; fold = h.fold; enabled = enabled_on h; owner = λ n p. 0; receiver = λ n k. 0; armed = λ n k. again_armed n k i }
 
 -- a list of calls whose first answers 0 alone
 after_accepted : (h k : History) (a : Call) (more : List Call) → history_step h a ≡ record { state = k; result = only 0 }
@@ -131,6 +133,12 @@ record Empties (h : History) (calls : List Call) : Type 0 where
   accepted : (g : CallResult) → g ∈ history_results h calls → g ≡ only 0
 
 -- So closing each circuit of a valid history and arming its receive channel leaves nothing held, and all else as it was.
+-- they are calls on tables of either kind
+closing_kinds : (q : ℕ) (xs : List Circuit) → Each (OfKind q) (closes_and_arms xs)
+unfolding closes_and_arms
+closing_kinds q [] = no_call
+closing_kinds q (x ∷ xs) = call_more tt (call_more tt (closing_kinds q xs))
+
 closes_empty : (xs : List Circuit) (h : History) → Valid h → h.circuits ≡ xs → Empties h (closes_and_arms xs)
 unfolding closes_and_arms after_calls call_results
 closes_empty [] h valid lists =
@@ -138,6 +146,7 @@ closes_empty [] h valid lists =
       shows = unfold view_of emptied first_circuit in λ i.
           record {
             dimension = h.dimension;
+            fold = h.fold;
             enabled = enabled_on h;
             owner = λ n p. first_circuit (holds_link (net_on h) n p) (lists i);
             receiver = λ n k. first_circuit (holds_receive n k) (lists i);
@@ -156,27 +165,27 @@ closes_empty (x ∷ xs) h valid lists =
     }
 
 -- On a table that passes its tests:
-module _ (b : List ℕ) (small : AllBytes b) (pass : refusal (table_tests b) ≡ 0) where
+module _ (q : ℕ) (width : Width q) (b : List ℕ) (small : AllBytes b) (pass : refusal (table_tests q b) ≡ 0) where
   -- what the calls leave that close its circuits and arm their receive channels
   abbrev left : List ℕ
-  left = table_after b (emptying b)
+  left = table_after q b (emptying b)
 
-  represents : Represents b (history_of (view b))
-  represents = sound_represents b small pass
+  represents : Represents q b (history_of (view b))
+  represents = sound_represents q b small pass
 
   empties : Empties (history_of (view b)) (emptying b)
   empties = closes_empty (history_of (view b)).circuits (history_of (view b)) represents.valid refl
 
   -- Each of those calls is accepted,
-  pub closes_accepted : (g : CallResult) → g ∈ table_results b (emptying b) → g ≡ only 0
-  closes_accepted = rw (represents_results (emptying b) b (history_of (view b)) represents) empties.accepted
+  pub closes_accepted : (g : CallResult) → g ∈ table_results q b (emptying b) → g ≡ only 0
+  closes_accepted = rw (represents_results q width (emptying b) (closing_kinds q (history_of (view b)).circuits) b (history_of (view b)) represents) empties.accepted
 
   -- they leave a table that passes its tests, shows nothing held, and shows all else as it was.
-  left_represents : Represents left (history_after (history_of (view b)) (emptying b))
-  left_represents = represents_run (emptying b) b (history_of (view b)) represents
+  left_represents : Represents q left (history_after (history_of (view b)) (emptying b))
+  left_represents = represents_run q width (emptying b) (closing_kinds q (history_of (view b)).circuits) b (history_of (view b)) represents
 
-  pub closes_pass : refusal (table_tests left) ≡ 0
-  closes_pass = represents_not_stopped left (history_after (history_of (view b)) (emptying b)) left_represents
+  pub closes_pass : refusal (table_tests q left) ≡ 0
+  closes_pass = represents_not_stopped q left (history_after (history_of (view b)) (emptying b)) left_represents
 
   pub closes_show : view left ≡ emptied (view b)
   closes_show = left_represents.shows ∙ empties.shows ∙ ap emptied (sym represents.shows)

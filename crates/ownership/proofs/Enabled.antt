@@ -1,18 +1,21 @@
--- Which links the history says are enabled once one is blocked or unblocked.
+-- Which links the history says are enabled once one is blocked or unblocked, or the fold mask is set.
 -- Assumes nothing.
 use mathlib.Core.Path.{◌≡◌, refl, sym}
-use mathlib.Core.Bool.{Bool, true, false, cond, not, ◌&&◌, ◌||◌, and-false}
+use mathlib.Core.Bool.{Bool, true, false, cond, not, ◌&&◌, ◌||◌, and-false, or-false, beq}
 use mathlib.Core.List.{List, [], ◌∷◌}
-use Prim.Native.Nat.{ℕ, ◌^◌, ◌<◌}
+use Prim.Native.Nat.{ℕ, ◌^◌}
 use lib.Dec.{eqb, ltb}
 use borrow.Author.Tests.{eqb-true, lt-ltb}
+use Rattle.cube.specs.Bits.{has}
+use Rattle.cube.specs.Axes.{axis, present}
 use Rattle.cube.specs.Cube.{NodeOf}
+use Rattle.paths.specs.CubeNetwork.{is_link_of}
 use Rattle.common.specs.Lists.{keep}
 use Rattle.common.proofs.Tests.{both}
 use Rattle.common.proofs.Lists.{keep_nil, keep_yes, keep_no}
 use Rattle.paths.specs.Network.{Link, has_link}
 use Rattle.table.specs.View.{set_at}
-use Rattle.ownership.specs.History.{History, enabled_on, with_blocked, without_entry}
+use Rattle.ownership.specs.History.{History, shape_on, enabled_on, with_blocked, with_fold, keeps_bit, without_entry}
 
 -- which links, or receive channels, of a list are left where those that pass a test are kept, or one is dropped
 pub kept_link : (f : ℕ → ℕ → Bool) (ls : List Link) (m q : ℕ) → has_link (keep (λ (l : Link). f l.0 l.1) ls) m q ≡ f m q && has_link ls m q
@@ -37,24 +40,42 @@ pub dropped : (n p : ℕ) (ls : List Link) (m q : ℕ) → has_link (without_ent
 unfolding without_entry
 dropped n p ls m q = kept_link (λ a b. not (eqb a n && eqb b p)) ls m q
 
--- "a block adds a link, an unblock drops it": which links are enabled then
+-- History 5: which links are enabled after a block and after an unblock
 pub block_enabled : (h : History) (n p m q : ℕ) → enabled_on (with_blocked h ((n, p) ∷ h.blocked)) m q ≡ set_at (enabled_on h) n p false m q
 unfolding enabled_on set_at has_link
 block_enabled h n p m q = go (eqb m n && eqb q p)
   where
-    go : (b : Bool) → (ltb m (2 ^ h.dimension) && ltb q h.dimension) && not (b || has_link h.blocked m q)
-        ≡ cond b false ((ltb m (2 ^ h.dimension) && ltb q h.dimension) && not (has_link h.blocked m q))
-    go true = and-false (ltb m (2 ^ h.dimension) && ltb q h.dimension)
+    go : (b : Bool) → is_link_of (shape_on h) m q && not (b || has_link h.blocked m q) ≡ cond b false (is_link_of (shape_on h) m q && not (has_link h.blocked m q))
+    go true = and-false (is_link_of (shape_on h) m q)
     go false = refl
 
-pub unblock_enabled : (h : History) (n p : ℕ) → NodeOf h.dimension n → p < h.dimension → (m q : ℕ)
+pub unblock_enabled : (h : History) (n p : ℕ) → NodeOf h.dimension n → present h.dimension h.fold p ≡ true → (m q : ℕ)
     → enabled_on (with_blocked h (without_entry n p h.blocked)) m q ≡ set_at (enabled_on h) n p true m q
 unfolding enabled_on set_at
 unblock_enabled h n p i l m q = rw (dropped n p h.blocked m q) (go (eqb m n && eqb q p) refl)
   where
-    go : (b : Bool) → (eqb m n && eqb q p) ≡ b → (ltb m (2 ^ h.dimension) && ltb q h.dimension) && not (not b && has_link h.blocked m q)
-        ≡ cond b true ((ltb m (2 ^ h.dimension) && ltb q h.dimension) && not (has_link h.blocked m q))
+    go : (b : Bool) → (eqb m n && eqb q p) ≡ b → is_link_of (shape_on h) m q && not (not b && has_link h.blocked m q)
+        ≡ cond b true (is_link_of (shape_on h) m q && not (has_link h.blocked m q))
     go true e =
         let r = both (eqb m n) (eqb q p) e in
-        rw (eqb-true m n r.0, eqb-true q p r.1, lt-ltb n (2 ^ h.dimension) i, lt-ltb p h.dimension l)
+        rw (eqb-true m n r.0, eqb-true q p r.1, lt-ltb n (2 ^ h.dimension) i, l)
     go false e = refl
+
+-- Folding 5, Folding 6: which links are enabled once the mask is set
+pub fold_enabled : (h : History) (mask n q : ℕ) → enabled_on (with_fold h mask) n q
+    ≡ cond (eqb q (axis q)) (enabled_on h n q) (is_link_of (record { dimension = h.dimension; fold = mask }) n q && (enabled_on h n q || not (has h.fold (axis q))))
+unfolding enabled_on with_fold present
+fold_enabled h mask n q =
+    rw (kept_link (λ m p. keeps_bit h.fold mask p) h.blocked n q)
+    (go (eqb q (axis q)) (has h.fold (axis q)) (has mask (axis q)) (ltb n (2 ^ h.dimension)) (ltb q 18) (ltb (axis q) h.dimension) (has_link h.blocked n q))
+  where
+    -- of a port that is its own axis or not, whose bits in both masks are f and m, which is a link of the cube as far as i, l and d say, blocked or not
+    go : (o f m i l d b : Bool) → (i && (l && (d && (o || m)))) && not ((o || beq f m) && b)
+        ≡ cond o ((i && (l && (d && (o || f)))) && not b) ((i && (l && (d && (o || m)))) && (((i && (l && (d && (o || f)))) && not b) || not f))
+    go true f m i l d b = refl
+    go false f m false l d b = refl
+    go false f m true false d b = refl
+    go false f m true true false b = refl
+    go false f false true true true b = refl
+    go false true true true true true b = sym (or-false (not b))
+    go false false true true true true b = refl

@@ -1,16 +1,16 @@
 -- The history of a sound view: its circuits are those that stand on the view, it is valid, and it shows that view.
 -- Assumes nothing.
 use mathlib.Core.Path.{◌≡◌, refl, ap, sym, ◌∙◌, subst}
-use mathlib.Core.Logic.{⊎_elim, ◌≢◌}
+use mathlib.Core.Logic.{⊎_elim, ◌≢◌, ◌↔◌}
 use mathlib.Core.Bool.{Bool, true, false, ◌&&◌, not}
 use mathlib.Core.List.Memᴰ
 use mathlib.Core.List.{List, ◌∷◌, map}
 use Prim.Native.Nat.{ℕ, ◌*◌, ◌^◌, ◌≤◌, ◌<◌}
 use native.Mathlib.Omega.{arith}
 use lib.Dec.{eqb, ltb}
-use borrow.Author.Tests.{eqb-true, eq-eqb, lt-ltb}
+use borrow.Author.Tests.{eqb-true, eq-eqb, lt-ltb, ltb-true}
 use Rattle.common.specs.Lists.{◌∈◌, from, lowest, Pairwise}
-use Rattle.common.proofs.Tests.{same?, below_or, clash, is_false, both_below, and}
+use Rattle.common.proofs.Tests.{same?, below_or, clash, is_false, both, and}
 use Rattle.common.proofs.Lists.{keep_mem, mem_keep, keep_pairwise, pairwise_imp, pairwise_map}
 use Rattle.common.proofs.From.{from_mem, mem_from, from_pairwise, from_below, below_from}
 use Rattle.common.proofs.Lowest.{lowest_passes, lowest_found}
@@ -25,8 +25,10 @@ use Rattle.soundness.specs.Sound.{Sound}
 use Rattle.circuit_path.specs.PathOf.{path_of}
 use Rattle.circuit_path.proofs.CircuitSound.{path_is, sound_open}
 use Rattle.soundness.proofs.Soundness.{link_stands, receive_stands}
-use Rattle.paths.specs.CubeNetwork.{ports}
-use Rattle.paths.proofs.CubeNetwork.{unfolded_ports}
+use Rattle.cube.specs.Axes.{present}
+use Rattle.paths.specs.CubeNetwork.{Shape, is_link_of, ports}
+use Rattle.paths.proofs.CubeNetwork.{port_there}
+use Rattle.paths.proofs.FoldedCube.{port_listed}
 use Rattle.circuit_path.specs.OpenCircuit.{is_open_in}
 use Rattle.book.specs.BookOf.{open_numbers}
 use Rattle.ownership.specs.History.{Circuit, History, shape_on, net_on, links_of, holds_link, holds_receive, enabled_on, armed_on}
@@ -56,16 +58,20 @@ mem_out mathlib.Core.List.[] ps n p x'' k = elim x'' [ ]
 mem_out (m ∷ ns) ps n p (Memᴰ.head e) k = rw e (Memᴰ.append_left (links_out ns ps) (Memᴰ.map (λ (q : ℕ). (m, q)) k))
 mem_out (m ∷ ns) ps n p (Memᴰ.tail i) k = Memᴰ.append_right (map (λ (q : ℕ). (m, q)) ps) (mem_out ns ps n p i k)
 
--- of the nodes below a and the ports below b: those below both
-out_below : {a b : ℕ} (n p : ℕ) → (n, p) ∈ links_out (from 0 a) (from 0 b) → (n < a) × (p < b)
-out_below {a} {b} n p m = let r = out_mem (from 0 a) (from 0 b) n p m in (from_below _ _ r.0, from_below _ _ r.1)
-
-every_out : (a b n p : ℕ) → has_link (links_out (from 0 a) (from 0 b)) n p ≡ ltb n a && ltb p b
-every_out a b n p = go (ltb n a && ltb p b) refl
+-- of the nodes below a and the ports of a list, which are those that pass a test: those of both
+every_out : (a : ℕ) (ps : List ℕ) (f : ℕ → Bool) → ((p : ℕ) → (p ∈ ps) ↔ (f p ≡ true)) → (n p : ℕ) → has_link (links_out (from 0 a) ps) n p ≡ ltb n a && f p
+every_out a ps f are n p = go (ltb n a && f p) refl
   where
-    go : (x : Bool) → (ltb n a && ltb p b) ≡ x → has_link (links_out (from 0 a) (from 0 b)) n p ≡ x
-    go true e = let i = both_below e in link_true _ n p (mem_out (from 0 a) (from 0 b) n p (below_from a n i.0) (below_from b p i.1))
-    go false e = is_false _ (λ t. let i = out_below n p (true_link _ n p t) in clash (and (lt-ltb n a i.0) (lt-ltb p b i.1)) e)
+    go : (x : Bool) → (ltb n a && f p) ≡ x → has_link (links_out (from 0 a) ps) n p ≡ x
+    go true e = let i = both (ltb n a) (f p) e in link_true _ n p (mem_out (from 0 a) ps n p (below_from a n (ltb-true n a i.0)) ((are p).1 i.1))
+    go false e = is_false _ (λ t. let i = out_mem (from 0 a) ps n p (true_link _ n p t) in clash (and (lt-ltb n a (from_below a n i.0)) ((are p).0 i.1)) e)
+
+-- the ports of the cube, and the eight channels of a node
+cube_ports : (S : Shape) (p : ℕ) → (p ∈ ports S) ↔ (present S.dimension S.fold p ≡ true)
+cube_ports S p = (port_there S p, port_listed S p)
+
+node_channels : (k : ℕ) → (k ∈ from 0 channels) ↔ (ltb k channels ≡ true)
+node_channels k = ((λ m. lt-ltb k 8 (from_below 8 k m)), λ e. below_from 8 k (ltb-true k 8 e))
 
 module _ (v : View) (sound : Sound v) (fits : v.dimension ≤ largest_dimension) where
   abbrev D : ℕ
@@ -157,16 +163,17 @@ module _ (v : View) (sound : Sound v) (fits : v.dimension ≤ largest_dimension)
   enabled_same : (n p : ℕ) → v.enabled n p ≡ enabled_on h n p
   unfolding enabled_on history_of
   enabled_same n p =
-      rw (kept_link (λ m q. not (v.enabled m q)) _ n p, unfolded_ports (shape_of v) fits refl, every_out (2 ^ D) D n p) (go (ltb n (2 ^ D) && ltb p D) refl (v.enabled n p) refl)
+      rw (kept_link (λ m q. not (v.enabled m q)) _ n p, every_out (2 ^ D) (ports (shape_of v)) (present D v.fold) (cube_ports (shape_of v)) n p)
+      (go (is_link_of (shape_of v) n p) refl (v.enabled n p) refl)
     where
-      go : (x : Bool) → (ltb n (2 ^ D) && ltb p D) ≡ x → (y : Bool) → v.enabled n p ≡ y → y ≡ x && not (not y && x)
+      go : (x : Bool) → is_link_of (shape_of v) n p ≡ x → (y : Bool) → v.enabled n p ≡ y → y ≡ x && not (not y && x)
       go true e true q = refl
       go true e false q = refl
-      go false e y q = sym q ∙ (sound.absent_link n p (λ i. clash (and (lt-ltb n _ i.0) (lt-ltb p _ i.1)) e)).0
+      go false e y q = sym q ∙ (sound.absent_link n p (λ i. clash (and (lt-ltb n _ i.0) i.1) e)).0
 
   armed_same : ((n k : ℕ) → v.armed n k ≡ true → k < channels) → (n k : ℕ) → v.armed n k ≡ armed_on h n k
   unfolding armed_on history_of
-  armed_same eight n k = rw (kept_link v.armed _ n k, every_out (2 ^ D) 8 n k) (go (v.armed n k) refl)
+  armed_same eight n k = rw (kept_link v.armed _ n k, every_out (2 ^ D) (from 0 8) (λ j. ltb j 8) node_channels n k) (go (v.armed n k) refl)
     where
       absent : 2 ^ D ≤ n → v.armed n k ≡ false
       absent o = sound.absent_armed n k (λ i. omega arith)
@@ -205,6 +212,7 @@ module _ (v : View) (sound : Sound v) (fits : v.dimension ≤ largest_dimension)
     shows_same = λ i.
         record {
           dimension = D;
+          fold = v.fold;
           enabled = λ n p. enabled_same n p i;
           owner = λ n p. owner_same n p i;
           receiver = λ n k. receiver_same n k i;
@@ -231,8 +239,9 @@ module _ (v : View) (sound : Sound v) (fits : v.dimension ≤ largest_dimension)
         record {
           least = unfold history_of in least;
           most = unfold history_of in fits;
-          blocked = λ l m. unfold history_of in out_below l.0 l.1 (rw (unfolded_ports (shape_of v) fits refl) at (keep_mem _ _ m).0);
-          armed = λ l m. unfold history_of in out_below l.0 l.1 (keep_mem _ _ m).0;
+          folded = unfold history_of in sound.fold_bits;
+          blocked = λ l m. unfold history_of in let r = out_mem (from 0 (2 ^ D)) (ports (shape_of v)) l.0 l.1 (keep_mem _ _ m).0 in (from_below _ l.0 r.0, port_there (shape_of v) l.1 r.1);
+          armed = λ l m. unfold history_of in let r = out_mem (from 0 (2 ^ D)) (from 0 8) l.0 l.1 (keep_mem _ _ m).0 in (from_below _ l.0 r.0, from_below _ l.1 r.1);
           every_circuit = listed_valid;
           apart = apart;
         }

@@ -24,20 +24,20 @@ use Rattle.ownership.specs.Agrees.{history_after, history_results, after_calls, 
 abbrev ten : ℕ → ℕ → ℕ → ℕ → ℕ → List ℕ
 ten s c t y v = s ∷ 0 ∷ c ∷ 0 ∷ t ∷ 0 ∷ y ∷ 0 ∷ v ∷ 0 ∷ []
 
--- "node, channel, target, type, vector, two bytes each, low first"
+-- Jobs 2
 two_sends : sends_in (1 ∷ 2 ∷ 3 ∷ 4 ∷ 5 ∷ 6 ∷ 7 ∷ 8 ∷ 9 ∷ 10 ∷ ten 7 1 6 4 3)
     ≡ record { source = 513; channel = 1027; target = 1541; type = 2055; vector = 2569 } ∷ record { source = 7; channel = 1; target = 6; type = 4; vector = 3 } ∷ []
 unfolding sends_in send_at from
 two_sends = refl
 
--- "A list length not a multiple of ten, or above 640, is 28": 64 sends are taken, and so is an empty list
+-- Refusals 28: 64 sends are taken, and so is an empty list
 lengths : map (λ (n : ℕ). refusal (call_tests (facts_on (new_history 1)) (opening_all (replicate n 0)))) (0 ∷ 1 ∷ 9 ∷ 10 ∷ 11 ∷ 630 ∷ 640 ∷ 641 ∷ 645 ∷ 650 ∷ [])
     ≡ 0 ∷ 28 ∷ 28 ∷ 0 ∷ 28 ∷ 0 ∷ 0 ∷ 28 ∷ 28 ∷ 28 ∷ []
 unfolding call_tests refusal
 lengths = refl
 
--- "tested after 3": the tests of the table come first, here that of its length
-table_first : stopped_at [] (opening_all (replicate 9 0)) ≡ 1
+-- Jobs 3: the tests of the table come first, here that of its length
+table_first : stopped_at 8 [] (opening_all (replicate 9 0)) ≡ 1
 unfolding stopped_at lent_tests table_tests call_tests refusal
 table_first = refl
 
@@ -65,7 +65,7 @@ jobs : map shown (history_results ready
 unfolding after_calls call_results history_step stopped_on call_tests refusal facts_on open_on held_on taken_on armed_on any holds_link holds_receive belongs enabled_on free_on link_state is_free receive_on lowest_of lowest send_on waiting_on some_attempt finds_path with_opened applied result_of call_on send attempts attempted network ports send_ports other_ports present axis keep from has flip uphill helical offered end links has_link free_path over ways beginnings scan whole pass scouts outcome_of_path outcome send_goes_on runs answered sends_in send_at in_turn after_job job_on
 jobs = refl
 
--- "The ownership history counts such a call as its single opens, or as nothing."
+-- Jobs 8
 counts : history_after ready (opening_all (to_one ++ ten 0 1 1 0 1) ∷ opening_all (to_one ++ to_three) ∷ []) ≡ history_after ready (opening 0 0 1 0 1 ∷ opening 0 1 3 0 2 ∷ [])
 unfolding after_calls history_step stopped_on call_tests refusal facts_on open_on held_on taken_on armed_on any holds_link holds_receive belongs enabled_on free_on link_state is_free receive_on lowest_of lowest send_on waiting_on some_attempt finds_path with_opened applied result_of call_on send attempts attempted network ports send_ports other_ports present axis keep from has flip uphill helical offered end links has_link free_path over ways beginnings scan whole pass scouts outcome_of_path outcome send_goes_on runs answered sends_in send_at in_turn after_job job_on
 counts = refl

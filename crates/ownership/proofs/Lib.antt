@@ -1,5 +1,6 @@
 -- The laws of the calls and of the ownership history.
 pub mod Circuits
+pub mod Ports
 pub mod Sameness
 pub mod InTurn
 pub mod Steps
@@ -23,6 +24,8 @@ pub mod StepBytes
 pub mod BytesAfter
 pub mod Refused
 pub mod Agreement
+pub mod BothKinds
+pub mod KindCalls
 pub mod OnSound
 pub mod BookLookup
 pub mod TypesOnTable
@@ -46,3 +49,6 @@ pub mod MoreFreedom
 pub mod SameOpen
 pub mod JobExamples
 pub mod BookingExamples
+pub mod FoldingExamples
+pub mod FreedomInstance
+pub mod PremiseExamples

@@ -1,5 +1,5 @@
--- At most eight links lead into a node, and in a sound table each circuit that holds a receive channel there holds one of them. So where all eight channels are
--- armed, at most as many links into the node are free as channels are available, and no send to it is receive rejected.
+-- In a sound table each circuit that holds a receive channel of a node holds a link into it. So where at most eight links lead into a node, as where nothing is folded,
+-- and all its eight channels are armed, at most as many links into it are free as channels are available, and no send to it is receive rejected.
 -- Assumes nothing.
 use mathlib.Core.Path.{◌≡◌, refl, ap, sym, ◌∙◌, subst}
 use mathlib.Core.Logic.{◌≢◌}
@@ -12,9 +12,9 @@ use lib.Dec.{eqb}
 use lib.ListN.{length}
 use borrow.Author.Tests.{eqb-true, eqb-false, eq-eqb, ne_eqb, not-true}
 use Rattle.common.specs.Lists.{◌∈◌, keep, from}
-use Rattle.common.proofs.Lists.{keep_same, keep_none, keep_either, length_parts, no_more_than_places, pairwise_kept}
-use Rattle.common.proofs.From.{from_pairwise, length_from, from_below, kept_below, below_kept}
-use Rattle.cube.specs.Cube.{largest_dimension, port_count, channels, next, source_of}
+use Rattle.common.proofs.Lists.{keep_same, keep_none, mem_keep, keep_either, length_parts, no_more_than_places, pairwise_kept}
+use Rattle.common.proofs.From.{from_pairwise, length_from, from_below, kept_below}
+use Rattle.cube.specs.Cube.{largest_dimension, channels, next, source_of}
 use Rattle.cube.specs.Axes.{axis}
 use Rattle.cube.proofs.Bits.{flip_back}
 use Rattle.paths.specs.Network.{Path, end, links}
@@ -23,7 +23,8 @@ use Rattle.paths.specs.Send.{none_available, Outcome, receive_rejected}
 use Rattle.paths.specs.Sentences.{Free, AttemptsSay}
 use Rattle.paths.specs.CubeNetwork.{Shape, ports, network, attempts}
 use Rattle.paths.proofs.Links.{On, on_first_lem, on_later}
-use Rattle.paths.proofs.Apart.{permitted_below}
+use Rattle.paths.proofs.Apart.{permitted_ports}
+use Rattle.paths.proofs.CubeNetwork.{unfolded_ports}
 use Rattle.paths.proofs.Sentences.{permitted_end}
 use Rattle.paths.proofs.Attempts.{said_by, receive_rejected_says}
 use Rattle.paths.proofs.Send.{tries_permitted}
@@ -36,6 +37,7 @@ use Rattle.soundness.proofs.Soundness.{receive_stands}
 use Rattle.answers.specs.SendOnTable.{free_in}
 use Rattle.answers.proofs.PassOnBytes.{free_owner}
 use Rattle.ownership.specs.TableFacts.{taken_in}
+use Rattle.ownership.specs.AllArmed.{FewLinks}
 
 -- the port by which a path comes in at its end, and the link out of it
 arrival : Path → ℕ
@@ -68,6 +70,10 @@ some_member : {A : Type 0} (xs : List A) {x : A} → x ∈ xs → 0 < length xs
 some_member [] m = absurd (Memᴰ.not-nil m)
 some_member (y ∷ xs) m = omega arith
 
+-- where nothing is folded, a node has as many ports as the cube dimensions
+pub unfolded_few : (v : View) → v.fold ≡ 0 → FewLinks v
+unfolded_few v z most = omega (arith, most, ap length (unfolded_ports (shape_of v) most z), length_from 0 v.dimension)
+
 -- whether the link into node t over port q is held, and whether it is free
 abbrev way_held : View → ℕ → ℕ → Bool
 way_held v t q = held_in v (next t q) q
@@ -81,25 +87,24 @@ module _ (v : View) (sound : Sound v) (most : v.dimension ≤ largest_dimension)
   unfolding held_in
   not_held q e = ap not (eq-eqb _ 0 (free_owner v (next t q) q e))
 
-  -- a permitted path comes in over one of eight ports
-  comes_over : (s : ℕ) (w : Path) → Permitted (net v) s (ports (shape_of v)) t w → (q : ℕ) × (q < port_count) × ((next t q, q) ∈ links (net v) s w)
+  -- a permitted path comes in over one of the cube's ports
+  comes_over : (s : ℕ) (w : Path) → Permitted (net v) s (ports (shape_of v)) t w → (q : ℕ) × (q ∈ ports (shape_of v)) × ((next t q, q) ∈ links (net v) s w)
   comes_over s w o =
       let c = comes_in (shape_of v) s (ports (shape_of v)) t w o in
-      let below = permitted_below (shape_of v) most refl s t w o c.0 c.1 in
-      (c.0, omega (arith, below, most), c.2)
+      (c.0, permitted_ports (shape_of v) s t w o c.0 c.1, c.2)
 
   -- So the circuit of a receive channel of t that is held has a link into t,
   module _ (j : ℕ) (held : v.receiver t j ≢ 0) where
     stands : CircuitSound v (v.receiver t j)
     stands = receive_stands v sound t j held
 
-    held_way : (q : ℕ) × (q ∈ keep (way_held v t) (from 0 port_count)) × (v.owner (next t q) q ≡ v.receiver t j)
+    held_way : (q : ℕ) × (q ∈ keep (way_held v t) (ports (shape_of v))) × (v.owner (next t q) q ≡ v.receiver t j)
     unfolding held_in
     held_way =
         let s = stands in
         let c = comes_over (source_of (v.receiver t j)) s.path (subst (λ (x : ℕ). Permitted (net v) (source_of (v.receiver t j)) (ports (shape_of v)) x s.path) (sym (s.once t j refl).0) s.permitted) in
         let owned = eqb-true _ (v.receiver t j) (s.exactly.all _ _ c.2) in
-        (c.0, below_kept (way_held v t) port_count c.0 c.1 (ap not (ne_eqb _ 0 (λ z. held (sym owned ∙ z)))), owned)
+        (c.0, mem_keep (way_held v t) (ports (shape_of v)) c.1 (ap not (ne_eqb _ 0 (λ z. held (sym owned ∙ z)))), owned)
 
     -- which is no other channel's, since a circuit holds one channel alone.
     own_way : (i q : ℕ) → v.owner (next t q) q ≡ v.receiver t j → v.owner (next t q) q ≡ v.receiver t i → j ≡ i
@@ -111,29 +116,29 @@ module _ (v : View) (sound : Sound v) (most : v.dimension ≤ largest_dimension)
   taken_some k e = eqb-false _ 0 (not-true _ e)
 
   -- So at most as many receive channels of t are held as links into t.
-  more_held : length (keep (taken_in v t) (from 0 channels)) ≤ length (keep (way_held v t) (from 0 port_count))
+  more_held : length (keep (taken_in v t) (from 0 channels)) ≤ length (keep (way_held v t) (ports (shape_of v)))
   more_held =
       no_more_than_places (λ j q. v.owner (next t q) q ≡ v.receiver t j) (keep (taken_in v t) (from 0 channels))
       (pairwise_kept (taken_in v t) ◌<◌ _ (from 0 channels) (λ i j a b less q one other. let same = own_way i (taken_some i a) j q one other in omega (arith, less, same)) (from_pairwise 0 channels))
-      (keep (way_held v t) (from 0 port_count)) (λ j m. held_way j (taken_some j (kept_below (taken_in v t) channels j m).1))
+      (keep (way_held v t) (ports (shape_of v))) (λ j m. held_way j (taken_some j (kept_below (taken_in v t) channels j m).1))
 
-  module _ (armed : (k : ℕ) → k < channels → v.armed t k ≡ true) where
+  module _ (few : FewLinks v) (armed : (k : ℕ) → k < channels → v.armed t k ≡ true) where
     -- where all channels of t are armed, those that are not held are available
     untaken : (k : ℕ) → k ∈ from 0 channels → available v t k ≡ not (taken_in v t k)
     unfolding available taken_in
     untaken k m = ap (◌&& eqb (v.receiver t k) 0) (armed k (from_below channels k m)) ∙ sym (not-not (eqb (v.receiver t k) 0))
 
     -- Where all receive channels of t are armed, at most as many links into t are free as channels are available.
-    pub free_ways_fit : length (keep (way_free v t) (from 0 port_count)) ≤ length (keep (available v t) (from 0 channels))
+    pub free_ways_fit : length (keep (way_free v t) (ports (shape_of v))) ≤ length (keep (available v t) (from 0 channels))
     free_ways_fit =
         let untaken_kept = keep_same (available v t) (λ k. not (taken_in v t k)) (from 0 channels) untaken in
         omega (
           arith,
           more_held,
-          keep_either (way_free v t) (way_held v t) (from 0 port_count) not_held,
+          keep_either (way_free v t) (way_held v t) (ports (shape_of v)) not_held,
           length_parts (taken_in v t) (from 0 channels),
           ap length untaken_kept,
-          length_from 0 port_count,
+          few most,
           length_from 0 channels,
         )
 
@@ -142,7 +147,7 @@ module _ (v : View) (sound : Sound v) (most : v.dimension ≤ largest_dimension)
     unfolding receive
     receives s w o free e =
         let c = comes_over s w o in
-        let way = some_member _ (below_kept (way_free v t) port_count c.0 c.1 ((free_path_links (net v) (free_in v) s w).0 free _ c.2)) in
+        let way = some_member _ (mem_keep (way_free v t) (ports (shape_of v)) c.1 ((free_path_links (net v) (free_in v) s w).0 free _ c.2)) in
         let none = keep_none (available v t) (from 0 channels) (λ k m. none_chosen _ e k (from_below channels k m)) in
         omega (arith, free_ways_fit, way, ap length none)
 

@@ -1,4 +1,4 @@
--- Document 02, (i): "may we load one?" A book that a judging accepts can be loaded: its circuits, each with a receive channel at its target, and those that are
+-- Judging 10: a book that a judging accepts can be loaded: its circuits, each with a receive channel at its target, and those that are
 -- open make a history that a table represents.
 -- Assumes nothing.
 use mathlib.Core.Path.{◌≡◌, refl, sym, ◌∙◌, subst}
@@ -15,6 +15,7 @@ use Rattle.cube.proofs.Circuits.{circuit_of_parts, channel_below}
 use Rattle.paths.specs.Network.{Link}
 use Rattle.paths.proofs.Words.{free_link}
 use Rattle.table.specs.View.{View, view}
+use Rattle.layout.specs.Resources.{Width}
 use Rattle.table.specs.Encode.{AllBytes}
 use Rattle.book.specs.Book.{BookCircuit}
 use Rattle.judging.specs.Judged.{judge_facts, circuits_in, links_in, target_in}
@@ -28,7 +29,8 @@ use Rattle.ownership.specs.LoadedBook.{listed_as, CanLoad}
 use Rattle.ownership.proofs.ChosenChannels.{Chosen, choose}
 use Rattle.ownership.proofs.BookFits.{Fits, loadable_fits}
 use Rattle.ownership.proofs.ValidAfter.{held_link, taken_receive, open_send, circuits_valid}
-use Rattle.ownership.proofs.Agreement.{bytes_represent}
+use Rattle.ownership.proofs.Range.{FoldFits}
+use Rattle.ownership.proofs.Agreement.{bytes_represent, represents_fold}
 use Rattle.ownership.proofs.FromTable.{sound_represents}
 use Rattle.ownership.proofs.Judging.{judging_exactly}
 
@@ -103,25 +105,26 @@ module _ (h : History) (valid : Valid h) (xs : List BookCircuit) (fits : Fits h 
       (pairwise_append (map as_listed xs) h.circuits (pairwise_map _ (Disjoint (net_on h)) as_listed xs (λ x y r. r) from_book) valid.apart
       (λ x y m k. all_map (λ x. (y : Circuit) → y ∈ h.circuits → Disjoint (net_on h) x y) as_listed xs from_open x m y k))
 
-  -- So circuits that fit can be loaded.
-  pub fits_load : CanLoad h xs
-  fits_load =
+  -- So circuits that fit can be loaded, on either kind of table.
+  pub fits_load : (q : ℕ) → Width q → FoldFits q h.fold → CanLoad q h xs
+  fits_load q width fold =
       record {
         loaded = loaded;
         dimension = refl;
+        fold = refl;
         blocked = refl;
         armed = refl;
         receive = chosen.receive;
         circuits = refl;
-        represented = bytes_represent loaded loaded_valid;
+        represented = bytes_represent q width loaded loaded_valid fold;
       }
 
--- "May we load one?" A book that a judging accepts can be loaded beside the circuits that are open.
-pub accepted_loads : (b : List ℕ) → AllBytes b → (ports index : List ℕ) (circuits hops : ℕ) → Accepted b (judging ports index circuits hops)
-    → CanLoad (history_of (view b)) (circuits_in ports index circuits)
-accepted_loads b small ports index circuits hops answers_0 =
-    let r = (judging_exactly b ports index circuits hops).0 answers_0 in
-    let k = sound_represents b small r.0 in
+-- A book that a judging accepts can be loaded beside the circuits that are open.
+pub accepted_loads : (q : ℕ) → Width q → (b : List ℕ) → AllBytes b → (ports index : List ℕ) (circuits hops : ℕ) → Accepted q b (judging ports index circuits hops)
+    → CanLoad q (history_of (view b)) (circuits_in ports index circuits)
+accepted_loads q width b small ports index circuits hops answers_0 =
+    let r = (judging_exactly q b ports index circuits hops).0 answers_0 in
+    let k = sound_represents q b small r.0 in
     let h = history_of (view b) in
     fits_load h k.valid (circuits_in ports index circuits)
-    (loadable_fits h k.valid ports index circuits hops (subst (λ (v : View). Loadable (judge_facts v) ports index circuits hops) k.shows r.1))
+    (loadable_fits h k.valid ports index circuits hops (subst (λ (v : View). Loadable (judge_facts v) ports index circuits hops) k.shows r.1)) q width (represents_fold q b h k)

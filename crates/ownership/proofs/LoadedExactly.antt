@@ -1,4 +1,4 @@
--- Document 02, (i): a yes means exactly that the book is well formed and can be loaded. That it can be loaded says nothing of the tests of a judging, nor of what
+-- Judging 10: a yes means exactly that the book is well formed and can be loaded. That it can be loaded says nothing of the tests of a judging, nor of what
 -- they ask of a table.
 -- Assumes nothing.
 use mathlib.Core.Path.{◌≡◌, refl, ap, sym, ◌∙◌, subst}
@@ -19,6 +19,7 @@ use Rattle.cube.specs.Cube.{channels, source_of, channel_of}
 use Rattle.paths.specs.Network.{Link}
 use Rattle.paths.proofs.Words.{free_link}
 use Rattle.table.specs.View.{View, view}
+use Rattle.layout.specs.Resources.{Width}
 use Rattle.table.specs.Encode.{AllBytes}
 use Rattle.soundness.specs.TableTests.{table_tests}
 use Rattle.book.specs.Book.{BookCircuit}
@@ -51,7 +52,7 @@ pairwise_under S f (x ∷ xs) ys s =
     )
 
 -- Circuits of a book that can be loaded.
-module _ (h : History) (xs : List BookCircuit) (load : CanLoad h xs) where
+module _ (h : History) (xs : List BookCircuit) (q : ℕ) (load : CanLoad q h xs) where
   abbrev as_listed : BookCircuit → Circuit
   as_listed = listed_as (net_on h) load.receive
 
@@ -61,7 +62,7 @@ module _ (h : History) (xs : List BookCircuit) (load : CanLoad h xs) where
   -- The history with them added is valid, since a table represents it,
   added_valid : Valid added
   added_valid =
-      subst Valid (λ i. record { dimension = load.dimension i; blocked = load.blocked i; circuits = load.circuits i; armed = load.armed i }) load.represented.valid
+      subst Valid (λ i. record { dimension = load.dimension i; fold = load.fold i; blocked = load.blocked i; circuits = load.circuits i; armed = load.armed i }) load.represented.valid
 
   -- so no two of them have anything in common, nor one of them and one that is open.
   parts : Pairwise (λ x y. Disjoint (net_on h) (as_listed x) (as_listed y)) xs × ((x : BookCircuit) → x ∈ xs → (y : Circuit) → y ∈ h.circuits → Disjoint (net_on h) (as_listed x) y)
@@ -87,8 +88,8 @@ module _ (h : History) (xs : List BookCircuit) (load : CanLoad h xs) where
     channel_not_open =
         is_false _ (λ e.
         let r = any_some (belongs (source_of x.number) (channel_of x.number)) h.circuits e in
-        let q = belongs_parts (source_of x.number) (channel_of x.number) r.0 r.2 in
-        (parts.1 x m r.0 r.1).send (sym q.0) (sym q.1))
+        let same = belongs_parts (source_of x.number) (channel_of x.number) r.0 r.2 in
+        (parts.1 x m r.0 r.1).send (sym same.0) (sym same.1))
 
     -- and its receive channel is available at its target.
     receive_available : available_on h (target_in (net_on h) x) (load.receive x.number) ≡ true
@@ -98,8 +99,8 @@ module _ (h : History) (xs : List BookCircuit) (load : CanLoad h xs) where
         (ap not
         (is_false _ (λ e.
         let r = any_some (holds_receive (target_in (net_on h) x) (load.receive x.number)) h.circuits e in
-        let q = holds_receive_lem (target_in (net_on h) x) (load.receive x.number) r.0 r.2 in
-        (parts.1 x m r.0 r.1).receives q.0 q.1)))
+        let same = holds_receive_lem (target_in (net_on h) x) (load.receive x.number) r.0 r.2 in
+        (parts.1 x m r.0 r.1).receives same.0 same.1)))
 
   -- Those that end at a node have a channel each, so there are enough.
   channels_enough : (t : ℕ) → length (keep (λ x. eqb (target_in (net_on h) x) t) xs) ≤ length (keep (available_on h t) (from 0 channels))
@@ -130,15 +131,15 @@ module _ (h : History) (xs : List BookCircuit) (load : CanLoad h xs) where
       }
 
 -- A yes means exactly this: the table passes its tests, the book is well formed, and it can be loaded beside the circuits that are open.
-pub loads_exactly : (b : List ℕ) → AllBytes b → (ports index : List ℕ) (circuits hops : ℕ)
-    → Accepted b (judging ports index circuits hops) ↔ ((refusal (table_tests b) ≡ 0) × WellFormed ports index circuits hops × CanLoad (history_of (view b)) (circuits_in ports index circuits))
-loads_exactly b small ports index circuits hops = (
+pub loads_exactly : (q : ℕ) → Width q → (b : List ℕ) → AllBytes b → (ports index : List ℕ) (circuits hops : ℕ)
+    → Accepted q b (judging ports index circuits hops) ↔ ((refusal (table_tests q b) ≡ 0) × WellFormed ports index circuits hops × CanLoad q (history_of (view b)) (circuits_in ports index circuits))
+loads_exactly q width b small ports index circuits hops = (
   (λ answers_0.
-      let r = (judging_exactly b ports index circuits hops).0 answers_0 in (r.0, r.1.well_formed, accepted_loads b small ports index circuits hops answers_0)),
+      let r = (judging_exactly q b ports index circuits hops).0 answers_0 in (r.0, r.1.well_formed, accepted_loads q width b small ports index circuits hops answers_0)),
   (λ r.
-      let k = sound_represents b small r.0 in
+      let k = sound_represents q b small r.0 in
       let h = history_of (view b) in
       let numbers = numbers_rise ports index circuits hops r.1 in
-      let loadable = fits_loadable h k.valid ports index circuits hops r.1 (load_fits h (circuits_in ports index circuits) r.2 numbers.0 numbers.1) in
-      (judging_exactly b ports index circuits hops).1 (r.0, subst (λ (v : View). Loadable (judge_facts v) ports index circuits hops) (sym k.shows) loadable)),
+      let loadable = fits_loadable h k.valid ports index circuits hops r.1 (load_fits h (circuits_in ports index circuits) q r.2 numbers.0 numbers.1) in
+      (judging_exactly q b ports index circuits hops).1 (r.0, subst (λ (v : View). Loadable (judge_facts v) ports index circuits hops) (sym k.shows) loadable)),
 )

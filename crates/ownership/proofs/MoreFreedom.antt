@@ -1,4 +1,4 @@
--- Document 02, (n), "More freedom never hurts": what an open was acknowledged for, it is acknowledged for once circuits are closed, links repaired or channels armed.
+-- Promises 11: what an open was acknowledged for, it is acknowledged for once circuits are closed, links unblocked or channels armed.
 -- Assumes nothing.
 use mathlib.Core.Path.{◌≡◌, refl, sym, ◌∙◌}
 use mathlib.Core.Logic.{◌≢◌}
@@ -19,11 +19,12 @@ use Rattle.paths.specs.CubeNetwork.{attempts, ports}
 use Rattle.paths.proofs.Words.{free_link}
 use Rattle.paths.proofs.Waiting.{wider_free}
 use Rattle.table.specs.View.{View, view, net, shape_of, held_in, held_by, set_at, set_enabled, set_armed, without_circuit, available}
+use Rattle.layout.specs.Resources.{Width}
 use Rattle.table.specs.Encode.{AllBytes}
 use Rattle.answers.specs.SendOnTable.{state_in, free_in}
 use Rattle.answers.specs.SendSays.{SomeRoute}
 use Rattle.circuit_path.specs.OpenCircuit.{is_open_in}
-use Rattle.ownership.specs.Calls.{Call, opening, closing}
+use Rattle.ownership.specs.Calls.{Call, OfKind, opening, closing}
 use Rattle.ownership.specs.Update.{updated}
 use Rattle.ownership.specs.TableFacts.{open_in}
 use Rattle.ownership.specs.OnTable.{facts_of, stopped_at, table_step}
@@ -36,20 +37,22 @@ use Rattle.ownership.proofs.Steps.{table_step_lem}
 use Rattle.ownership.proofs.OnSound.{open_answers}
 use Rattle.ownership.proofs.Waiting.{calls_kept}
 
--- a table of the same dimension in which no link that was free, no channel that was available and no send channel that was not open is so no more
+-- a table of the same cube in which no link that was free, no channel that was available and no send channel that was not open is so no more
 record Freer (w v : View) : Type 0 where
   dimension : w.dimension ≡ v.dimension
+  fold : w.fold ≡ v.fold
   free : (n p : ℕ) → free_in v n p ≡ true → free_in w n p ≡ true
   channel : (n k : ℕ) → available v n k ≡ true → available w n k ≡ true
   closed : (s c : ℕ) → open_in v s c ≡ false → open_in w s c ≡ false
 
 freer_self : (v : View) → Freer v v
-freer_self v = record { dimension = refl; free = λ n p e. e; channel = λ n k e. e; closed = λ s c e. e }
+freer_self v = record { dimension = refl; fold = refl; free = λ n p e. e; channel = λ n k e. e; closed = λ s c e. e }
 
 freer_chain : (u v w : View) → Freer u v → Freer v w → Freer u w
 freer_chain u v w x y =
     record {
       dimension = x.dimension ∙ y.dimension;
+      fold = x.fold ∙ y.fold;
       free = λ n p e. x.free n p (y.free n p e);
       channel = λ n k e. x.channel n k (y.channel n k e);
       closed = λ s c e. x.closed s c (y.closed s c e);
@@ -96,6 +99,7 @@ module _ (v : View) (a : ℕ) (some : a ≢ 0) where
   closed_freer =
       record {
         dimension = refl;
+        fold = refl;
         free = λ n p e. let r = entry_free v n p e in free_entry (without_circuit v a) n p r.0 (zero_either (eqb (v.owner n p) a) (v.owner n p) r.1);
         channel = closed_channel;
         closed = closed_still;
@@ -110,12 +114,18 @@ set_on f n p m q e = go (eqb m n && eqb q p)
     go true = refl
     go false = e
 
+freedom_kind : (q : ℕ) (a : Call) → GivesFreedom a → OfKind q a
+freedom_kind q _ frees = tt
+freedom_kind q _ unblocks = tt
+freedom_kind q _ arms = tt
+
 updated_freer : (v : View) (a : Call) → GivesFreedom a → Freer (updated v a) v
 unfolding updated set_enabled set_armed
 updated_freer v _ (frees {s} {c}) = closed_freer v (circuit_of s c) (λ z. omega arith)
 updated_freer v _ (unblocks {n} {p}) =
     record {
       dimension = refl;
+      fold = refl;
       free = λ m q e. let r = entry_free v m q e in free_entry (set_enabled v n p true) m q (set_on v.enabled n p m q r.0) r.1;
       channel = λ m k e. unfold available in e;
       closed = λ s c e. unfold open_in is_open_in in e;
@@ -123,34 +133,35 @@ updated_freer v _ (unblocks {n} {p}) =
 updated_freer v _ (arms {n} {k}) =
     record {
       dimension = refl;
+      fold = refl;
       free = λ m q e. let r = entry_free v m q e in free_entry (set_armed v n k true) m q r.0 r.1;
       channel = λ m j e. unfold available in let r = both (v.armed m j) _ e in and (set_on v.armed n k m j r.0) r.1;
       closed = λ s c e. unfold open_in is_open_in in e;
     }
 
-module _ (b : List ℕ) (small : AllBytes b) (s c t y v : ℕ) (e : Accepted b (opening s c t y v)) where
+module _ (q : ℕ) (width : Width q) (b : List ℕ) (small : AllBytes b) (s c t y v : ℕ) (e : Accepted q b (opening s c t y v)) where
   -- An open of any routing type that is acknowledged on a table is acknowledged, too, after any calls that only give more freedom.
-  pub freedom_acknowledges : {calls : List Call} → Each GivesFreedom calls → Accepted (table_after b calls) (opening s c t y v)
+  pub freedom_acknowledges : {calls : List Call} → Each GivesFreedom calls → Accepted q (table_after q b calls) (opening s c t y v)
   unfolding Allowed facts_of
   freedom_acknowledges {calls} all =
       let a = opening s c t y v in
-      let z = (table_step_lem b a).passed e in
-      let kept = calls_kept Freer freer_self freer_chain updated_freer b small (none_stops_lent b a refl z) all in
-      let p = pass_tests (table_after b calls) kept.passes in
-      let r = allowed (facts_of (view b)) a (none_stops b a z) in
+      let z = (table_step_lem q b a).passed e in
+      let kept = calls_kept q width Freer freer_self freer_chain (freedom_kind q) updated_freer b small (none_stops_lent q b a refl z) all in
+      let p = pass_tests q (table_after q b calls) kept.passes in
+      let r = allowed (facts_of (view b)) a (none_stops q b a z) in
       let D = kept.related.dimension in
-      let q : stopped_at (table_after b calls) a ≡ 0 =
-      stopped_is (table_after b calls) p.0 p.1 p.2 p.3 a
-      ∙ allowed_passes (facts_of (view (table_after b calls))) a (rw D r.0, rw D r.1, r.2, r.3, (λ n l. r.4 n (rw D at l)), kept.related.closed s c r.5, r.6) in
-      let x = (open_answers b s c t y v z).exactly.0 e in
-      (open_answers (table_after b calls) s c t y v q).exactly.1 (route kept.related x.0, (x.1.0, x.1.1, kept.related.channel t x.1.0 x.1.2))
+      let passes : stopped_at q (table_after q b calls) a ≡ 0 =
+      stopped_is q (table_after q b calls) p.0 p.1 p.2 p.3 a
+      ∙ allowed_passes (facts_of (view (table_after q b calls))) a (rw D r.0, rw D r.1, r.2, r.3, (λ n l. r.4 n (rw D at l)), kept.related.closed s c r.5, r.6) in
+      let x = (open_answers q width b s c t y v z).exactly.0 e in
+      (open_answers q width (table_after q b calls) s c t y v passes).exactly.1 (route kept.related x.0, (x.1.0, x.1.1, kept.related.channel t x.1.0 x.1.2))
     where
       route : {w : View} → Freer w (view b) → SomeRoute (view b) s t (attempts (shape_of (view b)) y v) → SomeRoute w s t (attempts (shape_of w) y v)
       route {w} more x =
-          let r : (i : Attempt) × (i ∈ attempts (shape_of w) y v) × ((u : Path) × Tries (net w) s t i u × Free (net w) (free_in (view b)) s u) = rw more.dimension x in
+          let r : (i : Attempt) × (i ∈ attempts (shape_of w) y v) × ((u : Path) × Tries (net w) s t i u × Free (net w) (free_in (view b)) s u) = rw (more.dimension, more.fold) x in
           (r.0, r.1, (r.2.0, r.2.1, wider_free (net w) (free_in (view b)) (free_in w) more.free s r.2.0 r.2.2))
 
-  -- "An open acknowledged in a sound table is also acknowledged after closing any circuit there."
-  pub closing_acknowledges : (m k : ℕ) → Accepted (table_step b (closing m k)).state (opening s c t y v)
+  -- So an open that would be acknowledged is acknowledged, too, after any circuit is closed.
+  pub closing_acknowledges : (m k : ℕ) → Accepted q (table_step q b (closing m k)).state (opening s c t y v)
   unfolding after_calls
   closing_acknowledges m k = freedom_acknowledges (call_more (frees {s = m} {c = k}) no_call)

@@ -42,7 +42,7 @@ module _ (h : History) (valid : Valid h) (s c : ℕ) (small : c < channels) wher
       let (x, m, f, q) = listed_some s c h.circuits e in
       sym (ap (path_of (view_of h)) (number_is s c x f)) ∙ path_is (view_of h) (number_for x) (valid_stands h valid x m) ∙ (stands_path h valid x m).0 ∙ sym q
 
-  -- "this send channel has an open circuit"
+  -- Calls 17
   pub open_same : open_in (view_of h) s c ≡ open_on h s c
   unfolding open_in is_open_in open_on
   open_same = go (open_on h s c) refl

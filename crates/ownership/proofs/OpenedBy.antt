@@ -12,8 +12,8 @@ use borrow.Author.Tests.{not-true}
 use Rattle.common.proofs.Tests.{same?, clash}
 use Rattle.common.proofs.Lists.{keep_mem}
 use Rattle.paths.specs.Send.{Outcome, acknowledged, route_rejected, receive_rejected}
-use Rattle.ownership.specs.Calls.{Call, making, blocking, unblocking, opening, closing, tracing, arming, disarming, opening_all, booking, judging}
-use Rattle.ownership.specs.History.{Circuit, History, belongs, stopped_on, send_on, with_opened, applied, history_step}
+use Rattle.ownership.specs.Calls.{Call, making, blocking, unblocking, opening, closing, tracing, arming, disarming, opening_all, booking, judging, folding}
+use Rattle.ownership.specs.History.{Circuit, History, belongs, stopped_on, send_on, with_fold, with_opened, applied, history_step}
 use Rattle.ownership.specs.Agrees.{history_after, history_results, after_calls, call_results}
 use Rattle.ownership.specs.StillOpen.{counts_as, with_answers, counted, Ends, Lasts, OpenedBy}
 use Rattle.ownership.specs.Closing.{Each, no_call, call_more}
@@ -47,6 +47,7 @@ listed_or_new h (arming n k) single x m = inl m
 listed_or_new h (disarming n k) single x m = inl m
 listed_or_new h (booking ports index) single x m = inl m
 listed_or_new h (judging ports index circuits hops) single x m = inl m
+listed_or_new h (folding mask) single x m = inl (unfold with_fold in m)
 listed_or_new h (opening_all sends) single x m = let u : ◌≡◌ {A = ℕ} 0 1 = cc (single 1) in absurd (omega arith)
 
 step : (h : History) (a : Call) → Single a → (x : Circuit) → x ∈ (history_step h a).state.circuits → (x ∈ h.circuits) ⊎ ((stopped_on h a ≡ 0) × New h a x)
@@ -68,6 +69,7 @@ ended h (disarming n k) x m z = z
 ended h (opening_all sends) x m z = z
 ended h (booking ports index) x m z = z
 ended h (judging ports index circuits hops) x m z = z
+ended h (folding mask) x m z = z
 
 lasted : (h : History) (a : Call) (x : Circuit) → x ∈ (history_step h a).state.circuits → (history_step h a).result.number ≡ 0 → Ends x.source x.channel a → ⊥
 lasted h a x m e z = ended h a x (rw ((history_step_lem h a).accepted e) at m) z

@@ -1,4 +1,4 @@
--- Document 02, (i): a book with at least one circuit, written of a table, is refused by that table while its circuits are open.
+-- A book with at least one circuit, written of a table, is refused by that table while its circuits are open (Judging 9).
 -- Assumes nothing.
 use mathlib.Core.Path.{◌≡◌, refl, ap, sym, ◌∙◌}
 use mathlib.Core.Logic.{◌≢◌}
@@ -61,19 +61,19 @@ module _ (v : View) where
           not_right first.0 first.1 (right first.0 (rw (circuits_back (book_of v) ports index) first.1))),
     )
 
-module _ (b ports index : List ℕ) where
+module _ (q : ℕ) (b ports index : List ℕ) where
   -- what the booking gave
   abbrev written : CallResult
-  written = (table_step b (booking ports index)).result
+  written = (table_step q b (booking ports index)).result
 
   -- A book with at least one circuit, judged by the table that it was written of while those circuits are open, answers 26: their send channels are in use.
-  pub own_book_refused : Accepted b (booking ports index) → 1 ≤ book_circuits written → (table_step b (judging_of written)).result.number ≡ 26
+  pub own_book_refused : Accepted q b (booking ports index) → 1 ≤ book_circuits written → (table_step q b (judging_of written)).result.number ≡ 26
   unfolding result_of facts_of Allowed view
   own_book_refused booked some =
       let a = booking ports index in
-      let z = (table_step_lem b a).passed booked in
-      let e = none_stops_lent b a refl z in
-      let p = pass_tests b e in
-      let r = allowed (facts_of (view b)) a (none_stops b a z) in
-      rw ((table_step_lem b a).result z)
-      ((judging_says b _ _ _ _ e).bad_circuit.1 (own_bad (view b) p.2 (open_sound (view b) p.3) (rw ((table_step_lem b a).result z) at some) ports index r.0 r.1))
+      let z = (table_step_lem q b a).passed booked in
+      let e = none_stops_lent q b a refl z in
+      let p = pass_tests q b e in
+      let r = allowed (facts_of (view b)) a (none_stops q b a z) in
+      rw ((table_step_lem q b a).result z)
+      ((judging_says q b _ _ _ _ e).bad_circuit.1 (own_bad (view b) p.2 (open_sound (view b) p.3) (rw ((table_step_lem q b a).result z) at some) ports index r.0 r.1))

@@ -4,7 +4,7 @@ use mathlib.Core.Path.{◌≡◌, refl, ap, sym}
 use mathlib.Core.Logic.{◌⊎◌, inl, inr, ⊎_elim, ◌≢◌, ◌↔◌}
 use mathlib.Core.Bool.{Bool, true, false, cond, not, ◌&&◌, ◌||◌, true≢false}
 use mathlib.Core.List.{List, [], ◌∷◌}
-use Prim.Native.Nat.{ℕ, ◌*◌, ◌^◌, ◌%◌, ◌≤◌, ◌<◌}
+use Prim.Native.Nat.{ℕ, ◌-◌, ◌*◌, ◌^◌, ◌%◌, ◌≤◌, ◌<◌}
 use native.Mathlib.Omega.{arith}
 use lib.Dec.{eqb, ltb, leb}
 use lib.ListN.{length}
@@ -14,18 +14,22 @@ use Rattle.common.specs.Tests.{Test, test, refusal}
 use Rattle.common.proofs.Tests.{both, and, same?, clash, is_false}
 use Rattle.cube.specs.Bits.{has}
 use Rattle.cube.proofs.Bits.{has_room, has_bit_above}
-use Rattle.ownership.proofs.Allowed.{one_of, equals}
+use Rattle.common.specs.Lists.{any, from}
+use Rattle.cube.specs.Axes.{present}
+use Rattle.judging.specs.Loadable.{PortOf}
+use Rattle.judging.proofs.Loadable.{port_exactly}
+use Rattle.ownership.proofs.Allowed.{one_of, equals, link_out, held_there, there_held}
 use Rattle.book.specs.Book.{BookCircuit, hop_count, line_length}
 use Rattle.book.specs.Lookup.{well_formed}
 use Rattle.book.specs.WellFormed.{WellFormed}
 use Rattle.book.proofs.WellFormedBook.{well_formed_exactly}
 use Rattle.judging.specs.Judged.{judge_tests}
-use Rattle.ownership.specs.Calls.{Call, making, blocking, unblocking, opening, closing, tracing, arming, disarming, opening_all, booking, judging, CallFacts, call_tests}
+use Rattle.ownership.specs.Calls.{Call, making, blocking, unblocking, opening, closing, tracing, arming, disarming, opening_all, booking, judging, folding, CallFacts, call_tests}
 use Rattle.ownership.specs.Reasons.{Reason, rank, making_dimension, blocking_node, blocking_port, blocking_held, unblocking_node, unblocking_port}
 use Rattle.ownership.specs.Reasons.{opening_node, opening_channel, opening_type, opening_vector, opening_in_use}
 use Rattle.ownership.specs.Reasons.{closing_node, closing_channel, closing_none, tracing_node, tracing_channel, tracing_none, tracing_short}
 use Rattle.ownership.specs.Reasons.{arming_node, arming_channel, disarming_node, disarming_channel, disarming_held, job_length, booking_short}
-use Rattle.ownership.specs.Reasons.{judging_book, judging_circuit, judging_link, judging_receive}
+use Rattle.ownership.specs.Reasons.{folding_bits, folding_held, judging_book, judging_circuit, judging_link, judging_receive}
 
 -- Of any list of tests: where each test that applies has a reason, the number answered has one.
 data Explained (R : ℕ → Type 0) : List Test → Type 0 where
@@ -126,6 +130,14 @@ bit_above D v = (λ e. has_bit_above D v ((not_below v _).0 e), λ h. (not_below
 no_vector : (D v : ℕ) → (eqb v 0 || not (ltb v (2 ^ D)) ≡ true) ↔ ((v ≡ 0) ⊎ ((p : ℕ) × (D ≤ p) × (has v p ≡ true)))
 no_vector D v = one_of _ _ (equals v 0) (bit_above D v)
 
+-- a port that is none, and a mask that would unfold a dimension with a held partner link
+no_port : (D fold p : ℕ) → (not (present D fold p) ≡ true) ↔ (PortOf D fold p → ⊥)
+no_port D fold p = (λ e o. clash ((port_exactly D fold p).1 o) (not-true _ e), λ h. ap not (is_false _ (λ e. h ((port_exactly D fold p).0 e))))
+
+link_there : (a : CallFacts) (mask : ℕ) → (any (link_out a mask) (from 0 a.dimension) ≡ true)
+    ↔ ((p : ℕ) × (p < a.dimension) × (has a.fold p ≡ true) × (has mask p ≡ false) × ((n : ℕ) × (n < 2 ^ a.dimension) × (a.held n (17 - p) ≡ true)))
+link_there a mask = (there_held a mask, λ r. held_there a mask r.0 r.1 r.2 r.3 r.4.0 r.4.1 r.4.2)
+
 no_list : (sends : List ℕ) → (not (eqb (length sends % 10) 0) || ltb 640 (length sends) ≡ true) ↔ ((length sends % 10 ≢ 0) ⊎ (640 < length sends))
 no_list sends = one_of _ _ (differs (length sends % 10) 0) (below 640 (length sends))
 
@@ -148,8 +160,8 @@ module _ (a : CallFacts) where
   explained : (x : Call) → Explained (Reason a x) (call_tests a x)
   unfolding call_tests
   explained (making D) = row (outside D) making_dimension no_more
-  explained (blocking n p) = row (not_below n _) blocking_node (row (not_below p _) blocking_port (row itself blocking_held no_more))
-  explained (unblocking n p) = row (not_below n _) unblocking_node (row (not_below p _) unblocking_port no_more)
+  explained (blocking n p) = row (not_below n _) blocking_node (row (no_port a.dimension a.fold p) blocking_port (row itself blocking_held no_more))
+  explained (unblocking n p) = row (not_below n _) unblocking_node (row (no_port a.dimension a.fold p) unblocking_port no_more)
   explained (opening s c t y v) =
       row (absent s t) opening_node
       (row (below 7 c) opening_channel (row (no_type y) opening_type (row (no_vector _ v) opening_vector (row itself opening_in_use no_more))))
@@ -161,6 +173,7 @@ module _ (a : CallFacts) where
   explained (disarming n k) = row (not_below n _) disarming_node (row (below 7 k) disarming_channel (row itself disarming_held no_more))
   explained (opening_all sends) = row (no_list sends) job_length no_more
   explained (booking ports index) = row (no_room a.book ports index) booking_short no_more
+  explained (folding mask) = row (bit_above _ mask) folding_bits (row (link_there a mask) folding_held no_more)
   explained (judging ports index circuits hops) =
       unfold judge_tests in
       row (no_book ports index circuits hops) judging_book (row (closed _) judging_circuit (row (closed _) judging_link (row (closed _) judging_receive no_more)))
@@ -170,10 +183,10 @@ module _ (a : CallFacts) where
   unfolding call_tests
   reason_applies (making D) (making_dimension h) = (outside D).1 h
   reason_applies (blocking n p) (blocking_node h) = (not_below n _).1 h
-  reason_applies (blocking n p) (blocking_port h) = (not_below p _).1 h
+  reason_applies (blocking n p) (blocking_port h) = (no_port a.dimension a.fold p).1 h
   reason_applies (blocking n p) (blocking_held h) = h
   reason_applies (unblocking n p) (unblocking_node h) = (not_below n _).1 h
-  reason_applies (unblocking n p) (unblocking_port h) = (not_below p _).1 h
+  reason_applies (unblocking n p) (unblocking_port h) = (no_port a.dimension a.fold p).1 h
   reason_applies (opening s c t y v) (opening_node h) = (absent s t).1 h
   reason_applies (opening s c t y v) (opening_channel h) = (below 7 c).1 h
   reason_applies (opening s c t y v) (opening_type h) = (no_type y).1 h
@@ -193,12 +206,14 @@ module _ (a : CallFacts) where
   reason_applies (disarming n k) (disarming_held h) = h
   reason_applies (opening_all sends) (job_length h) = (no_list sends).1 h
   reason_applies (booking ports index) (booking_short h) = (no_room a.book ports index).1 h
+  reason_applies (folding mask) (folding_bits h) = (bit_above _ mask).1 h
+  reason_applies (folding mask) (folding_held h) = (link_there a mask).1 h
   reason_applies (judging ports index circuits hops) (judging_book h) = unfold judge_tests in (no_book ports index circuits hops).1 h
   reason_applies (judging ports index circuits hops) (judging_circuit h) = unfold judge_tests in ap not h
   reason_applies (judging ports index circuits hops) (judging_link h) = unfold judge_tests in ap not h
   reason_applies (judging ports index circuits hops) (judging_receive h) = unfold judge_tests in ap not h
 
-  -- "Within one call the tests run in rising order of number", those of judging too but for the last, whose rank is above theirs.
+  -- Calls 4: the numbers of a call's tests rise, those of judging too but for the last, whose rank is above theirs.
   rising : (x : Call) → rise 0 (call_tests a x) ≡ true
   unfolding call_tests judge_tests
   rising (making D) = refl
@@ -212,12 +227,13 @@ module _ (a : CallFacts) where
   rising (opening_all sends) = refl
   rising (booking ports index) = refl
   rising (judging ports index circuits hops) = refl
+  rising (folding mask) = refl
 
-  -- "A test that does not apply never refuses": the number answered has its reason.
+  -- A test that does not apply has no effect: the number answered has its reason.
   pub refused_for : (x : Call) → refusal (call_tests a x) ≢ 0 → Reason a x (refusal (call_tests a x))
   refused_for x f = answer_explained (Reason a x) (call_tests a x) (explained x) f
 
-  -- "The first that applies is the answer": whatever reason holds, the call is refused, with its number or with one that comes before it.
+  -- The first that applies decides: whatever reason holds, the call is refused, with its number or with one that comes before it.
   pub first_reason : (x : Call) {n : ℕ} → Reason a x n → (0 < rank (refusal (call_tests a x))) × (rank (refusal (call_tests a x)) ≤ rank n)
   first_reason x {n} r = answer_lowest 0 n (call_tests a x) (rising x) (reason_applies x r)
 

@@ -8,7 +8,7 @@ use lib.ListN.{replicate}
 use Rattle.common.proofs.Tests.{same?}
 use Rattle.paths.specs.Send.{Outcome, acknowledged, route_rejected, receive_rejected}
 use Rattle.table.specs.View.{view}
-use Rattle.ownership.specs.Calls.{Call, making, blocking, unblocking, opening, closing, tracing, arming, disarming, opening_all, booking, judging, form, lent}
+use Rattle.ownership.specs.Calls.{Call, making, blocking, unblocking, opening, closing, tracing, arming, disarming, opening_all, booking, judging, folding, form, lent}
 use Rattle.ownership.specs.Sends.{sends_in}
 use Rattle.ownership.specs.Calls.{CallResult, scouts_of, answered, CallFacts, result_of}
 use Rattle.ownership.specs.OnTable.{facts_of, stopped_at, table_step}
@@ -16,7 +16,7 @@ use Rattle.ownership.specs.Agrees.{table_after, after_calls}
 use Rattle.ownership.proofs.Steps.{table_step_lem}
 use mathlib.Core.Bool.{Bool, true, false}
 
--- "When refused, all but the number are 0, except that 10 and 11 carry their scouts", and so does 22; a job that a send's refusal ends gives the send's place.
+-- Calls 6: refused, each value is 0, except that 10, 11 and 22 come with their scouts; a job that a send's refusal ends gives the send's place.
 abbrev pub Zero : Call → CallResult → Type 0
 Zero a g =
     (g.values ≡ replicate (form a).value_count 0) ⊎ (((g.number ≡ 10) ⊎ (g.number ≡ 22) ⊎ (g.number ≡ 11)) × (g.values ≡ 0 ∷ 0 ∷ scouts_of g ∷ []))
@@ -42,28 +42,29 @@ result_refused f (arming n k) h = absurd (h refl)
 result_refused f (disarming n k) h = absurd (h refl)
 result_refused f (booking ports index) h = absurd (h refl)
 result_refused f (judging ports index circuits hops) h = absurd (h refl)
+result_refused f (folding mask) h = absurd (h refl)
 result_refused f (opening_all sends) h = (refl, inr (inr (sends, (f.job (sends_in sends)).sends, refl, refl)))
 
-module _ (b : List ℕ) (a : Call) (f : (table_step b a).result.number ≢ 0) where
-  refused_result : ((table_step b a).result.buffers ≡ lent a) × Zero a (table_step b a).result
+module _ (q : ℕ) (b : List ℕ) (a : Call) (f : (table_step q b a).result.number ≢ 0) where
+  refused_result : ((table_step q b a).result.buffers ≡ lent a) × Zero a (table_step q b a).result
   refused_result =
-      ⊎_elim (λ z. let e = (table_step_lem b a).result z in rw e (result_refused (facts_of (view b)) a (rw e at f)))
-      (λ z. rw ((table_step_lem b a).stopped z) (refl, inl refl)) (same? (stopped_at b a) 0)
+      ⊎_elim (λ z. let e = (table_step_lem q b a).result z in rw e (result_refused (facts_of (view b)) a (rw e at f)))
+      (λ z. rw ((table_step_lem q b a).stopped z) (refl, inl refl)) (same? (stopped_at q b a) 0)
 
-  -- "No refusal alters any lent byte": of any call on any bytes.
-  pub refused_leaves : ((table_step b a).state ≡ b) × ((table_step b a).result.buffers ≡ lent a)
-  refused_leaves = ((table_step_lem b a).refused f, refused_result.0)
+  -- Calls 5, of any call on any bytes.
+  pub refused_leaves : ((table_step q b a).state ≡ b) × ((table_step q b a).result.buffers ≡ lent a)
+  refused_leaves = ((table_step_lem q b a).refused f, refused_result.0)
 
   -- and its values are so.
-  pub refused_zero : Zero a (table_step b a).result
+  pub refused_zero : Zero a (table_step q b a).result
   refused_zero = refused_result.1
 
 -- so wherever it stands in a list of calls, it leaves the table that it met
-after_all : (before : List Call) (b : List ℕ) (a : Call) → table_after b (before ++ a ∷ []) ≡ (table_step (table_after b before) a).state
+after_all : (q : ℕ) (before : List Call) (b : List ℕ) (a : Call) → table_after q b (before ++ a ∷ []) ≡ (table_step q (table_after q b before) a).state
 unfolding after_calls
-after_all [] b a = refl
-after_all (x ∷ before) b a = after_all before (table_step b x).state a
+after_all q [] b a = refl
+after_all q (x ∷ before) b a = after_all q before (table_step q b x).state a
 
-pub refused_within : (before : List Call) (b : List ℕ) (a : Call) → (table_step (table_after b before) a).result.number ≢ 0
-    → (table_after b (before ++ a ∷ []) ≡ table_after b before) × ((table_step (table_after b before) a).result.buffers ≡ lent a)
-refused_within before b a f = let r = refused_leaves (table_after b before) a f in (after_all before b a ∙ r.0, r.1)
+pub refused_within : (q : ℕ) (before : List Call) (b : List ℕ) (a : Call) → (table_step q (table_after q b before) a).result.number ≢ 0
+    → (table_after q b (before ++ a ∷ []) ≡ table_after q b before) × ((table_step q (table_after q b before) a).result.buffers ≡ lent a)
+refused_within q before b a f = let r = refused_leaves q (table_after q b before) a f in (after_all q before b a ∙ r.0, r.1)

@@ -15,7 +15,7 @@ use Rattle.ownership.specs.HistoryView.{view_of}
 use Rattle.ownership.proofs.Circuits.{number_any}
 
 module _ (h : History) where
-  -- "the link is held"
+  -- held links
   pub held_same : held_in (view_of h) ≡ held_on h
   unfolding held_in held_on view_of
   held_same = fun_ext (λ n. fun_ext (λ p. number_any (holds_link (net_on h) n p) h.circuits))
@@ -25,7 +25,7 @@ module _ (h : History) where
   unfolding free_in state_in free_on view_of
   free_same = λ i n p. is_free (link_state (enabled_on h n p) (held_same i n p))
 
-  -- "disarming a held one": the receive channel is held
+  -- held receive channels
   pub taken_same : taken_in (view_of h) ≡ taken_on h
   unfolding taken_in taken_on view_of
   taken_same = fun_ext (λ n. fun_ext (λ k. number_any (holds_receive n k) h.circuits))

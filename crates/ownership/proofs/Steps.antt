@@ -7,7 +7,7 @@ use Prim.Native.Nat.{ℕ}
 use borrow.Author.Tests.{eq-eqb, ne_eqb}
 use Rattle.common.proofs.Tests.{same?}
 use Rattle.table.specs.View.{view}
-use Rattle.table.specs.Encode.{encode}
+use Rattle.table.specs.Encode.{encode_over}
 use Rattle.ownership.specs.Calls.{Call, CallFacts, refused_with, result_of, After, call_on}
 use Rattle.ownership.specs.Update.{updated}
 use Rattle.ownership.specs.OnTable.{facts_of, stopped_at, table_step}
@@ -36,9 +36,9 @@ module _ {S : Type 0} (before after : S) (a : CallFacts) (n : ℕ) (call : Call)
         passed = λ e. ⊎_elim (λ z. z) (λ f. sym (ap (λ (x : After S). x.result.number) (is_stopped f)) ∙ e) (same? n 0);
       }
 
-pub table_step_lem : (b : List ℕ) (a : Call) → StepSays b (encode (updated (view b) a)) (facts_of (view b)) (stopped_at b a) a (table_step b a)
+pub table_step_lem : (q : ℕ) (b : List ℕ) (a : Call) → StepSays b (encode_over q (updated (view b) a)) (facts_of (view b)) (stopped_at q b a) a (table_step q b a)
 unfolding table_step
-table_step_lem b a = step_says b _ _ _ a
+table_step_lem q b a = step_says b _ _ _ a
 
 pub history_step_lem : (h : History) (a : Call) → StepSays h (applied h a) (facts_on h) (stopped_on h a) a (history_step h a)
 unfolding history_step

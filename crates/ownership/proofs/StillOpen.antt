@@ -14,8 +14,8 @@ use Rattle.common.specs.Lists.{any, keep}
 use Rattle.common.proofs.Tests.{same?, clash, is_false, both, and, either, or_left, or_right}
 use Rattle.common.proofs.Lists.{keep_mem, mem_keep, any_some, some_any}
 use Rattle.paths.specs.Send.{Outcome, acknowledged, route_rejected, receive_rejected}
-use Rattle.ownership.specs.Calls.{Call, making, blocking, unblocking, opening, closing, tracing, arming, disarming, opening_all, booking, judging, CallResult, answered, result_of}
-use Rattle.ownership.specs.History.{Circuit, History, belongs, open_on, facts_on, stopped_on, send_on, with_opened, applied, history_step, waiting_on, new_history}
+use Rattle.ownership.specs.Calls.{Call, making, blocking, unblocking, opening, closing, tracing, arming, disarming, opening_all, booking, judging, folding, CallResult, answered, result_of}
+use Rattle.ownership.specs.History.{Circuit, History, belongs, open_on, facts_on, stopped_on, send_on, with_fold, with_opened, applied, history_step, waiting_on, new_history}
 use Rattle.ownership.specs.Agrees.{history_after, history_results, after_calls, call_results}
 use Rattle.ownership.specs.StillOpen.{counts_as, with_answers, Ends, Lasts, StillOpen}
 use Rattle.ownership.specs.Closing.{Each, no_call, call_more}
@@ -115,6 +115,8 @@ module _ (s c : ℕ) where
       step_same h h (judging ports index circuits hops) 0 refl (λ o. let u : ◌≡◌ {A = ℕ} 0 1 = cc o.3 in absurd (omega arith)) (λ z ends. absurd ends)
   step_accepted h (booking ports index) single e =
       step_same h h (booking ports index) 0 refl (λ o. let u : ◌≡◌ {A = ℕ} 0 1 = cc o.3 in absurd (omega arith)) (λ z ends. absurd ends)
+  step_accepted h (folding mask) single e =
+      step_same h _ (folding mask) 0 (unfold with_fold in refl) (λ o. let u : ◌≡◌ {A = ℕ} 0 1 = cc o.3 in absurd (omega arith)) (λ z ends. absurd ends)
   step_accepted h (opening_all sends) single e = let u : ◌≡◌ {A = ℕ} 0 1 = cc (single 1) in absurd (omega arith)
 
   step_told : (h : History) (a : Call) → Single a → Step h (history_step h a).state a (history_step h a).result.number

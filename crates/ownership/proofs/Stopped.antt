@@ -3,16 +3,17 @@
 use mathlib.Core.Path.{◌≡◌, refl, sym, ◌∙◌, ap, fun_ext}
 use mathlib.Core.Bool.{◌&&◌, ◌||◌, Bool, true, false, not}
 use mathlib.Core.List.{List, [], ◌∷◌, map}
-use Prim.Native.Nat.{◌*◌, ℕ, ◌<◌}
+use Prim.Native.Nat.{◌-◌, ◌*◌, ◌^◌, ℕ, ◌<◌}
 use lib.Dec.{ltb}
 use lib.ListN.{length}
 use Rattle.common.specs.Tests.{Test, test, refusal}
 use Rattle.common.proofs.Tests.{refused, passed}
 use Rattle.std.specs.List.{list_all}
+use Rattle.common.specs.Lists.{any, from}
 use Rattle.cube.specs.Cube.{channels, source_of, channel_of}
 use Rattle.cube.proofs.Circuits.{channel_below}
 use Rattle.paths.specs.CubeNetwork.{ports}
-use Rattle.ownership.specs.Calls.{Call, making, blocking, unblocking, opening, closing, tracing, arming, disarming, opening_all, booking, judging, channel_number, judged_by, call_tests}
+use Rattle.ownership.specs.Calls.{Call, making, blocking, unblocking, opening, closing, tracing, arming, disarming, opening_all, booking, judging, folding, unfolds, channel_number, judged_by, call_tests}
 use Rattle.ownership.specs.OnTable.{facts_of}
 use Rattle.ownership.specs.History.{History, net_on, facts_on, stopped_on}
 use Rattle.ownership.specs.Invariant.{Valid}
@@ -71,5 +72,6 @@ stopped_same h valid (tracing s c buffer) =
 stopped_same h valid (arming n k) = refl
 stopped_same h valid (disarming n k) = past _ _ _ (past _ _ _ (ap (λ (f : ℕ → ℕ → Bool). refusal (test (f n k) 21 ∷ [])) (taken_same h)))
 stopped_same h valid (opening_all sends) = refl
+stopped_same h valid (folding mask) = past _ _ _ (ap (λ (held : ℕ → ℕ → Bool). refusal (test (any (λ p. unfolds (facts_on h) mask p && any (λ n. held n (17 - p)) (from 0 (2 ^ h.dimension))) (from 0 h.dimension)) 13 ∷ [])) (held_same h))
 stopped_same h valid (judging ports index circuits hops) = judged_same h valid ports index circuits hops
 stopped_same h valid (booking ports index) = ap (λ (xs : List BookCircuit). refusal (test (ltb (length ports) (hop_count xs) || ltb (length index) (line_length * length xs)) 23 ∷ [])) (book_same h valid)

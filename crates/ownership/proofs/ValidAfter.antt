@@ -2,35 +2,43 @@
 -- Assumes nothing.
 use mathlib.Core.Path.{◌≡◌, refl, sym, ◌∙◌, subst}
 use mathlib.Core.Logic.{⊎_elim}
-use mathlib.Core.Bool.{Bool, true, false, cond, not, ◌&&◌}
+use mathlib.Core.Bool.{Bool, true, false, cond, not, ◌&&◌, ◌||◌}
 use mathlib.Core.List.Memᴰ
 use mathlib.Core.List.{List, ◌∷◌}
 use Prim.Native.Nat.{ℕ, ◌^◌, ◌≤◌, ◌<◌}
-use lib.Dec.{eqb}
-use borrow.Author.Tests.{eqb-true, not-true}
+use lib.Dec.{eqb, lit<}
+use native.Mathlib.Omega.{arith}
+use borrow.Author.Tests.{eqb-true, lt-ltb, not-true}
+use Rattle.cube.specs.Bits.{has}
+use Rattle.cube.specs.Axes.{axis, present}
 use Rattle.cube.specs.Cube.{largest_dimension, channels, NodeOf}
+use Rattle.cube.proofs.Bits.{zero_has, no_bit_above}
+use Rattle.cube.proofs.Ports.{below_256}
 use Rattle.common.specs.Lists.{◌∈◌, keep, Pairwise}
 use Rattle.common.specs.Tests.{refusal}
 use Rattle.common.proofs.Tests.{clash, is_false, both}
-use Rattle.common.proofs.Lists.{keep_mem, keep_pairwise, some_any}
+use Rattle.common.proofs.Lists.{keep_mem, keep_pairwise, pairwise_imp, some_any}
 use Rattle.paths.specs.Network.{Path, Link, links}
+use Rattle.paths.specs.CubeNetwork.{LinkOf, is_link_of}
 use Rattle.paths.specs.Send.{Outcome, acknowledged, route_rejected, receive_rejected}
 use Rattle.paths.proofs.Words.{free_link}
 use Rattle.table.specs.View.{set_at}
 use Rattle.ownership.specs.Sends.{Send, sends_in}
-use Rattle.ownership.specs.Calls.{Call, making, blocking, unblocking, opening, closing, tracing, arming, disarming, opening_all, booking, judging, opening_of, call_tests, no_job}
+use Rattle.ownership.specs.Calls.{Call, making, blocking, unblocking, opening, closing, tracing, arming, disarming, opening_all, booking, judging, folding, OfKind, opening_of, call_tests, no_job}
 use Rattle.ownership.specs.InTurn.{single_open, after_job}
-use Rattle.ownership.specs.History.{Circuit, History, shape_on, net_on, links_of, holds_link, holds_receive, belongs, enabled_on, held_on, free_on, taken_on, open_on, armed_on, receive_on, facts_on, facts_on_with, stopped_on, send_on, with_blocked, with_circuits, with_armed, without_entry, with_opened, opened_on, job_on, applied, new_history}
+use Rattle.ownership.specs.History.{Circuit, History, shape_on, net_on, links_of, holds_link, holds_receive, belongs, enabled_on, held_on, free_on, taken_on, open_on, armed_on, receive_on, facts_on, facts_on_with, stopped_on, send_on, with_blocked, with_circuits, with_armed, with_fold, keeps_bit, without_entry, with_opened, opened_on, job_on, applied, new_history}
 use Rattle.ownership.specs.Invariant.{CircuitValid, Disjoint, Valid}
 use Rattle.ownership.proofs.Circuits.{parts_belong, belongs_number}
-use Rattle.ownership.proofs.CircuitValid.{link_holds, receive_holds, receiver_of}
+use Rattle.ownership.proofs.CircuitValid.{link_holds, receive_holds, receiver_of, inside}
+use Rattle.ownership.proofs.Ports.{kept_port, same_links, port_link, permitted_in}
 use Rattle.answers.proofs.AfterSend.{SendTakes, send_taken}
 use Rattle.ownership.proofs.Acknowledged.{receive_free}
 use Rattle.ownership.specs.Allowed.{Allowed}
-use Rattle.ownership.proofs.Allowed.{allowed_on, made_facts, block_facts, unblock_facts, close_facts, arm_facts, disarm_facts}
+use Rattle.ownership.proofs.Allowed.{allowed_on, made_facts, block_facts, unblock_facts, close_facts, arm_facts, disarm_facts, fold_facts}
 use Rattle.ownership.proofs.InTurn.{after_keeps}
+use Rattle.ownership.proofs.Range.{FoldFits}
 use Rattle.ownership.proofs.Steps.{step_says}
-use Rattle.ownership.proofs.Enabled.{block_enabled, unblock_enabled}
+use Rattle.ownership.proofs.Enabled.{block_enabled, unblock_enabled, fold_enabled}
 use Rattle.ownership.proofs.Armed.{arm_armed, disarm_armed, close_armed}
 
 -- a listed circuit holds its links and its receive channel and makes its send channel open, in the words of the history
@@ -53,6 +61,7 @@ made_valid D l m =
     record {
       least = l;
       most = m;
+      folded = λ p e. absurd (clash e (zero_has p));
       blocked = λ x k. absurd (Memᴰ.not-nil k);
       armed = λ x k. absurd (Memᴰ.not-nil k);
       every_circuit = λ x k. absurd (Memᴰ.not-nil k);
@@ -75,13 +84,14 @@ other_cleared f n p m q on other =
 
 module _ (h : History) (valid : Valid h) where
   -- other blocked links: those within the cube, where each held link stays enabled
-  blocked_valid : (ls : List Link) → ((l : Link) → l ∈ ls → (l.0 < 2 ^ h.dimension) × (l.1 < h.dimension))
+  blocked_valid : (ls : List Link) → ((l : Link) → l ∈ ls → LinkOf (shape_on h) l.0 l.1)
       → ((n p : ℕ) → held_on h n p ≡ true → enabled_on h n p ≡ true → enabled_on (with_blocked h ls) n p ≡ true) → Valid (with_blocked h ls)
   unfolding armed_on
   blocked_valid ls inside on =
       record {
         least = valid.least;
         most = valid.most;
+        folded = valid.folded;
         blocked = inside;
         armed = valid.armed;
         every_circuit = λ x m.
@@ -106,6 +116,7 @@ module _ (h : History) (valid : Valid h) where
       record {
         least = valid.least;
         most = valid.most;
+        folded = valid.folded;
         blocked = valid.blocked;
         armed = inside;
         every_circuit = λ x m.
@@ -148,6 +159,46 @@ module _ (h : History) (valid : Valid h) where
         (λ x m. let s = ⊎_elim (λ e. subst (CircuitValid h) (sym e) new_stands) (λ i. valid.every_circuit x i) (Memᴰ.cases_cons m) in (s, s.armed))
         (unfold Pairwise in (new_apart, valid.apart))
 
+  -- Another fold mask, of which no bit is at or above D, and with which each held link is one of the cube: the links that it keeps blocked are, and each circuit stands
+  -- as it stood.
+  pub fold_valid : (mask : ℕ) → ((p : ℕ) → has mask p ≡ true → p < h.dimension)
+      → ((n q : ℕ) → NodeOf h.dimension n → present h.dimension h.fold q ≡ true → held_on h n q ≡ true → present h.dimension mask q ≡ true) → Valid (with_fold h mask)
+  unfolding with_fold armed_on
+  fold_valid mask below stays =
+      record {
+        least = valid.least;
+        most = valid.most;
+        folded = below;
+        blocked = λ l m. let r = keep_mem (λ (k : Link). keeps_bit h.fold mask k.1) h.blocked m in let b = valid.blocked l r.0 in (b.0, sym (kept_port h.dimension h.fold mask l.1 r.1) ∙ b.1);
+        armed = valid.armed;
+        every_circuit = λ x m.
+            let s = valid.every_circuit x m in
+            record {
+              source = s.source;
+              channel = s.channel;
+              permitted =
+                  permitted_in (shape_on h) (shape_on (with_fold h mask)) x.target x.source x.ports
+                  (λ q i. let k = port_link (net_on h) x.source x.ports q i in link_there x m (k.0, q) k.1) s.permitted;
+              enabled = λ l k. let i = rw (same x) at k in fold_enabled h mask l.0 l.1 ∙ on (eqb l.1 (axis l.1)) l.0 l.1 (not (has h.fold (axis l.1))) ((inside h valid x m).0 l.0 l.1 i).0 (link_there x m l i) (s.enabled l i);
+              receive = s.receive;
+              armed = s.armed;
+            };
+        apart =
+            pairwise_imp (Disjoint (net_on h)) (Disjoint (net_on (with_fold h mask))) h.circuits
+            (λ x y m n d. record { send = d.send; link = λ l i j. d.link l (rw (same x) at i) (rw (same y) at j); receives = d.receives }) valid.apart;
+      }
+    where
+      same : (x : Circuit) → links_of (net_on (with_fold h mask)) x ≡ links_of (net_on h) x
+      same x = same_links (shape_on (with_fold h mask)) (shape_on h) x.source x.ports
+
+      link_there : (x : Circuit) → x ∈ h.circuits → (l : Link) → l ∈ links_of (net_on h) x → present h.dimension mask l.1 ≡ true
+      link_there x m l i = let r = (inside h valid x m).0 l.0 l.1 i in stays l.0 l.1 r.0 r.1 (held_link h x m l.0 l.1 i)
+
+      on : (o : Bool) (n q : ℕ) (y : Bool) → NodeOf h.dimension n → present h.dimension mask q ≡ true → enabled_on h n q ≡ true
+          → cond o (enabled_on h n q) (is_link_of (shape_on (with_fold h mask)) n q && (enabled_on h n q || y)) ≡ true
+      on true n q y i p e = e
+      on false n q y i p e = rw (e, p, lt-ltb n (2 ^ h.dimension) i)
+
   opened_valid : (s c t y v : ℕ) → Allowed (facts_on h) (opening s c t y v) → (o : Outcome) → (send_on h s t y v).outcome ≡ o → Valid (with_opened h s c t o)
   unfolding with_opened send_on Allowed facts_on
   opened_valid s c t y v r (acknowledged w k) e = added_valid s c t r.0 r.2 r.5 w k (send_taken (shape_on h) (free_on h) (receive_on h t) s t v valid.most r.0 r.1 w k y e)
@@ -174,7 +225,7 @@ module _ (h : History) (valid : Valid h) where
       let r = block_facts h n p e in
       blocked_valid h valid ((n, p) ∷ h.blocked)
       (λ l m.
-      ⊎_elim (λ q. subst (λ (x : Link). (x.0 < 2 ^ h.dimension) × (x.1 < h.dimension)) (sym q) (r.0, r.1)) (λ k. valid.blocked l k)
+      ⊎_elim (λ q. subst (λ (x : Link). LinkOf (shape_on h) x.0 x.1) (sym q) (r.0, r.1)) (λ k. valid.blocked l k)
       (Memᴰ.cases_cons m))
       (λ m q held on. block_enabled h n p m q ∙ other_cleared (enabled_on h) n p m q on (λ x y. clash held (rw (x, y) r.2)))
   applied_valid (unblocking n p) e =
@@ -213,3 +264,35 @@ module _ (h : History) (valid : Valid h) where
   applied_valid (opening_all sends) e = job_valid h valid (sends_in sends)
   applied_valid (booking ports index) e = valid
   applied_valid (judging ports index circuits hops) e = valid
+  applied_valid (folding mask) e = let r = fold_facts h mask e in fold_valid h valid mask r.0 r.1
+
+-- Its fold mask is one that a table of its kind can have, where the one before was: a making clears it, and only a call on a wide table sets it.
+module _ (q : ℕ) where
+  opened_fold : (h : History) → FoldFits q h.fold → (s c t : ℕ) (o : Outcome) → FoldFits q (with_opened h s c t o).fold
+  unfolding with_opened
+  opened_fold h fold s c t (acknowledged w k) = fold
+  opened_fold h fold s c t route_rejected = fold
+  opened_fold h fold s c t receive_rejected = fold
+
+  pub applied_fold : (h : History) → Valid h → FoldFits q h.fold → (a : Call) → OfKind q a → stopped_on h a ≡ 0 → FoldFits q (applied h a).fold
+  unfolding applied job_on with_fold
+  applied_fold h valid fold (making D) kind e = record { small = lit< tt; plain = λ z. refl }
+  applied_fold h valid fold (blocking n p) kind e = fold
+  applied_fold h valid fold (unblocking n p) kind e = fold
+  applied_fold h valid fold (opening s c t y v) kind e = opened_fold h fold s c t (send_on h s t y v).outcome
+  applied_fold h valid fold (closing s c) kind e = fold
+  applied_fold h valid fold (tracing s c buffer) kind e = fold
+  applied_fold h valid fold (arming n k) kind e = fold
+  applied_fold h valid fold (disarming n k) kind e = fold
+  applied_fold h valid fold (opening_all sends) kind e =
+      after_keeps (single_open (facts_on_with no_job) opened_on) (λ g. FoldFits q g.fold)
+      (λ g x fits z.
+      rw ((step_says g (opened_on g x) (facts_on_with no_job g) (refusal (call_tests (facts_on_with no_job g) (opening_of x))) (opening_of x)).accepted z)
+      (opened_fold g fits x.source x.channel x.target (send_on g x.source x.target x.type x.vector).outcome)) (sends_in sends) h fold
+  applied_fold h valid fold (booking ports index) kind e = fold
+  applied_fold h valid fold (judging ports index circuits hops) kind e = fold
+  applied_fold h valid fold (folding mask) kind e =
+      record {
+        small = below_256 valid.most (no_bit_above h.dimension mask (λ p l. is_false _ (λ on. omega (arith, l, (fold_facts h mask e).0 p on))));
+        plain = λ z. omega (arith, z, kind);
+      }

@@ -1,5 +1,5 @@
--- Lists of calls that the shift makes between two tries of a send: calls that close circuits and arm channels; calls that repair nothing; and calls that only give
--- more freedom. And a table on which no link is held.
+-- Lists of calls between two tries of a send: calls that close circuits and arm channels; calls that repair nothing; and calls that only give more freedom. And a
+-- table on which no link is held.
 -- Assumes nothing.
 use Rattle.std.specs.Prelude.{◌≡◌, false, List, [], ◌∷◌, ℕ}
 use Rattle.table.specs.View.{View, held_in}
@@ -10,11 +10,12 @@ pub data Each (P : Call → Type 0) : List Call → Type 0 where
   no_call : Each P []
   call_more : {a : Call} {calls : List Call} → P a → Each P calls → Each P (a ∷ calls)
 
+-- Promises 9: closings and armings
 pub data ClosesOrArms : Call → Type 0 where
   closes : {s c : ℕ} → ClosesOrArms (closing s c)
   arms : {n k : ℕ} → ClosesOrArms (arming n k)
 
--- every call but an unblocking and a making: "until a link is repaired"
+-- Promises 10: every call but an unblock, a make and a setting of the fold mask, which may enable a link
 pub data RepairsNothing : Call → Type 0 where
   a_block : {n p : ℕ} → RepairsNothing (blocking n p)
   an_open : {s c t y v : ℕ} → RepairsNothing (opening s c t y v)
@@ -26,7 +27,7 @@ pub data RepairsNothing : Call → Type 0 where
   a_book : {ports index : List ℕ} → RepairsNothing (booking ports index)
   a_judging : {ports index : List ℕ} {circuits hops : ℕ} → RepairsNothing (judging ports index circuits hops)
 
--- Calls that give more freedom and take none: document 02, (n), names closing; repairing a link and arming a channel are such calls too.
+-- Promises 11: calls that close circuits, unblock links or arm channels
 pub data GivesFreedom : Call → Type 0 where
   frees : {s c : ℕ} → GivesFreedom (closing s c)
   unblocks : {n p : ℕ} → GivesFreedom (unblocking n p)

@@ -1,4 +1,4 @@
--- The history that a sound table amounts to, whoever wrote its bytes: what a list of calls goes on from where the list before it is not known.
+-- The history that a sound table amounts to, whoever wrote its bytes (History 14): a list of calls goes on from it where no history is known.
 -- Assumes nothing.
 use Rattle.std.specs.Prelude.{not, List, [], ◌∷◌, ◌++◌, map, ℕ, eqb}
 use Rattle.common.specs.Lists.{keep, from, lowest}
@@ -16,7 +16,7 @@ unfoldable pub links_out : List ℕ → List ℕ → List Link
 links_out [] ps = []
 links_out (n ∷ ns) ps = map (λ (p : ℕ). (n, p)) ps ++ links_out ns ps
 
--- the circuit of a number: the path that its links make, and the lowest receive channel that it holds where that ends
+-- the circuit of a number: the path that its links make (Soundness 9), and the lowest receive channel that it holds where that ends
 unfoldable pub circuit_at : View → ℕ → Circuit
 circuit_at v c =
     record {
@@ -31,6 +31,7 @@ unfoldable pub history_of : View → History
 history_of v =
     record {
       dimension = v.dimension;
+      fold = v.fold;
       blocked = keep (λ l. not (v.enabled l.0 l.1)) (links_out (from 0 (cube_nodes v.dimension)) (ports (shape_of v)));
       circuits = map (circuit_at v) (open_numbers v);
       armed = keep (λ l. v.armed l.0 l.1) (links_out (from 0 (cube_nodes v.dimension)) (from 0 channels));

@@ -1,4 +1,4 @@
--- Document 02, (j): sends opened one after another on any kind of state, up to the first that is refused.
+-- Sends opened one after another on any kind of state, up to the first that is refused.
 -- Assumes nothing.
 use Rattle.std.specs.Prelude.{cond, List, [], ◌∷◌, ℕ, suc, eqb}
 use Rattle.common.specs.Tests.{refusal}
@@ -14,11 +14,11 @@ pub record Job (S : Type 0) : Type 0 where
 abbrev pub one_more : {S : Type 0} → Job S → Job S
 one_more j = record { result = record { number = j.result.number; sends = suc j.result.sends }; state = j.state }
 
--- no send more is opened: the number of one that is refused, or 0 where none is left
+-- no send more is opened: the number of one that is refused, or 0 where none is left, as of an empty list (Jobs 7)
 abbrev pub ends_with : {S : Type 0} → S → ℕ → Job S
 ends_with s n = record { result = record { number = n; sends = 0 }; state = s }
 
--- "opening them one after another", up to the first refusal, where `opens` is a single open
+-- Jobs 4: one after another, each on what those before it left, up to the first refusal; `opens` is a single open
 module _ {S : Type 0} (opens : S → Send → After S) where
   unfoldable pub in_turn : S → List Send → Job S
   in_turn s [] = ends_with s 0
@@ -29,6 +29,6 @@ module _ {S : Type 0} (opens : S → Send → After S) where
 abbrev pub single_open : {S : Type 0} → (S → CallFacts) → (S → Send → S) → S → Send → After S
 single_open facts opened s x = call_on s (opened s x) (facts s) (refusal (call_tests (facts s) (opening_of x))) (opening_of x)
 
--- "The outcome equals opening them one after another if all are acknowledged; at the first refusal the table is as before"
+-- Jobs 1: all sends of a list, or none of them. Jobs 6: at the first refusal the state is as it was before.
 unfoldable pub after_job : {S : Type 0} → S → Job S → S
 after_job before j = cond (eqb j.result.number 0) j.state before

@@ -1,4 +1,4 @@
--- Document 02, (i): what a judging answers; and the calls after which a table accepts the book that was written of it, and what it shows after them.
+-- What a judging answers; and the calls after which a table accepts the book that was written of it, and what it shows after them.
 -- Assumes nothing.
 use Rattle.std.specs.Prelude.{◌≡◌, ◌↔◌, List, [], ◌∷◌, ℕ, get_or}
 use Rattle.table.specs.View.{View, view}
@@ -20,31 +20,31 @@ module _ (b ports index : List ℕ) (circuits hops : ℕ) where
   abbrev circuits_listed : List BookCircuit
   circuits_listed = circuits_in ports index circuits
 
-  -- What each number means that a judging can answer on bytes b that pass the tests of a lent table, "tried in that order over the whole book": each comes where
+  -- What each number means that a judging can answer on bytes b that pass the tests of a lent table, each looking at the whole book (Judging 3): each comes where
   -- what it names is so and what those before it name is not. No other comes (proved: Rising.judging_numbers), and the table stays as it was (StepBytes.judging_leaves).
   pub record JudgingSays (number : ℕ) : Type 0 where
-    -- "A yes means exactly this"
+    -- Judging 2: a yes
     pub accepted : (number ≡ 0) ↔ Loadable facts ports index circuits hops
-    -- "a book not well formed is 25,
+    -- Books 9: no well-formed book
     pub bad_book : (number ≡ 25) ↔ (WellFormed ports index circuits hops → ⊥)
-    -- a bad source, path or send channel 26,
+    -- Judging 4
     pub bad_circuit : (number ≡ 26) ↔ (WellFormed ports index circuits hops × (CircuitsRight facts circuits_listed → ⊥))
-    -- a blocked, taken or shared link 27,
+    -- Judging 5
     pub bad_link : (number ≡ 27) ↔ (WellFormed ports index circuits hops × CircuitsRight facts circuits_listed × (LinksFree facts circuits_listed → ⊥))
-    -- too few receive channels 11"
+    -- Judging 6
     pub too_few : (number ≡ 11)
         ↔ (WellFormed ports index circuits hops × CircuitsRight facts circuits_listed × LinksFree facts circuits_listed × (ChannelsSuffice facts circuits_listed → ⊥))
 
--- "with those circuits closed and their receive channels armed": each circuit is closed, which disarms its channel, and the channel is then armed again
+-- Judging 9: each circuit is closed, which disarms its channel, and the channel is then armed again
 unfoldable pub closes_and_arms : List Circuit → List Call
 closes_and_arms [] = []
 closes_and_arms (x ∷ xs) = closing x.source x.channel ∷ arming x.target x.receive ∷ closes_and_arms xs
 
 -- what a table shows then: nothing is held, and the same links are enabled and the same channels armed as before
 unfoldable pub emptied : View → View
-emptied v = record { dimension = v.dimension; enabled = v.enabled; owner = λ n p. 0; receiver = λ n k. 0; armed = v.armed }
+emptied v = record { dimension = v.dimension; fold = v.fold; enabled = v.enabled; owner = λ n p. 0; receiver = λ n k. 0; armed = v.armed }
 
--- both buffers and both counts of a book that was written
+-- Books 1: both buffers and both counts of a book that was written
 abbrev pub book_ports : CallResult → List ℕ
 book_ports g = get_or g.buffers 0 []
 
@@ -65,11 +65,12 @@ judging_of written = judging (book_ports written) (book_index written) (book_cir
 abbrev pub emptying : List ℕ → List Call
 emptying b = closes_and_arms (history_of (view b)).circuits
 
--- "Every book that (e) writes is accepted by the table with those circuits closed and their receive channels armed": of a table b, and what a booking on it gave
-pub record BookAccepted (b : List ℕ) (written : CallResult) : Type 0 where
+-- Judging 9: the book that a table wrote is accepted by that table once its circuits are closed and their channels armed again: of a table b
+-- with q ports to a node, and what a booking on it gave
+pub record BookAccepted (q : ℕ) (b : List ℕ) (written : CallResult) : Type 0 where
   -- each of those calls is accepted,
-  pub closed : AllAccepted b (emptying b)
+  pub closed : AllAccepted q b (emptying b)
   -- the table then shows nothing held, and all else as it was,
-  pub shows : view (table_after b (emptying b)) ≡ emptied (view b)
+  pub shows : view (table_after q b (emptying b)) ≡ emptied (view b)
   -- and it accepts the book
-  pub accepted : Accepted (table_after b (emptying b)) (judging_of written)
+  pub accepted : Accepted q (table_after q b (emptying b)) (judging_of written)

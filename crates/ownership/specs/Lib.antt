@@ -12,6 +12,8 @@ pub mod HistoryView
 pub mod Invariant
 pub mod Agrees
 pub mod FromTable
+pub mod BothKinds
+pub mod Kinds
 pub mod JobSays
 pub mod StillOpen
 pub mod AllArmed
@@ -20,3 +22,4 @@ pub mod SameOpen
 pub mod Judging
 pub mod LoadedBook
 pub mod FreedomExamples
+pub mod Promises

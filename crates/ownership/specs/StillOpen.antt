@@ -1,15 +1,14 @@
--- The send channels that are open after a list of calls, said of the list and of the numbers that its calls answered.
+-- History 12: the send channels that are open after a list of calls, said of the list and of the numbers that its calls answered.
 -- Assumes nothing.
 use Rattle.std.specs.Prelude.{◌≡◌, cond, List, [], ◌∷◌, ◌++◌, map, ℕ, eqb}
 use Rattle.common.specs.Lists.{◌∈◌}
 use Rattle.paths.specs.Send.{acknowledged}
 use Rattle.ownership.specs.Sends.{sends_in}
-use Rattle.ownership.specs.Calls.{Call, making, blocking, unblocking, opening, closing, tracing, arming, disarming, opening_all, booking, judging, opening_of, CallResult}
+use Rattle.ownership.specs.Calls.{Call, making, blocking, unblocking, opening, closing, tracing, arming, disarming, opening_all, booking, judging, folding, opening_of, CallResult}
 use Rattle.ownership.specs.History.{Circuit, History, stopped_on, send_on, history_step}
 use Rattle.ownership.specs.Agrees.{history_after, history_results}
 
--- Document 02, (j): "The ownership history counts such a call as its single opens, or as nothing." What a call that answered n counts as; each other call is
--- itself.
+-- Jobs 8: an accepted job counts as its single opens, a refused one as nothing. What a call that answered n counts as; each other call is itself.
 unfoldable pub counts_as : Call → ℕ → List Call
 counts_as (making D) n = making D ∷ []
 counts_as (blocking m p) n = blocking m p ∷ []
@@ -21,9 +20,10 @@ counts_as (arming m k) n = arming m k ∷ []
 counts_as (disarming m k) n = disarming m k ∷ []
 counts_as (booking ports index) n = booking ports index ∷ []
 counts_as (judging ports index circuits hops) n = judging ports index circuits hops ∷ []
+counts_as (folding mask) n = folding mask ∷ []
 counts_as (opening_all sends) n = cond (eqb n 0) (map opening_of (sends_in sends)) []
 
--- the calls of a list so counted, each with the number that it answered; "Success is 0", and an accepted open is an acknowledged one
+-- the calls of a list so counted, each with the number that it answered; an accepted open is an acknowledged one
 unfoldable pub with_answers : List Call → List CallResult → List (Call × ℕ)
 with_answers [] gs = []
 with_answers (a ∷ more) [] = []
@@ -47,12 +47,13 @@ Ends s c (disarming n k) = ⊥
 Ends s c (opening_all sends) = ⊥
 Ends s c (booking ports index) = ⊥
 Ends s c (judging ports index circuits hops) = ⊥
+Ends s c (folding mask) = ⊥
 
 -- no accepted call of a list ends it
 unfoldable pub Lasts : ℕ → ℕ → List (Call × ℕ) → Type 0
 Lasts s c calls = (a : Call) → (a, 0) ∈ calls → Ends s c a → ⊥
 
--- the list has an acknowledged open of the channel, and no accepted making and no accepted close of it afterwards
+-- History 12: the list has an acknowledged open of the channel, and no accepted making and no accepted close of it afterwards.
 pub record StillOpen (s c : ℕ) (calls : List (Call × ℕ)) : Type 0 where
   pub before : List (Call × ℕ)
   pub target : ℕ

@@ -11,11 +11,11 @@ use Rattle.ownership.specs.Sends.{Send, JobResult}
 use Rattle.ownership.specs.Calls.{CallFacts, no_job}
 use Rattle.ownership.specs.InTurn.{Job, in_turn, single_open}
 
--- "this send channel has an open circuit"
+-- Calls 17: the send channel has an open circuit
 unfoldable pub open_in : View → ℕ → ℕ → Bool
 open_in v s c = is_open_in v (circuit_of s c)
 
--- a circuit holds the receive channel
+-- Cube 14: a circuit holds the receive channel
 unfoldable pub taken_in : View → ℕ → ℕ → Bool
 taken_in v n k = not (eqb (v.receiver n k) 0)
 
@@ -24,6 +24,7 @@ abbrev pub facts_with : (List Send → JobResult) → View → CallFacts
 facts_with job v =
     record {
       dimension = v.dimension;
+      fold = v.fold;
       held = held_in v;
       is_open = open_in v;
       is_taken = taken_in v;
@@ -36,11 +37,11 @@ facts_with job v =
       job = job;
     }
 
--- what a table shows after an open that no test stops: the circuit of the send channel holds what its send takes
+-- Calls 14: what a table shows after an open that no test stops: the circuit of the send channel holds what its send takes
 abbrev pub opened : View → Send → View
 opened v x =
     view_after_send v (circuit_of x.source x.channel) x.source x.target (send_in v x.source x.target x.type x.vector).outcome
 
--- Document 02, (j): the sends of a job, each opened on what the one before it left.
+-- Jobs 4: the sends of a job, each opened on what the one before it left.
 unfoldable pub job_in : View → List Send → Job View
 job_in v xs = in_turn (single_open (facts_with no_job) opened) v xs

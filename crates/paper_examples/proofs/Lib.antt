@@ -1,2 +1,2 @@
--- Document 01's examples on tables.
+-- Examples 1 to 8 on tables.
 pub mod OnTables

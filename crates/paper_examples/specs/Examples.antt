@@ -1,5 +1,5 @@
--- Document 01, "Examples at the edges": all those marked P, as a single list of inputs and results under one claim that computes. Document 02, (a): "01's
--- examples hold with every channel armed first". What a table gives is what the history gives (demand_3), so the calls are computed on the history.
+-- Examples 1 to 8 as a single list of inputs and results under one claim that computes (Forms 14), every channel armed first. What a table gives is what the
+-- history gives (demand_3), so the calls are computed on the history.
 -- Assumes nothing.
 use Rattle.std.specs.Prelude.{◌≡◌, refl, List, [], ◌∷◌, ◌++◌, map, ℕ, ◌*◌, replicate}
 use Rattle.common.specs.Lists.{keep, from, any, lowest}
@@ -49,7 +49,7 @@ result (write c k) = alone ((write_word c k).number ∷ (write_word c k).word �
 abbrev trace : ℕ → Call
 trace c = tracing 0 c (9 ∷ 9 ∷ 9 ∷ 9 ∷ 9 ∷ 9 ∷ 9 ∷ 9 ∷ 9 ∷ [])
 
--- "every channel armed first": the eight receive channels of each node of a cube
+-- every channel armed: the eight receive channels of each node of a cube
 abbrev arm_all : ℕ → List Call
 arm_all D = map (λ l. arming l.0 l.1) (links_out (from 0 (cube_nodes D)) (from 0 channels))
 
@@ -57,7 +57,7 @@ abbrev pub inputs : List Input
 inputs =
     -- 1: D 3, 0 to 7, vector 7, nothing blocked
     calls (making 3 ∷ arm_all 3 ++ opening 0 0 7 0 7 ∷ trace 0 ∷ [])
-    -- 2: figure 7, links 1 to 5 and 3 to 7 blocked
+    -- 2: the patent's figure 7, links 1 to 5 and 3 to 7 blocked
     ∷ calls (making 3 ∷ arm_all 3 ++ blocking 1 2 ∷ blocking 3 2 ∷ opening 0 0 7 0 7 ∷ trace 0 ∷ [])
     -- 3: D 1, node 0 to itself, vector 1
     ∷ calls (making 1 ∷ arm_all 1 ++ opening 0 0 0 0 1 ∷ trace 0 ∷ [])
@@ -111,7 +111,7 @@ pub examples : map result inputs ≡ results
 unfolding call_results history_step stopped_on call_tests refusal facts_on open_on held_on taken_on armed_on links_out any holds_link holds_receive belongs enabled_on free_on link_state is_free receive_on lowest_of lowest listed send_on waiting_on some_attempt finds_path with_opened applied result_of call_on traced_into send attempts attempted network ports send_ports other_ports present axis keep from has flip uphill helical offered end links has_link free_path over ways beginnings scan whole pass scouts outcome_of_path outcome send_goes_on runs answered commands values_in values reserved read_tests reading read_word write_tests writing write_word
 examples = refl
 
--- Document 02, (a): a channel must be armed to be taken; while it is held it is not disarmed, and 21 comes "after 5"; closing disarms it.
+-- Examples 25: a channel must be armed to be taken; while it is held it is not disarmed, and 21 comes behind 5; closing disarms it.
 armed_once : map shown (history_results before
     (making 3 ∷ opening 0 0 7 0 7 ∷ arming 7 0 ∷ opening 0 0 7 0 7 ∷ disarming 7 8 ∷ disarming 7 0 ∷ closing 0 0 ∷ opening 0 0 7 0 7 ∷ []))
     ≡ answered_zero ∷ open_answered 11 0 0 3 ∷ answered_zero ∷ open_answered 0 3 0 3 ∷ alone (5 ∷ []) ∷ alone (21 ∷ []) ∷ answered_zero ∷ open_answered 11 0 0 3 ∷ []

@@ -88,7 +88,7 @@ module _ (S : Shape) where
   apart_permitted s (p ∷ w) h = (h.0, apart_onward ((network S).next s p) w h.1)
 
   -- the ports of a permitted path are the cube's, so below D where nothing is folded,
-  permitted_ports : (s t : ℕ) (w : Path) → Permitted (network S) s (ports S) t w → (q : ℕ) → q ∈ w → q ∈ ports S
+  pub permitted_ports : (s t : ℕ) (w : Path) → Permitted (network S) s (ports S) t w → (q : ℕ) → q ∈ w → q ∈ ports S
   unfolding Permitted
   permitted_ports s t [] o = elim o [ ]
   permitted_ports s t (p ∷ w) o = all_cons (◌∈ ports S) o.0 (apart_ports S w (onward_apart t ((network S).next s p) w o.1))

@@ -15,7 +15,7 @@ use Rattle.paths.specs.Send.{Receive, lowest_available, none_available, Outcome,
 use Rattle.paths.specs.Sentences.{Free, AnswerSays, says_acknowledged, says_receive_rejected, says_route_rejected, Tries, SearchSays, AttemptSays, AttemptsSay, last, ends, goes_on}
 use Rattle.paths.proofs.TriedHelix.{tried_helix_lem, tried_first, tried_nothing}
 
--- What a search and the target's receive channels come to says what document 01 says of it.
+-- What a search and the target's receive channels come to is as Searches 10 to 12 have it.
 pub answer_says : (Search : PassResult → Type 0) (r : Receive) (x : PassResult) → Search x → AnswerSays Search r (outcome r x) (scouts x)
 unfolding outcome scouts outcome_of_path
 answer_says Search r (none c) h = says_route_rejected h

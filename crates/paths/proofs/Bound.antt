@@ -1,4 +1,4 @@
--- Both passes together never send more than 123,300 scouts.
+-- Scouts 8: where nothing is folded, no send has more than 123,300 scouts.
 -- Assumes nothing.
 use mathlib.Core.Path.{◌≡◌, refl, subst}
 use mathlib.Core.Bool.{Bool, true, false, cond, ◌||◌, not}
@@ -11,7 +11,7 @@ use borrow.Author.Tests.{leb-true, le-leb, not-true}
 use lib.Dec.{eqb, leb}
 use lib.ListN.{length, length-append, length-map}
 use Rattle.cube.specs.Cube.{largest_dimension}
-use Rattle.common.specs.Lists.{◌∈◌, keep}
+use Rattle.common.specs.Lists.{◌∈◌, keep, every}
 use Rattle.common.proofs.Every.{at₂}
 use Rattle.common.proofs.Lists.{keep_mem}
 use Rattle.cube.specs.Helical.{helical}
@@ -19,7 +19,7 @@ use Rattle.cube.proofs.Order.{helical_mem, length_helical}
 use Rattle.paths.specs.Network.{Network, Path, offered, free_path, Nearing}
 use Rattle.paths.specs.Pass.{found, over, ways, beginnings, scan, whole, pass, scouts}
 use Rattle.paths.specs.Search.{arriving}
-use Rattle.paths.specs.Bound.{ways_from, packets_from, most_beginnings}
+use Rattle.paths.specs.Bound.{ways_from, packets_from, most_beginnings, most_folded}
 use Rattle.paths.proofs.Scan.{scan_sends}
 use Rattle.paths.proofs.Beginnings.{ways_all}
 use Rattle.paths.proofs.Depth.{over_cons, arriving_scan}
@@ -127,15 +127,26 @@ ways_more m zero k h = omega arith
 ways_more m (suc j) zero h = absurd (omega arith)
 ways_more m (suc j) (suc k) h = mul-le-mul (mul-le-mul (le_refl m) h) (let r = ways_more m j k (omega arith) in omega arith)
 
--- With one link to an axis, no count of beginnings of up to 8 axes is larger: all 45 are computed.
-pub counts_below : (D d : ℕ) → D ≤ largest_dimension → d ≤ D → packets_from 1 D d ≤ most_beginnings
-unfolding packets_from ways_from most_beginnings
-counts_below D d h l = go (at₂ 9 9 (λ D d. not (leb d D) || leb (packets_from 1 D d) most_beginnings) refl D d (omega arith) (omega arith))
+-- No count of beginnings of up to 8 axes is larger, with one link to an axis and with two: all 45 of each are computed.
+all_below : (m k : ℕ) → every 9 (λ D. every 9 (λ d. not (leb d D) || leb (packets_from m D d) k)) ≡ true → (D d : ℕ) → D ≤ largest_dimension → d ≤ D → packets_from m D d ≤ k
+all_below m k all D d h l = go (at₂ 9 9 (λ D d. not (leb d D) || leb (packets_from m D d) k) all D d (omega arith) (omega arith))
   where
-    go : not (leb d D) || leb (packets_from 1 D d) most_beginnings ≡ true → packets_from 1 D d ≤ most_beginnings
+    go : not (leb d D) || leb (packets_from m D d) k ≡ true → packets_from m D d ≤ k
     go e = leb-true _ _ (rw (le-leb d D l) at e)
 
-pub two_passes_bound : {N : Network} {ports : List ℕ} {D t : ℕ} → Nearing N t → Cubical N ports D 1 t → D ≤ largest_dimension → (s : ℕ) (v : ℕ → Bool) (f g : ℕ → ℕ → Bool)
-    → scouts (pass N f s (keep v ports) t) + scouts (pass N g s (keep (λ p. not (v p)) ports) t) ≤ 123300
-unfolding most_beginnings
-two_passes_bound {N} {D = D} {t = t} near cubic h s v f g = le_trans (two_passes near cubic s v f g) (counts_below D (N.distance t s) h (cubic.within s))
+pub counts_below : (D d : ℕ) → D ≤ largest_dimension → d ≤ D → packets_from 1 D d ≤ most_beginnings
+unfolding packets_from ways_from most_beginnings
+counts_below = all_below 1 most_beginnings refl
+
+pub folded_below : (D d : ℕ) → D ≤ largest_dimension → d ≤ D → packets_from 2 D d ≤ most_folded
+unfolding packets_from ways_from most_folded
+folded_below = all_below 2 most_folded refl
+
+module _ {N : Network} {ports : List ℕ} {D m t : ℕ} (near : Nearing N t) (cubic : Cubical N ports D m t) (h : D ≤ largest_dimension) (s : ℕ) (v : ℕ → Bool) (f g : ℕ → ℕ → Bool) where
+  pub two_passes_bound : m ≡ 1 → scouts (pass N f s (keep v ports) t) + scouts (pass N g s (keep (λ p. not (v p)) ports) t) ≤ 123300
+  unfolding most_beginnings
+  two_passes_bound e = le_trans (two_passes near cubic s v f g) (rw e (counts_below D (N.distance t s) h (cubic.within s)))
+
+  pub two_passes_folded : m ≡ 2 → scouts (pass N f s (keep v ports) t) + scouts (pass N g s (keep (λ p. not (v p)) ports) t) ≤ 35099560
+  unfolding most_folded
+  two_passes_folded e = le_trans (two_passes near cubic s v f g) (rw e (folded_below D (N.distance t s) h (cubic.within s)))

@@ -71,7 +71,7 @@ pub record LinksEach (S : Shape) (m : ℕ) : Type 0 where
 
 module _ (S : Shape) where
   -- the ports listed are those that are there; the axis of each is below D, and every number below D is one
-  port_there : (q : ℕ) → q ∈ ports S → present S.dimension S.fold q ≡ true
+  pub port_there : (q : ℕ) → q ∈ ports S → present S.dimension S.fold q ≡ true
   unfolding ports
   port_there q m = (kept_below (present S.dimension S.fold) 18 q m).1
 
@@ -95,7 +95,7 @@ module _ (S : Shape) where
   unfolding network
   port_offers t n q m = rw (port_there q m)
 
-  offered_is : (t n : ℕ) → offered (network S) t n ≡ keep (λ q. uphill t n (axis q)) (ports S)
+  pub offered_is : (t n : ℕ) → offered (network S) t n ≡ keep (λ q. uphill t n (axis q)) (ports S)
   unfolding offered network ports
   offered_is t n = sym (keep_keep (λ q. uphill t n (axis q)) (present S.dimension S.fold) (from 0 18))
 
@@ -162,7 +162,7 @@ module _ (S : Shape) where
           unfold network in omega (arith, length_parts (uphill t n) (from 0 S.dimension), length_from 0 S.dimension) in
           rw (keep_same (λ q. not ((network S).offers t n q)) (λ q. down (axis q)) (ports S) (λ q i. ap not (port_offers t n q i)), ← all) (each.most down)
 
-  -- "So it has 1 to D + 1 hops, 9 at most."
+  -- Paths 7: 1 to D + 1 hops, so 9 at most.
   pub path_hops : (s : ℕ) (vector : List ℕ) (t : ℕ) (w : Path) → Permitted (network S) s vector t w → (1 ≤ length w) × (length w ≤ suc S.dimension)
   unfolding Permitted
   path_hops s vector t [] o = elim o [ ]
@@ -190,13 +190,13 @@ module _ (S : Shape) where
   unfolding send_ports other_ports
   other_vector v c h = keep_same _ _ (ports S) (λ q m. h (axis q) (port_axis q m))
 
-  -- What document 01 says of a pass holds in the cube, over any of its ports that rise.
+  -- What the rules say of a pass holds in the cube, over any of its ports that rise.
   pub cube_says : S.dimension ≤ largest_dimension → (free : ℕ → ℕ → Bool) (s : ℕ) (vector : List ℕ) (t : ℕ) → Node S s → Node S t → Pairwise ◌<◌ vector → ((q : ℕ) → q ∈ vector → q ∈ ports S)
       → Says (network S) free s vector t (pass (network S) free s vector t)
   cube_says h free s vector t i l rise there =
       pass_says (cube_nearing t) (cube_leading h t l) s vector rise (λ q m. port_inside s q i (there q m)) free _ refl
 
--- With fold mask 0 this is the cube of document 01.
+-- With fold mask 0 this is a cube in which nothing is folded.
 module _ (S : Shape) (h : S.dimension ≤ largest_dimension) (z : S.fold ≡ 0) where
   -- Its ports are those below D,
   pub unfolded_ports : ports S ≡ axes S
@@ -241,10 +241,10 @@ module _ (S : Shape) (h : S.dimension ≤ largest_dimension) (z : S.fold ≡ 0) 
   unfolded_vector w n t k i l =
       unfolded_offered t n ∙ keep_same (uphill t n) (has (bit_xor n t)) (from 0 S.dimension) (λ p m. sym ((uphill_of n t).bits p)) ∙ sym (ports_wider S.dimension w (bit_xor n t) k (xor_lt S.dimension n t i l))
 
-  -- An axis has one link, so "Both passes together never send more than 123,300", whatever the source, target, vector and free links.
+  -- Scouts 8: an axis has one link, so no send has more than 123,300 scouts, whatever the source, target, vector and free links.
   pub one_link : LinksEach S 1
   one_link = record { most = λ g. rw (by_port g) (omega arith) }
 
   pub scouts_bound : (s t v : ℕ) (f g : ℕ → ℕ → Bool) → scouts (pass (network S) f s (send_ports S v) t) + scouts (pass (network S) g s (other_ports S v) t) ≤ 123300
   unfolding send_ports other_ports
-  scouts_bound s t v f g = two_passes_bound (cube_nearing S t) (cube_cubical S one_link t) h s (λ q. has v (axis q)) f g
+  scouts_bound s t v f g = two_passes_bound (cube_nearing S t) (cube_cubical S one_link t) h s (λ q. has v (axis q)) f g refl

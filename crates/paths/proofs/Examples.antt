@@ -1,4 +1,4 @@
--- Document 01, "Examples at the edges", 1 to 6: the definitions compute to what the paper says; and document 02, (f).
+-- Examples 1 to 6, and of Examples 28: the definitions compute to what they say.
 -- Assumes nothing.
 use Rattle.std.specs.Prelude.{◌≡◌, refl, Bool, true, ◌&&◌, not, List, [], ◌∷◌, ℕ, eqb}
 use Rattle.common.specs.Lists.{keep, from}
@@ -25,7 +25,7 @@ abbrev sends : List SendResult
 sends =
     -- 1: D 3, 0 to 7, vector 7, nothing blocked
     send 0 (unfolded 3) (free_but []) (lowest_available 0) 0 7 7
-    -- 2: figure 7, links 1 to 5 and 3 to 7 blocked
+    -- 2: the patent's figure 7, links 1 to 5 and 3 to 7 blocked
     ∷ send 0 (unfolded 3) (free_but ((1, 2) ∷ (3, 2) ∷ [])) (lowest_available 0) 0 7 7
     -- 3: D 1, node 0 to itself, vector 1
     ∷ send 0 (unfolded 1) (free_but []) (lowest_available 0) 0 1 0
@@ -53,7 +53,7 @@ examples_1_to_6 : sends ≡ answers
 unfolding send attempts attempted network ports send_ports other_ports present axis keep from has flip uphill helical offered end free_path over ways beginnings scan whole pass scouts outcome_of_path outcome send_goes_on runs
 examples_1_to_6 = refl
 
--- Two passes that both send scouts: D 2, 0 to 3, vector 1, link 1 to 3 blocked. The first sends one, over port 0; the second two.
+-- Examples 28: two passes that both send scouts: D 2, 0 to 3, vector 1, link 1 to 3 blocked. The first sends one, over port 0; the second two.
 acknowledged_second : send 4 (unfolded 2) (free_but ((1, 1) ∷ [])) (lowest_available 4) 0 1 3 ≡ answer (acknowledged (1 ∷ 0 ∷ []) 4) 3
 unfolding send attempts attempted network ports send_ports other_ports present axis keep from has flip uphill helical offered end free_path over ways beginnings scan whole pass scouts outcome_of_path outcome send_goes_on runs
 acknowledged_second = refl
@@ -63,8 +63,8 @@ receive_rejected_once : send 0 (unfolded 1) (free_but []) none_available 0 1 1 �
 unfolding send attempts attempted network ports send_ports present axis keep from has flip uphill helical offered end free_path over ways beginnings scan whole pass scouts outcome_of_path outcome runs
 receive_rejected_once = refl
 
--- Document 02, (f): "receive rejection in the first pass ends a type 4 send", and "the scouts are those of the first pass alone". The second would have
--- had no port, or three scouts more.
+-- Searches 11: of type 4, too, a receive rejection ends the send, and no second pass adds scouts (Examples 28). It would have had no port, or three scouts
+-- more.
 abbrev rejected_sends : List SendResult
 rejected_sends =
     -- D 1, 0 to 1, vector 1

@@ -82,10 +82,10 @@ module _ (S : Shape) (fits : S.dimension ≤ largest_dimension) (free : ℕ → 
       go route_rejected e a = unfold Acknowledged in absurd a
       go receive_rejected e a = unfold Acknowledged in absurd a
 
-  -- "type 1 acknowledges all that type 3 does,
+  -- Promises 7: type 1 acknowledges what type 3 does,
   pub fixed_in_helix : Acknowledged (AnswerOf 3) → Acknowledged (AnswerOf 1)
   fixed_in_helix = more_routes 3 1 (fixed_route S free r s vector t)
 
-  -- and type 0 all that type 1 does."
+  -- and type 0 what type 1 does.
   pub helix_in_maze : Acknowledged (AnswerOf 1) → Acknowledged (AnswerOf 0)
   helix_in_maze = more_routes 1 0 (helix_route S free r s vector t)

@@ -10,6 +10,7 @@ pub mod LinksAhead
 pub mod Between
 pub mod Bound
 pub mod CubeNetwork
+pub mod FoldedCube
 pub mod Attempts
 pub mod Send
 pub mod Inclusion
@@ -29,3 +30,4 @@ pub mod TypeExamples
 pub mod SentAs
 pub mod HelixLinks
 pub mod LinksOffered
+pub mod Following

@@ -1,4 +1,4 @@
--- What request (f) of document 02 changes: a send under the old rule and under the new one.
+-- What Searches 11 changes: a send under the earlier rule (specs/OldRule) and under this one.
 -- Assumes nothing.
 use mathlib.Core.Path.{◌≡◌, refl, ap, sym, ◌∙◌}
 use mathlib.Core.Logic.{◌⊎◌, inl, inr, ◌≢◌, ⊎_elim}

@@ -1,4 +1,4 @@
--- The beginnings stand in the order of document 01, so none stands twice.
+-- The beginnings stand in the order of Order 3, so none stands twice.
 -- Assumes nothing.
 use mathlib.Core.Path.{refl}
 use mathlib.Core.Logic.{inl, inr, ⊎_elim, ◌≢◌}
@@ -61,7 +61,7 @@ ways_pairwise N t (suc k) n a =
     ways_all (Pairwise (Before (Sooner a))) k N t n a (λ e. unfold Pairwise in tt)
     (λ off. over_pairwise (Sooner a) _ (λ p w m. (ways_climb k N t (N.next n p) p w m).0) (λ p. ways_pairwise N t k (N.next n p) p) _ (helical_pairwise a _ (offered_pairwise N t n)))
 
--- With a rising vector, the beginnings stand in the order of document 01.
+-- With a rising vector, the beginnings stand in the order of Order 3.
 pub beginnings_in_order : (N : Network) (s : ℕ) (vector : List ℕ) (t : ℕ) → Pairwise ◌<◌ vector → Pairwise ComesBefore (beginnings N s vector t)
 unfolding beginnings
 beginnings_in_order N s vector t r =

@@ -1,4 +1,4 @@
--- A send in the cube: its attempts try permitted paths of it, its answer says what the documents say, and its scouts are bounded.
+-- A send in the cube: its attempts try permitted paths of it, its answer is as Searches has it, and its scouts are bounded.
 -- Assumes nothing.
 use mathlib.Core.Path.{◌≡◌, refl}
 use mathlib.Core.Logic.{◌⊎◌}
@@ -20,9 +20,10 @@ use Rattle.paths.specs.Send.{Receive, acknowledged, outcome, Attempt, pass_over,
 use Rattle.paths.specs.Sentences.{Free, says_acknowledged, Tries, SearchSays, AttemptSays, AttemptsSay}
 use Rattle.paths.specs.CubeNetwork.{Shape, Node, ports, network, send_ports, other_ports, attempts, send}
 use Rattle.paths.proofs.CubeNetwork.{port_inside, send_port, other_port, send_ports_rise, cube_nearing, cube_leading, cube_says, scouts_bound}
+use Rattle.paths.proofs.FoldedCube.{folded_bound}
 use Rattle.paths.proofs.Helix.{helix_permitted, helix_paths_are}
 use Rattle.paths.proofs.Tried.{tried_says}
-use Rattle.paths.proofs.TriedHelix.{lowest_port, tried_helix, lowest_scouts, vector_scouts}
+use Rattle.paths.proofs.TriedHelix.{lowest_port, tried_helix, lowest_scouts, vector_scouts, folded_scouts}
 use Rattle.paths.proofs.Attempts.{answer_says, runs_stop, runs_on, ports_tried, found_first, runs_say}
 
 -- no more scouts than those of all attempts together
@@ -104,14 +105,14 @@ module _ (S : Shape) where
       go (pass_over ps) i h = unfold InCube CubePorts ports_tried Tries in wider (network S) s ps (ports S) t w i.1 h
       go (helix_paths ps) i h = unfold InCube CubePorts ports_tried Tries in helix_permitted (network S) s t h.0 h.2 (ports S) (i.1 h.0 h.1)
 
-  -- an acknowledged one takes the first of those that are free, in the order of document 01;
+  -- an acknowledged one takes the first of those that are free, in the order of Order 3;
   pub acknowledged_first : (s t : ℕ) (free : ℕ → ℕ → Bool) (r : Receive) (type vector : ℕ) (a : Attempt) → a ∈ attempts S type vector
       → (w : Path) (k n : ℕ) → AttemptSays (network S) s t free r a (acknowledged w k) n
       → (v : Path) → Tries (network S) s t a v → Free (network S) free s v → (v ≡ w) ⊎ ComesBefore w v
   unfolding InCube CubePorts
   acknowledged_first s t free r type vector a m w k n (says_acknowledged e f) = found_first (network S) s t free a (in_cube type vector a m).0 w n f
 
-  -- and what each comes to says what the documents say of it.
+  -- and what each comes to is as Searches and Scouts have it.
   search_says : S.dimension ≤ largest_dimension → (free : ℕ → ℕ → Bool) (s t : ℕ) → Node S s → Node S t → (a : Attempt) → InCube a
       → SearchSays (network S) s t free a (attempted (network S) free s t a)
   unfolding SearchSays attempted InCube CubePorts ports_tried
@@ -151,6 +152,9 @@ module _ (S : Shape) where
     pub helix_bounded : S.dimension ≤ largest_dimension → S.fold ≡ 0 → (send 1 S free r s vector t).scouts ≤ 72
     helix_bounded h z = rw helix_answers_lem (vector_scouts S free s t h z vector)
 
+    pub helix_folded : S.dimension ≤ largest_dimension → (send 1 S free r s vector t).scouts ≤ 144
+    helix_folded h = rw helix_answers_lem (folded_scouts S free s t h vector)
+
     -- Routing type 4 stops where the first pass finds a path,
     pub alternate_stops : send_goes_on (outcome r first) ≡ false → send 4 S free r s vector t ≡ one_result r first
     unfolding send attempts attempted
@@ -169,7 +173,7 @@ module _ (S : Shape) where
         AttemptsSay (network S) s t free r xs x.outcome x.scouts
 
     module _ (type : ℕ) where
-      -- A send says what document 01 says of it,
+      -- A send is as Searches and Scouts have it,
       pub send_says : S.dimension ≤ largest_dimension → Node S s → Node S t
           → AttemptsSay (network S) s t free r (attempts S type vector) (send type S free r s vector t).outcome (send type S free r s vector t).scouts
       unfolding send said_of
@@ -178,12 +182,21 @@ module _ (S : Shape) where
           all : {a : Attempt} {xs : List Attempt} → ((b : Attempt) → b ∈ (a ∷ xs) → InCube b) → said_of (a ∷ xs)
           all {a} {xs} c = runs_say (network S) s t free r a xs (λ b m. answer_says _ r _ (search_says h free s t i l b (c b m)))
 
-      -- and reports no more than 123,300 scouts, where nothing is folded.
-      pub send_bounded : S.dimension ≤ largest_dimension → S.fold ≡ 0 → (send type S free r s vector t).scouts ≤ 123300
+      -- and what bounds the scouts of its attempts bounds those that it reports:
+      bounded_by : (most : ℕ) → 9 ≤ most → scouts (tried_helix S free s t (send_ports S vector)) ≤ most → scouts first + scouts second ≤ most → S.dimension ≤ largest_dimension
+          → (send type S free r s vector t).scouts ≤ most
       unfolding send attempted all_scouts
-      send_bounded h z =
-          each_type (λ xs. (runs r (map (attempted (network S) free s t) xs)).scouts ≤ 123300) S type vector
+      bounded_by most nine helix passes h =
+          each_type (λ xs. (runs r (map (attempted (network S) free s t) xs)).scouts ≤ most) S type vector
           (omega (arith, lowest_scouts S free s t h (send_ports S vector), runs_most r (tried_helix S free s t (take 1 (send_ports S vector)) ∷ [])))
-          (omega (arith, vector_scouts S free s t h z vector, runs_most r (tried_helix S free s t (send_ports S vector) ∷ [])))
-          (omega (arith, scouts_bound S h z s t vector free free, runs_most r (first ∷ [])))
-          (omega (arith, scouts_bound S h z s t vector free free, runs_most r (first ∷ second ∷ [])))
+          (omega (arith, helix, runs_most r (tried_helix S free s t (send_ports S vector) ∷ [])))
+          (omega (arith, passes, runs_most r (first ∷ [])))
+          (omega (arith, passes, runs_most r (first ∷ second ∷ [])))
+
+      -- no more than 123,300 where nothing is folded,
+      pub send_bounded : S.dimension ≤ largest_dimension → S.fold ≡ 0 → (send type S free r s vector t).scouts ≤ 123300
+      send_bounded h z = bounded_by 123300 (omega arith) (omega (arith, vector_scouts S free s t h z vector)) (scouts_bound S h z s t vector free free) h
+
+      -- and whatever is folded, so many that they fit 32 bits.
+      pub send_folded : S.dimension ≤ largest_dimension → (send type S free r s vector t).scouts ≤ 35099560
+      send_folded h = bounded_by 35099560 (omega arith) (omega (arith, folded_scouts S free s t h vector)) (folded_bound S h s t vector free free) h

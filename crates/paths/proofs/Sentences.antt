@@ -1,4 +1,4 @@
--- What document 01 says of a pass is so of the computed one: whether it finds a path, which one, and how many scouts it sends.
+-- What the rules say of a pass is so of the computed one: whether it finds a path, which one, and how many scouts it sends.
 -- Assumes nothing.
 use mathlib.Core.Path.{◌≡◌, refl, sym, ◌∙◌, subst}
 use mathlib.Core.Logic.{◌⊎◌, inl, inr, ⊎_elim, ◌≢◌, ◌↔◌}
@@ -54,7 +54,7 @@ unfolding Permitted
 permitted_hops N s vector t [] o = elim o [ ]
 permitted_hops N s vector t (p ∷ v) o = cons≢nil
 
--- "a beginning of a path comes before the path"
+-- Order 4
 begins_before : (R : ℕ → ℕ → Type 0) (b : Path) (q : ℕ) (v : Path) → Before R b (b ++ q ∷ v)
 unfolding Before
 begins_before R [] q v = tt
@@ -136,7 +136,7 @@ module _ {N : Network} {t : ℕ} {Node : ℕ → Type 0} (near : Nearing N t) (l
               let after : ComesBefore w b = order.2 b m in
               absurd (⊎_elim (λ h. let c : ComesBefore w w = rw h at after in comes_before_asym w w c c) (λ h. comes_before_asym w b after h) (from_up_to b w q.2))
 
-  -- The answer of a pass and its scouts are what document 01 says of them.
+  -- The answer of a pass and its scouts are what Searches 2, Scouts 2 and Scouts 3 say of them.
   pub pass_says : (x : PassResult) → pass N free s vector t ≡ x → Says N free s vector t x
   pass_says (none c) e = none_says c e
   pass_says (found w c) e = found_says w c e

@@ -1,4 +1,4 @@
--- Paths tried in turn say what document 02, (b), says of them.
+-- Paths tried in turn are as Searches 8 and Scouts 7 have it.
 -- Assumes nothing.
 use mathlib.Core.Path.{◌≡◌, refl, ap}
 use mathlib.Core.Bool.{Bool, true, false, cond}
@@ -124,7 +124,7 @@ module _ (N : Network) (free : ℕ → ℕ → Bool) (s : ℕ) where
       go true h r = rw (try_free N free s c x xs h) (after_free c x xs h)
       go false h r = rw (try_on N free s c x xs h) (after_one c x xs _ h r)
 
-  -- Paths tried in turn say what document 02, (b), says of them.
+  -- Paths tried in turn are as Searches 8 and Scouts 7 have it.
   pub tried_says : (ws : List Path) → TriedSays N free s ws (try_paths N free s 0 ws)
   tried_says ws = go (try_paths N free s 0 ws) (tried_after_lem ws 0)
     where

@@ -20,6 +20,7 @@ use Rattle.paths.specs.Helix.{helix_path, try_paths, IsHelix, HelixPaths, no_pat
 use Rattle.paths.specs.Sentences.{Free}
 use Rattle.paths.specs.CubeNetwork.{Shape, network, send_ports}
 use Rattle.paths.proofs.CubeNetwork.{distance_within, unfolded_send_ports}
+use Rattle.paths.proofs.FoldedCube.{send_ports_few}
 use Rattle.paths.proofs.Helix.{helix_only, helix_short}
 use Rattle.paths.proofs.Tried.{tried_sends}
 
@@ -67,7 +68,7 @@ module _ (N : Network) (s t : ℕ) where
     pub tried_helix_lem : {w : Path} {c : ℕ} → TriedFound N free s ws w c → (p : ℕ) × (p ∈ ps) × IsHelix N s t p w
     tried_helix_lem {w} f = port_of paths (rw f.place (Memᴰ.append_right f.before (Memᴰ.head refl)))
 
-    -- where the ports rise, it is the first of those that are free, in the order of document 01;
+    -- where the ports rise, it is the first of those that are free, in the order of Order 3;
     pub tried_first : Pairwise ◌<◌ ps → {w : Path} {c : ℕ} → TriedFound N free s ws w c
         → (q : ℕ) → q ∈ ps → (v : Path) → IsHelix N s t q v → Free N free s v → (v ≡ w) ⊎ ComesBefore w v
     tried_first rise {w} f q m v k i = ⊎_elim earlier (⊎_elim same later) (where_is r.earlier (rw r.place at m))
@@ -129,3 +130,7 @@ module _ (S : Shape) (free : ℕ → ℕ → Bool) (s t : ℕ) where
     where
       few : length (send_ports S v) ≤ 8
       few = rw (unfolded_send_ports S h z v) (omega (arith, length_ports S.dimension v))
+
+  -- Whatever is folded, a vector has at most 16 ports, which makes 144.
+  pub folded_scouts : S.dimension ≤ largest_dimension → (v : ℕ) → scouts (tried_helix (send_ports S v)) ≤ 144
+  folded_scouts h v = let most : suc S.dimension ≤ 9 = omega arith in le_trans (helix_scouts (send_ports S v)) (mul-le-mul (send_ports_few S h v) most)

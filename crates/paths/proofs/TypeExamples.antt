@@ -1,4 +1,4 @@
--- Document 02, (b) and (c): helix paths, the sends of types 1 and 3, and whether waiting can help.
+-- Helix paths, the sends of types 1 and 3, and whether waiting can help.
 -- Assumes nothing.
 use Rattle.std.specs.Prelude.{◌≡◌, refl, Bool, true, false, List, [], ◌∷◌, ℕ}
 use Rattle.common.specs.Lists.{keep, from, any}
@@ -15,7 +15,7 @@ use Rattle.paths.specs.Waiting.{finds_path, some_attempt}
 use Rattle.paths.proofs.Examples.{free_but, answer}
 use Rattle.paths.proofs.FoldExamples.{folded}
 
--- Document 02, (b): helix paths, of ports that are uphill and of ports that are not.
+-- Searches 6: helix paths, of ports that are uphill and of ports that are not. Examples 32 has some of them.
 abbrev helix_of : Shape → ℕ → ℕ → ℕ → Path
 helix_of S = helix_path (network S)
 
@@ -52,16 +52,16 @@ helix_ports_lem : helix_paths ≡ helix_ports
 unfolding helix_path helix_from take_first network present axis keep from has flip uphill helical offered
 helix_ports_lem = refl
 
--- "Two older products use routing types 3 and 1."
+-- Searches 7, Searches 8; Examples 23 has some of them.
 abbrev helix_sends : List SendResult
 helix_sends =
-    -- figure 7, links 1 to 5 and 3 to 7 blocked: type 3 is stopped at its third hop; type 1 goes on to port 1, and type 4 finds that path too
+    -- the patent's figure 7, links 1 to 5 and 3 to 7 blocked: type 3 is stopped at its third hop; type 1 goes on to port 1, and type 4 finds that path too
     send 3 (unfolded 3) (free_but ((1, 2) ∷ (3, 2) ∷ [])) (lowest_available 0) 0 7 7
     ∷ send 1 (unfolded 3) (free_but ((1, 2) ∷ (3, 2) ∷ [])) (lowest_available 0) 0 7 7
     ∷ send 4 (unfolded 3) (free_but ((1, 2) ∷ (3, 2) ∷ [])) (lowest_available 0) 0 7 7
     -- D 2, 0 to 2, vector 3: the lowest port is taken, though it leads away
     ∷ send 3 (unfolded 2) (free_but []) (lowest_available 5) 0 3 2
-    -- D 2, 0 to 1, vector 2, link 2 to 3 blocked, the second hop: types 3 and 1 do not go back through the source, as type 0 does in example 5
+    -- D 2, 0 to 1, vector 2, link 2 to 3 blocked, the second hop: types 3 and 1 do not go back through the source, as type 0 does in Examples 5
     ∷ send 3 (unfolded 2) (free_but ((2, 0) ∷ [])) (lowest_available 0) 0 2 1
     ∷ send 1 (unfolded 2) (free_but ((2, 0) ∷ [])) (lowest_available 0) 0 2 1
     -- D 2, 0 to 3, vector 3: the first hop over port 0 blocked; then the second hop of both paths
@@ -96,13 +96,13 @@ helix_sends_lem : helix_sends ≡ helix_answers
 unfolding send attempts attempted network ports send_ports other_ports present axis keep from has flip uphill helical offered end free_path over ways beginnings scan whole pass scouts helix_path helix_from take_first free_front try_paths outcome_of_path outcome send_goes_on runs
 helix_sends_lem = refl
 
--- Document 02, (c): whether a path that a type may try crosses no blocked link.
+-- Searches 13: whether one of a type's paths has no blocked link. Examples 31 has some of these.
 abbrev could_find : ℕ → ℕ → List Link → ℕ → ℕ → ℕ → Bool
 could_find type D blocked s vector t = some_attempt (network (unfolded D)) (free_but blocked) s t (attempts (unfolded D) type vector)
 
 abbrev asked : List Bool
 asked =
-    -- "The type 0 half of example 6 becomes 22": D 2, 0 to 1, vector 1, link 0 to 1 blocked; the other half has the other vector's paths
+    -- Examples 6, where type 0 answers 22: D 2, 0 to 1, vector 1, link 0 to 1 blocked; type 4 has the other vector's paths too
     could_find 0 2 ((0, 0) ∷ []) 0 1 1
     ∷ could_find 4 2 ((0, 0) ∷ []) 0 1 1
     -- D 2, 0 to 3, vector 1, link 1 to 3 blocked: each type by its own paths

@@ -1,4 +1,4 @@
--- Whether closing circuits could help a send, as it is computed and in the words of document 02, (c), is the same; and what it says of the send itself.
+-- Whether closing circuits could help a send (Searches 13), as it is computed and as a rule of its paths, is the same; and what it says of the send.
 -- Assumes nothing.
 use mathlib.Core.Path.{◌≡◌, refl, ap, ◌∙◌, fun_ext}
 use mathlib.Core.Logic.{◌↔◌, ◌≢◌}
@@ -119,7 +119,7 @@ module _ (S : Shape) (fits : S.dimension ≤ largest_dimension) (s t type vector
     (λ x. (finds_path_lem enabled).1 (x.0, x.1, (x.2.0, x.2.1, (enabled_free (network S) enabled s x.2.0).0 x.2.2))),
   )
 
-  -- and false exactly where "every path that the type may try .. crosses a blocked link".
+  -- and false exactly where each of the type's paths has a blocked link.
   pub blocked_exactly : (enabled : ℕ → ℕ → Bool) → (finds enabled ≡ false) ↔ EveryPathBlocked (network S) enabled s t tried
   unfolding EveryPathBlocked
   blocked_exactly enabled = (

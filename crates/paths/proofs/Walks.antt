@@ -3,27 +3,33 @@
 -- Assumes nothing.
 use mathlib.Core.Path.{◌≡◌, refl, ap, sym, ◌∙◌}
 use mathlib.Core.Logic.{⊎_elim, ◌≢◌}
-use mathlib.Core.Bool.{Bool, true, false, ◌&&◌}
+use mathlib.Core.Bool.{Bool, true, false, not, ◌&&◌}
 use mathlib.Core.List.Memᴰ
 use mathlib.Core.List.{List, [], ◌∷◌}
 use Prim.Native.Nat.{ℕ, zero, suc, ◌≤◌, ◌<◌}
 use native.Mathlib.Omega.{arith}
+use lib.Bits.{bit_and, bit_xor}
 use lib.Dec.{eqb}
 use lib.ListN.{length}
 use borrow.Author.Tests.{eqb-true, eq-eqb}
-use Rattle.common.specs.Lists.{◌∈◌, keep, any}
+use Rattle.common.specs.Lists.{◌∈◌, keep, from, any}
 use Rattle.common.proofs.Tests.{clash, both, and, is_false}
-use Rattle.common.proofs.Lists.{all_cons, keep_nil, keep_mem, keep_same, any_some, some_any}
-use Rattle.cube.specs.CubeContracts.{Without}
+use Rattle.common.proofs.Lists.{all_cons, keep_nil, keep_keep, keep_mem, keep_same, any_some, some_any}
+use Rattle.common.proofs.From.{from_below}
+use Rattle.cube.specs.CubeContracts.{Without, AxisPorts}
 use Rattle.cube.specs.Axes.{axis}
+use Rattle.cube.specs.Bits.{has}
 use Rattle.cube.specs.Helical.{ports_of}
 use Rattle.cube.proofs.Axes.{axis_low}
-use Rattle.cube.proofs.Order.{ports_mem, ports_without}
+use Rattle.cube.proofs.Bits.{has_and}
+use Rattle.cube.proofs.Order.{mem_ports, ports_mem, ports_without}
+use Rattle.cube.proofs.PartnerPorts.{without_axis}
 use Rattle.paths.specs.Network.{Network, Path, take_first}
 use Rattle.paths.specs.CubeNetwork.{Shape, ports, network}
 use Rattle.paths.specs.Recover.{drop_axis, walk_from, way_back, path_of_links}
 use Rattle.paths.proofs.Links.{On, on_cases, on_none}
 use Rattle.paths.proofs.Apart.{Avoids, Apart, LaterApart}
+use Rattle.paths.proofs.Reach.{same_truth}
 use Rattle.paths.proofs.Recover.{take_all, drop_mem, drop_shorter, first_choice}
 
 -- What holds of the empty path, and carries over from a path to the path with a port in front that was left and whose link is owned, holds
@@ -137,3 +143,27 @@ pub drop_port : (w v p r : ℕ) → w ≤ 9 → p < 9 → Without v p r → drop
 unfolding drop_axis
 drop_port w v p r h l e =
     keep_same _ _ (ports_of w v) (λ q m. let k = (ports_mem w v m).0 in rw (axis_low q (omega arith), axis_low p l)) ∙ sym (ports_without w v p r e)
+
+-- The same on any board, where an axis has one port or two: the way back is over some port of the axis, and what is left are the ports of the vector without them.
+module _ (w v p m : ℕ) (axes : AxisPorts w p m) where
+  pub way_back_axis : (N : Network) (own : ℕ → ℕ → Bool) (s : ℕ) → way_back N (ports_of w v) own s p ≡ any (own (N.next s p)) (ports_of w (bit_and v m))
+  unfolding way_back
+  way_back_axis N own s =
+      same_truth _ _
+      (λ e. let r = any_some back (ports_of w v) e in
+      let k = both (eqb (axis r.0) (axis p)) _ r.2 in
+      let i = ports_mem w v r.1 in
+      some_any (own (N.next s p)) (ports_of w (bit_and v m)) (mem_ports w (bit_and v m) r.0 i.0 (has_and v m r.0 ∙ and i.1 (axes.bits r.0 i.0 ∙ k.0))) k.1)
+      (λ e. let r = any_some (own (N.next s p)) (ports_of w (bit_and v m)) e in
+      let i = ports_mem w (bit_and v m) r.1 in
+      let k = both (has v r.0) (has m r.0) (sym (has_and v m r.0) ∙ i.1) in
+      some_any back (ports_of w v) (mem_ports w v r.0 i.0 k.0) (and (sym (axes.bits r.0 i.0) ∙ k.1) r.2))
+    where
+      back : ℕ → Bool
+      back b = eqb (axis b) (axis p) && own (N.next s p) b
+
+  pub drop_axis_ports : drop_axis p (ports_of w v) ≡ ports_of w (bit_xor v (bit_and v m))
+  unfolding drop_axis ports_of
+  drop_axis_ports =
+      keep_keep (λ q. not (eqb (axis q) (axis p))) (has v) (from 0 w)
+      ∙ sym (keep_same (has (bit_xor v (bit_and v m))) (λ q. has v q && not (eqb (axis q) (axis p))) (from 0 w) (λ q l. without_axis w v p m axes q (from_below w q l)))

@@ -1,4 +1,4 @@
--- The recursive definitions say what document 01's sentences say of places in a path and of its links.
+-- The recursive definitions say what the rules say of places in a path and of its links.
 -- Assumes nothing.
 use mathlib.Core.Path.{◌≡◌, refl, ap, ◌∙◌, subst}
 use mathlib.Core.Logic.{⊎_elim, ◌≢◌, ◌↔◌}
@@ -25,7 +25,7 @@ of_hops N t n [] each e = e
 of_hops N t n (p ∷ w) each e =
     let here = each [] p w refl in (here.0, here.1, of_hops N t (N.next n p) w (λ u q v i. each (p ∷ u) q v (ap (p ∷◌) i)) e)
 
--- A permitted path is one of which document 01's sentences hold.
+-- A permitted path is one of which Paths 4 to 6 hold.
 pub permitted_in_words : (N : Network) (s : ℕ) (vector : List ℕ) (t : ℕ) (w : Path) → Permitted N s vector t w ↔ InWords N s vector t w
 unfolding Permitted end
 permitted_in_words N s vector t w = (there w, back)
@@ -55,7 +55,7 @@ permitted_in_words N s vector t w = (there w, back)
               (rw whole at r.arrives),
         )
 
--- "A path is free if all its links are."
+-- Paths 13
 pub free_path_links : (N : Network) (free : ℕ → ℕ → Bool) (n : ℕ) (w : Path) → (free_path N free n w ≡ true) ↔ ((l : Link) → l ∈ links N n w → free l.0 l.1 ≡ true)
 unfolding free_path links
 free_path_links N free n [] = ((λ e l m. absurd (Memᴰ.not-nil m)), (λ h. refl))
@@ -65,7 +65,7 @@ free_path_links N free n (p ∷ w) =
       (λ h. and (h (n, p) (Memᴰ.head refl)) (ih.1 (λ l m. h l (Memᴰ.tail m)))),
     )
 
--- "A link is free if enabled and held by nobody."
+-- Cube 13: a link is free if it is enabled and no circuit holds it.
 pub free_link : (enabled held : Bool) → (is_free (link_state enabled held) ≡ true) ↔ ((enabled ≡ true) × (held ≡ false))
 unfolding is_free link_state
 free_link false held = ((λ e. absurd (false≢true e)), (λ h. absurd (false≢true h.0)))

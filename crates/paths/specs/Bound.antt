@@ -11,7 +11,12 @@ ways_from m (suc d) = m * suc d * suc (ways_from m d)
 unfoldable pub packets_from : ℕ → ℕ → ℕ → ℕ
 packets_from m D d = ways_from m d + m * (D - d) * suc (ways_from m (suc d))
 
--- "Both passes together never send more than 123,300": with one link to an axis, a source 7 hops away in a cube of dimension 8 has so many
--- beginnings, and none has more
+-- Scouts 8: with one link to an axis, a source 7 hops away in a cube of dimension 8 has so many beginnings, and none has more: no send has
+-- more scouts, both passes together
 unfoldable pub most_beginnings : ℕ
 most_beginnings = 123300
+
+-- Scouts 9: with two links to an axis, a source 7 hops away in a cube of dimension 8 has so many, and none has more, whatever the mask. They fit
+-- 32 bits (Scouts 11).
+unfoldable pub most_folded : ℕ
+most_folded = 35099560

@@ -1,5 +1,5 @@
--- Helix paths, of document 02, (b): behind a first port, at each node the first port offered in the helical order. Then what it comes to when paths
--- are tried one after another, and both once more in plain words. That the computed ones are so is proved (Helix, Tried).
+-- Helix paths: behind a first port, at each node the first port offered in the helical order. Then what it comes to when paths are tried one after
+-- another, and both once more in plain words. That the computed ones are so is proved (Helix, Tried).
 -- Assumes nothing.
 use Rattle.std.specs.Prelude.{◌≡◌, ◌⊎◌, ◌≢◌, Bool, true, false, cond, List, [], ◌∷◌, ◌++◌, ℕ, zero, suc, ◌+◌, eqb, length}
 use Rattle.common.specs.Lists.{◌∈◌}
@@ -8,21 +8,21 @@ use Rattle.paths.specs.Network.{Network, Path, offered, take_first, end, free_pa
 use Rattle.paths.specs.Permitted.{Sooner}
 use Rattle.paths.specs.Pass.{PassResult, none, found}
 
--- on from an arrival at n on port a, at each node by the first port offered in the helical order, until the target; at most k hops
+-- Searches 6: on from an arrival at n on port a, at each node by the first port offered in the helical order, until the target; at most k hops
 unfoldable pub helix_from : ℕ → Network → ℕ → ℕ → ℕ → Path
 helix_from zero N t n a = []
 helix_from (suc k) N t n a = cond (eqb n t) [] (take_first (helical a (offered N t n)) (λ p. helix_from k N t (N.next n p) p))
 
--- the helix path from s to t of a first port, uphill or not: behind it there are as many hops as the target is far
+-- Searches 6: the helix path from s to t of a first port, uphill or not. Behind it there are as many hops as the target is far (Scouts 10).
 unfoldable pub helix_path : Network → ℕ → ℕ → ℕ → Path
 helix_path N s t p = p ∷ helix_from (N.distance t (N.next s p)) N t (N.next s p) p
 
--- how many free hops there are at the front of a path
+-- Scouts 7: how many free hops there are at the front of a path
 unfoldable pub free_front : Network → (ℕ → ℕ → Bool) → ℕ → Path → ℕ
 free_front N free n [] = 0
 free_front N free n (p ∷ w) = cond (free n p) (suc (free_front N free (N.next n p) w)) 0
 
--- Paths from s tried in turn "until one is free", after c scouts: "Scouts are the free hops at the front of each path tried."
+-- Searches 8: paths from s tried in turn until one is free, after c scouts. Scouts 7: the free links at the front of each path tried are added.
 unfoldable pub try_paths : Network → (ℕ → ℕ → Bool) → ℕ → ℕ → List Path → PassResult
 try_paths N free s c [] = none c
 try_paths N free s c (w ∷ ws) =
@@ -32,24 +32,24 @@ try_paths N free s c (w ∷ ws) =
 unfoldable pub FirstOffered : Network → ℕ → ℕ → ℕ → ℕ → Type 0
 FirstOffered N t n a q = (q ∈ offered N t n) × ((p : ℕ) → p ∈ offered N t n → (p ≡ q) ⊎ Sooner a q p)
 
--- w is the helix path of port p from s to t, said by places in the path: where w is u, then a hop over a, then one over q, then v, the hop over q
--- starts where u and the hop over a end.
+-- Searches 6: w is the helix path of port p from s to t, said by places in the path: where w is u, then a hop over a, then one over q, then v, the
+-- hop over q starts where u and the hop over a end.
 pub record IsHelix (N : Network) (s t p : ℕ) (w : Path) : Type 0 where
-  -- it starts with p, a port of the send vector,
+  -- it begins with p;
   pub first : (v : Path) × (w ≡ p ∷ v)
-  -- "then at each node the first uphill port in helical order";
+  -- behind it, each node adds the one of its uphill ports that comes first in helical order;
   pub later : (u : Path) (a q : ℕ) (v : Path) → w ≡ u ++ a ∷ q ∷ v → FirstOffered N t (end N s (u ++ a ∷ [])) a q
-  -- like every path of document 01, "It ends at its first arrival on the target after at least one hop."
+  -- Paths 6: it ends where it first arrives at its target, after at least one hop.
   pub not_before : (u : Path) (q : ℕ) (v : Path) → u ≢ [] → w ≡ u ++ q ∷ v → end N s u ≢ t
   pub arrives : end N s w ≡ t
 
--- the helix paths of the ports of a list, in its order
+-- Searches 8: the helix paths of the ports of a list, in its order
 pub data HelixPaths (N : Network) (s t : ℕ) : List ℕ → List Path → Type 0 where
   no_path : HelixPaths N s t [] []
   path_more : {p : ℕ} {w : Path} {ps : List ℕ} {ws : List Path} → IsHelix N s t p w → HelixPaths N s t ps ws → HelixPaths N s t (p ∷ ps) (w ∷ ws)
 
 module _ (N : Network) (free : ℕ → ℕ → Bool) (s : ℕ) where
-  -- "the free hops at the front" of w are c: a part of c hops is free, and the link behind it, where there is one, is not
+  -- Scouts 7: the free hops at the front of w are c. A part of c hops is free, and the link behind it, where there is one, is not.
   pub record Front (w : Path) (c : ℕ) : Type 0 where
     pub front : Path
     pub rest : Path
@@ -63,7 +63,7 @@ module _ (N : Network) (free : ℕ → ℕ → Bool) (s : ℕ) where
     no_front : Fronts [] 0
     front_more : {w : Path} {ws : List Path} {c n : ℕ} → Front w c → Fronts ws n → Fronts (w ∷ ws) (c + n)
 
-  -- Of paths tried in turn, w is free and none before it is; the paths tried are those up to w.
+  -- Searches 8: of paths tried in turn, w is free and none before it is; the paths tried are those up to w.
   pub record TriedFound (paths : List Path) (w : Path) (c : ℕ) : Type 0 where
     pub before : List Path
     pub after : List Path

@@ -1,19 +1,24 @@
--- The links of a helix path of document 01's cube, by node and port. The path is the same in each cube that has its source, its target and its first port: the one of the
+-- The links of a helix path, by node and port. The path is the same in each cube that has its source, its target, its first port and its fold mask: the one of the
 -- largest dimension stands for all.
 -- Assumes nothing.
-use Rattle.std.specs.Prelude.{List, ℕ, ◌<◌}
-use Rattle.cube.specs.Cube.{largest_dimension, port_count}
+use Rattle.std.specs.Prelude.{◌≡◌, true, List, ℕ, ◌<◌}
+use Rattle.cube.specs.Axes.{present}
+use Rattle.cube.specs.Cube.{largest_dimension}
 use Rattle.paths.specs.Network.{Network, Link, links}
 use Rattle.paths.specs.Helix.{helix_path}
-use Rattle.paths.specs.CubeNetwork.{network, unfolded}
+use Rattle.paths.specs.CubeNetwork.{Shape, network}
 
--- a node and a port of the largest cube
-abbrev pub LinkInside : ℕ → ℕ → Type 0
-LinkInside n p = (n < 256) × (p < port_count)
+-- the largest cube with a fold mask
+abbrev pub largest : ℕ → Shape
+largest fold = record { dimension = largest_dimension; fold = fold }
 
-unfoldable pub largest_network : Network
-largest_network = network (unfolded largest_dimension)
+-- a node and a port of it, on a board of so many positions
+abbrev pub LinkInside : ℕ → ℕ → ℕ → ℕ → Type 0
+LinkInside width fold n p = (n < 256) × (p < width) × (present largest_dimension fold p ≡ true)
 
-unfoldable pub helix_links : ℕ → ℕ → ℕ → List Link
+unfoldable pub largest_network : ℕ → Network
+largest_network fold = network (largest fold)
+
+unfoldable pub helix_links : ℕ → ℕ → ℕ → ℕ → List Link
 unfolding largest_network
-helix_links s t p = links largest_network s (helix_path largest_network s t p)
+helix_links fold s t p = links (largest_network fold) s (helix_path (largest_network fold) s t p)

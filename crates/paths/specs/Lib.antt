@@ -1,4 +1,4 @@
--- What a send means: document 01, "Which paths a scout may walk", over any network; then the cube as one.
+-- What a send means: Paths, Order, Searches and Scouts over any network; then the cube as one.
 pub mod Network
 pub mod Permitted
 pub mod Pass
@@ -6,6 +6,7 @@ pub mod Helix
 pub mod Send
 pub mod Sentences
 pub mod CubeNetwork
+pub mod BoardPorts
 pub mod OldRule
 pub mod Search
 pub mod Waiting

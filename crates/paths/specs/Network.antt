@@ -8,7 +8,7 @@ pub record Network : Type 0 where
   pub port_bound : ℕ
   -- the node to which the link out of a port of a node leads
   pub next : ℕ → ℕ → ℕ
-  -- whether, towards a target, a node offers a port (in the cube: whether the port is uphill)
+  -- whether, towards a target, a node offers a port (in the cube: whether the port is uphill, Paths 1)
   pub offers : ℕ → ℕ → ℕ → Bool
   -- how many hops a target is from a node
   pub distance : ℕ → ℕ → ℕ
@@ -17,7 +17,7 @@ pub record Network : Type 0 where
 unfoldable pub offered : Network → ℕ → ℕ → List ℕ
 offered N t n = keep (N.offers t n) (from 0 N.port_bound)
 
--- a path is the ports taken, in order; a link is a node and a port of it ("Each direction is a link of its own")
+-- a path is the ports taken, in order; a link is a node and a port of it, so each direction is another (Cube 8)
 abbrev pub Path : Type 0
 Path = List ℕ
 
@@ -49,7 +49,7 @@ pub record Exactly (N : Network) (s : ℕ) (w : Path) (own : ℕ → ℕ → Boo
   pub all : (m q : ℕ) → (m, q) ∈ links N s w → own m q ≡ true
   pub only : (m q : ℕ) → own m q ≡ true → (m, q) ∈ links N s w
 
--- The state of a link, from whether it is enabled and whether a circuit holds it. "A link is free if enabled and held by nobody."
+-- Cube 13: the state of a link, from whether it is enabled and whether a circuit holds it.
 pub data LinkState : Type 0 where
   link_free link_held link_blocked : LinkState
 
@@ -63,12 +63,12 @@ is_free link_free = true
 is_free link_held = false
 is_free link_blocked = false
 
--- "A path is free if all its links are": `free n p` says whether the link out of port p of node n is
+-- Paths 13: a path is free if no link of it is otherwise. `free n p` says whether the link out of port p of node n is.
 unfoldable pub free_path : Network → (ℕ → ℕ → Bool) → ℕ → Path → Bool
 free_path N free n [] = true
 free_path N free n (p ∷ w) = free n p && free_path N free (N.next n p) w
 
--- What the theorems ask of a network, towards a target t. An offered hop comes one nearer;
+-- What the theorems ask of a network, towards a target t. An offered hop comes one nearer (Paths 8);
 pub record Nearing (N : Network) (t : ℕ) : Type 0 where
   pub nearer : (n p : ℕ) → p ∈ offered N t n → N.distance t n ≡ suc (N.distance t (N.next n p))
 

@@ -1,5 +1,5 @@
--- A send as it was before request (f) of document 02: it went on after a receive rejection too. Only the theorems about what that request
--- changes (OldRule), and an example, speak of it.
+-- A send under an earlier rule: it went on after a receive rejection too, where Searches 11 ends it. Only the theorems about what differs
+-- (OldRule), and an example, speak of it.
 -- Assumes nothing.
 use Rattle.std.specs.Prelude.{◌≡◌, ◌⊎◌, ◌≢◌, Bool, true, false, cond, List, [], ◌∷◌, map, ℕ, ◌+◌}
 use Rattle.paths.specs.Network.{Path}
@@ -7,7 +7,7 @@ use Rattle.paths.specs.Pass.{PassResult, none, found, pass, scouts}
 use Rattle.paths.specs.Send.{Receive, none_available, Outcome, acknowledged, route_rejected, receive_rejected, Acknowledged, outcome, attempted, SendResult, one_result, runs}
 use Rattle.paths.specs.CubeNetwork.{Shape, network, other_ports, attempts, send}
 
--- document 01: "If it does not end in an acknowledgement, a second"
+-- every attempt but an acknowledged one was followed by the next
 unfoldable pub old_goes_on : Outcome → Bool
 old_goes_on (acknowledged w c) = false
 old_goes_on route_rejected = true
@@ -23,13 +23,12 @@ old_runs r (x ∷ y ∷ ys) =
 unfoldable pub old_send : ℕ → Shape → (ℕ → ℕ → Bool) → Receive → ℕ → ℕ → ℕ → SendResult
 old_send type S free r s vector t = old_runs r (map (attempted (network S) free s t) (attempts S type vector))
 
--- "receive rejection in the first pass ends a type 4 send", of any attempts: one before the last finds a path, and the target has no channel. n are the
--- scouts up to it.
+-- Where Searches 11 ends the send, of any attempts: one before the last finds a path, and the target has no channel. n are the scouts up to it.
 pub data EndsEarly : Receive → List PassResult → ℕ → Type 0 where
   here : {w : Path} {n : ℕ} {y : PassResult} {ys : List PassResult} → EndsEarly none_available (found w n ∷ y ∷ ys) n
   later : {r : Receive} {c n : ℕ} {xs : List PassResult} → EndsEarly r xs n → EndsEarly r (none c ∷ xs) (c + n)
 
--- What the request changes, of any attempts: nothing, unless the send now ends early; then it is receive rejected, with the scouts up to there. No
+-- What differs, of any attempts: nothing, unless the send now ends early; then it is receive rejected, with the scouts up to there. No
 -- acknowledgement appears or disappears, since the later attempts meet the same target without a channel.
 pub record Changes (r : Receive) (xs : List PassResult) : Type 0 where
   pub same : ((n : ℕ) → EndsEarly r xs n → ⊥) → runs r xs ≡ old_runs r xs

@@ -1,5 +1,5 @@
 -- A pass of a search, computed: the beginnings of permitted paths in their order, and the first of them that is free and whole.
--- That this is what document 01 says with words is proved (Sentences).
+-- That this is what the rules say is proved (Sentences).
 -- Assumes nothing.
 use Rattle.std.specs.Prelude.{Bool, cond, List, [], ◌∷◌, ◌++◌, map, ℕ, zero, suc, eqb}
 use Rattle.cube.specs.Helical.{helical}
@@ -15,11 +15,11 @@ unfoldable pub ways : ℕ → Network → ℕ → ℕ → ℕ → List Path
 ways zero N t n a = []
 ways (suc k) N t n a = cond (eqb n t) [] (over (λ p. ways k N t (N.next n p) p) (helical a (offered N t n)))
 
--- the beginnings of the permitted paths of a send over the ports of a vector: a way on has as many hops as the target is far
+-- Paths 12: the beginnings of the permitted paths of a send over the ports of a vector: a way on has as many hops as the target is far
 unfoldable pub beginnings : Network → ℕ → List ℕ → ℕ → List Path
 beginnings N s vector t = over (λ p. ways (N.distance t (N.next s p)) N t (N.next s p) p) vector
 
--- what a pass comes to, a path or none, with the scouts that it sent: address packets, one each time that a free link is tried
+-- what a pass comes to, a path or none, with the scouts that it sent (Scouts 1): one each time that a free link is tried
 pub data PassResult : Type 0 where
   none : ℕ → PassResult
   found : Path → ℕ → PassResult
@@ -33,8 +33,8 @@ scan free whole c (w ∷ ws) = cond (free w) (cond (whole w) (found w (suc c)) (
 unfoldable pub whole : Network → ℕ → ℕ → Path → Bool
 whole N t n w = eqb (end N n w) t
 
--- "A pass looks for the first free permitted path." "Scouts of a pass: the number of free beginnings, one hop or longer, of permitted
--- paths, that come before the found path or are a beginning of it (itself counted); with no path found, all of them."
+-- Searches 2: a pass looks for the first permitted path that is free. Scouts 2: its scouts are the free beginnings up to that path.
+-- Scouts 3: where it finds none, all of them. Scouts 4: links that are not free count for nothing.
 unfoldable pub pass : Network → (ℕ → ℕ → Bool) → ℕ → List ℕ → ℕ → PassResult
 pass N free s vector t = scan (free_path N free s) (whole N t s) 0 (beginnings N s vector t)
 

@@ -1,5 +1,5 @@
 -- Which nodes come to a target over links that may be taken, whatever the order in which ports are tried: a node does where it is the target, or where one of
--- the ports that it offers may be taken and leads to a node that does. That a pass finds a path exactly where this says so is proved (Reach).
+-- the ports that it offers may be taken and leads to a node that does. That a pass finds a path exactly where this says so (Searches 12) is proved (Reach).
 -- Assumes nothing.
 use Rattle.std.specs.Prelude.{Bool, ◌&&◌, ◌||◌, ℕ, zero, suc, eqb}
 use Rattle.common.specs.Lists.{any}

@@ -1,5 +1,5 @@
--- The path of a circuit, recovered from the links that it holds. Behind its first hop a permitted path takes no axis twice, so the ports left to
--- take bound the way. That this gives the path back is proved (Recover).
+-- Soundness 9: the path of a circuit, recovered from the links that it holds. Behind its first hop a permitted path takes no axis twice, so
+-- (Paths 8) the ports left to take bound the way. That this gives the path back (Paths 11) is proved (Recover).
 -- Assumes nothing.
 use Rattle.std.specs.Prelude.{Bool, not, ◌&&◌, List, [], ◌++◌, ℕ, zero, suc, eqb}
 use Rattle.common.specs.Lists.{keep, any}

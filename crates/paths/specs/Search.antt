@@ -1,5 +1,5 @@
--- The search as a node makes it: it tries its ports one after another, and a free one hands on to an arrival at the next node. The scouts
--- sent so far, c, go in, and those sent by the end come out. That this is the pass is proved (Depth).
+-- The search as a node makes it (Forms 3): it tries its ports one after another, and over a free one goes on from the arrival behind it.
+-- The scouts sent so far, c, go in, and those sent by the end come out. That this is the pass (Searches 17) is proved (Depth).
 -- Assumes nothing.
 use Rattle.std.specs.Prelude.{Bool, cond, ◌&&◌, not, List, [], ◌∷◌, ℕ, zero, suc, eqb}
 use Rattle.cube.specs.Helical.{helical}
@@ -26,6 +26,6 @@ arriving (suc k) N free t n a c =
 unfoldable pub sending : Network → (ℕ → ℕ → Bool) → ℕ → List ℕ → ℕ → ℕ → PassResult
 sending N free s vector t c = trying (free s) (λ p. arriving (N.distance t (N.next s p)) N free t (N.next s p) p) vector c
 
--- the test of free links once the link out of port q of node m is held
+-- Searches 15: the test of free links once the link out of port q of node m is held. A path takes no link twice (Paths 10).
 unfoldable pub holding : (ℕ → ℕ → Bool) → ℕ → ℕ → ℕ → ℕ → Bool
 holding free m q n p = free n p && not (eqb n m && eqb p q)

@@ -1,5 +1,5 @@
--- What document 01 says of a pass and of a send, and document 02, (b), of helix paths, word for word, over the plain predicates. That the computed
--- ones say it is proved (Sentences, Tried, Send).
+-- What Searches and Scouts say of a pass, of helix paths and of a send, rule by rule, over the plain predicates. That the computed ones say it is
+-- proved (Sentences, Tried, Send).
 -- Assumes nothing.
 use Rattle.std.specs.Prelude.{◌≡◌, ◌⊎◌, ◌≢◌, ◌↔◌, Bool, true, List, [], ◌∷◌, ◌++◌, ℕ, ◌+◌, length}
 use Rattle.common.specs.Lists.{◌∈◌, Pairwise}
@@ -9,14 +9,14 @@ use Rattle.paths.specs.Pass.{PassResult, none, found}
 use Rattle.paths.specs.Helix.{IsHelix, HelixPaths, TriedSays}
 use Rattle.paths.specs.Send.{Receive, lowest_available, none_available, Outcome, acknowledged, route_rejected, receive_rejected, Attempt, pass_over, helix_paths}
 
--- c is the number of paths with P: a list holds exactly those, each once, and is c long
+-- Scouts 2: each counts once. c is the number of paths with P: a list holds exactly those, each once, and is c long.
 pub record Number (P : Path → Type 0) (c : ℕ) : Type 0 where
   pub list : List Path
   pub holds : (b : Path) → (b ∈ list) ↔ P b
   pub once : Pairwise ◌≢◌ list
   pub long : length list ≡ c
 
--- "that come before the found path or are a beginning of it (itself counted)"
+-- Scouts 2: those that Order puts before the path found, and its own beginnings, of which it is one itself.
 abbrev pub UpTo : Path → Path → Type 0
 UpTo b w = ComesBefore b w ⊎ ((v : Path) × (b ++ v ≡ w))
 
@@ -24,14 +24,14 @@ abbrev pub Free : Network → (ℕ → ℕ → Bool) → ℕ → Path → Type 0
 Free N free s w = free_path N free s w ≡ true
 
 module _ (N : Network) (free : ℕ → ℕ → Bool) (s : ℕ) (vector : List ℕ) (t : ℕ) where
-  -- "the first free permitted path", and "the number of free beginnings .. that come before the found path or are a beginning of it"
+  -- Searches 2, Scouts 2: the first free permitted path, and the number of free beginnings up to it
   pub record FoundSays (w : Path) (c : ℕ) : Type 0 where
     pub permitted : Permitted N s vector t w
     pub is_free : Free N free s w
     pub first : (v : Path) → Permitted N s vector t v → Free N free s v → (v ≡ w) ⊎ ComesBefore w v
     pub scouts : Number (λ b. Beginning N s vector t b × Free N free s b × UpTo b w) c
 
-  -- no free permitted path exists; "with no path found, all of them"
+  -- Scouts 3: no free permitted path exists, and all free beginnings count
   pub record NoneSays (c : ℕ) : Type 0 where
     pub nothing : (v : Path) → Permitted N s vector t v → Free N free s v → ⊥
     pub scouts : Number (λ b. Beginning N s vector t b × Free N free s b) c
@@ -40,8 +40,8 @@ module _ (N : Network) (free : ℕ → ℕ → Bool) (s : ℕ) (vector : List �
   Says (none c) = NoneSays c
   Says (found w c) = FoundSays w c
 
--- What the answer of one attempt says, given what its search says and what the target's receive channels are: "With none, route rejected. With one",
--- the target takes the receive channel that is there to take; where there is none, receive rejected. The scouts are the search's in each case.
+-- What the answer of one attempt says, given what its search says and what the target's receive channels are: Searches 9 to 12. The scouts are the
+-- search's in each case (Scouts 5).
 pub data AnswerSays (Search : PassResult → Type 0) (r : Receive) : Outcome → ℕ → Type 0 where
   says_acknowledged : {w : Path} {k c : ℕ} → r ≡ lowest_available k → Search (found w c) → AnswerSays Search r (acknowledged w k) c
   says_receive_rejected : {w : Path} {c : ℕ} → r ≡ none_available → Search (found w c) → AnswerSays Search r receive_rejected c
@@ -54,7 +54,7 @@ module _ (N : Network) (s t : ℕ) where
   Tries (helix_paths ports) w = (p : ℕ) × (p ∈ ports) × IsHelix N s t p w
 
   module _ (free : ℕ → ℕ → Bool) where
-    -- what its search says: of a pass, and of the helix paths of its ports tried in their order
+    -- what its search says: of a pass (Searches 2), and of the helix paths of its ports tried in their order (Searches 8)
     unfoldable pub SearchSays : Attempt → PassResult → Type 0
     SearchSays (pass_over ports) x = Says N free s ports t x
     SearchSays (helix_paths ports) x = (paths : List Path) × HelixPaths N s t ports paths × TriedSays N free s paths x
@@ -63,8 +63,8 @@ module _ (N : Network) (s t : ℕ) where
       abbrev pub AttemptSays : Attempt → Outcome → ℕ → Type 0
       AttemptSays a = AnswerSays (SearchSays a) r
 
-      -- What a send says that makes the attempts of a list in turn. After a route rejection the next attempt is made, and the scouts are added. An
-      -- acknowledgement ends the send, and so does the other rejection: document 02, (f), "receive rejection in the first pass ends a type 4 send".
+      -- What a send says that makes the attempts of a list in turn. After a route rejection the next attempt is made (Searches 1), and the scouts are
+      -- added (Scouts 6). An acknowledgement ends the send, and so does a receive rejection (Searches 11).
       pub data AttemptsSay : List Attempt → Outcome → ℕ → Type 0 where
         last : {a : Attempt} {o : Outcome} {n : ℕ} → AttemptSays a o n → AttemptsSay (a ∷ []) o n
         ends : {a : Attempt} {later : List Attempt} {o : Outcome} {n : ℕ} → AttemptSays a o n → o ≢ route_rejected → AttemptsSay (a ∷ later) o n

@@ -1,5 +1,5 @@
--- The call letters of document 01 and of document 02, (a): what the printed line of a call shows, field by field. The letters are written by their bytes: F is
--- 70, B 66, E 69, S 83, C 67, R 82 and D 68.
+-- What the printed line of each call shows, field by field (Listing 12 to 15). The call letters are written by their bytes: F is 70, B 66, E 69, S 83, C 67,
+-- R 82, D 68 and M 77.
 -- Assumes nothing.
 use mathlib.Core.Path.{◌≡◌, refl}
 use mathlib.Core.Logic.{◌≢◌, ◌⊎◌, inl, inr}
@@ -7,7 +7,7 @@ use mathlib.Core.List.{List, [], ◌∷◌}
 use mathlib.Core.Option.{some}
 use Prim.Native.Nat.{ℕ}
 use borrow.Author.Tests.{ne_eqb}
-use Rattle.ownership.specs.Calls.{Call, making, blocking, unblocking, opening, closing, arming, disarming, CallResult, receive_of, scouts_of, carries_scouts, After}
+use Rattle.ownership.specs.Calls.{Call, making, blocking, unblocking, opening, closing, arming, disarming, folding, CallResult, receive_of, scouts_of, carries_scouts, After}
 use Rattle.text.specs.Row.{Field, nothing, shows, letter, path, in_order}
 use Rattle.printed_line.specs.PrintedLine.{call_row, traced_ports, row_for}
 
@@ -26,7 +26,7 @@ module _ {S : Type 0} (makes : S → Call → After S) (state : S) (n : ℕ) whe
   unfolding in_order row_for call_row
   make_shows D = refl
 
-  -- B and E: "node as given", "the port of B and E as given"
+  -- B and E: node and port as given
   pub block_shows : (node port : ℕ)
       → shown (blocking node port)
       ≡ shows n ∷ letter 66 ∷ shows (answer (blocking node port)).number ∷ shows node ∷ nothing ∷ nothing ∷ nothing ∷ shows port ∷ []
@@ -39,14 +39,14 @@ module _ {S : Type 0} (makes : S → Call → After S) (state : S) (n : ℕ) whe
   unfolding in_order row_for call_row
   unblock_shows node port = refl
 
-  -- C: "node as given", "channel as given"
+  -- C: node and channel as given
   pub close_shows : (node channel : ℕ)
       → shown (closing node channel)
       ≡ shows n ∷ letter 67 ∷ shows (answer (closing node channel)).number ∷ shows node ∷ shows channel ∷ nothing ∷ nothing ∷ nothing ∷ []
   unfolding in_order row_for call_row
   close_shows node channel = refl
 
-  -- R and D: "printing node and channel"
+  -- R and D: node and channel as given
   pub arm_shows : (node channel : ℕ)
       → shown (arming node channel)
       ≡ shows n ∷ letter 82 ∷ shows (answer (arming node channel)).number ∷ shows node ∷ shows channel ∷ nothing ∷ nothing ∷ nothing ∷ []
@@ -59,11 +59,17 @@ module _ {S : Type 0} (makes : S → Call → After S) (state : S) (n : ℕ) whe
   unfolding in_order row_for call_row
   disarm_shows node channel = refl
 
+  -- M: the number alone
+  pub fold_shows : (mask : ℕ)
+      → shown (folding mask) ≡ shows n ∷ letter 77 ∷ shows (answer (folding mask)).number ∷ nothing ∷ nothing ∷ nothing ∷ nothing ∷ nothing ∷ []
+  unfolding in_order row_for call_row
+  fold_shows mask = refl
+
   module _ (node channel target type vector : ℕ) where
     abbrev opens : Call
     opens = opening node channel target type vector
 
-    -- S: "node as given (source for S); channel as given; receive channel taken; scouts ..; ports in path order": those that a trace of this channel gives now
+    -- S answered 0: source, channel, receive channel taken, scouts, and the ports that a trace of this channel gives now
     pub acknowledged_shows : (answer opens).number ≡ 0
         → shown opens
         ≡ shows n ∷ letter 83 ∷ shows 0 ∷ shows node ∷ shows channel ∷ shows (receive_of (answer opens)) ∷ shows (scouts_of (answer opens))
@@ -71,7 +77,7 @@ module _ {S : Type 0} (makes : S → Call → After S) (state : S) (n : ℕ) whe
     unfolding in_order row_for call_row carries_scouts
     acknowledged_shows e = rw e
 
-    -- S answered 10, 11 or 22: "A refused S shows `-` for receive and ports."
+    -- S answered 10, 11 or 22: the scouts, and `-` for receive channel and ports
     pub rejected_shows : ((answer opens).number ≡ 10) ⊎ ((answer opens).number ≡ 11) ⊎ ((answer opens).number ≡ 22)
         → shown opens
         ≡ shows n ∷ letter 83 ∷ shows (answer opens).number ∷ shows node ∷ shows channel ∷ nothing ∷ shows (scouts_of (answer opens)) ∷ nothing ∷ []
@@ -80,7 +86,7 @@ module _ {S : Type 0} (makes : S → Call → After S) (state : S) (n : ℕ) whe
     rejected_shows (inr (inl e)) = rw e
     rejected_shows (inr (inr e)) = rw e
 
-    -- S stopped before the search: "scouts (S answered 0, 10 or 11)", or 22, and not otherwise
+    -- S stopped before the search: `-` for the scouts too
     pub stopped_shows : (answer opens).number ≢ 0 → (answer opens).number ≢ 10 → (answer opens).number ≢ 11 → (answer opens).number ≢ 22
         → shown opens ≡ shows n ∷ letter 83 ∷ shows (answer opens).number ∷ shows node ∷ shows channel ∷ nothing ∷ nothing ∷ nothing ∷ []
     unfolding in_order row_for call_row carries_scouts

@@ -14,6 +14,7 @@ use answers::{Opening, Rejected};
 use common::refusal;
 use common::refusal::Refusal;
 use cube::Node;
+use table::Wide;
 use text::row;
 use text::row::{Field, Row};
 
@@ -47,13 +48,13 @@ pub fn open(t: &mut [u8], line: u16, x: Opening, ports: &mut [u8]) -> Row
     requires { ports.old ≡ zero_buffer }
     ensures { Answered t.old line (some (opening x.source.0 x.channel x.target.0 x.routing x.vector)) ports.new result t.new }
 {
-    match router::open(t, x) {
+    match router::open::<Wide>(t, x) {
         Err(rejected) => Row {
             scouts: scouts_of(rejected),
             ..of_channel(line, b'S', rejected.refusal.number(), x.source, x.channel)
         },
         Ok(acknowledged) => {
-            let hops = router::trace(t, x.source, x.channel, ports).unwrap_or(0);
+            let hops = router::trace::<Wide>(t, x.source, x.channel, ports).unwrap_or(0);
             Row {
                 receive: Some(acknowledged.receive.into()),
                 scouts: Some(Field::Number(acknowledged.scouts)),

@@ -1,4 +1,4 @@
--- "Every sequence agrees with this small machine", refused packets included.
+-- Receiver 12: every sequence of packets agrees with the machine, refused packets included.
 -- Assumes nothing.
 use Rattle.std.proofs.Common.{◌≡◌, ℕ, ◌+◌, ◌-◌, ◌%◌, ◌^◌, ◌<◌, ◌≤◌, Bool, true, false, cond, not, ◌&&◌, ◌||◌, eqb, List, [], ◌∷◌, sym, refl, ap, ◌∙◌, ap₂, arith, ltb-false, ltb-true, le-ltb}
 use mathlib.Core.Bool.{or-false, or_assoc}

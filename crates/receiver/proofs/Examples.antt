@@ -1,4 +1,4 @@
--- Small runs of a channel, computed: the edges of the count, the address that wraps, what stops a channel, and which number comes first.
+-- Small runs of a channel, computed: the edges of the count, the address that wraps, what stops a channel, and which number comes first. Examples 21 is among them.
 -- Assumes nothing.
 use Rattle.std.specs.Prelude.{◌≡◌, ℕ, [], ◌∷◌, map, refl}
 use Rattle.common.specs.Tests.{refusal}

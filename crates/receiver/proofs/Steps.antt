@@ -28,7 +28,7 @@ accepted_as : (c : Channel) (p : Packet) → packet_number c p ≡ 0 → record 
 unfolding received
 accepted_as c p e = rw e
 
--- "both change nothing": whatever the channel, a packet with a number leaves it.
+-- Receiver 9: whatever the channel, a refused packet leaves it.
 pub refused_leaves : (c : Channel) (p : Packet) → (received c p).number ≢ 0 → (received c p).channel ≡ c
 unfolding received
 refused_leaves c p h = rw (ne_eqb (packet_number c p) 0 h)

@@ -1,3 +1,4 @@
--- A receive channel: what it does with packets, and the machine that every sequence of packets agrees with.
+-- A receive channel: what it does with packets, the machine that every sequence of packets agrees with, and that promise.
 pub mod Receive
 pub mod Machine
+pub mod Promises

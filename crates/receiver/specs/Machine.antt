@@ -1,4 +1,4 @@
--- Document 02, request (m), "Every sequence agrees with this small machine": the machine, which counts without end, and what it is to agree with it.
+-- The machine of Receiver 12, which counts without end, and what it is to agree with it.
 -- Assumes nothing.
 use Rattle.std.specs.Prelude.{◌≡◌, ℕ, suc, ◌+◌, ◌-◌, ◌*◌, ◌%◌, ◌^◌, ◌<◌, min, Bool, true, false, cond, ◌&&◌, ◌||◌, List, [], ◌∷◌, ◌==◌, nat_lt}
 use Rattle.command_word.specs.Word.{read_word}
@@ -67,7 +67,7 @@ end_accepted s (p ∷ ps) [] = false
 
 -- A channel shows what the machine says: every field of it.
 pub record Shows (s : Start) (m : Machine) (c : Channel) : Type 0 where
-  -- "adds 8 to the address, which wraps", for each data packet up to the count
+  -- the first address with 8 added for each data packet up to the count, modulo 2^32
   pub address : c.address ≡ (s.address + 8 * min m.packets s.count) % 2 ^ 32
   -- the count given less the data packets, modulo 2^32: with them it is the count given again
   pub count : (c.count + m.packets) % 2 ^ 32 ≡ s.count
@@ -76,8 +76,8 @@ pub record Shows (s : Start) (m : Machine) (c : Channel) : Type 0 where
   pub running : c.running ≡ cond m.stopped 0 1
   pub ignores : c.ignores ≡ cond (s.ignores == 0) 0 1
 
--- The theorem's statement, of a start and a list of packets: the channel after the list shows the machine after it, each number is the
--- machine's; and in plain words of the numbers themselves,
+-- Receiver 12, of a start and a list of packets: the channel after the list shows the machine after it, each number is the machine's;
+-- and, of the numbers themselves,
 pub record AgreesWithMachine (s : Start) (ps : List Packet) (m : Machine) (c : Channel) (ns : List ℕ) : Type 0 where
   pub shows : Shows s m c
   pub answers : ns ≡ machine_numbers s at_start ps

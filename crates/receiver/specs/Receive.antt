@@ -1,4 +1,4 @@
--- Document 02, request (m): what a receive channel does with each packet. The contracts cite `started`, `received`, `overshoot` and `followed`.
+-- What a receive channel does with each packet (Receiver 1). The contracts cite `started`, `received`, `overshoot` and `followed`.
 -- Assumes nothing.
 use Rattle.std.specs.Prelude.{ℕ, ◌+◌, ◌-◌, ◌%◌, ◌^◌, Bool, cond, not, ◌&&◌, ◌||◌, List, [], ◌∷◌, ◌==◌, Result, Ok, Err}
 use Rattle.common.specs.Tests.{Test, test, refusal}
@@ -16,37 +16,37 @@ pub record Received : Type 0 where
   pub channel : Channel
   pub number : ℕ
 
--- "any packet, data or command"
+-- a packet, data or command
 pub data Packet : Type 0 where
   data_packet : Packet
   -- any number that came as a command word
   command_word : ℕ → Packet
 
--- a flag is a number, of which 0 alone says no
+-- Receiver 11: a flag is a number, of which 0 alone says no.
 abbrev pub is_set : ℕ → Bool
 is_set flag = not (flag == 0)
 
 abbrev pub flag : Bool → ℕ
 flag b = cond b 1 0
 
--- "a 32-bit address and a 32-bit count of doublewords, both given at its start with whether it ignores ends of message; it starts running,
--- its overflow mark clear"
+-- Receiver 2: the address, the count and the flag given; it runs, and its mark is clear.
 unfoldable pub started : ℕ → ℕ → ℕ → Channel
 started address count ignores = record { address = address; count = count; running = 1; overflow = 0; ignores = flag (is_set ignores) }
 
--- "adds 8 to the address, which wraps"
+-- Receiver 3, Receiver 6: 8 more, modulo 2^32
 abbrev pub eight_more : ℕ → ℕ
 eight_more address = (address + 8) % 2 ^ 32
 
--- "takes one from the count"; "the counter wraps below zero and keeps counting down"
+-- Receiver 3, Receiver 6: 1 less, modulo 2^32
 abbrev pub one_less : ℕ → ℕ
 one_less count = (count + (2 ^ 32 - 1)) % 2 ^ 32
 
--- "A data packet at count zero sets the overflow mark": once set it stays
+-- Receiver 4: a data packet that finds the count 0 sets the mark, which stays set.
 unfoldable pub overflows : Channel → Bool
 overflows c = is_set c.overflow || c.count == 0
 
--- A data packet. "from that packet on the address stands": the mark decides, since the count is not zero any more once it has wrapped.
+-- Receiver 3, Receiver 5: a data packet. From the one that sets the mark on the address stands: the mark decides, since the count is not zero any more once it has
+-- wrapped.
 unfoldable pub after_data : Channel → Channel
 after_data c =
     record {
@@ -57,11 +57,11 @@ after_data c =
       ignores = c.ignores;
     }
 
--- "An end of message stops the channel unless it was told to ignore those; an end of transmission always stops it."
+-- Receiver 7: an end of transmission stops the channel, and an end of message unless it ignores those.
 unfoldable pub stops : Channel → ℕ → Bool
 stops c command = command == end_of_transmission || (command == end_of_message && c.ignores == 0)
 
--- A command word, by its command. "Any other readable command word changes nothing and is accepted."
+-- A command word, by its command. Receiver 8: any other that can be read changes nothing.
 unfoldable pub after_command : Channel → ℕ → Channel
 after_command c command =
     record {
@@ -77,8 +77,7 @@ unfoldable pub reading_number : Packet → ℕ
 reading_number data_packet = 0
 reading_number (command_word word) = (read_word word).number
 
--- "A word that can't be read gets its 15 to 18; then any packet, data or command, to a stopped channel is 30": the tests of a packet, in that
--- order, by what its reading answered
+-- Receiver 9: the tests of a packet, by what its reading answered: 15 to 18, and then 30, the channel is stopped (Refusals 30).
 unfoldable pub packet_tests : Channel → ℕ → List Test
 packet_tests c number = test (is_set number) number ∷ test (c.running == 0) 30 ∷ []
 
@@ -90,7 +89,7 @@ unfoldable pub after_packet : Channel → Packet → Channel
 after_packet c data_packet = after_data c
 after_packet c (command_word word) = after_command c (read_word word).command
 
--- What a packet does, and its number. "both change nothing": a refusal leaves the channel as it is.
+-- Receiver 9: what a packet does, and its number; a refused one leaves the channel as it is.
 unfoldable pub received : Channel → Packet → Received
 received c p = record { channel = cond (packet_number c p == 0) (after_packet c p) c; number = packet_number c p }
 
@@ -99,11 +98,11 @@ abbrev pub received_as : Channel → Result Channel Refusal → Received
 received_as c (Ok d) = record { channel = d; number = 0 }
 received_as c (Err e) = record { channel = c; number = number_of e }
 
--- How many doublewords came too many, modulo 2^32, read from the wrapped count: none while the mark is clear.
+-- Receiver 10: how many doublewords came too many, modulo 2^32, read from the wrapped count: none while the mark is clear.
 unfoldable pub overshoot : Channel → ℕ
 overshoot c = cond (is_set c.overflow) ((2 ^ 32 - c.count) % 2 ^ 32) 0
 
--- "One receive channel that follows its circuit": the channel that an open named, started. A refused open names none, and hands on its refusal.
+-- Receiver 13: the channel that an open named, started. A refused open names none, and hands on its refusal.
 unfoldable pub followed : Result Acknowledged Rejected → ℕ → ℕ → ℕ → Result Followed Refusal
 followed (Ok a) address count ignores = Ok (record { receive = a.receive; channel = started address count ignores })
 followed (Err r) address count ignores = Err r.refusal

@@ -4,14 +4,15 @@
 ghost use Rattle.std.specs.Prelude.{◌≡◌, ◌≢◌, MatchResult};
 ghost use Rattle.common.specs.declared.refusal.Refusal.TheVariants.{ChannelStopped};
 ghost use Rattle.command_word.specs.Kinds.{command_number};
+ghost use Rattle.receiver.specs.Promises.{ReceivesAgree};
 ghost use Rattle.receiver.specs.Receive.{data_packet, command_word, started, after_data, after_command, received, received_as, overshoot, followed};
 
 use command_word::{Command, CommandWord};
 use common::refusal::Refusal;
 use router::{Acknowledged, Rejected};
 
-// The state of a channel, as C keeps it: a flag is a byte, which C may have written, and 0 alone says no: the channel is stopped, its overflow mark is clear,
-// ends of message are not ignored. A state that is all zero is stopped.
+// Receiver 1, Receiver 11: the state of a channel, as C keeps it: a flag is a byte, which C may have written, and 0 alone says no: the channel is stopped, its
+// overflow mark is clear, ends of message are not ignored. A state that is all zero is stopped.
 #[repr(C)]
 #[derive(Clone, Copy, Default)]
 pub struct Channel {
@@ -44,14 +45,14 @@ impl Channel {
         }
     }
 
-    // A data packet, and the channel after it.
+    // Receiver 3: a data packet, and the channel after it.
     pub fn take_data(self) -> Result<Channel, Refusal>
         ensures { received_as self result ≡ received self data_packet }
     {
         Ok(self.not_stopped()?.doubleword())
     }
 
-    // A command word, any number: what cannot be read gets its refusal, and then what comes to a stopped channel.
+    // Receiver 7, Receiver 9: a command word, any number: what cannot be read gets its refusal, and then what comes to a stopped channel.
     pub fn take_word(self, word: u16) -> Result<Channel, Refusal>
         ensures { received_as self result ≡ received self (command_word word) }
     {
@@ -69,7 +70,7 @@ impl Channel {
         Ok(self)
     }
 
-    // Counts a doubleword. The mark decides whether the address moves: once the count has wrapped below zero it is not zero any more.
+    // Counts a doubleword (Forms 8). The mark decides whether the address moves (Receiver 5): once the count has wrapped below zero it is not zero any more.
     #[tactic(auto, unfolding(crate::specs::Receive::after_data, crate::specs::Receive::overflows))]
     fn doubleword(self) -> Channel
         ensures { result ≡ after_data self }
@@ -89,7 +90,7 @@ impl Channel {
         }
     }
 
-    // An end of transmission stops the channel, and an end of message where those are not ignored.
+    // Receiver 7: an end of transmission stops the channel, and an end of message where those are not ignored.
     #[tactic(auto, unfolding(crate::specs::Receive::after_command, crate::specs::Receive::stops))]
     fn obey(self, command: Command) -> Channel
         ensures { result ≡ after_command self (command_number command) }
@@ -101,7 +102,7 @@ impl Channel {
         }
     }
 
-    // How many doublewords came too many, modulo 2^32, read from the wrapped count.
+    // Receiver 10: how many doublewords came too many, modulo 2^32, read from the wrapped count.
     #[tactic(auto, unfolding(crate::specs::Receive::overshoot))]
     pub fn overshoot(self) -> u32
         ensures { result ≡ overshoot self }
@@ -113,7 +114,7 @@ impl Channel {
     }
 }
 
-// The channel of a circuit that was opened, started. A refused open has none, and its refusal is handed on.
+// Receiver 13: the channel of a circuit that was opened, started. A refused open has none, and its refusal is handed on.
 #[tactic(auto, unfolding(crate::specs::Receive::followed))]
 pub fn follow(
     opened: Result<Acknowledged, Rejected>,
@@ -131,3 +132,8 @@ pub fn follow(
         Err(rejected) => Err(rejected.refusal),
     }
 }
+
+// Promises 21: every sequence of packets agrees with the machine that counts without end. The function does nothing: its contract is the promise.
+pub fn receives_agree()
+    ensures { ReceivesAgree }
+{}

@@ -4,4 +4,4 @@
 mod calls;
 
 pub use answers::{Acknowledged, Opening, Rejected};
-pub use calls::{arm, block, close, disarm, make, open, trace, unblock};
+pub use calls::{arm, block, close, disarm, fold, make, open, trace, unblock};

@@ -4,7 +4,7 @@ use mathlib.Core.Path.{◌≡◌, refl, ap, sym, ◌∙◌, fun_ext}
 use mathlib.Core.Bool.{Bool, true, false, ◌&&◌, and-false, cond}
 use mathlib.Core.List.Memᴰ
 use mathlib.Core.List.{List, [], ◌∷◌}
-use Prim.Native.Nat.{ℕ, ◌≤◌, ◌<◌, ◌+◌, ◌*◌}
+use Prim.Native.Nat.{ℕ, ◌≤◌, ◌<◌, ◌+◌, ◌*◌, ◌^◌}
 use lib.ListN.{length}
 use lib.Bits.{bit_and, and_le_l}
 use Rattle.common.specs.Lists.{◌∈◌, keep, from}
@@ -18,19 +18,21 @@ use Rattle.paths.specs.Pass.{PassResult}
 use Rattle.paths.specs.Send.{Receive}
 use Rattle.paths.specs.Search.{trying}
 use Rattle.paths.proofs.Depth.{trying_cons}
-use Rattle.entries.specs.EntryContracts.{enable_bits, Within}
+use Rattle.layout.specs.Resources.{LayoutLaws}
+use Rattle.layout.specs.Layout.{mask_size}
+use Rattle.entries.specs.EntryContracts.{enable_bits, InTable}
 use Rattle.table.specs.View.{View, view, net}
-use Rattle.layout.proofs.Entries.{enabled_has}
 use Rattle.answers.specs.SendOnTable.{free_in}
 use Rattle.answers.specs.PassOnBytes.{answer_of_pass, arrival_after}
 use Rattle.search.specs.SearchContracts.{Narrowed, Enabled, try_answer, farthest, farthest_after, MayTry}
+use Rattle.answers.proofs.EnabledBits.{enabled_bits}
 use Rattle.answers.proofs.PassOnBytes.{free_off}
 use mathlib.Core.Logic.{⊎_elim}
 use native.Mathlib.Omega.{arith}
 use native.Mathlib.Nat.{le_trans, le_refl, mul-le-mul}
 use lib.Dec.{leb}
 use borrow.Author.Tests.{leb-true, leb-false}
-use Rattle.cube.specs.Cube.{port_count}
+use Rattle.cube.specs.Axes.{positions}
 use Rattle.paths.specs.Network.{Network}
 use Rattle.paths.specs.Bound.{ways_from}
 use Rattle.paths.proofs.Bound.{ways_more}
@@ -46,20 +48,20 @@ trying_kept f free on (p ∷ ps) h s = go (f p) refl (trying_kept f free on ps (
     go false e ih = rw (keep_no f p ps e, trying_cons free on p ps s, h p (Memᴰ.head refl) e) (ih s)
 
 module _ {v : View} {n vector left : ℕ} (narrow : Narrowed v n vector left) where
-  ports_kept : ports_of port_count left ≡ keep (has left) (ports_of port_count vector)
+  ports_kept : ports_of positions left ≡ keep (has left) (ports_of positions vector)
   unfolding ports_of
   ports_kept =
-      keep_same (has left) (λ q. has vector q && has left q) (from 0 8) (λ q m. go q (has left q) refl) ∙ sym (keep_keep (has left) (has vector) (from 0 8))
+      keep_same (has left) (λ q. has vector q && has left q) (from 0 18) (λ q m. go q (has left q) refl) ∙ sym (keep_keep (has left) (has vector) (from 0 18))
     where
       go : (q : ℕ) (x : Bool) → has left q ≡ x → x ≡ (has vector q && x)
       go q true e = rw (narrow.among q e)
       go q false e = sym (and-false (has vector q))
 
-  pub narrow_fewer : length (ports_of port_count left) ≤ length (ports_of port_count vector)
-  narrow_fewer = rw ports_kept (length_keep (has left) (ports_of port_count vector))
+  pub narrow_fewer : length (ports_of positions left) ≤ length (ports_of positions vector)
+  narrow_fewer = rw ports_kept (length_keep (has left) (ports_of positions vector))
 
-  pub narrow_mem : (p : ℕ) → p ∈ ports_of port_count left → p ∈ ports_of port_count vector
-  narrow_mem p m = let r = ports_mem 8 left m in mem_ports 8 vector p r.0 (narrow.among p r.1)
+  pub narrow_mem : (p : ℕ) → p ∈ ports_of positions left → p ∈ ports_of positions vector
+  narrow_mem p m = let r = ports_mem 18 left m in mem_ports 18 vector p r.0 (narrow.among p r.1)
 
 -- the answer is that of the whole vector
 pub narrow_tries : (b : List ℕ) (t c : ℕ) (r : Receive) (a h s : ℕ) {n vector left : ℕ} → Narrowed (view b) n vector left → try_answer b t c r n left a h s ≡ try_answer b t c r n vector a h s
@@ -68,15 +70,14 @@ narrow_tries b t c r a h s {n} {vector} {left} narrow =
     let on : ℕ → ℕ → PassResult = arrival_after (net (view b)) (free_in (view b)) t n in
     ap (answer_of_pass b c n h r)
     (ap (λ ps. trying (free_in (view b) n) on (helical a ps) s) (ports_kept narrow)
-    ∙ ap (λ ps. trying (free_in (view b) n) on ps s) (helical_keep a (has left) (ports_of port_count vector))
-    ∙ trying_kept (has left) (free_in (view b) n) on (helical a (ports_of port_count vector))
-    (λ p m e. let r = ports_mem 8 vector (helical_mem a (ports_of port_count vector) m) in narrow.dropped p r.0 r.1 e) s)
+    ∙ ap (λ ps. trying (free_in (view b) n) on ps s) (helical_keep a (has left) (ports_of positions vector))
+    ∙ trying_kept (has left) (free_in (view b) n) on (helical a (ports_of positions vector))
+    (λ p m e. let r = ports_mem 18 vector (helical_mem a (ports_of positions vector) m) in narrow.dropped p r.0 r.1 e) s)
 
--- the ports of a vector that are enabled at a node: x is the byte that the code found there
-module _ (b : List ℕ) (n vector x : ℕ) (within : Within b n 0) (byte : x ≡ enable_bits b n) where
-  read : (p : ℕ) → p < port_count → (view b).enabled n p ≡ has x p
-  unfolding view enable_bits
-  read p l = enabled_has b n p within.node l ∙ ap (λ y. has y p) (sym byte)
+-- the ports of a vector that are enabled at a node: x is the mask that the code found there
+module _ {long q enable links receives arms : ℕ} (laws : LayoutLaws long q enable links receives arms) (b : List ℕ) (n vector x : ℕ) (within : InTable long q b n 0) (mask : x ≡ enable_bits b n) (small : x < 2 ^ (8 * mask_size q)) where
+  read : (p : ℕ) → p < positions → (view b).enabled n p ≡ has x p
+  read = enabled_bits laws b n x within.bytes within.node mask small
 
   in_both : (p : ℕ) → has (bit_and vector x) p ≡ true → (has vector p ≡ true) × (has x p ≡ true)
   in_both p e = both (has vector p) (has x p) (sym (has_and vector x p) ∙ e)
@@ -121,16 +122,16 @@ farthest_most N t n m (q ∷ ps) h = go (leb (farthest N t n ps) (N.distance t (
 pub narrow_reach : (b : List ℕ) (t : ℕ) {n v left : ℕ} → Narrowed (view b) n v left → farthest_after b t n left ≤ farthest_after b t n v
 unfolding farthest_after
 narrow_reach b t {n} {v} {left} narrow =
-    farthest_most (net (view b)) t n (farthest (net (view b)) t n (ports_of port_count v)) (ports_of port_count left) (λ p m. farthest_mem (net (view b)) t n (ports_of port_count v) p (narrow_mem narrow p m))
+    farthest_most (net (view b)) t n (farthest (net (view b)) t n (ports_of positions v)) (ports_of positions left) (λ p m. farthest_mem (net (view b)) t n (ports_of positions v) p (narrow_mem narrow p m))
 
-pub narrow_may : {b : List ℕ} {t c n v left a h s : ℕ} → MayTry b t c n v a h s → Narrowed (view b) n v left → MayTry b t c n left a h s
-narrow_may {b} {t} {c} {n} {v} {left} may narrow =
+pub narrow_may : {long q w f : ℕ} {b : List ℕ} {t c n v left a h s : ℕ} → MayTry long q w f b t c n v a h s → Narrowed (view b) n v left → MayTry long q w f b t c n left a h s
+narrow_may {b = b} {t = t} {c = c} {n = n} {v = v} {left = left} may narrow =
     let near = narrow_reach b t narrow in
-    let ways = ways_more 1 (farthest_after b t n left) (farthest_after b t n v) near in
-    let all : length (ports_of port_count left) * (1 + ways_from 1 (farthest_after b t n left)) ≤ length (ports_of port_count v) * (1 + ways_from 1 (farthest_after b t n v)) = mul-le-mul (narrow_fewer narrow) (let w = ways in omega arith) in
+    let ways = ways_more 2 (farthest_after b t n left) (farthest_after b t n v) near in
+    let all : length (ports_of positions left) * (1 + ways_from 2 (farthest_after b t n left)) ≤ length (ports_of positions v) * (1 + ways_from 2 (farthest_after b t n v)) = mul-le-mul (narrow_fewer narrow) (let w = ways in omega arith) in
     record {
       here = may.here;
-      ports = (let l = narrow.most in omega (arith, may.ports));
+      vector_ports = record { below = (let l = narrow.most in omega (arith, may.vector_ports.below)); there = λ p e. may.vector_ports.there p (narrow.among p e) };
       hops = omega (arith, may.hops, near);
       room = omega (arith, may.room, all);
     }

@@ -7,23 +7,25 @@ use mathlib.Core.List.{List}
 use Prim.Native.Nat.{ℕ, ◌+◌, ◌-◌, ◌^◌, ◌≤◌, ◌<◌}
 use native.Mathlib.Omega.{arith}
 use native.Mathlib.Nat.{mul-le-mul_right}
-use lib.Dec.{eqb, lit<}
+use lib.Dec.{eqb}
 use lib.ListN.{length}
 use lib.Pow.{pow_pos}
 use lib.Bits.{bit_xor, xor_lt}
 use borrow.Author.Tests.{lt-ltb, eq-eqb, ne_eqb}
 use Rattle.cube.specs.Bits.{bit_at, has}
-use Rattle.cube.specs.CubeContracts.{NodeCount}
-use Rattle.cube.specs.Cube.{largest_dimension, port_count, channels}
+use Rattle.cube.specs.Axes.{positions, present}
+use Rattle.cube.specs.CubeContracts.{NodeCount, WithPartners}
+use Rattle.cube.specs.Cube.{largest_dimension, channels}
 use Rattle.cube.proofs.Bits.{one_bit, bit_lt, bit_xor_lem, has_bit}
 use Rattle.cube.specs.Helical.{ports_of}
-use Rattle.cube.proofs.Order.{length_ports}
+use Rattle.cube.proofs.Order.{length_ports, helical_last, low_port, ports_mem}
 use Rattle.paths.specs.Pass.{PassResult, none, found, pass, scouts}
 use Rattle.paths.specs.Search.{trying, sending}
 use Rattle.paths.specs.Send.{Receive, lowest_available, none_available, lowest_of, one_result, outcome_of_path, outcome}
 use Rattle.paths.specs.CubeNetwork.{Shape, network, send_ports, other_ports}
 use Rattle.paths.proofs.Depth.{search_is_pass}
-use Rattle.paths.proofs.CubeNetwork.{distance_within, scouts_bound, other_vector}
+use Rattle.paths.proofs.CubeNetwork.{distance_within, other_vector}
+use Rattle.paths.proofs.FoldedCube.{folded_bound, partners_send, send_there}
 use Rattle.paths.proofs.Send.{maze_answers, alternate_stops, alternate_goes_on}
 use Rattle.paths.specs.Bound.{ways_from}
 use Rattle.paths.proofs.Bound.{ways_more}
@@ -34,40 +36,53 @@ use Rattle.table.specs.TableContracts.{lowest_channel}
 use Rattle.table.proofs.Receives.{channel_taken, channel_missing}
 use Rattle.common.specs.SomeBelow.{some_below}
 use Rattle.std.specs.Prelude.{Option, Some, None}
-use Rattle.table.proofs.Made.{ones}
+use Rattle.cube.proofs.PortsInside.{ones}
 use Rattle.answers.specs.SendOnTable.{free_in, answer_on_bytes, answer_of_outcome}
 use Rattle.answers.specs.PassOnBytes.{hold_path, answer_of_pass, arrival_after}
 use Rattle.search.specs.SearchContracts.{farthest_after, receive_as, try_answer, Narrowed, MayTry}
-use Rattle.answers.specs.SendAnswer.{bytes_after_send, send_answer, searched, MaySend}
-use Rattle.answers.proofs.SendAnswer.{ports_in_turn, sent_stops, sent_goes_on, sent_leaves, sent_scouts, sent_counted}
+use Rattle.answers.specs.SendAnswer.{BoardIn, bytes_after_send, send_answer, searched, MaySendIn}
+use Rattle.answers.proofs.SendAnswer.{sent_stops, sent_goes_on, sent_leaves, sent_scouts, sent_counted}
 use Rattle.search.proofs.Narrow.{narrow_tries, farthest_most}
 
 -- the pass of a send over the ports of a vector
 abbrev pass_of : List ℕ → ℕ → ℕ → ℕ → PassResult
 pass_of b s t vector = pass (net (view b)) (free_in (view b)) s (send_ports (shape_of (view b)) vector) t
 
-module _ {b : List ℕ} {s t c vector : ℕ} (may : MaySend b s t c vector) where
-  -- ports after arrival port 7 are tried from 0 upward: the search is the pass
-  pub tries_pass : try_answer b t c (receive (view b) t) s vector 7 0 0 ≡ answer_of_pass b c s 0 (receive (view b) t) (pass_of b s t vector)
+module _ (a : ℕ) {long q w f : ℕ} {b : List ℕ} {s t c vector x wide : ℕ} (may : MaySendIn long b s t c vector) (board : BoardIn q w f (view b)) (last : a + 1 ≡ w) (same : x ≡ vector) (partners : WithPartners f x wide × (wide < 2 ^ w)) where
+  sends : ports_of positions wide ≡ send_ports (shape_of (view b)) vector
+  unfolding view
+  sends = partners_send (shape_of (view b)) may.fits vector wide may.ports (rw (← board.folded, ← same) partners.0)
+
+  -- ports after an arrival on the last are tried from 0 upward: the search is the pass
+  pub tries_pass : try_answer b t c (receive (view b) t) s wide a 0 0 ≡ answer_of_pass b c s 0 (receive (view b) t) (pass_of b s t vector)
   unfolding try_answer
   tries_pass =
       ap (answer_of_pass b c s 0 (receive (view b) t))
-      (ap (λ ps. trying (free_in (view b) s) (arrival_after (net (view b)) (free_in (view b)) t s) ps 0) (ports_in_turn b vector may.fits may.ports)
+      (ap (λ ps. trying (free_in (view b) s) (arrival_after (net (view b)) (free_in (view b)) t s) ps 0)
+      (helical_last a (ports_of positions wide) (λ p m. let l = low_port w wide p partners.1 (ports_mem 18 wide m).1 in omega (arith, l, last)) ∙ sends)
       ∙ (unfold sending arrival_after in search_is_pass (net (view b)) (free_in (view b)) s (send_ports (shape_of (view b)) vector) t))
 
-  near : farthest_after b t s vector ≤ 8
+  near : farthest_after b t s wide ≤ 8
   unfolding farthest_after
-  near = farthest_most (net (view b)) t s 8 (ports_of port_count vector) (λ p m. let f : (shape_of (view b)).dimension ≤ largest_dimension = unfold view in may.fits in omega (arith, f, distance_within (shape_of (view b)) t ((net (view b)).next s p)))
+  near = farthest_most (net (view b)) t s 8 (ports_of positions wide) (λ p m. let f : (shape_of (view b)).dimension ≤ largest_dimension = unfold view in may.fits in omega (arith, f, distance_within (shape_of (view b)) t ((net (view b)).next s p)))
+
+  there : (p : ℕ) → has wide p ≡ true → present (shape_of (view b)).dimension (shape_of (view b)).fold p ≡ true
+  unfolding view
+  there = send_there (shape_of (view b)) may.fits vector wide may.ports (rw (← board.folded, ← same) partners.0)
 
   -- there is room for the hops and the scouts of a pass
-  pub may_try : MayTry b t c s vector 7 0 0
+  pub may_try : MayTry long q w f b t c s wide a 0 0
   may_try =
-      let more : ways_from 1 (farthest_after b t s vector) ≤ ways_from 1 8 = ways_more 1 (farthest_after b t s vector) 8 near in
-      let most : ways_from 1 8 ≡ 109600 = unfold ways_from in refl in
-      let all = mul-le-mul_right (1 + ways_from 1 (farthest_after b t s vector)) (length_ports 8 vector) in
+      let more : ways_from 2 (farthest_after b t s wide) ≤ ways_from 2 8 = ways_more 2 (farthest_after b t s wide) 8 near in
+      let most : ways_from 2 8 ≡ 17017968 = unfold ways_from in refl in
+      let all = mul-le-mul_right (1 + ways_from 2 (farthest_after b t s wide)) (length_ports 18 wide) in
       record {
-        here = record { bytes = may.bytes; fits = may.fits; node = may.source; target = may.target; port = lit< tt; circuit = may.circuit; small = may.small };
-        ports = may.ports;
+        here = record { board = board; bytes = may.bytes; fits = may.fits; node = may.source; target = may.target; port = omega (arith, last); circuit = may.circuit; small = may.small };
+        vector_ports =
+            record {
+              below = partners.1;
+              there = there;
+            };
         hops = omega (arith, near);
         room = omega (arith, all, more, most);
       }
@@ -98,7 +113,7 @@ module _ (b : List ℕ) (c s t : ℕ) (r : Receive) where
       go none_available u = u
       go (lowest_available j) u = let y : x ≡ 0 = cc in absurd (f y)
 
--- "every port below D that was not in the given vector": the ports of the vector with every bit below D changed
+-- Searches 5: the ports below D that the vector does not name are those of the vector with every bit below D changed.
 module _ (D vector : ℕ) (h : D ≤ largest_dimension) where
   other_has : (p : ℕ) → p < D → has (bit_xor (2 ^ D - 1) vector) p ≡ not (has vector p)
   unfolding has
@@ -115,10 +130,11 @@ told_channel v n None e = unfold receive lowest_of lowest_channel in rw (eq-eqb 
 told_channel v n (Some k) e = let f = channel_taken v n e in unfold receive lowest_of lowest_channel in rw (← f.0, ne_eqb k 8 f.1) refl
 
 -- A send of routing type 0, from the ports that are left of its vector.
-module _ {b : List ℕ} {s t c vector left : ℕ} (may : MaySend b s t c vector) (narrow : Narrowed (view b) s vector left) {taken : Receive} (told : taken ≡ receive (view b) t)
-    {x h k n : ℕ} {b₁ : List ℕ} (got : answer_on_bytes x h k n b₁ ≡ try_answer b t c taken s left 7 0 0) where
+module _ (a : ℕ) {long q w f : ℕ} {b : List ℕ} {s t c vector v wide left : ℕ} (may : MaySendIn long b s t c vector) (board : BoardIn q w f (view b)) (last : a + 1 ≡ w) (same : v ≡ vector) (partners : WithPartners f v wide × (wide < 2 ^ w))
+    (narrow : Narrowed (view b) s wide left) {taken : Receive} (told : taken ≡ receive (view b) t)
+    {x h k n : ℕ} {b₁ : List ℕ} (got : answer_on_bytes x h k n b₁ ≡ try_answer b t c taken s left a 0 0) where
   by_pass : answer_on_bytes x h k n b₁ ≡ answer_of_pass b c s 0 (receive (view b) t) (pass_of b s t vector)
-  by_pass = got ∙ ap (λ r. try_answer b t c r s left 7 0 0) told ∙ narrow_tries b t c (receive (view b) t) 7 0 0 narrow ∙ tries_pass may
+  by_pass = got ∙ ap (λ r. try_answer b t c r s left a 0 0) told ∙ narrow_tries b t c (receive (view b) t) a 0 0 narrow ∙ tries_pass a may board last same partners
 
   pub maze_taken : x ≡ 0 → {b₂ : List ℕ} → b₂ ≡ put_receiver b₁ t k c → answer_on_bytes x h k n b₂ ≡ searched b s t c 0 vector
   maze_taken z e = pass_taken b c s t (receive (view b) t) (pass_of b s t vector) by_pass z e ∙ sym (one_pass b s t c vector)
@@ -131,7 +147,7 @@ pub first_pass_leaves : (b : List ℕ) (s t c vector : ℕ) {x h k n : ℕ} {b�
 first_pass_leaves b s t c vector q f = sent_leaves b c s t true _ _ (q ∙ one_pass b s t c vector) f
 
 -- A send of routing type 4: after a route rejection, a second pass over the other ports on the same bytes.
-module _ {b : List ℕ} {s t c vector : ℕ} (may : MaySend b s t c vector) {x h k n : ℕ} {b₁ : List ℕ} (got : answer_on_bytes x h k n b₁ ≡ searched b s t c 0 vector) where
+module _ {long : ℕ} {b : List ℕ} {s t c vector : ℕ} (may : MaySendIn long b s t c vector) {x h k n : ℕ} {b₁ : List ℕ} (got : answer_on_bytes x h k n b₁ ≡ searched b s t c 0 vector) where
   S : Shape
   S = shape_of (view b)
 
@@ -164,7 +180,10 @@ module _ {b : List ℕ} {s t c vector : ℕ} (may : MaySend b s t c vector) {x h
     pub same_bytes : b₁ ≡ b
     same_bytes = first_pass_leaves b s t c vector got (λ y. omega (arith, y, z))
 
-    pub may_again : MaySend b₁ s t c others
+    pub board_again : {q w f : ℕ} → BoardIn q w f (view b) → BoardIn q w f (view b₁)
+    board_again on = rw same_bytes on
+
+    pub may_again : MaySendIn long b₁ s t c others
     may_again =
         rw (same_bytes, others_are)
         record {
@@ -188,10 +207,10 @@ module _ {b : List ℕ} {s t c vector : ℕ} (may : MaySend b s t c vector) {x h
           again ∙ ap (λ u. searched u s t c 0 others) same_bytes ∙ one_pass b s t c others
           ∙ ap (λ ps. send_answer true b c s t (one_result r (pass (network S) (free_in (view b)) s ps t))) ports_other
 
-      pub few_scouts : n + n₂ ≤ 123300
+      pub few_scouts : n + n₂ ≤ 35099560
       unfolding S first second view
       few_scouts =
-          omega (arith, sent_scouts b c s t true (outcome r first) (scouts first) first_is, sent_scouts b c s t true (outcome r second) (scouts second) second_is, scouts_bound S may.fits refl s t vector (free_in (view b)) (free_in (view b)))
+          omega (arith, sent_scouts b c s t true (outcome r first) (scouts first) first_is, sent_scouts b c s t true (outcome r second) (scouts second) second_is, folded_bound S may.fits s t vector (free_in (view b)) (free_in (view b)))
 
       pub alternate_again : answer_on_bytes x₂ h₂ k₂ (n + n₂) b₂ ≡ searched b s t c 4 vector
       unfolding searched S r first second

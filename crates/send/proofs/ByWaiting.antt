@@ -14,20 +14,20 @@ use Rattle.paths.specs.CubeNetwork.{attempts, send}
 use Rattle.table.specs.View.{view, net, shape_of}
 use Rattle.reach.specs.Marks.{MayAsk}
 use Rattle.answers.specs.SendOnTable.{answer_on_bytes, waiting_helps}
-use Rattle.answers.specs.SendAnswer.{sent_on_bytes, searched, MaySend}
+use Rattle.answers.specs.SendAnswer.{sent_on_bytes, searched, MaySendIn, BoardIn}
 use Rattle.answers.proofs.SendAnswer.{sent_leaves, other_kept, rejected_as}
 
 -- what is asked after a search that leaves each byte as it was
-may_ask : {b : List ℕ} {s t c vector : ℕ} → MaySend b s t c vector → MayAsk b s t vector
-may_ask may = record { sweep = record { bytes = may.bytes; fits = may.fits; target = may.target }; source = may.source; ports = may.ports }
+may_ask : {long q w f : ℕ} {b : List ℕ} {s t c vector : ℕ} → BoardIn q w f (view b) → MaySendIn long b s t c vector → MayAsk long q w f b s t vector
+may_ask board may = record { sweep = record { board = board; bytes = may.bytes; fits = may.fits; target = may.target }; source = may.source; ports = may.ports }
 
 module _ (b : List ℕ) (s t c type vector : ℕ) {x h k n : ℕ} {b₁ : List ℕ} (got : answer_on_bytes x h k n b₁ ≡ searched b s t c type vector) where
   pub search_leaves : x ≡ 10 → b₁ ≡ b
   unfolding searched
   search_leaves z = sent_leaves b c s t true _ _ got (λ y. omega (arith, y, z))
 
-  pub may_ask_after : MaySend b s t c vector → x ≡ 10 → MayAsk b₁ s t vector
-  may_ask_after may z = rw (search_leaves z) (may_ask may)
+  pub may_ask_after : {long q w f : ℕ} → BoardIn q w f (view b) → MaySendIn long b s t c vector → x ≡ 10 → MayAsk long q w f b₁ s t vector
+  may_ask_after board may z = rw (search_leaves z) (may_ask board may)
 
   pub judged_kept : x ≢ 10 → answer_on_bytes x h k n b₁ ≡ sent_on_bytes b s t c type vector
   unfolding searched sent_on_bytes

@@ -10,17 +10,19 @@ use lib.ListN.{length}
 use borrow.Author.Tests.{eqb-true}
 use Rattle.common.specs.Lists.{◌∈◌}
 use Rattle.common.proofs.Tests.{below_or, is_false, both, and, either, or_left, or_right}
-use Rattle.cube.specs.Cube.{largest_dimension, port_count, channels, NodeOf, source_of}
+use Rattle.cube.specs.Cube.{largest_dimension, channels, NodeOf, source_of}
 use Rattle.cube.proofs.Ports.{most_nodes}
 use Rattle.layout.specs.Layout.{entry_count}
+use Rattle.layout.specs.Resources.{Width}
 use Rattle.paths.specs.Network.{Network, Path, Link, links, has_link, Exactly}
 use Rattle.paths.specs.Permitted.{Permitted}
-use Rattle.paths.specs.CubeNetwork.{ports, circuit_count}
+use Rattle.paths.specs.CubeNetwork.{LinkOf, ports, circuit_count}
 use Rattle.paths.proofs.Apart.{permitted_inside}
-use Rattle.paths.proofs.CubeNetwork.{unfolded_port, cube_nearing}
+use Rattle.paths.proofs.CubeNetwork.{port_there, cube_nearing}
 use Rattle.paths.proofs.Links.{On, on_first_lem, link_true, true_link, permitted_distinct}
-use Rattle.table.specs.TableContracts.{link_count}
+use Rattle.table.specs.TableContracts.{place_count}
 use Rattle.table.specs.View.{View, shape_of, net, held_by}
+use Rattle.table.proofs.CubeRows.{RowOf}
 use Rattle.circuit_path.specs.CircuitSound.{end_for, CircuitSound}
 use Rattle.soundness.specs.Sound.{Sound}
 use Rattle.circuit_hops.specs.Seen.{Seen}
@@ -37,7 +39,7 @@ unfolding links
 length_links N s [] = refl
 length_links N s (p ∷ w) = ap suc (length_links N (N.next s p) w)
 
-module _ (v : View) where
+module _ (width_q : ℕ) (width : Width width_q) (v : View) (row : RowOf (shape_of v) width_q) where
   -- a receive channel that a circuit holds
   module _ {c n k : ℕ} (m after : List ℕ) (fits : v.dimension ≤ largest_dimension) (held : c ≡ v.receiver n k) (some : c ≢ 0) (l : k < channels) (node : NodeOf v.dimension n) (armed : v.armed n k ≡ true) where
     here : ReceivedBefore v (channels * n + k + 1) c
@@ -45,7 +47,7 @@ module _ (v : View) where
     here = (n, k, (l, omega arith), sym held)
 
     -- the state before, and the path that was followed
-    module _ {h hops : ℕ} (x : Counting v (channels * n + k) h m) (counted : HopsCounted v c n m after hops) where
+    module _ {h hops : ℕ} (x : Counting width_q v (channels * n + k) h m) (counted : HopsCounted v c n m after hops) where
       path : FollowedPath v c n hops
       path = counted.found
 
@@ -62,11 +64,10 @@ module _ (v : View) where
       source_inside : NodeOf v.dimension (source_of c)
       source_inside = omega (arith, counted.in_range, positive some)
 
-      inside : (a b : ℕ) → (a, b) ∈ way → (a < 256) × (b < port_count)
+      inside : (a b : ℕ) → (a, b) ∈ way → (a < 256) × (b < width_q)
       inside a b i =
           let r = (permitted_inside (shape_of v) (source_of c) n path.path source_inside path.permitted).0 a b (unfold way On in i) in
-          let q = (unfolded_port (shape_of v) fits refl b).0 r.1 in
-          (omega (arith, r.0, most_nodes fits), omega arith)
+          (omega (arith, r.0, most_nodes fits), row b (port_there (shape_of v) b r.1))
 
       on : ℕ → ℕ → Bool
       on a b = x.on a b || has_link way a b
@@ -75,17 +76,17 @@ module _ (v : View) where
       off : (a b : ℕ) → (a, b) ∈ way → x.on a b ≡ false
       off a b i = is_false (x.on a b) (λ e. fresh (subst (ReceivedBefore v (channels * n + k)) (on_way a b (link_true way a b i)) (x.on_paths a b e).3))
 
-      count : link_count on entry_count ≡ h + hops
+      count : place_count width_q on (entry_count width_q) ≡ h + hops
       unfolding on
       count =
-          links_added x.on way (unfold way in permitted_distinct (cube_nearing (shape_of v) n) (source_of c) (ports (shape_of v)) path.path path.permitted)
+          links_added width_q width x.on way (unfold way in permitted_distinct (cube_nearing (shape_of v) n) (source_of c) (ports (shape_of v)) path.path path.permitted)
           (λ i j. let r = inside i.0 i.1 j in (r.0, r.1, off i.0 i.1 j))
           ∙ omega (arith, x.count, path.hop_count, way_length)
         where
           way_length : length way ≡ length path.path
           way_length = unfold way in length_links (net v) (source_of c) path.path
 
-      on_paths : (a b : ℕ) → on a b ≡ true → (a < 256) × (b < port_count) × (v.owner a b ≢ 0) × ReceivedBefore v (channels * n + k + 1) (v.owner a b)
+      on_paths : (a b : ℕ) → on a b ≡ true → (a < 256) × (b < width_q) × (v.owner a b ≢ 0) × ReceivedBefore v (channels * n + k + 1) (v.owner a b)
       unfolding on
       on_paths a b e =
           ⊎_elim (λ o. let r = x.on_paths a b o in (r.0, r.1, r.2, wider v _ _ _ (omega arith) r.3))
@@ -149,16 +150,15 @@ module _ (v : View) where
           go [] o own = unfold Permitted in absurd o
           go (p ∷ w) o own =
               unfold Permitted Seen On in
-              let q = (unfolded_port (shape_of v) fits refl p).0 o.0 in
               let mine = own (source_of c) p (on_first_lem (net v) (source_of c) p w) in
-              let low : p < port_count = omega arith in
-              (p, low, mine, (counted.marks (source_of c) p (omega (arith, source_inside, most_nodes fits)) low).2 refl mine)
+              let link : LinkOf (shape_of v) (source_of c) p = (source_inside, port_there (shape_of v) p o.0) in
+              (p, link, mine, (counted.marks (source_of c) p link).2 refl mine)
 
-      still_seen : (d : ℕ) → source_of d < 256 → Seen v m d → Seen v after d
+      still_seen : (d : ℕ) → Seen v m d → Seen v after d
       unfolding Seen
-      still_seen d i s = (s.0, s.1, s.2, (counted.marks (source_of d) s.0 i s.1).1 s.3)
+      still_seen d s = (s.0, s.1, s.2, (counted.marks (source_of d) s.0 s.1).1 s.3)
 
-      pub counting_more : Counting v (channels * n + k + 1) (h + hops) after
+      pub counting_more : Counting width_q v (channels * n + k + 1) (h + hops) after
       counting_more =
           record {
             on = on;
@@ -166,15 +166,12 @@ module _ (v : View) where
             on_paths = on_paths;
             followed = λ n' k' e z. ⊎_elim (λ o. older o z) (λ o. subst (λ (y : ℕ). CircuitFollowed v on y k') (sym o.0) (subst (λ (y : ℕ). CircuitFollowed v on n y) (sym o.1) newest)) (last e);
             once = λ n' k' m' j' e f q z. one n' k' m' j' (last e) (last f) q z;
-            marks = λ n' k' e z. ⊎_elim (λ o. still_seen _ (older_source o z) (x.marks n' k' o z)) (λ o. subst (Seen v after) (held ∙ sym (same_receiver o)) at_source) (last e);
-            marks_received = λ s p a b e. ⊎_elim (λ o. wider v _ _ _ (omega arith) (x.marks_received s p a b o)) (λ o. subst (ReceivedBefore v (channels * n + k + 1)) (sym o) here) ((counted.marks s p a b).0 e);
+            marks = λ n' k' e z. ⊎_elim (λ o. still_seen _ (x.marks n' k' o z)) (λ o. subst (Seen v after) (held ∙ sym (same_receiver o)) at_source) (last e);
+            marks_received = λ s p a e. ⊎_elim (λ o. wider v _ _ _ (omega arith) (x.marks_received s p a o)) (λ o. subst (ReceivedBefore v (channels * n + k + 1)) (sym o) here) ((counted.marks s p a).0 e);
           }
         where
           same_receiver : {n' k' : ℕ} → (n' ≡ n) × (k' ≡ k) → v.receiver n' k' ≡ v.receiver n k
           same_receiver o = ap₂ v.receiver o.0 o.1
-
-          older_source : {n' k' : ℕ} → Earlier (channels * n + k) n' k' → v.receiver n' k' ≢ 0 → source_of (v.receiver n' k') < 256
-          older_source o z = let s = x.followed _ _ o z in omega (arith, s.in_range, most_nodes fits)
 
           no_older : {n' k' : ℕ} → Earlier (channels * n + k) n' k' → v.receiver n' k' ≡ c → ⊥
           no_older {n'} {k'} o q = unfold ReceivedBefore in fresh (n', k', o, q)
@@ -187,7 +184,7 @@ module _ (v : View) where
           one n' k' m' j' (inr e) (inr f) q z = (e.0 ∙ sym f.0, e.1 ∙ sym f.1)
 
     -- and where the table is sound, the circuit can be followed
-    forced : CountsHops v c n m after None → Sound v → {h : ℕ} → Counting v (channels * n + k) h m → ⊥
+    forced : CountsHops v c n m after None → Sound v → {h : ℕ} → Counting width_q v (channels * n + k) h m → ⊥
     forced none s x =
         none (subst (λ (y : ℕ). y ≤ circuit_count (shape_of v)) (sym held) (s.receive_number n k)) stands (sym (stands.once n k (sym held)).0) (λ z. again (seen_received z))
       where
@@ -198,7 +195,7 @@ module _ (v : View) where
         seen_received z =
             unfold Seen in
             subst (ReceivedBefore v (channels * n + k)) (eqb-true _ c z.2)
-            (x.marks_received (source_of c) z.0 (omega (arith, positive some, most_nodes fits, subst (λ (y : ℕ). y ≤ circuit_count (shape_of v)) (sym held) (s.receive_number n k))) z.1 z.3)
+            (x.marks_received (source_of c) z.0 z.1 z.3)
 
         again : ReceivedBefore v (channels * n + k) c → ⊥
         again r =
@@ -207,6 +204,6 @@ module _ (v : View) where
             let f = stands.once r.0 r.1 r.3 in
             omega (arith, e.0, e.1, f.0, f.1, r.2.1)
 
-    pub counts_entry : (hops : Option ℕ) → CountsHops v c n m after hops → Counts v (channels * n + k) (channels * n + k + 1) m after hops
+    pub counts_entry : (hops : Option ℕ) → CountsHops v c n m after hops → Counts width_q v (channels * n + k) (channels * n + k + 1) m after hops
     counts_entry (Some hops) counted = record { counts = λ h x. counting_more x counted; most = omega (arith, counted.most) }
     counts_entry None none = λ h x s. forced none s x

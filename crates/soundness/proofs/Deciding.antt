@@ -2,53 +2,61 @@
 -- Assumes nothing.
 use mathlib.Core.Path.{◌≡◌, refl, ap, sym, ◌∙◌, subst}
 use mathlib.Core.Logic.{◌⊎◌, inl, inr, ⊎_elim, ◌≢◌}
-use mathlib.Core.Bool.{Bool, true, false, cond, not}
+use mathlib.Core.Bool.{Bool, true, false, not}
 use mathlib.Core.List.{List}
-use Prim.Native.Nat.{ℕ, ◌+◌, ◌*◌, ◌^◌, ◌≤◌, ◌<◌}
+use Prim.Native.Nat.{ℕ, ◌+◌, ◌*◌, ◌/◌, ◌^◌, ◌≤◌, ◌<◌}
 use native.Mathlib.Omega.{arith}
-use native.Mathlib.Nat.{zero-add}
-use lib.Dec.{eqb, ltb}
+use native.Mathlib.Nat.{zero-add, mul-zero, div-eq_of_lt, div-lt_iff_lt-mul}
+use lib.Pow.{pow_pos}
+use lib.Dec.{eqb}
 use lib.ListN.{length, get_or, replicate}
-use borrow.Author.Tests.{eqb-true, eqb-false, eq-eqb, ne_eqb, lt-ltb}
+use borrow.Author.Tests.{eqb-true, eqb-false, eq-eqb, ne_eqb}
 use Rattle.std.proofs.Common.{Option, None, Some}
 use Rattle.common.specs.Decides.{Decides}
 use Rattle.common.specs.Lists.{◌∈◌, from}
 use Rattle.common.proofs.Lists.{keep_nil}
 use Rattle.common.proofs.Every.{decide₂}
-use Rattle.common.proofs.Tests.{same?, below_or, clash, is_false, both, both_below, and, decided_no}
+use Rattle.common.proofs.Tests.{same?, below_or, clash, is_false, both, and, decided_no}
 use Rattle.cube.specs.Bits.{has}
-use Rattle.cube.specs.Cube.{largest_dimension, port_count, channels, cube_nodes, NodeOf, source_of}
+use Rattle.cube.specs.Cube.{largest_dimension, channels, cube_nodes, NodeOf, source_of}
 use Rattle.cube.proofs.Bits.{high_has, no_bit_above, no_ports}
 use Rattle.paths.specs.Network.{Path, links}
 use Rattle.paths.specs.Permitted.{Permitted}
-use Rattle.paths.specs.CubeNetwork.{ports, circuit_count}
+use Rattle.paths.specs.CubeNetwork.{LinkOf, is_link_of, ports, circuit_count}
 use Rattle.paths.proofs.Apart.{permitted_inside}
 use Rattle.paths.proofs.Sentences.{permitted_end}
-use Rattle.paths.proofs.CubeNetwork.{unfolded_port}
+use Rattle.paths.proofs.CubeNetwork.{port_there}
 use Rattle.paths.proofs.Links.{On}
-use Rattle.layout.specs.Layout.{dimension_at, enable_place, receiver_at, armed_at, arm_place, arm_part, entry_count}
+use Rattle.layout.specs.Layout.{dimension_at, fold_at, ports_in, mask_size, mask_place, mask_number, enable_part, enabled_at, owner_at, entry_at, receiver_at, armed_at, arm_part, entry_count}
+use Rattle.layout.specs.Resources.{Width, width_in}
 use Rattle.entries.specs.EntryContracts.{enable_bits, arm_bits}
-use Rattle.table.specs.TableContracts.{link_count, enable_limit, EnablesFit, ArmsFit}
+use Rattle.table.specs.TableContracts.{place_count, EnablesFit, ArmsFit}
 use Rattle.table.specs.View.{View, view, shape_of, net, held_by}
-use Rattle.layout.proofs.Entries.{enabled_has, mask_has}
+use Rattle.layout.proofs.Entries.{mask_has}
+use Rattle.table.proofs.Encode.{number_small}
 use Rattle.circuit_path.specs.CircuitSound.{end_for, CircuitSound}
 use Rattle.soundness.specs.Sound.{Nowhere, Sound}
 use Rattle.soundness.specs.SoundTest.{sound_test}
 use Rattle.soundness.specs.Counting.{Earlier, ReceivedBefore, CircuitFollowed, Counting, Counts, CountsUnheld}
-use Rattle.soundness.proofs.Soundness.{placed, link_stands}
+use Rattle.soundness.proofs.Soundness.{placed, link_stands, is_link, no_link}
 use Rattle.soundness.proofs.LinkCount.{links_same, links_more, links_parts}
-use Rattle.soundness.proofs.Passing.{off, unarmed, view_framed, decided, same_answer}
+use Rattle.soundness.proofs.Passing.{off, unarmed, arm_number, view_framed, decided, same_answer}
 use Rattle.soundness.proofs.Counting.{counting_none}
 use Rattle.circuit_hops.proofs.Ways.{shown}
 
 -- what the cube lacks is off
-absent_off : (b : List ℕ) → EnablesFit b (dimension_at b) → (n p : ℕ) → n < 256 → ((NodeOf (view b).dimension n) × (p < (view b).dimension) → ⊥) → (view b).enabled n p ≡ false
-unfolding view EnablesFit
-absent_off b fit n p i out = off b (dimension_at b) n p i (fit n i) (is_false _ (λ e. out (both_below e)))
+absent_off : (b : List ℕ) → EnablesFit b → (n p : ℕ) → n < 256 → (LinkOf (shape_of (view b)) n p → ⊥) → (view b).enabled n p ≡ false
+unfolding view
+absent_off b fit n p i out = off b n p i fit out
 
 absent_unarmed : (b : List ℕ) → ArmsFit b (dimension_at b) → (n k : ℕ) → (NodeOf (view b).dimension n → ⊥) → (view b).armed n k ≡ false
 unfolding view
 absent_unarmed b arms n k out = ⊎_elim (λ l. absurd (out l)) (λ l. unarmed b (dimension_at b) n k arms l) (below_or (2 ^ dimension_at b) n)
+
+-- a link that is held is one that the table has
+pub owner_placed : (b : List ℕ) (n p : ℕ) → (view b).owner n p ≢ 0 → (n < 256) × (p < ports_in b)
+unfolding view owner_at entry_at
+owner_placed b n p h = ⊎_elim (λ i. i) (λ o. absurd (h (rw o refl))) (placed {w = ports_in b} n p)
 
 -- the answer whether the held channels of a node are armed
 module _ (b : List ℕ) (n : ℕ) {answer : Bool} (d : Decides ((k : ℕ) → k < channels → receiver_at b n k ≢ 0 → armed_at b n k ≡ true) answer) where
@@ -65,8 +73,8 @@ module _ (b : List ℕ) (n : ℕ) {answer : Bool} (d : Decides ((k : ℕ) → k 
   absent_unheld e arms l k i = ⊎_elim (λ z. z) (λ z. absurd (clash (d.holds e k i z) (arms n k l))) (same? (receiver_at b n k) 0)
 
 -- all receive channels were looked at, and all held links are enabled and counted
-module _ (b : List ℕ) (d : dimension_at b ≤ largest_dimension) (fit : EnablesFit b (dimension_at b)) (arms : ArmsFit b (dimension_at b)) {hops unheld : ℕ} {m : List ℕ} (x : Counting (view b) (channels * 256) hops m)
-    (on : (n p : ℕ) → n < 256 → p < port_count → (view b).owner n p ≢ 0 → (view b).enabled n p ≡ true) (counted : link_count (held_by (view b) 0) entry_count ≡ unheld) where
+module _ (b : List ℕ) (d : dimension_at b ≤ largest_dimension) (fold_fits : fold_at b < 2 ^ dimension_at b) (fit : EnablesFit b) (arms : ArmsFit b (dimension_at b)) (q : ℕ) (width : Width q) (ports_q : ports_in b ≡ q) {hops unheld : ℕ} {m : List ℕ} (x : Counting q (view b) (channels * 256) hops m)
+    (on : (n p : ℕ) → n < 256 → p < q → (view b).owner n p ≢ 0 → (view b).enabled n p ≡ true) (counted : place_count q (held_by (view b) 0) (entry_count q) ≡ unheld) where
   v : View
   v = view b
 
@@ -79,8 +87,8 @@ module _ (b : List ℕ) (d : dimension_at b ≤ largest_dimension) (fit : Enable
   on_held : (n p : ℕ) → x.on n p ≡ true → held n p ≡ true
   on_held n p e = is_held n p (x.on_paths n p e).2
 
-  held_count : link_count held entry_count + unheld ≡ entry_count
-  held_count = unfold held in omega (arith, links_parts (held_by (view b) 0), counted)
+  held_count : place_count q held (entry_count q) + unheld ≡ entry_count q
+  held_count = unfold held in omega (arith, links_parts q (held_by (view b) 0), counted)
 
   small : (view b).dimension ≤ largest_dimension
   small = omega (arith, shown b)
@@ -90,7 +98,11 @@ module _ (b : List ℕ) (d : dimension_at b ≤ largest_dimension) (fit : Enable
   earlier n k i l = (l, omega arith)
 
   in_table : (n k : ℕ) → (view b).receiver n k ≢ 0 → Earlier (channels * 256) n k
-  in_table n k h = ⊎_elim (λ i. earlier n k i.0 i.1) (λ o. absurd (h ((view_framed b).no_receive n k o))) (placed n k)
+  in_table n k h = ⊎_elim (λ i. earlier n k i.0 i.1) (λ o. absurd (h ((view_framed b).no_receive n k o))) (placed {w = channels} n k)
+
+  -- a held link is one of the table's
+  in_place : (n p : ℕ) → (view b).owner n p ≢ 0 → (n < 256) × (p < q)
+  in_place n p h = let i = owner_placed b n p h in (i.0, subst (λ (w : ℕ). p < w) ports_q i.1)
 
   followed : (n k : ℕ) → (view b).receiver n k ≢ 0 → CircuitFollowed (view b) x.on n k
   followed n k h = x.followed n k (in_table n k h) h
@@ -123,7 +135,7 @@ module _ (b : List ℕ) (d : dimension_at b ≤ largest_dimension) (fit : Enable
     unfolding ReceivedBefore
     received_by n p h = let r = (x.on_paths n p (all n p h)).3 in (r.0, r.1, r.3, λ z. h (sym r.3 ∙ z))
 
-    link_inside : (n p : ℕ) → (view b).owner n p ≢ 0 → (NodeOf (view b).dimension n) × (p < (view b).dimension)
+    link_inside : (n p : ℕ) → (view b).owner n p ≢ 0 → LinkOf (shape_of (view b)) n p
     link_inside n p h =
         let r = received_by n p h in
         let t = followed r.0 r.1 r.3 in
@@ -131,7 +143,7 @@ module _ (b : List ℕ) (d : dimension_at b ≤ largest_dimension) (fit : Enable
         let in_source : NodeOf (view b).dimension (source_of c) = source_inside c r.3 t.in_range in
         let o : On (net (view b)) (source_of c) t.path n p = unfold On in t.exactly.only n p (and (eq-eqb _ c (sym r.2)) (all n p h)) in
         let i = (permitted_inside (shape_of (view b)) (source_of c) r.0 t.path in_source t.permitted).0 n p o in
-        (i.0, (unfolded_port (shape_of (view b)) small refl p).0 i.1)
+        (i.0, port_there (shape_of (view b)) p i.1)
       where
         source_inside : (c : ℕ) → c ≢ 0 → c ≤ circuit_count (shape_of (view b)) → NodeOf (view b).dimension (source_of c)
         source_inside c h l = ⊎_elim (λ z. absurd (h (omega arith))) (λ z. omega arith) (below_or 1 c)
@@ -161,10 +173,11 @@ module _ (b : List ℕ) (d : dimension_at b ≤ largest_dimension) (fit : Enable
     counted_sound : Sound (view b)
     counted_sound =
         record {
+          fold_bits = fold_within;
           absent_link = λ n p out. (enabled_off n p out, zero_of ((view b).owner n p) (λ h. out (link_inside n p h)));
           absent_receive = λ n k out. zero_of ((view b).receiver n k) (λ h. out (followed n k h).node);
           absent_armed = λ n k out. unarmed_at n k out;
-          held_enabled = λ n p h. ⊎_elim (λ i. on n p i.0 i.1 h) (λ o. absurd (h ((view_framed b).no_link n p o).1)) (placed n p);
+          held_enabled = λ n p h. let i = in_place n p h in on n p i.0 i.1 h;
           held_armed = λ n k h. (followed n k h).armed;
           link_number = λ n p. ⊎_elim (λ z. omega arith) (λ h. let r = received_by n p h in subst (λ (y : ℕ). y ≤ circuit_count (shape_of (view b))) r.2 (followed r.0 r.1 r.3).in_range) (same? ((view b).owner n p) 0);
           receive_number = λ n k. ⊎_elim (λ z. omega arith) (λ h. (followed n k h).in_range) (same? ((view b).receiver n k) 0);
@@ -174,9 +187,15 @@ module _ (b : List ℕ) (d : dimension_at b ≤ largest_dimension) (fit : Enable
         zero_of : (y : ℕ) → (y ≢ 0 → ⊥) → y ≡ 0
         zero_of y h = ⊎_elim (λ z. z) (λ z. absurd (h z)) (same? y 0)
 
-        enabled_off : (n p : ℕ) → ((NodeOf (view b).dimension n) × (p < (view b).dimension) → ⊥) → (view b).enabled n p ≡ false
+        fold_within : (p : ℕ) → has (view b).fold p ≡ true → p < (view b).dimension
+        fold_within p t = ⊎_elim (λ l. l) (λ l. absurd (clash t (high_has (view b).dimension (view b).fold p fold_low l))) (below_or (view b).dimension p)
+          where
+            fold_low : (view b).fold < 2 ^ (view b).dimension
+            fold_low = unfold view in fold_fits
+
+        enabled_off : (n p : ℕ) → (LinkOf (shape_of (view b)) n p → ⊥) → (view b).enabled n p ≡ false
         enabled_off n p out =
-            ⊎_elim (λ (i : (n < 256) × (p < port_count)). absent_off b fit n p i.0 out) (λ o. ((view_framed b).no_link n p o).0) (placed n p)
+            ⊎_elim (λ (i : (n < 256) × (p < 24)). absent_off b fit n p i.0 out) (λ o. ((view_framed b).no_link n p o).0) (placed {w = 24} n p)
 
         unarmed_at : (n k : ℕ) → (NodeOf (view b).dimension n → ⊥) → (view b).armed n k ≡ false
         unarmed_at n k out = absent_unarmed b arms n k out
@@ -189,61 +208,81 @@ module _ (b : List ℕ) (d : dimension_at b ≤ largest_dimension) (fit : Enable
             go (inr f) = inl ((λ n p e. let r = received_by n p (λ z. h (sym e ∙ z)) in nobody r.0 r.1 (r.2 ∙ e)), nobody)
               where
                 nobody : (n k : ℕ) → (view b).receiver n k ≢ c
-                nobody n k e = ⊎_elim (λ i. clash (eq-eqb _ c e) (f n k i.0 i.1)) (λ o. h (sym e ∙ (view_framed b).no_receive n k o)) (placed n k)
+                nobody n k e = ⊎_elim (λ i. clash (eq-eqb _ c e) (f n k i.0 i.1)) (λ o. h (sym e ∙ (view_framed b).no_receive n k o)) (placed {w = channels} n k)
 
-  sum_decides : Decides (Sound (view b)) (eqb (hops + unheld) entry_count)
+  sum_decides : Decides (Sound (view b)) (eqb (hops + unheld) (entry_count q))
   sum_decides =
       record {
-        holds = λ e. counted_sound (λ n p h. links_same x.on held on_held (few (eqb-true _ entry_count e)) n p (in_place n p h).0 (in_place n p h).1 (is_held n p h));
-        fails = λ e s. eqb-false _ entry_count e (equal (links_more x.on held on_held) (links_more held x.on (all_on s)));
+        holds = λ e. counted_sound (λ n p h. links_same q width x.on held on_held (few (eqb-true _ (entry_count q) e)) n p (in_place n p h).0 (in_place n p h).1 (is_held n p h));
+        fails = λ e s. eqb-false _ (entry_count q) e (equal (links_more q width x.on held on_held) (links_more q width held x.on (all_on s)));
       }
     where
-      few : hops + unheld ≡ entry_count → link_count held entry_count ≤ link_count x.on entry_count
+      few : hops + unheld ≡ entry_count q → place_count q held (entry_count q) ≤ place_count q x.on (entry_count q)
       few e = omega (arith, held_count, x.count)
 
-      equal : link_count x.on entry_count ≤ link_count held entry_count → link_count held entry_count ≤ link_count x.on entry_count → hops + unheld ≡ entry_count
+      equal : place_count q x.on (entry_count q) ≤ place_count q held (entry_count q) → place_count q held (entry_count q) ≤ place_count q x.on (entry_count q) → hops + unheld ≡ entry_count q
       equal l k = omega (arith, held_count, x.count)
-
-      in_place : (n p : ℕ) → (view b).owner n p ≢ 0 → (n < 256) × (p < port_count)
-      in_place n p h = ⊎_elim (λ i. i) (λ o. absurd (h ((view_framed b).no_link n p o).1)) (placed n p)
 
 -- what the two masks must have in a sound table
 module _ (b : List ℕ) (bytes : (i : ℕ) → get_or b i 0 < 256) (s : Sound (view b)) where
   pub sound_arms : ArmsFit b (dimension_at b)
-  unfolding ArmsFit arm_bits view armed_at
-  sound_arms n l i = no_ports 8 (arm_bits b n) (bytes (arm_place n)) (λ k j. sym (mask_has b n k i j arm_part) ∙ s.absent_armed n k (λ h. omega arith))
+  unfolding ArmsFit view armed_at
+  sound_arms n l i =
+      no_ports 8 (arm_bits b n) (rw (arm_number b n) (unfold mask_number in bytes (mask_place 8 (arm_part (ports_in b)) n)))
+      (λ k j. ap (λ x. has x k) (arm_number b n) ∙ sym (mask_has 8 b n k i j (arm_part (ports_in b))) ∙ s.absent_armed n k (λ h. omega arith))
 
-  pub sound_enables : EnablesFit b (dimension_at b)
-  unfolding EnablesFit enable_limit enable_bits view
-  sound_enables n i = go (ltb n (2 ^ dimension_at b)) refl
+  pub sound_enables : EnablesFit b
+  unfolding EnablesFit enable_bits
+  sound_enables n p i t =
+      go (is_link_of (shape_of (view b)) n p) refl
     where
-      off_at : (p : ℕ) → ((NodeOf (dimension_at b) n) × (p < dimension_at b) → ⊥) → has (enable_bits b n) p ≡ false
-      off_at p out = ⊎_elim (λ l. sym (enabled_has b n p i l) ∙ (s.absent_link n p out).0) (λ l. high_has 8 (enable_bits b n) p (bytes (enable_place n)) l) (below_or 8 p)
+      small : mask_number (ports_in b) b (mask_place (ports_in b) (enable_part (ports_in b)) n) < 2 ^ (8 * mask_size (ports_in b))
+      small = unfold enable_bits in number_small b bytes (ports_in b) (width_in b) (mask_place (ports_in b) (enable_part (ports_in b)) n)
 
-      go : (t : Bool) → ltb n (2 ^ dimension_at b) ≡ t → enable_bits b n < cond t (2 ^ dimension_at b) 1
-      go true e = no_bit_above (dimension_at b) (enable_bits b n) (λ p l. off_at p (λ h. omega (arith, h.1)))
-      go false e = no_bit_above 0 (enable_bits b n) (λ p l. off_at p (λ h. clash (lt-ltb n _ h.0) e))
+      on : (view b).enabled n p ≡ true
+      on = unfold view enabled_at in ⊎_elim (λ l. mask_has (ports_in b) b n p i l (enable_part (ports_in b)) ∙ t) (λ l. absurd (clash t (high_has (8 * mask_size (ports_in b)) _ p small l))) (below_or (8 * mask_size (ports_in b)) p)
+
+      go : (x : Bool) → is_link_of (shape_of (view b)) n p ≡ x → LinkOf (shape_of (view b)) n p
+      go true e = is_link (shape_of (view b)) n p e
+      go false e = absurd (clash on (s.absent_link n p (no_link (shape_of (view b)) n p e)).0)
+
+  pub sound_fold : fold_at b < 2 ^ dimension_at b
+  unfolding view
+  sound_fold = no_bit_above (dimension_at b) (fold_at b) (λ p l. is_false _ (λ t. omega (arith, l, s.fold_bits p t)))
+
+-- a fold mask has nothing at or above the dimension where nothing is left of it behind so many bits
+pub mask_fits : (fold D : ℕ) → Decides (fold < 2 ^ D) (eqb (fold / 2 ^ D) 0)
+mask_fits fold D = record { holds = λ e. let k = (div-lt_iff_lt-mul {k = 2 ^ D} {x = fold} {y = 1} (pow_pos D)).0 (omega (arith, eqb-true _ 0 e)) in omega arith; fails = λ e l. eqb-false _ 0 e (div-eq_of_lt l) }
 
 -- what two sums answer: whether all links are in them, and false where one of them failed
-abbrev pub hops_and_unheld : Option ℕ → Option ℕ → Bool
-hops_and_unheld None _ = false
-hops_and_unheld (Some _) None = false
-hops_and_unheld (Some hops) (Some unheld) = eqb (hops + unheld) entry_count
+abbrev pub hops_and_unheld : ℕ → Option ℕ → Option ℕ → Bool
+hops_and_unheld q None _ = false
+hops_and_unheld q (Some _) None = false
+hops_and_unheld q (Some hops) (Some unheld) = eqb (hops + unheld) (entry_count q)
 
 -- the answer of the test: whatever refuses the table, and the sum
-module _ (b : List ℕ) (d : dimension_at b ≤ largest_dimension) where
+module _ (b : List ℕ) (d : dimension_at b ≤ largest_dimension) (q : ℕ) (width : Width q) (ports_q : ports_in b ≡ q) where
   pub refuse : (Sound (view b) → ⊥) → false ≡ sound_test (view b)
   refuse h = same_answer false _ (decided_no h) (decided b d)
 
-  pub counting_start : {before : List ℕ} → before ≡ replicate 256 0 → Counting (view b) 0 0 before
-  counting_start e = subst (Counting (view b) 0 0) (sym e) (counting_none (view b))
-
-  pub sum_answers : EnablesFit b (dimension_at b) → ArmsFit b (dimension_at b) → (hops unheld : Option ℕ) {before : List ℕ} (m : List ℕ) → CountsUnheld (view b) 0 256 unheld → before ≡ replicate 256 0 → Counts (view b) 0 (channels * 256) before m hops
-      → hops_and_unheld hops unheld ≡ sound_test (view b)
-  sum_answers fit arms None unheld m f e x = refuse (x 0 (counting_start e))
-  sum_answers fit arms (Some hops) None m f e x = refuse f
-  sum_answers fit arms (Some hops) (Some unheld) m f e x =
+  pub sum_answers : fold_at b < 2 ^ dimension_at b → EnablesFit b → ArmsFit b (dimension_at b) → (hops unheld : Option ℕ) (m : List ℕ) → CountsUnheld q (view b) 0 256 unheld → Counts q (view b) 0 (channels * 256) (replicate 256 0) m hops
+      → hops_and_unheld q hops unheld ≡ sound_test (view b)
+  sum_answers low fit arms None unheld m f x = refuse (x 0 (counting_none q (view b)))
+  sum_answers low fit arms (Some hops) None m f x = refuse f
+  sum_answers low fit arms (Some hops) (Some unheld) m f x =
       same_answer _ _
-      (sum_decides b d fit arms (subst (λ (y : ℕ). Counting (view b) entry_count y m) (zero-add hops) (x.counts 0 (counting_start e))) (λ n p i j h. f.enabled n p (omega arith) i j h)
-      (let e = f.counted in let z : link_count (held_by (view b) 0) 0 ≡ 0 = unfold link_count from in ap length (keep_nil _) in omega arith))
+      (sum_decides b d low fit arms q width ports_q (subst (λ (y : ℕ). Counting q (view b) (channels * 256) y m) (zero-add hops) (x.counts 0 (counting_none q (view b)))) (λ n p i j h. f.enabled n p (omega arith) i j h)
+      (counted (sym (ap (λ k. place_count q (held_by (view b) 0) k) none) ∙ zero) (f.counted ∙ ap (place_count q (held_by (view b) 0)) all)))
       (decided b d)
+    where
+      none : 0 ≡ q * 0
+      none = sym (mul-zero q)
+
+      all : q * 256 ≡ entry_count q
+      all = omega arith
+
+      zero : place_count q (held_by (view b) 0) 0 ≡ 0
+      zero = unfold place_count from in ap length (keep_nil _)
+
+      counted : {x y : ℕ} → x ≡ 0 → x + unheld ≡ y → y ≡ unheld
+      counted e f = omega arith

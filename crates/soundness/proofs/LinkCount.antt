@@ -11,14 +11,15 @@ use native.Mathlib.Nat.{zero-add, add-zero}
 use lib.Dec.{eqb}
 use lib.ListN.{length, length-append}
 use borrow.Author.Tests.{eqb-true, eq-eqb}
-use Rattle.cube.specs.Cube.{port_count}
 use Rattle.common.specs.Lists.{◌∈◌, keep, from, Pairwise}
 use Rattle.common.proofs.Lists.{keep_yes, keep_no, keep_append, keep_same, keep_none, length_parts}
 use Rattle.common.proofs.From.{from_mem, mem_from, from_below, from_split, length_from}
 use Rattle.common.proofs.Tests.{clash, is_false, both, and, or_right}
 use Rattle.layout.specs.Layout.{entry_count}
+use Rattle.layout.specs.Resources.{Width}
+use Rattle.layout.proofs.Entries.{by_width}
 use Rattle.paths.specs.Network.{Link, has_link}
-use Rattle.table.specs.TableContracts.{link_count}
+use Rattle.table.specs.TableContracts.{place_count}
 
 module _ {A : Type 0} (f g : A → Bool) where
   -- a test that passes where another does passes as often or more
@@ -59,47 +60,51 @@ kept_one_more f g k i l off on same = go (k - suc i) (omega arith)
         rw (split, keep_append g (from 0 i) (i ∷ from (suc i) j), keep_append f (from 0 i) (i ∷ from (suc i) j), keep_yes g i (from (suc i) j) on, keep_no f i (from (suc i) j) off, low, high)
         (omega (arith, length-append (keep f (from 0 i)) (i ∷ keep f (from (suc i) j)), length-append (keep f (from 0 i)) (keep f (from (suc i) j))))
 
--- the same of links
-module _ (f g : ℕ → ℕ → Bool) where
-  -- one link more
-  pub link_more : (n p : ℕ) → n < 256 → p < port_count → f n p ≡ false → g n p ≡ true → ((m q : ℕ) → ((m ≡ n) × (q ≡ p) → ⊥) → f m q ≡ g m q) → link_count g entry_count ≡ suc (link_count f entry_count)
-  unfolding link_count
-  link_more n p h l off on same =
-      kept_one_more (λ i. f (i / 8) (i % 8)) (λ i. g (i / 8) (i % 8)) entry_count (8 * n + p) (omega arith) (ap₂ f (node n p l) (port n p l) ∙ off) (ap₂ g (node n p l) (port n p l) ∙ on)
-      (λ j k. same (j / 8) (j % 8) (λ e. k (omega arith)))
-    where
-      node : (n p : ℕ) → p < port_count → (8 * n + p) / 8 ≡ n
-      node n p l = omega arith
+-- the same of links, with q to a node
+module _ (q : ℕ) (width : Width q) where
+  -- the place of a link, and the link at it
+  place_node : (n p : ℕ) → p < q → (q * n + p) / q ≡ n
+  place_node n p l = by_width (λ q. p < q → (q * n + p) / q ≡ n) q width (λ l. omega arith) (λ l. omega arith) l
 
-      port : (n p : ℕ) → p < port_count → (8 * n + p) % 8 ≡ p
-      port n p l = omega arith
+  place_port : (n p : ℕ) → p < q → (q * n + p) % q ≡ p
+  place_port n p l = by_width (λ q. p < q → (q * n + p) % q ≡ p) q width (λ l. omega arith) (λ l. omega arith) l
 
-  -- a test of links that passes no more often than one that it implies
-  pub links_same : ((m q : ℕ) → f m q ≡ true → g m q ≡ true) → link_count g entry_count ≤ link_count f entry_count → (m q : ℕ) → m < 256 → q < port_count → g m q ≡ true → f m q ≡ true
-  unfolding link_count
-  links_same h l m q i j t =
-      sym (ap₂ f node port) ∙ kept_same (λ i. f (i / 8) (i % 8)) (λ i. g (i / 8) (i % 8)) (from 0 entry_count) (λ x k e. h (x / 8) (x % 8) e) l (8 * m + q) (mem_from 0 entry_count (8 * m + q) (omega arith) (omega arith)) (ap₂ g node port ∙ t)
-    where
-      node : (8 * m + q) / 8 ≡ m
-      node = omega arith
+  place_inside : (n p : ℕ) → n < 256 → p < q → q * n + p < entry_count q
+  place_inside n p h l = by_width (λ q. p < q → q * n + p < entry_count q) q width (λ l. omega arith) (λ l. omega arith) l
 
-      port : (8 * m + q) % 8 ≡ q
-      port = omega arith
+  place_back : (n p j : ℕ) → j / q ≡ n → j % q ≡ p → j ≡ q * n + p
+  place_back n p j e f = by_width (λ q. j / q ≡ n → j % q ≡ p → j ≡ q * n + p) q width (λ e f. omega arith) (λ e f. omega arith) e f
 
-  pub links_more : ((m q : ℕ) → f m q ≡ true → g m q ≡ true) → link_count f entry_count ≤ link_count g entry_count
-  unfolding link_count
-  links_more h = kept_more (λ i. f (i / 8) (i % 8)) (λ i. g (i / 8) (i % 8)) (from 0 entry_count) (λ x k e. h (x / 8) (x % 8) e)
+  module _ (f g : ℕ → ℕ → Bool) where
+    -- one link more
+    pub link_more : (n p : ℕ) → n < 256 → p < q → f n p ≡ false → g n p ≡ true → ((m r : ℕ) → ((m ≡ n) × (r ≡ p) → ⊥) → f m r ≡ g m r) → place_count q g (entry_count q) ≡ suc (place_count q f (entry_count q))
+    unfolding place_count
+    link_more n p h l off on same =
+        kept_one_more (λ i. f (i / q) (i % q)) (λ i. g (i / q) (i % q)) (entry_count q) (q * n + p) (place_inside n p h l) (ap₂ f (place_node n p l) (place_port n p l) ∙ off) (ap₂ g (place_node n p l) (place_port n p l) ∙ on)
+        (λ j k. same (j / q) (j % q) (λ e. k (place_back n p j e.0 e.1)))
 
-pub links_parts : (f : ℕ → ℕ → Bool) → link_count f entry_count + link_count (λ m q. not (f m q)) entry_count ≡ entry_count
-unfolding link_count
-links_parts f = length_parts (λ i. f (i / 8) (i % 8)) (from 0 entry_count) ∙ length_from 0 entry_count
+    -- a test of links that passes no more often than one that it implies
+    pub links_same : ((m r : ℕ) → f m r ≡ true → g m r ≡ true) → place_count q g (entry_count q) ≤ place_count q f (entry_count q) → (m r : ℕ) → m < 256 → r < q → g m r ≡ true → f m r ≡ true
+    unfolding place_count
+    links_same h l m r i j t =
+        sym (ap₂ f (place_node m r j) (place_port m r j))
+        ∙ kept_same (λ i. f (i / q) (i % q)) (λ i. g (i / q) (i % q)) (from 0 (entry_count q)) (λ x k e. h (x / q) (x % q) e) l (q * m + r) (mem_from 0 (entry_count q) (q * m + r) (omega arith) (omega (arith, place_inside m r i j)))
+        (ap₂ g (place_node m r j) (place_port m r j) ∙ t)
 
-pub links_none : (k : ℕ) → link_count (λ m q. false) k ≡ 0
-unfolding link_count
-links_none k = ap length (keep_none (λ i. false) (from 0 k) (λ x m. refl))
+    pub links_more : ((m r : ℕ) → f m r ≡ true → g m r ≡ true) → place_count q f (entry_count q) ≤ place_count q g (entry_count q)
+    unfolding place_count
+    links_more h = kept_more (λ i. f (i / q) (i % q)) (λ i. g (i / q) (i % q)) (from 0 (entry_count q)) (λ x k e. h (x / q) (x % q) e)
 
-pub same_count : {f g : ℕ → ℕ → Bool} → ((m q : ℕ) → f m q ≡ g m q) → (k : ℕ) → link_count f k ≡ link_count g k
-same_count h k = ap (λ f. link_count f k) (fun_ext (λ m. fun_ext (λ q. h m q)))
+pub links_parts : (q : ℕ) (f : ℕ → ℕ → Bool) → place_count q f (entry_count q) + place_count q (λ m p. not (f m p)) (entry_count q) ≡ entry_count q
+unfolding place_count
+links_parts q f = length_parts (λ i. f (i / q) (i % q)) (from 0 (entry_count q)) ∙ length_from 0 (entry_count q)
+
+pub links_none : (q k : ℕ) → place_count q (λ m p. false) k ≡ 0
+unfolding place_count
+links_none q k = ap length (keep_none (λ i. false) (from 0 k) (λ x m. refl))
+
+pub same_count : (q : ℕ) {f g : ℕ → ℕ → Bool} → ((m p : ℕ) → f m p ≡ g m p) → (k : ℕ) → place_count q f k ≡ place_count q g k
+same_count q h k = ap (λ f. place_count q f k) (fun_ext (λ m. fun_ext (λ p. h m p)))
 
 -- links that are all different and of which none passes, added to those that do
 with_link : (ℕ → ℕ → Bool) → Link → ℕ → ℕ → Bool
@@ -118,13 +123,16 @@ module _ (f : ℕ → ℕ → Bool) (l : Link) where
 pair : {a b c d : ℕ} → a ≡ c → b ≡ d → ◌≡◌ {A = Link} (a, b) (c, d)
 pair e f = λ i. (e i, f i)
 
-pub links_added : (f : ℕ → ℕ → Bool) (ls : List Link) → Pairwise ◌≢◌ ls → ((l : Link) → l ∈ ls → (l.0 < 256) × (l.1 < port_count) × (f l.0 l.1 ≡ false))
-    → link_count (λ m q. f m q || has_link ls m q) entry_count ≡ link_count f entry_count + length ls
+pub links_added : (q : ℕ) → Width q → (f : ℕ → ℕ → Bool) (ls : List Link) → Pairwise ◌≢◌ ls → ((l : Link) → l ∈ ls → (l.0 < 256) × (l.1 < q) × (f l.0 l.1 ≡ false))
+    → place_count q (λ m p. f m p || has_link ls m p) (entry_count q) ≡ place_count q f (entry_count q) + length ls
 unfolding has_link Pairwise with_link
-links_added f [] d h = same_count (λ m q. or-false (f m q)) entry_count ∙ sym (add-zero _)
-links_added f (l ∷ ls) d h =
+links_added q width f [] d h = same_count q (λ m p. or-false (f m p)) (entry_count q) ∙ sym (add-zero _)
+links_added q width f (l ∷ ls) d h =
     let mine = h l (Memᴰ.head refl) in
-    let one = link_more f (with_link f l) l.0 l.1 mine.0 mine.1 mine.2 (link_on f l) (link_off f l) in
-    same_count (λ m q. sym (or_assoc (f m q) (eqb m l.0 && eqb q l.1) (has_link ls m q))) entry_count
-    ∙ links_added (with_link f l) ls d.1 (λ k m. let b = h k (Memᴰ.tail m) in (b.0, b.1, sym (link_off f l k.0 k.1 (λ e. d.0 k m (sym (pair e.0 e.1)))) ∙ b.2))
-    ∙ omega (arith, one)
+    let one = link_more q width f (with_link f l) l.0 l.1 mine.0 mine.1 mine.2 (link_on f l) (link_off f l) in
+    same_count q (λ m p. sym (or_assoc (f m p) (eqb m l.0 && eqb p l.1) (has_link ls m p))) (entry_count q)
+    ∙ links_added q width (with_link f l) ls d.1 (λ k m. let b = h k (Memᴰ.tail m) in (b.0, b.1, sym (link_off f l k.0 k.1 (λ e. d.0 k m (sym (pair e.0 e.1)))) ∙ b.2))
+    ∙ more (length ls) one
+  where
+    more : {x y : ℕ} (z : ℕ) → x ≡ suc y → x + z ≡ y + suc z
+    more z e = omega arith

@@ -8,9 +8,13 @@ use native.Mathlib.Omega.{arith}
 use lib.Dec.{eqb, ltb, leb}
 use borrow.Author.Tests.{eqb-true, eq-eqb, ne_eqb, not-true, ltb-true, lt-ltb, leb-true, le-leb}
 use Rattle.common.specs.Lists.{◌∈◌}
-use Rattle.common.proofs.Tests.{same?, clash, is_false, both_below, both, and, or_left, or_right}
+use Rattle.common.proofs.Tests.{same?, below_or, clash, is_false, both_below, both, and, or_left, or_right}
 use Rattle.common.proofs.Every.{decide₂}
-use Rattle.cube.specs.Cube.{largest_dimension, port_count, channels, cube_nodes, NodeOf, source_of}
+use Rattle.cube.specs.Cube.{largest_dimension, channels, cube_nodes, NodeOf, source_of}
+use Rattle.cube.specs.Axes.{present}
+use Rattle.cube.specs.Bits.{has}
+use Rattle.cube.proofs.Axes.{present_axis}
+use Rattle.cube.proofs.Bits.{zero_has, high_has, no_bit_above}
 use Rattle.cube.proofs.Ports.{most_nodes}
 use Rattle.paths.specs.Network.{links}
 use Rattle.paths.proofs.Links.{On, link_true, true_link}
@@ -18,34 +22,45 @@ use Rattle.paths.proofs.Apart.{apart_permitted}
 use Rattle.paths.proofs.Walks.{path_owned, path_apart}
 use Rattle.layout.specs.Layout.{in_table}
 use Rattle.table.specs.View.{View, fresh, shape_of, net, held_by}
-use Rattle.paths.specs.CubeNetwork.{ports}
+use Rattle.paths.specs.CubeNetwork.{Shape, unfolded, LinkOf, is_link_of, ports}
 use Rattle.circuit_path.specs.CircuitSound.{end_for, CircuitSound}
 use Rattle.circuit_path.specs.PathOf.{path_of, is_empty}
 use Rattle.circuit_path.proofs.CircuitSound.{not_empty, some_hop, path_is}
 use Rattle.circuit_hops.proofs.OneKept.{one_kept, kept_one}
 use Rattle.soundness.specs.Sound.{Nowhere, Sound}
-use Rattle.soundness.specs.SoundTest.{circuit_test, link_test, receive_test, on_path_of, channels_held}
+use Rattle.soundness.specs.SoundTest.{mask_bits, circuit_test, link_test, receive_test, on_path_of, channels_held}
 
 -- a table shows nothing at a place that it has no room for
 pub record Framed (v : View) : Type 0 where
-  pub no_link : (n p : ℕ) → in_table n p ≡ false → (v.enabled n p ≡ false) × (v.owner n p ≡ 0)
-  pub no_receive : (n k : ℕ) → in_table n k ≡ false → v.receiver n k ≡ 0
-  pub no_armed : (n k : ℕ) → in_table n k ≡ false → v.armed n k ≡ false
+  pub no_link : (n p : ℕ) → in_table mask_bits n p ≡ false → (v.enabled n p ≡ false) × (v.owner n p ≡ 0)
+  pub no_receive : (n k : ℕ) → in_table channels n k ≡ false → v.receiver n k ≡ 0
+  pub no_armed : (n k : ℕ) → in_table channels n k ≡ false → v.armed n k ≡ false
 
 -- the test passes at every entry
 pub record EntriesPass (v : View) : Type 0 where
-  pub links_pass : (n p : ℕ) → n < 256 → p < port_count → link_test v n p ≡ true
+  pub fold_passes : ltb v.fold (2 ^ v.dimension) ≡ true
+  pub links_pass : (n p : ℕ) → n < 256 → p < mask_bits → link_test v n p ≡ true
   pub receives_pass : (n k : ℕ) → n < 256 → k < channels → receive_test v n k ≡ true
 
--- two bounds tested together
-beyond : {n a p b : ℕ} → ltb n a && ltb p b ≡ false → (n < a) × (p < b) → ⊥
-beyond e i = clash (and (lt-ltb _ _ i.0) (lt-ltb _ _ i.1)) e
+-- the test of a link of the cube
+pub is_link : (S : Shape) (n p : ℕ) → is_link_of S n p ≡ true → LinkOf S n p
+is_link S n p e = let r = both (ltb n (2 ^ S.dimension)) (present S.dimension S.fold p) e in (ltb-true n _ r.0, r.1)
+
+pub no_link : (S : Shape) (n p : ℕ) → is_link_of S n p ≡ false → LinkOf S n p → ⊥
+no_link S n p e i = clash (and (lt-ltb n _ i.0) i.1) e
+
+-- a fold mask has no bit at or above the dimension where it is below 2^D
+below_fold : (v : View) → ((p : ℕ) → has v.fold p ≡ true → p < v.dimension) → ltb v.fold (2 ^ v.dimension) ≡ true
+below_fold v bits = lt-ltb _ _ (no_bit_above v.dimension v.fold (λ p l. is_false _ (λ t. omega (arith, bits p t))))
+
+fold_below : (v : View) → ltb v.fold (2 ^ v.dimension) ≡ true → (p : ℕ) → has v.fold p ≡ true → p < v.dimension
+fold_below v e p t = ⊎_elim (λ l. l) (λ l. absurd (clash t (high_has v.dimension v.fold p (ltb-true _ _ e) l))) (below_or v.dimension p)
 
 -- a place is in the table or not
-pub placed : (n p : ℕ) → ((n < 256) × (p < port_count)) ⊎ (in_table n p ≡ false)
-placed n p = go (in_table n p) refl
+pub placed : {w : ℕ} (n p : ℕ) → ((n < 256) × (p < w)) ⊎ (in_table w n p ≡ false)
+placed {w} n p = go (in_table w n p) refl
   where
-    go : (b : Bool) → in_table n p ≡ b → ((n < 256) × (p < port_count)) ⊎ (in_table n p ≡ false)
+    go : (b : Bool) → in_table w n p ≡ b → ((n < 256) × (p < w)) ⊎ (in_table w n p ≡ false)
     go true e = inl (both_below e)
     go false e = inr e
 
@@ -61,7 +76,7 @@ module _ (v : View) where
       and (le-leb c _ h)
       (rw (path_is v c s)
       (and (some_hop (net v) (source_of c) (ports (shape_of v)) (end_for v c s.path) s.path s.permitted)
-      (eq-eqb _ 1 (one_kept (λ k. eqb (v.receiver (end_for v c s.path) k) c) s.receive s.small (eq-eqb _ c s.receives) (λ j l e. (s.once (end_for v c s.path) j (eqb-true _ c e)).1)))))
+      (eq-eqb _ 1 (one_kept channels (λ k. eqb (v.receiver (end_for v c s.path) k) c) s.receive s.small (eq-eqb _ c s.receives) (λ j l e. (s.once (end_for v c s.path) j (eqb-true _ c e)).1)))))
 
   -- a number that occurs stands
   pub link_stands : Sound v → (n p : ℕ) → v.owner n p ≢ 0 → CircuitSound v (v.owner n p)
@@ -71,10 +86,10 @@ module _ (v : View) where
   receive_stands sound n k h = ⊎_elim (λ z. absurd (z.1 n k refl)) (λ s. s) (sound.numbers (v.receiver n k) h)
 
   -- what is left of a test outside the cube, where it passes for an entry that is zero and for no other
-  module _ (n p : ℕ) (out : (NodeOf v.dimension n) × (p < v.dimension) → ⊥) where
+  module _ (n p : ℕ) (out : LinkOf (shape_of v) n p → ⊥) where
     test_outside : link_test v n p ≡ (not (v.enabled n p) && eqb (v.owner n p) 0)
     unfolding link_test
-    test_outside = rw (is_false (ltb n (2 ^ v.dimension) && ltb p v.dimension) (λ e. out (both_below e)))
+    test_outside = rw (is_false (is_link_of (shape_of v) n p) (λ e. out (is_link (shape_of v) n p e)))
 
     absent_passes : (v.enabled n p ≡ false) × (v.owner n p ≡ 0) → link_test v n p ≡ true
     absent_passes a = test_outside ∙ and (ap not a.0) (eq-eqb _ 0 a.1)
@@ -93,16 +108,16 @@ module _ (v : View) where
   -- A sound table passes at every entry.
   sound_link : Sound v → (n p : ℕ) → link_test v n p ≡ true
   unfolding link_test
-  sound_link sound n p = go (ltb n (2 ^ v.dimension) && ltb p v.dimension) refl (same? (v.owner n p) 0)
+  sound_link sound n p = go (is_link_of (shape_of v) n p) refl (same? (v.owner n p) 0)
     where
-      go : (b : Bool) → ltb n (2 ^ v.dimension) && ltb p v.dimension ≡ b → (v.owner n p ≡ 0) ⊎ (v.owner n p ≢ 0) → link_test v n p ≡ true
+      go : (b : Bool) → is_link_of (shape_of v) n p ≡ b → (v.owner n p ≡ 0) ⊎ (v.owner n p ≢ 0) → link_test v n p ≡ true
       go true e (inl z) = rw e (or_left _ (eq-eqb _ 0 z))
       go true e (inr h) =
           let s = link_stands sound n p h in
           rw e
           (or_right (eqb (v.owner n p) 0) (and (sound.held_enabled n p h) (and (circuit_passes _ (sound.link_number n p) s)
           (unfold on_path_of in rw (path_is v _ s) (link_true _ n p (s.exactly.only n p (eq-eqb (v.owner n p) _ refl)))))))
-      go false e z = let h = beyond e in absent_passes n p h (sound.absent_link n p h)
+      go false e z = let h : LinkOf (shape_of v) n p → ⊥ = no_link (shape_of v) n p e in absent_passes n p h (sound.absent_link n p h)
 
   -- a receive channel that nobody holds passes; outside the cube where it is not armed
   free_receive : (n k : ℕ) → v.receiver n k ≡ 0 → ((NodeOf v.dimension n → ⊥) → v.armed n k ≡ false) → receive_test v n k ≡ true
@@ -127,7 +142,7 @@ module _ (v : View) where
           (rw (path_is v _ s) (eq-eqb n _ (s.once n k refl).0)))))
 
   pub sound_entries : Sound v → EntriesPass v
-  sound_entries sound = record { links_pass = λ n p h l. sound_link sound n p; receives_pass = λ n k h l. sound_receive sound n k }
+  sound_entries sound = record { fold_passes = below_fold v sound.fold_bits; links_pass = λ n p h l. sound_link sound n p; receives_pass = λ n k h l. sound_receive sound n k }
 
   -- what the test of a circuit says: it is in range, its path is not empty, and it holds one receive channel there
   pub record CircuitFacts (c : ℕ) : Type 0 where
@@ -143,7 +158,7 @@ module _ (v : View) where
   circuit_facts c e =
       let a = both (leb c (channels * cube_nodes v.dimension)) _ e in
       let b = both (not (is_empty (path_of v c))) _ a.1 in
-      let j = kept_one (λ k. eqb (v.receiver (end_for v c (path_of v c)) k) c) (eqb-true _ 1 b.1) in
+      let j = kept_one channels (λ k. eqb (v.receiver (end_for v c (path_of v c)) k) c) (eqb-true _ 1 b.1) in
       record { in_range = leb-true c _ a.0; some = b.0; receive = j.0; small = j.1; receives = eqb-true _ c j.2; once = λ k l x. j.3 k l (eq-eqb _ c x) }
 
   -- what the test of a link says of the circuit that holds it
@@ -156,7 +171,7 @@ module _ (v : View) where
     held_link : (n p : ℕ) → v.owner n p ≡ c → LinkFacts n p c
     unfolding link_test on_path_of
     held_link n p x =
-        let a = both (v.enabled n p) _ (passing (ltb n (2 ^ v.dimension) && ltb p v.dimension) (rw (x, ne_eqb c 0 some, and-false (not (v.enabled n p))) at (links_pass n p))) in
+        let a = both (v.enabled n p) _ (passing (is_link_of (shape_of v) n p) (rw (x, ne_eqb c 0 some, and-false (not (v.enabled n p))) at (links_pass n p))) in
         let b = both (circuit_test v c) _ a.1 in
         record { on = a.0; circuit_passed = b.0; on_paths = true_link _ n p b.1 }
 
@@ -191,9 +206,9 @@ module _ (v : View) where
         }
 
     number_stands : Nowhere v c ⊎ CircuitSound v c
-    number_stands = go (decide₂ 256 8 (λ n p. eqb (v.owner n p) c)) (decide₂ 256 8 (λ n k. eqb (v.receiver n k) c))
+    number_stands = go (decide₂ 256 24 (λ n p. eqb (v.owner n p) c)) (decide₂ 256 8 (λ n k. eqb (v.receiver n k) c))
       where
-        go : ((i : ℕ) × (j : ℕ) × (eqb (v.owner i j) c ≡ true)) ⊎ ((i j : ℕ) → i < 256 → j < port_count → eqb (v.owner i j) c ≡ false)
+        go : ((i : ℕ) × (j : ℕ) × (eqb (v.owner i j) c ≡ true)) ⊎ ((i j : ℕ) → i < 256 → j < mask_bits → eqb (v.owner i j) c ≡ false)
             → ((i : ℕ) × (j : ℕ) × (eqb (v.receiver i j) c ≡ true)) ⊎ ((i j : ℕ) → i < 256 → j < channels → eqb (v.receiver i j) c ≡ false) → Nowhere v c ⊎ CircuitSound v c
         go (inl s) r = inr (circuit_sound (held_link s.0 s.1 (eqb-true _ c s.2)).circuit_passed)
         go (inr f) (inl s) = inr (circuit_sound (held_receive s.0 s.1 (eqb-true _ c s.2)).1)
@@ -203,9 +218,10 @@ module _ (v : View) where
               (λ n k x. ⊎_elim (λ i. clash (eq-eqb _ c x) (g n k i.0 i.1)) (λ o. some (sym x ∙ framed.no_receive n k o)) (placed n k)),
             )
 
-  passes_sound : ((n p : ℕ) → link_test v n p ≡ true) → ((n k : ℕ) → receive_test v n k ≡ true) → Framed v → Sound v
-  passes_sound links_pass receives_pass framed =
+  passes_sound : ltb v.fold (2 ^ v.dimension) ≡ true → ((n p : ℕ) → link_test v n p ≡ true) → ((n k : ℕ) → receive_test v n k ≡ true) → Framed v → Sound v
+  passes_sound fold_passes links_pass receives_pass framed =
       record {
+        fold_bits = fold_below v fold_passes;
         absent_link = λ n p out. link_absent n p out (links_pass n p);
         absent_receive = λ n k out. (receive_absent n k out (receives_pass n k)).1;
         absent_armed = λ n k out. (receive_absent n k out (receives_pass n k)).0;
@@ -218,10 +234,10 @@ module _ (v : View) where
 
   -- A table that passes at every entry is sound.
   pub entries_sound : v.dimension ≤ largest_dimension → Framed v → EntriesPass v → Sound v
-  entries_sound fits framed pass = passes_sound links receives framed
+  entries_sound fits framed pass = passes_sound pass.fold_passes links receives framed
     where
       links : (n p : ℕ) → link_test v n p ≡ true
-      links n p = ⊎_elim (λ i. pass.links_pass n p i.0 i.1) (λ o. absent_passes n p (λ i. let within : (n < 256) × (p < port_count) = omega (arith, most_nodes fits) in beyond o within) (framed.no_link n p o)) (placed n p)
+      links n p = ⊎_elim (λ i. pass.links_pass n p i.0 i.1) (λ o. absent_passes n p (λ i. clash (and (lt-ltb n 256 (omega (arith, most_nodes fits, i.0))) (lt-ltb p 24 (omega (arith, (present_axis v.dimension v.fold p i.1).0)))) o) (framed.no_link n p o)) (placed n p)
 
       receives : (n k : ℕ) → receive_test v n k ≡ true
       receives n k = ⊎_elim (λ i. pass.receives_pass n k i.0 i.1) (λ o. free_receive n k (framed.no_receive n k o) (λ out. framed.no_armed n k o)) (placed n k)
@@ -231,7 +247,8 @@ pub fresh_sound : (D : ℕ) → Sound (fresh D)
 unfolding fresh
 fresh_sound D =
     record {
-      absent_link = λ n p h. (is_false (ltb n (2 ^ D) && ltb p D) (λ e. h (both_below e)), refl);
+      fold_bits = λ p t. absurd (clash t (zero_has p));
+      absent_link = λ n p h. (is_false (is_link_of (unfolded D) n p) (λ e. h (is_link (unfolded D) n p e)), refl);
       absent_receive = λ n k h. refl;
       absent_armed = λ n k h. refl;
       held_enabled = λ n p h. absurd (h refl);

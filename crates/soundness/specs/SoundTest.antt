@@ -1,9 +1,9 @@
 -- The test of a table that looks at each entry once, and for a held one follows its circuit.
 -- That it decides soundness is proved (Soundness, Passing).
 -- Assumes nothing.
-use Rattle.std.specs.Prelude.{Bool, cond, ◌&&◌, ◌||◌, not, ℕ, eqb, leb, length}
+use Rattle.std.specs.Prelude.{Bool, cond, ◌&&◌, ◌||◌, not, ℕ, ◌^◌, eqb, ltb, leb, length}
 use Rattle.common.specs.Lists.{every, keep, from}
-use Rattle.cube.specs.Cube.{port_count, channels, source_of}
+use Rattle.cube.specs.Cube.{channels, source_of}
 use Rattle.paths.specs.Network.{links, has_link}
 use Rattle.paths.specs.CubeNetwork.{is_node, is_link_of, circuit_count}
 use Rattle.table.specs.View.{View, shape_of, net}
@@ -35,6 +35,10 @@ receive_test v n k =
     (eqb (v.receiver n k) 0 || (v.armed n k && (circuit_test v (v.receiver n k) && eqb n (end_for v (v.receiver n k) (path_of v (v.receiver n k))))))
     (not (v.armed n k) && eqb (v.receiver n k) 0)
 
+-- the bits of an enable mask, and so the places that may show anything: 8, or 24 of which the last 6 are no port's (Wide 8)
+abbrev pub mask_bits : ℕ
+mask_bits = 24
+
 -- the test of a whole table
 unfoldable pub sound_test : View → Bool
-sound_test v = every 256 (λ n. every port_count (link_test v n) && every channels (receive_test v n))
+sound_test v = ltb v.fold (2 ^ v.dimension) && every 256 (λ n. every mask_bits (link_test v n) && every channels (receive_test v n))

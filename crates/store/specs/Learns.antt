@@ -1,25 +1,35 @@
--- What is known of each table after an event, in plain words: what Store.learn defines, said again. The words leave no choice (proved: Learns.learns, learns_exactly).
+-- What is known of each table after an event, rule by rule: what Store.learn defines, said again. The rules leave no choice (proved: Learns.learns, learns_exactly).
 -- Assumes nothing.
-use Rattle.std.specs.Prelude.{◌≡◌, ◌≢◌, ℕ, Some, None}
+use Rattle.std.specs.Prelude.{◌≡◌, ◌≢◌, ℕ, List, Some, None}
 use Rattle.ownership.specs.Calls.{Call, making}
-use Rattle.ownership.specs.History.{History, history_step, new_history}
+use Rattle.ownership.specs.History.{history_step, new_history}
+use Rattle.ownership.specs.Kinds.{Kind, narrow, wide}
 use Rattle.joining.specs.Joined.{joined_history}
-use Rattle.store.specs.Store.{Event, on, join, Known, written_by}
+use Rattle.store.specs.Store.{Event, on, convert, join, overwrite, KnownTable, table_of, Known, written_by}
 
--- before is what was known, number what the event answered, and after what is known then. `None` is said of a table whose lists have ended or have not begun.
+-- before is what was known, number what the event answered, and after what is known then. `None` is said of a table of which no history is known.
 pub record Learns (before : Known) (e : Event) (number : ℕ) (after : Known) : Type 0 where
-  -- document 01: "A refused call and a trace change nothing." Document 02, (k): "and the third is unchanged"
+  -- History 17: a refused event changes nothing that is known.
   pub refused : number ≢ 0 → (i : ℕ) → after i ≡ before i
-  -- Document 02, (g), says it of "the table written" alone: of every other the same is known as before.
+  -- History 16: an event changes no other table than the one that it writes: of every other the same is known as before.
   pub others : (i : ℕ) → written_by e ≢ i → after i ≡ before i
-  -- document 01: "Else a making sets the dimension and clears the rest"; document 02, (g): "until it is next made"
-  pub made : (i D : ℕ) → e ≡ on i (making D) → number ≡ 0 → after i ≡ Some (new_history D)
-  -- document 01: "Later calls lent a table join the list."
-  pub called : (i : ℕ) (a : Call) → e ≡ on i a → ((D : ℕ) → a ≢ making D) → number ≡ 0 → (h : History) → before i ≡ Some h → after i ≡ Some (history_step h a).state
-  -- document 02, (g): "the lists of the table written end there, until it is next made or so written", so that no other call begins one
-  pub called_unknown : (i : ℕ) (a : Call) → e ≡ on i a → ((D : ℕ) → a ≢ making D) → number ≡ 0 → before i ≡ None → after i ≡ None
-  -- document 02, (k): "Its history is that of both halves .. in place of its own; the mission's third demand covers it, as in (g), if it covered both"
-  pub joined : (i j t : ℕ) → e ≡ join i j t → number ≡ 0 → (h g : History) → before i ≡ Some h → before j ≡ Some g → after t ≡ Some (joined_history h g)
-  -- document 02, (g): "if it did not, the lists of the table written end there"
+  -- History 17: an accepted make begins a history, whatever was known. The kind of the table is that of the call.
+  pub made : (w : Kind) (i D : ℕ) → e ≡ on w i (making D) → number ≡ 0 → after i ≡ Some (table_of w (new_history D))
+  -- History 17: every other accepted call on a table whose history is known is entered there. Setting a fold mask is such a call.
+  pub called : (w : Kind) (i : ℕ) (a : Call) → e ≡ on w i a → ((D : ℕ) → a ≢ making D) → number ≡ 0 → (t : KnownTable) → before i ≡ Some t
+      → after i ≡ Some (table_of t.kind (history_step t.history a).state)
+  -- History 17: where none is known, a call other than a make begins none.
+  pub called_unknown : (w : Kind) (i : ℕ) (a : Call) → e ≡ on w i a → ((D : ℕ) → a ≢ making D) → number ≡ 0 → before i ≡ None → after i ≡ None
+  -- History 18: behind an accepted conversion the history of the table read is known of the one written, in place of its own: of a wide one that of a narrow one, and of a
+  -- narrow one that of a wide one.
+  pub widened : (i j : ℕ) → e ≡ convert narrow i j → number ≡ 0 → (t : KnownTable) → before i ≡ Some t → after j ≡ Some (table_of wide t.history)
+  pub narrowed : (i j : ℕ) → e ≡ convert wide i j → number ≡ 0 → (t : KnownTable) → before i ≡ Some t → after j ≡ Some (table_of narrow t.history)
+  -- History 18: where that of the table read is not known, nothing is known of the one written.
+  pub read_unknown : (w : Kind) (i j : ℕ) → e ≡ convert w i j → number ≡ 0 → before i ≡ None → after j ≡ None
+  -- History 19: an accepted join gives the third the history of both halves, in place of its own.
+  pub joined : (i j t : ℕ) → e ≡ join i j t → number ≡ 0 → (x y : KnownTable) → before i ≡ Some x → before j ≡ Some y → after t ≡ Some (table_of narrow (joined_history x.history y.history))
+  -- History 19: where that of either half is not known, nothing is known of the third.
   pub first_unknown : (i j t : ℕ) → e ≡ join i j t → number ≡ 0 → before i ≡ None → after t ≡ None
   pub second_unknown : (i j t : ℕ) → e ≡ join i j t → number ≡ 0 → before j ≡ None → after t ≡ None
+  -- History 20: bytes that somebody else writes end what is known of the table.
+  pub overwritten : (i : ℕ) (b : List ℕ) → e ≡ overwrite i b → number ≡ 0 → after i ≡ None

@@ -1,9 +1,8 @@
 -- The row of a node: what its entries, found as a vector or counted, say of links and receive channels, and how many links nobody holds.
--- `port_count` stands for the entries of either.
 -- Assumes nothing.
 use mathlib.Core.Path.{◌≡◌, refl, ap, ap₂, sym, ◌∙◌}
 use mathlib.Core.Logic.{◌≢◌}
-use mathlib.Core.Bool.{true, ◌&&◌, and_comm}
+use mathlib.Core.Bool.{Bool, true, ◌&&◌, and_comm}
 use mathlib.Core.List.{List}
 use Prim.Native.Nat.{ℕ, ◌+◌, ◌*◌, ◌/◌, ◌%◌, ◌≤◌, ◌<◌}
 use native.Mathlib.Omega.{arith}
@@ -19,39 +18,45 @@ use Rattle.common.proofs.Every.{at}
 use Rattle.common.proofs.From.{from_below, count_yes, count_no}
 use Rattle.common.proofs.Lowest.{lowest_same}
 use Rattle.cube.specs.Bits.{has}
-use Rattle.cube.specs.Cube.{port_count, channels}
+use Rattle.cube.specs.Cube.{channels}
 use Rattle.cube.proofs.Bits.{has_and}
-use Rattle.layout.specs.Layout.{entry_place, link_part, receive_part, mask_place, arm_part, arm_place, word_at, entry_at, mask_at, owner_at, receiver_at, armed_at}
+use Rattle.layout.specs.Layout.{ports_in, entry_place, mask_size, mask_place, mask_number, word_at, entry_at, mask_at, owner_at, receiver_at, armed_at}
 use Rattle.layout.specs.LayoutContracts.{node_rows, RowVector, row_count}
-use Rattle.layout.proofs.Entries.{entry_is, mask_has, rows_word, row_entry}
+use Rattle.layout.specs.Resources.{Width}
+use Rattle.layout.proofs.Entries.{by_width, width_masks, entry_is, mask_has, rows_word, row_entry}
 use Rattle.table.specs.View.{View, view, available}
-use Rattle.table.specs.TableContracts.{HeldBy, links_held, link_count, unheld_count, lowest_channel}
+use Rattle.table.specs.TableContracts.{HeldIn, links_held_of, place_count, lowest_channel}
 
 -- the row of a node, in the part of links or in that of receive channels
-module _ (b : List ℕ) (n c : ℕ) {row : List ℕ} (h : n < 256) where
-  entry_test : (part k : ℕ) → row ≡ node_rows part b n 1 → k < port_count → eqb (word_at row (2 * k)) c ≡ eqb (entry_at part b n k) c
-  entry_test part k e l = ap (λ x. eqb x c) (row_entry b n part k h l e)
+module _ (w part : ℕ) (b : List ℕ) (n c : ℕ) (row : List ℕ) (h : n < 256) (e : row ≡ node_rows w part b n 1) where
+  pub entry_test : (k : ℕ) → k < w → eqb (word_at row (2 * k)) c ≡ eqb (entry_at w part b n k) c
+  entry_test k l = ap (λ x. eqb x c) (row_entry b n part k h l e)
 
-  pub links_vector : (vector : ℕ) → row ≡ node_rows link_part b n 1 → RowVector row c vector → HeldBy b c n vector
-  unfolding owner_at
-  links_vector vector e r = record { small = r.small; held = λ p l. r.bits p l ∙ entry_test link_part p e l }
+  pub links_vector : (vector : ℕ) → owner_at b ≡ entry_at w part b → RowVector w row c vector → HeldIn w b c n vector
+  links_vector vector o r = record { small = r.small; held = λ p l. r.bits p l ∙ entry_test p l ∙ ap (λ (f : ℕ → ℕ → ℕ). eqb (f n p) c) (sym o) }
 
-  pub links_count : row ≡ node_rows link_part b n 1 → row_count row c ≡ links_held (view b) c n
-  unfolding row_count links_held view owner_at
-  links_count e = ap length (keep_same _ _ (from 0 8) (λ p m. entry_test link_part p e (from_below 8 p m)))
+  pub links_count : owner_at b ≡ entry_at w part b → row_count w row c ≡ links_held_of w (view b) c n
+  unfolding row_count links_held_of view
+  links_count o = ap length (keep_same _ _ (from 0 w) (λ p m. entry_test p (from_below w p m) ∙ ap (λ (f : ℕ → ℕ → ℕ). eqb (f n p) c) (sym o)))
 
-  pub channels_lowest : (vector : ℕ) → row ≡ node_rows receive_part b n 1 → RowVector row c vector → lowest (has vector) channels 0 ≡ lowest (λ k. eqb (receiver_at b n k) c) channels 0
-  unfolding receiver_at
-  channels_lowest vector e r = lowest_same (has vector) _ 8 0 (λ k g l. r.bits k l ∙ entry_test receive_part k e l)
+module _ (part : ℕ) (b : List ℕ) (n c : ℕ) (row : List ℕ) (h : n < 256) (e : row ≡ node_rows channels part b n 1) (o : receiver_at b ≡ entry_at channels part b) where
+  channel_test : (k : ℕ) → k < channels → eqb (word_at row (2 * k)) c ≡ eqb (receiver_at b n k) c
+  channel_test k l = entry_test channels part b n c row h e k l ∙ ap (λ (f : ℕ → ℕ → ℕ). eqb (f n k) c) (sym o)
+
+  pub channels_lowest : (vector : ℕ) → RowVector channels row c vector → lowest (has vector) channels 0 ≡ lowest (λ k. eqb (receiver_at b n k) c) channels 0
+  channels_lowest vector r = lowest_same (has vector) _ 8 0 (λ k g l. r.bits k l ∙ channel_test k l)
 
   -- the channels that nobody holds, and of them those that a mask has: these are available
-  module _ (unheld armed : ℕ) (z : c ≡ 0) (e : row ≡ node_rows receive_part b n 1) (r : RowVector row c unheld) (a : armed ≡ get_or b (arm_place n) 0) where
+  module _ (unheld armed arms : ℕ) (z : c ≡ 0) (r : RowVector channels row c unheld) (a : armed ≡ get_or b (arms + n) 0) (m : armed_at b ≡ mask_at channels arms b) where
     pub channel_available : (k : ℕ) → k < channels → has (bit_and unheld armed) k ≡ available (view b) n k
-    unfolding available view receiver_at armed_at
+    unfolding available view mask_number
     channel_available k l =
         has_and unheld armed k ∙ and_comm (has unheld k) (has armed k)
-        ∙ ap₂ ◌&&◌ (ap (λ x. has x k) a ∙ sym (mask_has b n k h l arm_part))
-        (r.bits k l ∙ entry_test receive_part k e l ∙ ap (eqb (entry_at receive_part b n k)) z)
+        ∙ ap₂ ◌&&◌ (ap (λ x. has x k) a ∙ same ∙ sym (mask_has channels b n k h l arms) ∙ ap (λ (f : ℕ → ℕ → Bool). f n k) (sym m))
+        (r.bits k l ∙ channel_test k l ∙ ap (eqb (receiver_at b n k)) z)
+      where
+        same : has (get_or b (arms + n) 0) k ≡ has (get_or b (mask_place channels arms n) 0) k
+        same = let e : arms + n ≡ mask_place channels arms n = omega arith in ap (λ i. has (get_or b i 0) k) e
 
 -- a vector of the available channels of a node: the lowest of its bits is the lowest of them, and its bits are as many
 module _ (v : View) (n x : ℕ) (bits : (k : ℕ) → k < channels → has x k ≡ available v n k) where
@@ -68,27 +73,39 @@ unfolding ones has keep from
 ones_kept x small = eqb-true (ones x) _ (at 256 (λ x. eqb (ones x) (length (keep (has x) (from 0 8)))) refl x small)
 
 -- a mask that has every entry of a row that is not zero: of a node's entries in one part and its mask in another
-pub covers_node : (b : List ℕ) (n part masks j : ℕ) {row : List ℕ} {answer : _} → n < 256 → row ≡ node_rows part b n 1 → j ≡ mask_place masks n
-    → Decides ((k : ℕ) → k < port_count → word_at row (2 * k) ≢ 0 → has (get_or b j 0) k ≡ true) answer
-    → Decides ((k : ℕ) → k < port_count → entry_at part b n k ≢ 0 → mask_at masks b n k ≡ true) answer
-covers_node b n part masks j h e f d =
+pub covers_node : (w : ℕ) → Width w → (b : List ℕ) (n part masks j x : ℕ) {row : List ℕ} {answer : _} → n < 256 → row ≡ node_rows w part b n 1 → j ≡ mask_place w masks n → x ≡ mask_number w b j
+    → Decides ((k : ℕ) → k < w → word_at row (2 * k) ≢ 0 → has x k ≡ true) answer
+    → Decides ((k : ℕ) → k < w → entry_at w part b n k ≢ 0 → mask_at w masks b n k ≡ true) answer
+covers_node w width b n part masks j x h e f g d =
     record {
-      holds = λ t k l z. mask_has b n k h l masks ∙ ap (λ x. has (get_or b x 0) k) (sym f) ∙ d.holds t k l (λ y. z (sym (row_entry b n part k h l e) ∙ y));
-      fails = λ t all. d.fails t (λ k l z. ap (λ x. has (get_or b x 0) k) f ∙ sym (mask_has b n k h l masks) ∙ all k l (λ y. z (row_entry b n part k h l e ∙ y)));
+      holds = λ t k l z. mask_has w b n k h (inside k l) masks ∙ sym (mask k) ∙ d.holds t k l (λ y. z (sym (row_entry b n part k h l e) ∙ y));
+      fails = λ t all. d.fails t (λ k l z. mask k ∙ sym (mask_has w b n k h (inside k l) masks) ∙ all k l (λ y. z (row_entry b n part k h l e ∙ y)));
     }
+  where
+    inside : (k : ℕ) → k < w → k < 8 * mask_size w
+    inside k l = omega (arith, width_masks width)
 
--- one more link is looked at
-module _ (b : List ℕ) (n nodes i x count : ℕ) {rows : List ℕ} (last : n + nodes ≤ 256) (h : i < port_count * nodes) (p : rows ≡ node_rows link_part b n nodes) (e : x ≡ word_at rows (2 * i)) (c : count ≡ unheld_count b (port_count * n + i)) where
-  link : x ≡ owner_at b ((8 * n + i) / 8) ((8 * n + i) % 8)
-  unfolding owner_at
-  link =
-      entry_is b ((8 * n + i) / 8) ((8 * n + i) % 8) (omega arith) (omega arith) link_part x (entry_place link_part n 0 + 2 * i) (omega arith)
-      (e ∙ ap (λ ys. word_at ys (2 * i)) p ∙ rows_word link_part b n nodes i h)
+    mask : (k : ℕ) → has x k ≡ has (mask_number w b (mask_place w masks n)) k
+    mask k = ap (λ y. has y k) (g ∙ ap (mask_number w b) f)
 
-  pub unheld_yes : x ≡ 0 → count + 1 ≡ unheld_count b (port_count * n + i + 1)
-  unfolding unheld_count link_count
-  unheld_yes z = count_yes (λ l. eqb (owner_at b (l / 8) (l % 8)) 0) (8 * n + i) count (eq-eqb _ 0 (sym link ∙ z)) c
+-- entry i of some rows is that of a node and a port
+pub row_link : (q : ℕ) → Width q → (part : ℕ) (b : List ℕ) (n nodes i : ℕ) → n + nodes ≤ 256 → i < q * nodes → word_at (node_rows q part b n nodes) (2 * i) ≡ entry_at q part b ((q * n + i) / q) ((q * n + i) % q)
+row_link q width part b n nodes i last h =
+    by_width (λ q. i < q * nodes → word_at (node_rows q part b n nodes) (2 * i) ≡ entry_at q part b ((q * n + i) / q) ((q * n + i) % q)) q width
+    (λ h. entry_is 8 b ((8 * n + i) / 8) ((8 * n + i) % 8) (omega arith) (omega arith) part _ (entry_place 8 part n 0 + 2 * i) (omega arith) (rows_word 8 part b n nodes i h))
+    (λ h. entry_is 18 b ((18 * n + i) / 18) ((18 * n + i) % 18) (omega arith) (omega arith) part _ (entry_place 18 part n 0 + 2 * i) (omega arith) (rows_word 18 part b n nodes i h))
+    h
 
-  pub unheld_no : x ≢ 0 → count ≡ unheld_count b (port_count * n + i + 1)
-  unfolding unheld_count link_count
-  unheld_no z = count_no (λ l. eqb (owner_at b (l / 8) (l % 8)) 0) (8 * n + i) count (ne_eqb _ 0 (λ y. z (link ∙ y))) c
+-- one more link, or receive channel, is looked at
+module _ (q part : ℕ) (width : Width q) (b : List ℕ) (owner : ℕ → ℕ → ℕ) (o : owner ≡ entry_at q part b) (n nodes i x count : ℕ) (rows : List ℕ) (last : n + nodes ≤ 256) (h : i < q * nodes)
+    (r : rows ≡ node_rows q part b n nodes) (e : x ≡ word_at rows (2 * i)) (c : count ≡ place_count q (λ m k. eqb (owner m k) 0) (q * n + i)) where
+  entry : x ≡ owner ((q * n + i) / q) ((q * n + i) % q)
+  entry = e ∙ ap (λ ys. word_at ys (2 * i)) r ∙ row_link q width part b n nodes i last h ∙ ap (λ (f : ℕ → ℕ → ℕ). f ((q * n + i) / q) ((q * n + i) % q)) (sym o)
+
+  pub unheld_yes : x ≡ 0 → count + 1 ≡ place_count q (λ m k. eqb (owner m k) 0) (q * n + i + 1)
+  unfolding place_count
+  unheld_yes z = count_yes (λ l. eqb (owner (l / q) (l % q)) 0) (q * n + i) count (eq-eqb _ 0 (sym entry ∙ z)) c
+
+  pub unheld_no : x ≢ 0 → count ≡ place_count q (λ m k. eqb (owner m k) 0) (q * n + i + 1)
+  unfolding place_count
+  unheld_no z = count_no (λ l. eqb (owner (l / q) (l % q)) 0) (q * n + i) count (ne_eqb _ 0 (λ y. z (entry ∙ y))) c

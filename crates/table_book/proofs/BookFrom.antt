@@ -9,19 +9,19 @@ use native.Mathlib.Numerals.{add-one}
 use native.Mathlib.Omega.{arith}
 use lib.ListN.{length, length-append}
 use Rattle.cube.specs.Cube.{largest_dimension}
-use Rattle.layout.specs.Layout.{table_length, dimension_at}
+use Rattle.layout.specs.Layout.{dimension_at}
 use Rattle.common.specs.Lists.{keep, from}
 use Rattle.table.specs.View.{View, view}
 use Rattle.circuit_path.specs.PathOf.{path_of}
 use Rattle.circuit_path.specs.OpenCircuit.{is_open_in}
-use Rattle.circuit_path.specs.Follow.{HasSource}
+use Rattle.circuit_path.specs.Follow.{HasSourceIn}
 use Rattle.book.specs.Book.{BookCircuit, port_bytes, hop_count}
 use Rattle.book.specs.BookOf.{open_numbers, book_of}
 use Rattle.table_book.specs.Writing.{last_of, book_from, circuit_if}
 
 -- a number of a table has its source in it
-pub numbered : {b : List ℕ} {c : ℕ} → length b ≡ table_length → dimension_at b ≤ largest_dimension → 1 ≤ c → c ≤ last_of b → HasSource b c
-numbered long fits low high = record { bytes = long; fits = fits; circuit = low; source = omega arith }
+pub numbered : {long : ℕ} {b : List ℕ} {c : ℕ} → length b ≡ long → dimension_at b ≤ largest_dimension → 1 ≤ c → c ≤ last_of b → HasSourceIn long b c
+numbered bytes fits low high = record { bytes = bytes; fits = fits; circuit = low; source = omega arith }
 
 -- the part of the book from a number on: its circuit, if that is open, and the part behind it
 pub book_on_lem : (v : View) (c k : ℕ) → book_from v c (suc k) ≡ circuit_if v c ++ book_from v (suc c) k

@@ -4,3 +4,4 @@ pub mod Filling
 pub mod EmptyNodes
 pub mod NumbersLeft
 pub mod OpenLeft
+pub mod UnheldRest

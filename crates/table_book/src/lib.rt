@@ -10,14 +10,16 @@ ghost use Rattle.table.specs.View.{view};
 ghost use Rattle.circuit_path.specs.Traced.{traced_into};
 ghost use Rattle.book.specs.Book.{port_bytes, index_bytes, hop_count};
 ghost use Rattle.book.specs.BookOf.{book_of};
-ghost use Rattle.table_book.specs.Writing.{line_bytes};
+ghost use Rattle.table_book.specs.Writing.{held_count, line_bytes};
 
 use book::BookLine;
-use cube::Circuit;
+use cube::{Circuit, Node};
+use layout::{Channels, Layout, Links, Resource};
 use open_circuits::OpenCircuits;
 use table::CubeTable;
 
-// How many circuits a book has, and how many hops in all.
+// How many circuits a book has, and how many hops in all. The hops are as many as links are held, up to 2,048 in a cube of dimension 8 and 4,096 where all of it is folded. What is known here, that a
+// circuit has 9 at most, is enough for two bytes.
 #[derive(Clone, Copy)]
 pub struct BookSize {
     pub circuits: u16,
@@ -42,18 +44,25 @@ impl BookSize {
     }
 }
 
-// How large the book of a table is.
-pub fn book_size(table: CubeTable) -> BookSize
-    ensures { (result.circuits ≡ length (book_of (view table.entry.bytes.now))) × (result.hops ≡ hop_count (book_of (view table.entry.bytes.now))) }
+// How many links, or receive channels, of a table are held.
+fn count_held<H: Resource>(t: &[u8]) -> u16
+    requires { length t.now ≡ H.LENGTH }
+    ensures { result ≡ held_count H.WIDTH (H.owner t.now) }
 {
-    let mut buffer = [0u8; 9];
-    let mut total = EMPTY;
-    for c in OpenCircuits::of(table) {
-        // A path has 9 ports at most, here and below: `try_from` would answer a failure that cannot come.
-        let path = circuit_path::path(table.bytes, c, &mut buffer).ports;
-        total = total.with(path.len() as u16);
+    let unheld = table::count_unheld::<H>(t, Node(0), 256);
+    (layout::NODES * H::WIDTH) as u16 - unheld as u16
+}
+
+// Books 5: how large the book of a sound table is. It has as many circuits as receive channels are held, and as many hops as links are. Both are counted in one pass over the rows; to walk along each path
+// took as long as writing the book.
+pub fn book_size<L: Layout>(t: &[u8]) -> BookSize
+    requires { length t.now ≡ L.LENGTH }
+    ensures { (result.circuits ≡ held_count channels (view t.now).receiver) × (result.hops ≡ held_count L.PORTS (view t.now).owner) }
+{
+    BookSize {
+        circuits: count_held::<Channels<L>>(t),
+        hops: count_held::<Links<L>>(t),
     }
-    total
 }
 
 // A line of the index: the number of a circuit, where its ports begin, and how many they are.
@@ -83,16 +92,17 @@ fn put_circuit(ports: &mut [u8], index: &mut [u8], size: BookSize, c: Circuit, p
     put_line(index, book::LINE * usize::from(size.circuits), x);
 }
 
-// Writes the book of a table: the ports of its circuits end to end, and a line of the index for each.
-pub fn write_book(table: CubeTable, ports: &mut [u8], index: &mut [u8])
-    requires { (hop_count (book_of (view table.bytes.now)) ≤ length ports.old) × (6 * length (book_of (view table.bytes.now)) ≤ length index.old) }
-    ensures ports_after { ports.new ≡ traced_into (port_bytes (book_of (view table.entry.bytes.now))) ports.old }
-    ensures index_after { index.new ≡ traced_into (index_bytes (book_of (view table.entry.bytes.now))) index.old }
+// Writes the book of a table: the ports of its circuits end to end (Books 2), and a line of the index for each (Books 3).
+pub fn write_book<L: Layout>(table: &CubeTable<L>, ports: &mut [u8], index: &mut [u8])
+    requires { (hop_count (book_of (view table.now.bytes.now)) ≤ length ports.old) × (6 * length (book_of (view table.now.bytes.now)) ≤ length index.old) }
+    ensures ports_after { ports.new ≡ traced_into (port_bytes (book_of (view table.now.bytes.now))) ports.old }
+    ensures index_after { index.new ≡ traced_into (index_bytes (book_of (view table.now.bytes.now))) index.old }
 {
     let mut buffer = [0u8; 9];
     let mut size = EMPTY;
     for circuit in OpenCircuits::of(table) {
-        let path = circuit_path::path(table.bytes, circuit, &mut buffer).ports;
+        // A path has 9 ports at most: `try_from` would answer a failure that cannot come.
+        let path = circuit_path::path::<L>(table.bytes, circuit, &mut buffer).ports;
         put_circuit(ports, index, size, circuit, path);
         size = size.with(path.len() as u16);
     }

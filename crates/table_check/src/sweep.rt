@@ -1,6 +1,7 @@
 // What a table is answered, as it is and with single bytes changed.
 use common::refusal::{self, Refusal};
 use std::{fmt, io};
+use table::Narrow;
 
 // How often each answer came.
 #[derive(Clone, Copy, Default)]
@@ -38,7 +39,7 @@ fn every_offset<F: Fn(u8) -> u8>(t: &mut [u8; table::BYTES], change: F, tally: &
     for at in 0..table::BYTES {
         let old = t[at];
         t[at] = change(old);
-        tally.count(soundness::check(t));
+        tally.count(soundness::check::<Narrow>(t));
         t[at] = old;
     }
 }
@@ -52,7 +53,7 @@ fn every_bit(t: &mut [u8; table::BYTES], tally: &mut Tally) {
 
 // The number that a table is answered.
 pub fn number(t: &[u8]) -> u16 {
-    refusal::answer(soundness::check(t))
+    refusal::answer(soundness::check::<Narrow>(t))
 }
 
 pub fn changes(
@@ -79,7 +80,10 @@ pub fn changes(
 // The first bytes of a table alone.
 pub fn lengths(rt: &impl Print, t: &[u8; table::BYTES]) -> io::Result<()> {
     let refused = (0..table::BYTES)
-        .filter(|n| matches!(soundness::check(&t[..*n]), Err(Refusal::TableLength)))
+        .filter(|n| matches!(
+            soundness::check::<Narrow>(&t[..*n]),
+            Err(Refusal::TableLength)
+        ))
         .count();
     println!(rt; "lengths: {refused} of {} refused by length", table::BYTES)
 }

@@ -12,7 +12,7 @@ const DOWN: [u8; 8] = [7, 6, 5, 4, 3, 2, 1, 0];
 fn empty(t: &mut [u8; table::BYTES], dimension: u8)
     requires { dimension ≤ largest_dimension }
 {
-    table::make(t, dimension);
+    table::make::<table::Narrow>(t, dimension);
 }
 
 // Gives a circuit one link: the node that it leads to.

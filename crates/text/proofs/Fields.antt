@@ -1,16 +1,17 @@
--- Numbers written into an output, digit by digit.
+-- Numbers written into an output, digit by digit, and the characters of a path.
 -- Assumes nothing.
-use mathlib.Core.Path.{◌≡◌, ap, ap₂, sym, ◌∙◌}
+use mathlib.Core.Path.{◌≡◌, refl, ap, ap₂, sym, ◌∙◌}
 use mathlib.Core.Logic.{⊎_elim}
-use mathlib.Core.List.{List, [], ◌∷◌, ◌++◌}
-use Prim.Native.Nat.{ℕ, ◌+◌, ◌-◌, ◌/◌, ◌%◌, ◌≤◌, ◌<◌}
+use mathlib.Core.List.{List, [], ◌∷◌, ◌++◌, map}
+use Prim.Native.Nat.{ℕ, suc, ◌+◌, ◌-◌, ◌/◌, ◌%◌, ◌≤◌, ◌<◌}
 use native.Mathlib.Omega.{arith}
 use native.Mathlib.Numerals.{add-one}
 use lib.ListN.{length, get_or, set, drop, drop_of_length-le}
 use lib.Seq.{sets, drop-cons}
+use Rattle.common.specs.Lists.{from}
 use Rattle.common.proofs.Tests.{below_or}
 use Rattle.text.specs.Text.{digit, decimal}
-use Rattle.text.specs.Row.{path_digits}
+use Rattle.text.specs.Row.{port_character, path_characters}
 use Rattle.text.proofs.Writing.{sets_append, set_sets}
 use Rattle.text.proofs.Digits.{decimal_short, decimal_long, long_length, decimal_some, decimal_length}
 
@@ -51,10 +52,21 @@ next_digit {n = n} {at = at} {m = m} {i = i} {d = d} {out₀ = out₀} {out = ou
         }
 
 -- the ports of a path from place i on
-pub turn_step : (path : List ℕ) (i : ℕ) → i < length path → path_digits (drop i path) ≡ decimal (get_or path i 0) ++ path_digits (drop (i + 1) path)
-unfolding path_digits
+pub turn_step : (path : List ℕ) (i : ℕ) → i < length path → path_characters (drop i path) ≡ (port_character (get_or path i 0) ∷ []) ++ path_characters (drop (i + 1) path)
+unfolding path_characters
 turn_step path i h = rw (add-one i, drop-cons path i 0 h)
 
-pub turn_end : (path : List ℕ) (i : ℕ) → length path ≤ i → path_digits (drop i path) ≡ []
-unfolding path_digits
-turn_end path i h = ap path_digits (drop_of_length-le path h)
+pub turn_end : (path : List ℕ) (i : ℕ) → length path ≤ i → path_characters (drop i path) ≡ []
+unfolding path_characters
+turn_end path i h = ap path_characters (drop_of_length-le path h)
+
+-- a path has as many characters as ports
+pub path_length : (path : List ℕ) → length (path_characters path) ≡ length path
+unfolding path_characters
+path_length [] = refl
+path_length (p ∷ ps) = ap suc (path_length ps)
+
+-- the characters of the ports 0 to 17: 0 to 9, and a to h
+pub ports_shown : map port_character (from 0 18) ≡ 48 ∷ 49 ∷ 50 ∷ 51 ∷ 52 ∷ 53 ∷ 54 ∷ 55 ∷ 56 ∷ 57 ∷ 97 ∷ 98 ∷ 99 ∷ 100 ∷ 101 ∷ 102 ∷ 103 ∷ 104 ∷ []
+unfolding port_character from
+ports_shown = refl

@@ -65,7 +65,7 @@ unfolding field_number
 reads [] n s z h = absurd (let p = s.some_digit in omega arith)
 reads (x ∷ xs) n s z h = rw (s.all_digits_lem, z, s.says, le-leb n largest_number h)
 
--- "Numbers are decimal, 0 to 65,535": printing such a number and reading it gives it back.
+-- Listing 7: printing a number up to 65,535 and reading it gives it back.
 pub reads_back : (n : ℕ) → n ≤ largest_number → field_number (decimal n) ≡ some n
 reads_back n h = reads (decimal n) n (says_decimal n n (omega arith)) (go (below_or 10 n)) h
   where
@@ -121,7 +121,7 @@ said_by x xs n = go (all_digits (x ∷ xs) && not (leading_zero (x ∷ xs)) && l
         (is_decimal x xs s.0 (not-true _ s.1) ∙ ap decimal same, omega (arith, leb-true (value 0 (x ∷ xs)) largest_number r.1, same))
     go false e q = absurd (none-ne-some n q)
 
--- "Numbers are decimal, 0 to 65,535, no sign, no leading zeros": a field reads as n exactly if it is the decimal of n, and n is at most 65,535.
+-- Listing 7: a field reads as n exactly if it is the decimal of n, and n is at most 65,535.
 pub reads_exactly : (xs : List ℕ) (n : ℕ) → (field_number xs ≡ some n) ↔ ((xs ≡ decimal n) × (n ≤ largest_number))
 unfolding field_number
 reads_exactly xs n = (forth xs, (λ r. rw r.0 (reads_back n r.1)))

@@ -9,7 +9,7 @@ use native.Mathlib.Omega.{arith}
 use lib.ListN.{length, get_or, drop, length-append, drop_of_length-le}
 use lib.Seq.{drop-cons}
 use Rattle.text.specs.Text.{newline, space, dash, decimal}
-use Rattle.text.specs.Row.{Field, shows, path, path_digits, field_bytes, Row, in_order, spaced, ended, row_text}
+use Rattle.text.specs.Row.{Field, shows, path, path_characters, field_bytes, Row, in_order, spaced, ended, row_text}
 use Rattle.text.specs.Written.{row_width}
 
 -- fields, each behind a space
@@ -60,7 +60,7 @@ unfolding field_bytes
 path_none [] h = refl
 path_none (p ∷ ps) h = absurd (omega arith)
 
-pub path_some : (w : List ℕ) → length w ≢ 0 → path_digits w ≡ field_bytes (path w)
+pub path_some : (w : List ℕ) → length w ≢ 0 → path_characters w ≡ field_bytes (path w)
 unfolding field_bytes
 path_some [] h = absurd (h refl)
 path_some (p ∷ ps) h = refl

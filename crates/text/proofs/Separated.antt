@@ -3,13 +3,13 @@
 use mathlib.Core.Path.{◌≡◌, refl, ap, ◌∙◌}
 use mathlib.Core.Bool.{Bool, true, false, cond}
 use mathlib.Core.List.{List, [], ◌∷◌, ◌++◌, append_assoc}
-use Prim.Native.Nat.{ℕ, zero, suc, ◌/◌, ◌%◌, ◌≤◌}
+use Prim.Native.Nat.{ℕ, zero, suc, ◌+◌, ◌-◌, ◌/◌, ◌%◌, ◌≤◌, ◌<◌}
 use native.Mathlib.Omega.{arith}
 use lib.Dec.{ltb, lit<, lit≤}
 use borrow.Author.Tests.{eq-eqb, ne_eqb}
-use Rattle.text.specs.Text.{newline, space, digit, digits, decimal}
+use Rattle.text.specs.Text.{newline, space, dash, digit, digits, decimal}
 use Rattle.text.specs.Lines.{on_first, cut, lines, fields}
-use Rattle.text.specs.Row.{path_digits, spaced, ended}
+use Rattle.text.specs.Row.{port_character, path_characters, spaced, ended}
 use Rattle.text.specs.Above.{Above, AllAbove}
 
 -- texts above a byte
@@ -52,7 +52,7 @@ above_spaced (f ∷ []) p = above_less space 31 f (lit≤ tt) p.0
 above_spaced (f ∷ g ∷ fs) p =
     above_append 31 f (space ∷ spaced (g ∷ fs)) (above_less space 31 f (lit≤ tt) p.0) (lit< tt, above_spaced (g ∷ fs) p.1)
 
--- the bytes of a field are digits, a dash or a call letter
+-- the bytes of a field are digits, a dash, a call letter or the characters of ports
 above_digits : (k n : ℕ) → Above space (digits k n)
 unfolding digits Above
 above_digits zero n = (omega arith, tt)
@@ -67,10 +67,19 @@ pub above_decimal : (n : ℕ) → Above space (decimal n)
 unfolding decimal
 above_decimal n = above_digits n n
 
-pub above_turn : (ps : List ℕ) → Above space (path_digits ps)
-unfolding path_digits Above
-above_turn [] = tt
-above_turn (p ∷ ps) = above_append space (decimal p) (path_digits ps) (above_decimal p) (above_turn ps)
+above_port : (p : ℕ) → space < port_character p
+unfolding port_character
+above_port p = go (ltb p 10) (ltb p 18)
+  where
+    go : (b c : Bool) → space < cond b (digit p) (cond c (97 + (p - 10)) dash)
+    go true c = omega arith
+    go false true = omega arith
+    go false false = lit< tt
+
+pub above_path : (ps : List ℕ) → Above space (path_characters ps)
+unfolding path_characters Above
+above_path [] = tt
+above_path (p ∷ ps) = (above_port p, above_path ps)
 
 -- such texts with one space between and a newline behind are one line
 pub ended_line : (fs : List (List ℕ)) (rest : List ℕ) → AllAbove space fs → lines (ended fs ++ rest) ≡ spaced fs ∷ lines rest

@@ -1,4 +1,4 @@
--- Texts: document 01, section "The printed list", as far as it speaks of numbers, lines, fields and printed lines, whatever they are of.
+-- Texts: what Listing says of numbers, lines, fields and printed lines, whatever they are of.
 pub mod Text
 pub mod Lines
 pub mod Row

@@ -13,10 +13,10 @@ unfoldable pub cut : ℕ → List (List ℕ) → List ℕ → List (List ℕ)
 cut d end [] = end
 cut d end (x ∷ xs) = cond (eqb x d) ([] ∷ cut d end xs) (on_first x (cut d end xs))
 
--- A newline ends a line; "the last newline may be absent". An empty input has no line.
+-- Listing 4: a newline ends a line, and the last one may be absent. An empty input has no line.
 unfoldable pub lines : List ℕ → List (List ℕ)
 lines = cut newline []
 
--- "one space between fields": each space ends a field and begins the next
+-- Listing 6: each space ends a field and begins the next.
 unfoldable pub fields : List ℕ → List (List ℕ)
 fields = cut space ([] ∷ [])

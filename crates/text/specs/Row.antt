@@ -1,7 +1,7 @@
--- A printed line: "always eight fields with one space between".
+-- Listing 10: a printed line, which has eight fields with one space between.
 -- Assumes nothing.
-use Rattle.std.specs.Prelude.{List, [], ◌∷◌, ◌++◌, map, ℕ}
-use Rattle.text.specs.Text.{newline, space, dash, decimal}
+use Rattle.std.specs.Prelude.{cond, List, [], ◌∷◌, ◌++◌, map, ℕ, ◌+◌, ◌-◌, ltb}
+use Rattle.text.specs.Text.{newline, space, dash, digit, decimal}
 
 -- what a field shows: nothing, a number, a call letter, or the ports of a path
 pub data Field : Type 0 where
@@ -10,18 +10,22 @@ pub data Field : Type 0 where
   letter : ℕ → Field
   path : List ℕ → Field
 
--- ports in path order, each by its number
-unfoldable pub path_digits : List ℕ → List ℕ
-path_digits [] = []
-path_digits (p ∷ ps) = decimal p ++ path_digits ps
+-- Listing 16: the digit of a port up to 9, and a to h for 10 to 17; a number that no port has is a dash.
+unfoldable pub port_character : ℕ → ℕ
+port_character p = cond (ltb p 10) (digit p) (cond (ltb p 18) (97 + (p - 10)) dash)
 
--- the bytes of a field; "A field with nothing to show is `-`."
+-- ports in path order, each by its character
+unfoldable pub path_characters : List ℕ → List ℕ
+path_characters [] = []
+path_characters (p ∷ ps) = port_character p ∷ path_characters ps
+
+-- the bytes of a field. Listing 11: `-` where it shows nothing.
 unfoldable pub field_bytes : Field → List ℕ
 field_bytes nothing = dash ∷ []
 field_bytes (shows n) = decimal n
 field_bytes (letter x) = x ∷ []
 field_bytes (path []) = dash ∷ []
-field_bytes (path (p ∷ ps)) = path_digits (p ∷ ps)
+field_bytes (path (p ∷ ps)) = path_characters (p ∷ ps)
 
 pub record Row : Type 0 where
   pub line : Field
@@ -43,7 +47,7 @@ abbrev pub answer_alone : ℕ → ℕ → Row
 answer_alone n a =
     record { line = shows n; call = nothing; answer = shows a; node = nothing; channel = nothing; receive = nothing; scouts = nothing; ports = nothing }
 
--- "line call answer node channel receive scouts ports"
+-- Listing 12 to 15: the fields in their order, as the header names them (Listing 2)
 unfoldable pub in_order : Row → List Field
 in_order r = r.line ∷ r.call ∷ r.answer ∷ r.node ∷ r.channel ∷ r.receive ∷ r.scouts ∷ r.ports ∷ []
 
@@ -53,7 +57,7 @@ spaced [] = []
 spaced (f ∷ []) = f
 spaced (f ∷ g ∷ fs) = f ++ space ∷ spaced (g ∷ fs)
 
--- "Every printed line ends in a newline."
+-- Listing 19: a newline follows each line.
 unfoldable pub ended : List (List ℕ) → List ℕ
 ended fs = spaced fs ++ newline ∷ []
 

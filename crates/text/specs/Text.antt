@@ -9,7 +9,7 @@ newline = 10
 abbrev pub space : ℕ
 space = 32
 
--- "A field with nothing to show is `-`."
+-- Listing 11: `-` for a field that shows nothing
 abbrev pub dash : ℕ
 dash = 45
 
@@ -25,7 +25,7 @@ digits (suc k) n = let more = digits k (n / 10) ++ (digit (n % 10) ∷ []) in co
 unfoldable pub decimal : ℕ → List ℕ
 decimal n = digits n n
 
--- "Numbers are decimal, .. no sign": every byte is a digit
+-- Listing 7: decimal digits alone, with no sign
 abbrev pub is_digit : ℕ → Bool
 is_digit x = leb 48 x && leb x 57
 
@@ -38,17 +38,17 @@ unfoldable pub value : ℕ → List ℕ → ℕ
 value n [] = n
 value n (x ∷ xs) = value (10 * n + (x - 48)) xs
 
--- "no leading zeros": a zero stands alone
+-- Listing 7: no leading zero: a zero stands alone.
 unfoldable pub leading_zero : List ℕ → Bool
 leading_zero [] = false
 leading_zero (x ∷ []) = false
 leading_zero (x ∷ y ∷ xs) = eqb x 48
 
--- "0 to 65,535"
+-- Listing 7: 0 to 65,535
 abbrev pub largest_number : ℕ
 largest_number = 65535
 
--- the number that a field says, where it is one
+-- Listing 7: the number that a field says, where it is one. Listing 6: an empty field says none.
 unfoldable pub field_number : List ℕ → Option ℕ
 field_number [] = none
 field_number (x ∷ xs) =

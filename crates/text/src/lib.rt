@@ -1,4 +1,4 @@
-// Texts: numbers in decimal, and printed lines of eight fields.
+// Texts: numbers in decimal (Listing 7), and printed lines of eight fields (Listing 10).
 #![tactic(auto)]
 
 pub mod number;

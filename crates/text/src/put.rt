@@ -3,7 +3,7 @@
 // without it a caller knows nothing of what its own slice holds afterwards), and functions that answer the rest of a slice need one of what the rest lends.
 ghost use Rattle.std.specs.Prelude.{[], ◌∷◌, ◌+◌, ◌≤◌, ◌<◌, ◌≡◌, length};
 ghost use Rattle.text.specs.Text.{decimal};
-ghost use Rattle.text.specs.Row.{field_bytes, path_digits, path as shows_path};
+ghost use Rattle.text.specs.Row.{field_bytes, port_character, path_characters, path as shows_path};
 ghost use Rattle.text.specs.Written.{Wrote};
 
 pub fn byte(out: &mut [u8], at: usize, x: u8) -> usize
@@ -62,14 +62,26 @@ pub fn decimal(out: &mut [u8], at: usize, n: u32) -> usize
     end
 }
 
-// Ports in their order, each by its number.
+// Listing 16: a port in a path: a digit below 10, and a letter from there on. No cube has a port above 17.
+#[tactic(auto, unfolding(crate::specs::Row::port_character))]
+fn port_character(port: u8) -> u8
+    ensures { result ≡ port_character port }
+{
+    match port {
+        0..=9 => b'0' + port,
+        10..=17 => b'a' + (port - 10),
+        _ => b'-',
+    }
+}
+
+// Ports in their order, each by its character.
 fn ports(out: &mut [u8], at: usize, path: &[u8]) -> usize
-    requires { at + length (path_digits path.now) ≤ length out.old }
-    ensures { Wrote out.old at (path_digits path.now) out.new result }
+    requires { at + length path.now ≤ length out.old }
+    ensures { Wrote out.old at (path_characters path.now) out.new result }
 {
     let mut end = at;
     for port in path {
-        end = decimal(out, end, u32::from(*port));
+        end = byte(out, end, port_character(*port));
     }
     end
 }

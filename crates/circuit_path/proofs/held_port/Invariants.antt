@@ -2,10 +2,9 @@
 use mathlib.Core.Path.{◌≡◌}
 use Prim.Native.Nat.{◌-◌}
 use Rattle.common.specs.Lists.{lowest}
-use Rattle.cube.specs.Cube.{port_count}
 use Rattle.table.specs.View.{view}
 use Rattle.circuit_path.specs.Follow.{holds_port}
 use Rattle.circuit_path.proofs.held_port.Given as goal
 
 abbrev pub invariant-loop-p : goal.invariant-loop-p
-invariant-loop-p l = lowest (holds_port (view l.t) l.c.0 l.n.0 l.vector) (port_count - l.p) l.p ≡ lowest (holds_port (view l.t) l.c.0 l.n.0 l.vector) port_count 0
+invariant-loop-p g l = lowest (holds_port (view l.t) l.c.0 l.n.0 l.vector) (g.B.Board.width - l.p) l.p ≡ lowest (holds_port (view l.t) l.c.0 l.n.0 l.vector) g.B.Board.width 0

@@ -14,7 +14,7 @@ unfolding traced_into
 front w buffer e f = rw (e, f) (take-append_seam w (drop (length w) buffer))
 
 pub returns-clause-ports_value : goal.returns-clause-ports_value
-returns-clause-ports_value c = front _ _ (c.from.ensures ∙ c.write_path-written.ensures.hops_value) c.write_path-written.ensures.buffer_after
+returns-clause-ports_value g c = front _ _ (c.from.ensures ∙ c.write_path-written.ensures.hops_value) c.write_path-written.ensures.buffer_after
 
 pub returns-clause-few : goal.returns-clause-few
-returns-clause-few c = let path = front _ _ (c.from.ensures ∙ c.write_path-written.ensures.hops_value) c.write_path-written.ensures.buffer_after in omega (arith, ap length path, c.write_path-written.ensures.hops_value, c.write_path-written.ensures.few)
+returns-clause-few g c = let path = front _ _ (c.from.ensures ∙ c.write_path-written.ensures.hops_value) c.write_path-written.ensures.buffer_after in omega (arith, ap length path, c.write_path-written.ensures.hops_value, c.write_path-written.ensures.few)

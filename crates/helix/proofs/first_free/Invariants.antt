@@ -4,4 +4,4 @@ use Rattle.helix.proofs.HelixSends.{PathsTried}
 use Rattle.helix.proofs.first_free.Given as goal
 
 abbrev pub invariant-loop-port : goal.invariant-loop-port
-invariant-loop-port l = PathsTried l.t l.request.source.0 l.request.target.0 l.request.vector l.scouts (ports_left l.port-iterator)
+invariant-loop-port g l = PathsTried l.t l.request.source.0 l.request.target.0 l.fn.ports l.scouts (ports_left l.port-iterator)

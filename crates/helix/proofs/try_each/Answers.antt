@@ -1,41 +1,18 @@
--- `helix::try_each` meets its contract: the first free path, and the receive channel that the target has for it.
-use mathlib.Core.Path.{◌≡◌, refl, sym, ◌∙◌}
-use lib.Dec.{lit<}
-use Rattle.std.proofs.lemmas.Result.{err_from_is_err_and, IfErr-at_err}
+-- `helix::try_each` meets its contract: the ports of the vector, with the partners of those that are folded.
+use mathlib.Core.Path.{◌∙◌}
 use Rattle.cube.proofs.Order.{byte_vector}
-use Rattle.table.specs.View.{view}
-use Rattle.table.proofs.Receives.{channel_taken, channel_missing}
-use Rattle.helix.proofs.HelixSends.{helix_none, helix_full, channel_small, helix_taken}
+use Rattle.helix.proofs.HelixSends.{may_each, each_sent}
 use Rattle.helix.proofs.try_each.Goals as goal
 
-pub returns-in_err-free : goal.returns-in_err-free
-returns-in_err-free c =
-    let p = err_from_is_err_and c.from_residual.result c.from_residual.ensures.1 in
-    rw (p.1, p.2, c.in_err-free.ensures.0) (helix_none c.requires.may_send c.in_err-free.ensures.1)
+pub with_partners-ports-requires : goal.with_partners-ports-requires
+with_partners-ports-requires g c = rw c.from.ensures (byte_vector c.requires.may_send.fits c.requires.may_send.ports)
 
-pub available_channel-requires : goal.available_channel-requires
-available_channel-requires c =
-    let may = c.requires.may_send in
-    record { bytes = may.bytes; node = byte_vector may.fits may.target; port = lit< tt }
-
-pub returns-in_err-receive : goal.returns-in_err-receive
-returns-in_err-receive c =
-    let none = sym c.in_err-receive.ensures.ok_part ∙ c.available_channel.ensures in
-    let refused = rw c.in_err-receive.ensures.ok_part at c.in_err-receive.ensures.value in
-    let p = err_from_is_err_and c.from_residual-in_err-receive.result c.from_residual-in_err-receive.ensures.1 in
-    rw (p.1, IfErr-at_err (p.0 ≡◌) refused p.2) (helix_full c.requires.may_send c.in_ok-free.ensures refl (channel_missing (view c.args.t.now) c.args.request.target.0 none))
-
-pub set_owner-requires : goal.set_owner-requires
-set_owner-requires c =
-    let may = c.requires.may_send in
-    let taken = channel_taken (view c.args.t.now) c.args.request.target.0 (sym c.in_ok-receive.ensures.ok_part ∙ c.available_channel.ensures) in
-    record {
-      bytes = c.hold_helix.auto.t ∙ may.bytes;
-      node = byte_vector may.fits may.target;
-      port = channel_small may c.in_ok-free.ensures taken.0 taken.1;
-    }
+pub try_ports-requires : goal.try_ports-requires
+try_ports-requires g c =
+    let last = g.met.B.Board.laws.last in
+    record { may_try_paths = may_each g.B.Board.SEND_ARRIVAL c.requires.may_send c.requires.board_of last c.from.ensures c.with_partners-ports.ensures }
 
 pub returns : goal.returns
-returns c =
-    let taken = channel_taken (view c.args.t.now) c.args.request.target.0 (sym c.in_ok-receive.ensures.ok_part ∙ c.available_channel.ensures) in
-    helix_taken c.requires.may_send c.in_ok-free.ensures taken.0 taken.1 c.hold_helix.ensures c.set_owner.ensures
+returns g c =
+    let last = g.met.B.Board.laws.last in
+    c.try_ports.ensures ∙ each_sent g.B.Board.SEND_ARRIVAL c.requires.may_send c.requires.board_of last c.from.ensures c.with_partners-ports.ensures

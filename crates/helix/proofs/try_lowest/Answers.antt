@@ -1,27 +1,31 @@
--- `helix::try_lowest` meets its contract: trying each port of a vector that has the lowest port alone.
+-- `helix::try_lowest` meets its contract: the port that is tried first, alone.
 use mathlib.Core.Path.{◌∙◌}
 use native.Mathlib.Omega.{arith}
-use lib.Dec.{lit<}
-use Rattle.cube.proofs.Order.{byte_vector, port_tried}
-use Rattle.helix.proofs.HelixSends.{may_lowest, lowest_sent}
+use Rattle.cube.proofs.Order.{byte_vector}
+use Rattle.cube.proofs.Ports.{port_bit}
+use Rattle.helix.proofs.HelixSends.{some_wide, lowest_small, may_lowest, lowest_sent}
 use Rattle.helix.proofs.try_lowest.Goals as goal
 
+pub with_partners-ports-requires : goal.with_partners-ports-requires
+with_partners-ports-requires g c = rw c.from.ensures (byte_vector c.requires.may_send.fits c.requires.may_send.ports)
+
 pub first_port-lowest-requires : goal.first_port-lowest-requires
-first_port-lowest-requires c = (byte_vector c.requires.may_send.fits c.requires.may_send.ports, lit< tt)
+first_port-lowest-requires g c =
+    let some = some_wide _ c.requires.may_send c.requires.board_of g.met.B.Board.laws.last c.from.ensures c.with_partners-ports.ensures c.requires.vector_nonzero in
+    record { some = omega (arith, some); ports = c.with_partners-ports.ensures.1; port = omega (arith, c.SEND_ARRIVAL.ensures, g.met.B.Board.laws.last) }
 
-pub without-others-requires : goal.without-others-requires
-without-others-requires c =
-    let may = c.requires.may_send in
-    let r = port_tried _ _ 7 _ may.fits may.ports c.requires.vector_nonzero c.first_port-lowest.ensures in
-    (omega (arith, r.small), r.offered)
+pub overflow_shl-lowest : goal.overflow_shl-lowest
+overflow_shl-lowest g c =
+    let small = lowest_small c.SEND_ARRIVAL.result c.requires.may_send c.requires.board_of (omega (arith, c.SEND_ARRIVAL.ensures, g.met.B.Board.laws.last)) c.from.ensures c.with_partners-ports.ensures c.first_port-lowest.ensures in
+    omega (arith, small, g.met.B.Board.laws.most)
 
-pub overflow_sub-vector : goal.overflow_sub-vector
-overflow_sub-vector c = omega (arith, c.without-others.ensures.value)
-
-pub try_each-requires : goal.try_each-requires
-try_each-requires c =
-    record { may_send = may_lowest c.requires.may_send c.requires.vector_nonzero c.first_port-lowest.ensures c.without-others.ensures }
+pub try_ports-requires : goal.try_ports-requires
+try_ports-requires g c =
+    let small = lowest_small c.SEND_ARRIVAL.result c.requires.may_send c.requires.board_of (omega (arith, c.SEND_ARRIVAL.ensures, g.met.B.Board.laws.last)) c.from.ensures c.with_partners-ports.ensures c.first_port-lowest.ensures in
+    record { may_try_paths = may_lowest c.SEND_ARRIVAL.result c.requires.may_send c.requires.board_of (omega (arith, c.SEND_ARRIVAL.ensures, g.met.B.Board.laws.last)) c.from.ensures c.with_partners-ports.ensures c.first_port-lowest.ensures (port_bit 32 c.first_port-lowest.result.0 (omega (arith, small, g.met.B.Board.laws.most))) }
 
 pub returns : goal.returns
-returns c =
-    c.try_each.ensures ∙ lowest_sent c.requires.may_send c.requires.vector_nonzero c.first_port-lowest.ensures c.without-others.ensures
+returns g c =
+    let small = lowest_small c.SEND_ARRIVAL.result c.requires.may_send c.requires.board_of (omega (arith, c.SEND_ARRIVAL.ensures, g.met.B.Board.laws.last)) c.from.ensures c.with_partners-ports.ensures c.first_port-lowest.ensures in
+    c.try_ports.ensures
+    ∙ lowest_sent c.SEND_ARRIVAL.result c.requires.may_send c.requires.board_of (omega (arith, c.SEND_ARRIVAL.ensures, g.met.B.Board.laws.last)) c.from.ensures c.with_partners-ports.ensures c.first_port-lowest.ensures (port_bit 32 c.first_port-lowest.result.0 (omega (arith, small, g.met.B.Board.laws.most)))

@@ -10,9 +10,9 @@ use Rattle.job.proofs.SendsInTurn.{sends_from, further}
 use Rattle.job.proofs.open_in_turn.Given as goal
 
 abbrev pub invariant-loop-place : goal.invariant-loop-place
-invariant-loop-place l =
+invariant-loop-place g l =
     record {
-      passes : refusal (table_tests l.t) ≡ 0;
+      passes : refusal (table_tests g.L.Layout.PORTS l.t) ≡ 0;
       small : AllBytes l.t;
-      left : in_turn opens_on l.initial.t (sends_in l.sends) ≡ further l.place (in_turn opens_on l.t (sends_from l.sends l.place));
+      left : in_turn (opens_on g.L.Layout.PORTS) l.initial.t (sends_in l.sends) ≡ further l.place (in_turn (opens_on g.L.Layout.PORTS) l.t (sends_from l.sends l.place));
     }

@@ -14,10 +14,10 @@ use Rattle.layout.proofs.row_count.Goals as goal
 use Rattle.layout.proofs.row_count.Goals.{then-word-c, else-word-c}
 
 pub loop-k-init : goal.loop-k-init
-loop-k-init c = (omega arith, count_none _)
+loop-k-init g c = (omega arith, count_none _)
 
 pub loop-k-preserved : goal.loop-k-preserved
-loop-k-preserved c =
+loop-k-preserved g c =
     let f : ℕ → Bool = λ j. eqb (word_at c.args.row.now (2 * j)) c.args.c.0 in
     let k = c.loop-k.k in (
       elim c.if-word-c.branch [ then-word-c w ↦ omega (arith, w.count-is) | else-word-c w ↦ omega (arith, w.count-is) ],
@@ -29,6 +29,6 @@ loop-k-preserved c =
 
 pub returns : goal.returns
 unfolding row_count
-returns c =
-    let e : c.loop-k.k ≡ 8 = omega arith in
+returns g c =
+    let e : c.loop-k.k ≡ g.H.Resource.WIDTH = omega arith in
     c.loop-k.invariant.1 ∙ ap (λ k. length (keep (λ j. eqb (word_at c.args.row.now (2 * j)) c.args.c.0) (from 0 k))) e

@@ -8,4 +8,4 @@ use Rattle.layout.specs.Layout.{word_at}
 use Rattle.layout.proofs.row_count.Given as goal
 
 abbrev pub invariant-loop-k : goal.invariant-loop-k
-invariant-loop-k l = (l.count ≤ l.k) × (l.count ≡ length (keep (λ j. eqb (word_at l.row (2 * j)) l.c.0) (from 0 l.k)))
+invariant-loop-k g l = (l.count ≤ l.k) × (l.count ≡ length (keep (λ j. eqb (word_at l.row (2 * j)) l.c.0) (from 0 l.k)))

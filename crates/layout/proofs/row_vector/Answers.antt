@@ -7,15 +7,15 @@ use Rattle.layout.proofs.row_vector.Goals as goal
 use Rattle.layout.proofs.row_vector.Goals.{then-word-c, else-word-c}
 
 pub loop-k-init : goal.loop-k-init
-loop-k-init c = found_none _ _
+loop-k-init g c = found_none _ _
 
 pub loop-k-preserved : goal.loop-k-preserved
-loop-k-preserved c =
+loop-k-preserved g c =
     let found = Found c.args.row.now c.args.c.0 (c.loop-k.k + 1) in
     elim c.if-word-c.branch [
-      | then-word-c w ↦ subst found (sym w.vector-is) (found_yes _ _ c.loop-k.k c.loop-k.vector c.word.result c.loop-k.invariant c.loop-k-test.true c.word.ensures w.if-word-c.true)
-      | else-word-c w ↦ subst found (sym w.vector-is) (found_no _ _ c.loop-k.k c.loop-k.vector c.word.result c.loop-k.invariant c.loop-k-test.true c.word.ensures w.if-word-c.false)
+      | then-word-c w ↦ subst found (sym w.vector-is) (found_yes _ _ c.loop-k.k c.loop-k.vector c.word.result c.loop-k.invariant (omega (arith, g.met.H.Resource.laws.width_most)) c.word.ensures w.if-word-c.true)
+      | else-word-c w ↦ subst found (sym w.vector-is) (found_no _ _ c.loop-k.k c.loop-k.vector c.word.result c.loop-k.invariant (omega (arith, g.met.H.Resource.laws.width_most)) c.word.ensures w.if-word-c.false)
     ]
 
 pub returns : goal.returns
-returns c = found_all _ _ c.loop-k.k c.loop-k.vector (omega arith) c.loop-k.invariant
+returns g c = found_all _ _ c.loop-k.k c.loop-k.vector (omega arith) c.loop-k.invariant

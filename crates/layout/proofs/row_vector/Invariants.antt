@@ -3,4 +3,4 @@ use Rattle.layout.proofs.Rows.{Found}
 use Rattle.layout.proofs.row_vector.Given as goal
 
 abbrev pub invariant-loop-k : goal.invariant-loop-k
-invariant-loop-k l = Found l.row l.c.0 l.k l.vector
+invariant-loop-k g l = Found l.row l.c.0 l.k l.vector

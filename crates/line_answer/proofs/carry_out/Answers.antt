@@ -1,14 +1,13 @@
 -- `line_answer::carry_out` meets its contract.
-use mathlib.Core.Path.{ap}
 use Rattle.printed_line.specs.PrintedLine.{call_row}
-use Rattle.printed_line.proofs.Answers.{answered, with_call}
+use Rattle.printed_line.proofs.Answers.{answered}
 use Rattle.line_answer.proofs.carry_out.Goals as goal
 
 pub returns-in-Make : goal.returns-in-Make
 unfolding call_row
 returns-in-Make c =
     rw c.in-Make.is
-    (answered (rw (← c.answer-answer.ensures) at c.make.ensures) (ap (with_call _) (c.answer_alone.ensures _)))
+    (answered (rw (← c.answer-answer.ensures) at c.make.ensures) (c.of_answer.ensures _))
 
 pub returns-in-Block : goal.returns-in-Block
 unfolding call_row
@@ -43,3 +42,9 @@ unfolding call_row
 returns-in-Disarm c =
     rw c.in-Disarm.is
     (answered (rw (← c.answer-answer-in-Disarm.ensures) at c.disarm.ensures) (c.of_channel-in-Disarm.ensures _))
+
+pub returns-in-Fold : goal.returns-in-Fold
+unfolding call_row
+returns-in-Fold c =
+    rw c.in-Fold.is
+    (answered (rw (← c.answer-answer-in-Fold.ensures) at c.fold.ensures) (c.of_answer-in-Fold.ensures _))

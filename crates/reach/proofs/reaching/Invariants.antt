@@ -3,4 +3,4 @@ use Rattle.reach.proofs.Sweep.{Swept}
 use Rattle.reach.proofs.reaching.Given as goal
 
 abbrev pub invariant-loop-x : goal.invariant-loop-x
-invariant-loop-x l = Swept l.t l.target.0 l.x l.marks
+invariant-loop-x g l = Swept l.t l.target.0 l.x l.marks

@@ -6,4 +6,4 @@ use Rattle.table.proofs.Rows.{lowest_bit}
 use Rattle.table.proofs.available_channel.Goals as goal
 
 pub returns : goal.returns
-returns c = c.lowest_of.ensures ∙ ap (some_below 8) (lowest_bit (view c.args.t.now) c.args.n.0 c.available.result c.available.ensures.bits)
+returns g c = c.lowest_of.ensures ∙ ap (some_below 8) (lowest_bit (view c.args.t.now) c.args.n.0 c.available.result c.available.ensures.bits)

@@ -5,4 +5,4 @@ use Rattle.table.proofs.Rows.{available_count, ones_kept}
 use Rattle.table.proofs.available_count.Goals as goal
 
 pub returns : goal.returns
-returns c = ones_kept _ c.available.ensures.small ∙ available_count (view c.args.t.now) c.args.n.0 c.available.result c.available.ensures.bits
+returns g c = ones_kept _ c.available.ensures.small ∙ available_count (view c.args.t.now) c.args.n.0 c.available.result c.available.ensures.bits

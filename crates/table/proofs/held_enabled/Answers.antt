@@ -5,5 +5,6 @@ use Rattle.table.proofs.held_enabled.Goals as goal
 pub returns : goal.returns
 returns g c =
     let laws = g.met.H.Resource.laws in
-    rw (laws.owner_is, laws.enabled_is)
-    (covers_node c.args.t.now c.args.n.0 g.H.Resource.ROWS g.H.Resource.MASKS c.mask_place.result c.requires.node c.node_row.ensures c.mask_place.ensures.0 c.mask_covers.ensures)
+    let b = c.args.t.now in
+    rw (laws.owner_is b c.requires.bytes, laws.enabled_is b c.requires.bytes)
+    (covers_node g.H.Resource.WIDTH laws.width_is b c.args.n.0 g.H.Resource.ROWS g.H.Resource.MASKS c.mask_place.result c.mask.result c.requires.node c.node_row.ensures.0 c.mask_place.ensures.0 c.mask.ensures.0 c.mask_covers.ensures)

@@ -5,16 +5,16 @@ use Rattle.table_book.proofs.Filling.{nothing_filled, room, fill_open, ports_fil
 use Rattle.table_book.proofs.write_book.Goals as goal
 
 pub loop-circuit-init : goal.loop-circuit-init
-loop-circuit-init c = rw (c.into_iter-circuit-iterator.ensures.into_iter_gives, c.of-circuit-items.ensures.first) (record { same = c.of-circuit-items.ensures.same; filled = nothing_filled _ _ _ })
+loop-circuit-init g c = rw (c.into_iter-circuit-iterator.ensures.into_iter_gives, c.of-circuit-items.ensures.first) (record { same = c.of-circuit-items.ensures.same; filled = nothing_filled _ _ _ })
 
 pub put_circuit-requires-clause-room : goal.put_circuit-requires-clause-room
-put_circuit-requires-clause-room c =
+put_circuit-requires-clause-room g c =
     let same = c.loop-circuit.invariant.same in
     let next = rw (c.in-Some.ensures.steps.same, same) at c.in-Some.ensures.steps.rest in
     room c.loop-circuit.invariant.filled _ _ next (ap length c.path.ensures.ports_value) c.requires.0 c.requires.1
 
 pub loop-circuit-preserved : goal.loop-circuit-preserved
-loop-circuit-preserved c =
+loop-circuit-preserved g c =
     let same = c.loop-circuit.invariant.same in
     let next = rw (c.in-Some.ensures.steps.same, same) at c.in-Some.ensures.steps.rest in
     let path = c.path.ensures in
@@ -25,7 +25,7 @@ loop-circuit-preserved c =
     }
 
 pub returns-clause-ports_after : goal.returns-clause-ports_after
-returns-clause-ports_after c = ports_filled c.loop-circuit.invariant.filled (rw c.loop-circuit.invariant.same at c.in-None.ensures.steps.0) c.requires.0
+returns-clause-ports_after g c = ports_filled c.loop-circuit.invariant.filled (rw c.loop-circuit.invariant.same at c.in-None.ensures.steps.0) c.requires.0
 
 pub returns-clause-index_after : goal.returns-clause-index_after
-returns-clause-index_after c = index_filled c.loop-circuit.invariant.filled (rw c.loop-circuit.invariant.same at c.in-None.ensures.steps.0) c.requires.1
+returns-clause-index_after g c = index_filled c.loop-circuit.invariant.filled (rw c.loop-circuit.invariant.same at c.in-None.ensures.steps.0) c.requires.1

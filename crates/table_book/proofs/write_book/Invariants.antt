@@ -6,7 +6,7 @@ use Rattle.table_book.proofs.Filling.{Filling}
 use Rattle.table_book.proofs.write_book.Given as goal
 
 abbrev pub invariant-loop-circuit : goal.invariant-loop-circuit
-invariant-loop-circuit l = record {
-  same : l.circuit-iterator.table.bytes.now ≡ l.table.bytes.now;
+invariant-loop-circuit g l = record {
+  same : l.circuit-iterator.bytes.now ≡ l.table.bytes.now;
   filled : Filling (view l.table.bytes.now) (last_of l.table.bytes.now) l.initial.ports l.initial.index l.ports l.index l.size.circuits l.size.hops l.circuit-iterator.numbers.start;
 }

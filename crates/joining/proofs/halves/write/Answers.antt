@@ -18,13 +18,13 @@ pub rows_behind-requires-clause-fit : goal.rows_behind-requires-clause-fit
 rows_behind-requires-clause-fit c =
     let halves = c.requires.0 in
     let nodes = c.node_count-nodes.ensures.value in
-    links_fit c.args.second.now c.node_count-nodes.result (nodes ∙ ap cube_nodes halves.second) halves.second_sound
+    links_fit c.args.second.now halves.second_long c.node_count-nodes.result (nodes ∙ ap cube_nodes halves.second) halves.second_sound
 
 pub rows_behind-requires-2-clause-fit : goal.rows_behind-requires-2-clause-fit
 rows_behind-requires-2-clause-fit c =
     let halves = c.requires.0 in
     let nodes = c.node_count-nodes.ensures.value in
-    receives_fit c.args.second.now c.node_count-nodes.result (nodes ∙ ap cube_nodes halves.second) halves.second_sound
+    receives_fit c.args.second.now halves.second_long c.node_count-nodes.result (nodes ∙ ap cube_nodes halves.second) halves.second_sound
 
 pub returns : goal.returns
 returns c =

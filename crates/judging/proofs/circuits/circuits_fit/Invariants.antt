@@ -9,7 +9,7 @@ use Rattle.judging.specs.JudgeContracts.{LinesInside}
 use Rattle.judging.proofs.circuits.circuits_fit.Given as goal
 
 abbrev pub invariant-loop-line : goal.invariant-loop-line
-invariant-loop-line l = record {
+invariant-loop-line g l = record {
   inside : LinesInside l.ports (lines_left l.line-iterator);
   rest : list_all (circuit_fits (judge_facts (view l.table.bytes.now))) (map (circuit_on l.ports) (lines_left l.line-iterator))
       ≡ list_all (circuit_fits (judge_facts (view l.table.bytes.now))) (map (circuit_on l.ports) (lines_left l.lines));

@@ -12,7 +12,7 @@ use Rattle.judging.specs.JudgeContracts.{UsesLinks}
 use Rattle.judging.proofs.links.use_path.Given as goal
 
 abbrev pub invariant-loop-port : goal.invariant-loop-port
-invariant-loop-port l = record {
+invariant-loop-port g l = record {
   inside : NodeOf (dimension_at l.table.bytes.now) l.at.0;
   goes_on : (new : List ℕ) (result : Bool)
       → UsesLinks (free_in (view l.table.bytes.now)) l.used.of_node new (links (net (view l.table.bytes.now)) l.at.0 (drop l.port-index l.path)) result

@@ -1,4 +1,5 @@
 -- `listing::whole::rows` meets its contract: what is left to write behind what was written are the lines of the input.
+use Rattle.layout.specs.Layout.{wide_ports}
 use Rattle.std.proofs.Common.{◌≡◌, ℕ, ◌+◌, ◌<◌, List, [], length, get_or, drop, refl, ap, ◌∙◌, arith, rules, tests, eqb}
 use Rattle.std.specs.List.{slice_split, zip, range_with_len}
 use Rattle.std.proofs.lemmas.List.{get_or_read, length_push}
@@ -56,8 +57,8 @@ answer-end-requires c =
     let k = length c.loop-line.yielded in
     let t = line_is c.args.input.now text k c.without_end.ensures.0 (YieldsList-turn (numbered c.into_iter-line-iterator.ensures.into_iter_gives c.zip-line-items.ensures.first (YieldsList-at c.zip-line-items.ensures.second (YieldsList-from_slice_split {s = c.split.result} _ (λ b. eqb b newline) text (cc) (cc) (cc) (λ x b q k. search (rules, tests))))) c.loop-line.yielded c.loop-line.line-iterator c.loop-line.yielded_by c.next.result c.next.new.self (c.in-Some.line, c.in-Some.text) c.in-Some.is c.next.ensures.steps) in
     let left = c.loop-line.invariant.3 in
-    let shown = row_text (row_for table_step c.loop-line.t (k + 1) (asks (get_or ls k []))) in
-    let more = rows_text (rows table_step (state_after table_step c.loop-line.t (asks (get_or ls k []))) (k + 1 + 1) (drop (k + 1) ls)) in
+    let shown = row_text (row_for (table_step wide_ports) c.loop-line.t (k + 1) (asks (get_or ls k []))) in
+    let more = rows_text (rows (table_step wide_ports) (state_after (table_step wide_ports) c.loop-line.t (asks (get_or ls k []))) (k + 1 + 1) (drop (k + 1) ls)) in
     let step = ap length (rows_step c.loop-line.t (k + 1) ls k t.1) in
     rw (t.0, t.2) (omega (arith, step, length-append shown more, left.place, left.long, c.requires.1))
 
@@ -70,8 +71,8 @@ loop-line-preserved c =
     let left = c.loop-line.invariant.3 in
     let wrote = c.answer-end.ensures in
     let step = rows_step c.loop-line.t (k + 1) ls k t.1 in
-    let next : c.answer-end.new.t ≡ state_after table_step c.loop-line.t (asks (get_or ls k [])) = wrote.table ∙ ap (λ l. state_after table_step c.loop-line.t (asks l)) t.2 in
-    let shown : row_text (row_for table_step c.loop-line.t c.in-Some.line (asks c.in-Some.text.now)) ≡ row_text (row_for table_step c.loop-line.t (k + 1) (asks (get_or ls k []))) = rw (t.0, t.2) refl in
+    let next : c.answer-end.new.t ≡ state_after (table_step wide_ports) c.loop-line.t (asks (get_or ls k [])) = wrote.table ∙ ap (λ l. state_after (table_step wide_ports) c.loop-line.t (asks l)) t.2 in
+    let shown : row_text (row_for (table_step wide_ports) c.loop-line.t c.in-Some.line (asks c.in-Some.text.now)) ≡ row_text (row_for (table_step wide_ports) c.loop-line.t (k + 1) (asks (get_or ls k []))) = rw (t.0, t.2) refl in
     rw (length_push c.loop-line.yielded (c.in-Some.line, c.in-Some.text)) (
       search rules,
       search rules,

@@ -4,17 +4,18 @@ use Rattle.std.proofs.Common.{rules, false}
 use Rattle.common.specs.Lists.{any}
 use Rattle.common.proofs.Runs.{callable, any_of}
 use Rattle.cube.specs.PortsLeft.{ports_left}
-use Rattle.cube.proofs.Order.{ports_mem, low_port}
 use Rattle.reach.specs.Marks.{helix_enabled}
+use Rattle.reach.proofs.Asks.{asked_ports, asked_port}
 use Rattle.reach.proofs.AskedSend.any_helix.Goals as goal
 
 pub any-requires-clause-callable : goal.any-requires-clause-callable
-any-requires-clause-callable c =
+any-requires-clause-callable g c =
     let send = c.args.self.now in
     callable (λ p. p.0) ports_left (λ s r t step. step) (helix_enabled send.bytes.now send.request.source.0 send.request.target.0) (λ x r q k. search rules) false
-    (λ p m. low_port _ send.request.vector p.0 send.may_ask.ports (ports_mem 8 send.request.vector (rw c.new.ensures at m)).1)
+    (λ p m. asked_port send.may_ask c.ports.ensures p.0 (rw c.new.ensures at m))
 
 pub returns : goal.returns
-returns c =
-    let test = helix_enabled c.args.self.now.bytes.now c.args.self.now.request.source.0 c.args.self.now.request.target.0 in
-    any_of (λ p. p.0) ports_left (λ s r t step. step) test (λ x r q k. search rules) c.any.new.self c.any.ensures.ran ∙ ap (any test) c.new.ensures
+returns g c =
+    let send = c.args.self.now in
+    let test = helix_enabled send.bytes.now send.request.source.0 send.request.target.0 in
+    any_of (λ p. p.0) ports_left (λ s r t step. step) test (λ x r q k. search rules) c.any.new.self c.any.ensures.ran ∙ ap (any test) (c.new.ensures ∙ asked_ports send.may_ask c.ports.ensures)

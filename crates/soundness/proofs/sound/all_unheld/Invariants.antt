@@ -5,4 +5,4 @@ use Rattle.soundness.specs.Counting.{UnheldCounted}
 use Rattle.soundness.proofs.sound.all_unheld.Given as goal
 
 abbrev pub invariant-loop-i : goal.invariant-loop-i
-invariant-loop-i l = UnheldCounted (view l.table.bytes.now) 0 (16 * l.i) l.unheld
+invariant-loop-i g l = UnheldCounted g.L.Layout.PORTS (view l.table.bytes.now) 0 (16 * l.i) l.unheld

@@ -5,11 +5,11 @@ use Rattle.soundness.proofs.Passing.{not_sound, usable}
 use Rattle.soundness.proofs.sound.check.Goals as goal
 
 pub returns : goal.returns
-returns c =
+returns g c =
     let e = c.dimension-d.ensures in
-    usable c.args.t.now c.if-t-ne-BYTES.false (omega (arith, e, c.if-d-lt1.false)) (omega (arith, e, c.if-d-gt-LARGEST_DIMENSION.false)) (sym c.entries_sound.ensures ∙ c.if-not-entries_sound.false)
+    usable g.L.Layout.PORTS c.args.t.now (c.if-t-LENGTH.false ∙ c.LENGTH.ensures ∙ g.met.L.Layout.laws.long_is) (omega (arith, e, c.if-d-lt1.false)) (omega (arith, e, c.if-d-gt-LARGEST_DIMENSION.false)) (sym c.entries_sound.ensures ∙ c.if-not-entries_sound.false)
 
 pub returns-then-not-entries_sound : goal.returns-then-not-entries_sound
-returns-then-not-entries_sound c =
+returns-then-not-entries_sound g c =
     let e = c.dimension-d.ensures in
-    not_sound c.args.t.now c.if-t-ne-BYTES.false (omega (arith, e, c.if-d-lt1.false)) (omega (arith, e, c.if-d-gt-LARGEST_DIMENSION.false)) (sym c.entries_sound.ensures ∙ c.if-not-entries_sound.true)
+    not_sound g.L.Layout.PORTS c.args.t.now (c.if-t-LENGTH.false ∙ c.LENGTH.ensures ∙ g.met.L.Layout.laws.long_is) (omega (arith, e, c.if-d-lt1.false)) (omega (arith, e, c.if-d-gt-LARGEST_DIMENSION.false)) (sym c.entries_sound.ensures ∙ c.if-not-entries_sound.true)

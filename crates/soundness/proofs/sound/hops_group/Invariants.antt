@@ -5,4 +5,4 @@ use Rattle.soundness.specs.Counting.{Counted}
 use Rattle.soundness.proofs.sound.hops_group.Given as goal
 
 abbrev pub invariant-loop-n : goal.invariant-loop-n
-invariant-loop-n l = Counted (view l.table.bytes.now) (8 * l.fn.from.0) (8 * l.n) l.initial.seen.of_node l.seen.of_node l.hops
+invariant-loop-n g l = Counted g.L.Layout.PORTS (view l.table.bytes.now) (8 * l.fn.from.0) (8 * l.n) (g.M.Marks.of_node l.initial.seen) (g.M.Marks.of_node l.seen) l.hops

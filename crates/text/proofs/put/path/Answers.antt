@@ -5,6 +5,7 @@ use Rattle.std.proofs.Common.{rules, tests}
 use native.Mathlib.Omega.{arith}
 use lib.ListN.{length}
 use Rattle.text.proofs.Writing.{retext}
+use Rattle.text.proofs.Fields.{path_length}
 use Rattle.text.proofs.Rows.{path_none, path_some}
 use Rattle.text.proofs.put.path.Goals as goal
 
@@ -21,7 +22,7 @@ returns-then-is_empty c =
 pub ports-requires : goal.ports-requires
 ports-requires c =
     let some : length c.args.path.now ≢ 0 = search (rules, tests) in
-    omega (arith, ap length (path_some c.args.path.now some), c.requires)
+    omega (arith, ap length (path_some c.args.path.now some), path_length c.args.path.now, c.requires)
 
 pub returns : goal.returns
 returns c =

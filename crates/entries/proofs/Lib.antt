@@ -1,0 +1,2 @@
+-- The laws of the masks of a node.
+pub mod EnableBits

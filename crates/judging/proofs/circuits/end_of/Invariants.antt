@@ -1,6 +1,0 @@
--- `judging::circuits::end_of` meets its contract: what is left of the path leads where all of it does.
-use Rattle.judging.proofs.Following.{EndLeft}
-use Rattle.judging.proofs.circuits.end_of.Given as goal
-
-abbrev pub invariant-loop-port : goal.invariant-loop-port
-invariant-loop-port l = EndLeft l.path l.initial.at.0 l.at.0 l.port-index
