@@ -31,7 +31,7 @@ pub fn link_state<L: Layout>(t: &[u8], n: Node, p: Port) -> LinkState
     link_state_given::<L>(t, n, p, enabled)
 }
 
-// The same, where it is known whether the link is enabled. Every hop of every pass asks this; the search has dropped blocked ports before, and to look twice is slower (docs/PERFORMANCE.md).
+// The same, where it is known whether the link is enabled. Every hop of every pass asks this; the search has dropped blocked ports before, and to look twice is slower (docs/history/PERFORMANCE.md).
 pub fn link_state_given<L: Layout>(t: &[u8], n: Node, p: Port, enabled: bool) -> LinkState
     requires within { InTable L.LENGTH L.PORTS t.now n.0 p.0 }
     requires enabled_value { enabled ≡ (view t.now).enabled n.0 p.0 }

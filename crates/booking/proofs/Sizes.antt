@@ -18,10 +18,11 @@ use Rattle.cube.specs.Cube.{largest_dimension, channels, source_of, NodeOf}
 use Rattle.cube.proofs.Ports.{most_nodes}
 use Rattle.layout.specs.Layout.{entry_count}
 use Rattle.layout.specs.Resources.{LayoutLaws, Width}
-use Rattle.paths.specs.Network.{Network, Path, Link, links}
+use Rattle.paths.specs.Network.{Link, links}
 use Rattle.paths.specs.CubeNetwork.{ports, circuit_count}
 use Rattle.paths.proofs.Apart.{permitted_inside}
 use Rattle.paths.proofs.CubeNetwork.{port_there, cube_nearing}
+use Rattle.paths.proofs.HelixLinks.{length_links}
 use Rattle.paths.proofs.Links.{On, link_true, true_link, permitted_distinct}
 use Rattle.table.specs.TableContracts.{place_count}
 use Rattle.table.specs.View.{View, view, shape_of, net, held_by}
@@ -38,11 +39,6 @@ use Rattle.book.specs.BookOf.{open_numbers, book_of}
 use Rattle.table_book.specs.Writing.{held_count, book_from, circuit_if}
 use Rattle.table_book.proofs.BookFrom.{book_on_lem}
 use Rattle.booking.proofs.BookStep.{book_table}
-
-length_links : (N : Network) (s : ℕ) (w : Path) → length (links N s w) ≡ length w
-unfolding links
-length_links N s [] = refl
-length_links N s (p ∷ w) = ap suc (length_links N (N.next s p) w)
 
 -- two tests that never pass together pass as often as either does
 kept_parts : {A : Type 0} (f g h : A → Bool) (xs : List A) → ((x : A) → h x ≡ f x || g x) → ((x : A) → f x ≡ true → g x ≡ true → ⊥) → length (keep h xs) ≡ length (keep f xs) + length (keep g xs)

@@ -48,7 +48,7 @@ OpensMost = (q : ℕ) (b : List ℕ) (s c t y v : ℕ) → (view b).fold ≡ 0 �
 abbrev pub OpensMostFolded : Type 0
 OpensMostFolded = (q : ℕ) (b : List ℕ) (s c t y v : ℕ) → open_scouts q b s c t y v ≤ get_or most_folded (view b).dimension 0 + 1
 
--- "Both passes together never send more than 123,300" follows.
+-- The bound of Scouts 8 follows.
 abbrev pub OpensBelowPapers : Type 0
 OpensBelowPapers = (q : ℕ) (b : List ℕ) (s c t y v : ℕ) → (view b).fold ≡ 0 → open_scouts q b s c t y v ≤ 123300
 

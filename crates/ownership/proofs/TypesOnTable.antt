@@ -89,7 +89,7 @@ module _ (q : ℕ) (b : List ℕ) (s c t v : ℕ) where
   pub types_rise : Width q → (number_of_type 3 ≡ 0 → number_of_type 1 ≡ 0) × (number_of_type 1 ≡ 0 → number_of_type 0 ≡ 0)
   types_rise width = (fixed_open_in_helix width, helix_open_in_maze width)
 
--- "Both passes together never send more than 123,300": so on every narrow table, where nothing is folded.
+-- The bound of Scouts 8, for both passes together: so on every narrow table, where nothing is folded.
 few_narrow : (b : List ℕ) (s c t y v : ℕ) → length b ≡ length_of port_count → scouts_of (table_step port_count b (opening s c t y v)).result ≤ 123300
 unfolding view
 few_narrow b s c t y v long =

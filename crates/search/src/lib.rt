@@ -25,7 +25,7 @@ fn enabled_ports<L: Layout>(t: &[u8], n: Node, vector: u32) -> u32
 // What stays the same through a pass: the target, its lowest receive channel that may be taken, if one may, the circuit that holds the hops, and the board.
 // What is another at each hop, its node, vector, arrival and counts, are parameters of the methods.
 // A pass answers the hops of the free path that it found, and counts its scouts in a number that is lent to it: an `Option` of a number goes back from hop to hop
-// in registers, and a larger answer through memory, which is slower (docs/PERFORMANCE.md).
+// in registers, and a larger answer through memory, which is slower (docs/history/PERFORMANCE.md).
 #[derive(Clone, Copy)]
 struct Search<B: Board> {
     target: Node,

@@ -4,7 +4,7 @@ use mathlib.Core.Path.{◌≡◌, refl, ap, ap₂, sym, ◌∙◌, subst}
 use mathlib.Core.Logic.{◌⊎◌, inl, inr, ⊎_elim, ◌≢◌}
 use mathlib.Core.Bool.{Bool, true, false, ◌&&◌, ◌||◌}
 use mathlib.Core.List.{List, [], ◌∷◌}
-use Prim.Native.Nat.{ℕ, suc, ◌+◌, ◌*◌, ◌≤◌, ◌<◌}
+use Prim.Native.Nat.{ℕ, ◌+◌, ◌*◌, ◌≤◌, ◌<◌}
 use native.Mathlib.Omega.{arith}
 use lib.ListN.{length}
 use borrow.Author.Tests.{eqb-true}
@@ -14,11 +14,12 @@ use Rattle.cube.specs.Cube.{largest_dimension, channels, NodeOf, source_of}
 use Rattle.cube.proofs.Ports.{most_nodes}
 use Rattle.layout.specs.Layout.{entry_count}
 use Rattle.layout.specs.Resources.{Width}
-use Rattle.paths.specs.Network.{Network, Path, Link, links, has_link, Exactly}
+use Rattle.paths.specs.Network.{Path, Link, links, has_link, Exactly}
 use Rattle.paths.specs.Permitted.{Permitted}
 use Rattle.paths.specs.CubeNetwork.{LinkOf, ports, circuit_count}
 use Rattle.paths.proofs.Apart.{permitted_inside}
 use Rattle.paths.proofs.CubeNetwork.{port_there, cube_nearing}
+use Rattle.paths.proofs.HelixLinks.{length_links}
 use Rattle.paths.proofs.Links.{On, on_first_lem, link_true, true_link, permitted_distinct}
 use Rattle.table.specs.TableContracts.{place_count}
 use Rattle.table.specs.View.{View, shape_of, net, held_by}
@@ -33,11 +34,6 @@ use Rattle.soundness.proofs.LinkCount.{links_added}
 use Rattle.soundness.proofs.Soundness.{receive_stands}
 use Rattle.circuit_hops.proofs.CountsHops.{positive}
 use Rattle.soundness.proofs.Counting.{wider}
-
-length_links : (N : Network) (s : ℕ) (w : Path) → length (links N s w) ≡ length w
-unfolding links
-length_links N s [] = refl
-length_links N s (p ∷ w) = ap suc (length_links N (N.next s p) w)
 
 module _ (width_q : ℕ) (width : Width width_q) (v : View) (row : RowOf (shape_of v) width_q) where
   -- a receive channel that a circuit holds
