@@ -20,7 +20,7 @@ fn every_dimension(rt: &impl Print, t: &mut [u8; table::BYTES]) -> io::Result<()
 }
 
 // So many tables of a kind, each laid by its number.
-fn every<F: Fn(&mut [u8; table::BYTES], u16)>(
+fn every<F: Fn(&mut [u8], u16)>(
     rt: &impl Print,
     t: &mut [u8; table::BYTES],
     kind: &str,

@@ -33,10 +33,10 @@ impl fmt::Display for Tally {
 }
 
 // The answers with one byte changed, at every offset in turn; the byte is put back.
-fn every_offset<F: Fn(u8) -> u8>(t: &mut [u8; table::BYTES], change: F, tally: &mut Tally)
+fn every_offset<F: Fn(u8) -> u8>(t: &mut [u8], change: F, tally: &mut Tally)
     requires { F.IsAlwaysCallable change }
 {
-    for at in 0..table::BYTES {
+    for at in 0..t.len() {
         let old = t[at];
         t[at] = change(old);
         tally.count(soundness::check::<Narrow>(t));
@@ -44,7 +44,7 @@ fn every_offset<F: Fn(u8) -> u8>(t: &mut [u8; table::BYTES], change: F, tally: &
     }
 }
 
-fn every_bit(t: &mut [u8; table::BYTES], tally: &mut Tally) {
+fn every_bit(t: &mut [u8], tally: &mut Tally) {
     for bit in 0u8..8 {
         let mask = 1u8 << bit;
         every_offset(t, |byte| byte ^ mask, tally);
@@ -56,12 +56,8 @@ pub fn number(t: &[u8]) -> u16 {
     refusal::answer(soundness::check::<Narrow>(t))
 }
 
-pub fn changes(
-    rt: &impl Print,
-    t: &mut [u8; table::BYTES],
-    dimension: u8,
-    table: u8,
-) -> io::Result<()> {
+// What is lent may have any length: one that is no table is refused by its length, which is counted as none of the three.
+pub fn changes(rt: &impl Print, t: &mut [u8], dimension: u8, table: u8) -> io::Result<()> {
     let mut flipped = Tally::default();
     let mut cleared = Tally::default();
     print!(rt;
@@ -78,8 +74,8 @@ pub fn changes(
 }
 
 // The first bytes of a table alone.
-pub fn lengths(rt: &impl Print, t: &[u8; table::BYTES]) -> io::Result<()> {
-    let refused = (0..table::BYTES)
+pub fn lengths(rt: &impl Print, t: &[u8]) -> io::Result<()> {
+    let refused = (0..t.len())
         .filter(|n| matches!(
             soundness::check::<Narrow>(&t[..*n]),
             Err(Refusal::TableLength)
