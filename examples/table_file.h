@@ -11,6 +11,7 @@
 #define TABLE_FILE_H
 
 #include "any_table.h"
+#include <dirent.h>
 #include <errno.h>
 #include <fcntl.h>
 #include <stdio.h>
@@ -24,6 +25,10 @@ enum table_file_answer {
     TABLE_FILE_LOOKS, /* the table is read; the file cannot be written, and `why` tells the reason */
     TABLE_FILE_BAD    /* there is no table; `why` tells the reason */
 };
+
+/* What stands between the name of a table and the six characters that make the name of the new file beside it. */
+#define TABLE_FILE_BESIDE ".saving."
+#define TABLE_FILE_BESIDE_BYTES (sizeof TABLE_FILE_BESIDE + 6)
 
 struct table_file {
     char name[4096]; /* with no symbolic link in it, so that a link to the table stays one */
@@ -41,6 +46,10 @@ static const char *table_file_read(int from, struct any_table *table) {
     static struct any_table found;
     uint8_t more; /* one byte more, to know a longer file */
     unsigned number;
+    struct stat what;
+    /* a pipe would be waited for, and is never replaced as a whole */
+    if (fstat(from, &what) != 0) return strerror(errno);
+    if (!S_ISREG(what.st_mode)) return S_ISDIR(what.st_mode) ? strerror(EISDIR) : "it is not a regular file";
     found.length = 0;
     for (;;) {
         int full = found.length == sizeof found.bytes;
@@ -68,20 +77,22 @@ static int table_file_lock(int descriptor) {
 /* A table in a new file beside the old one, with the old one's rights, locked and on the disk: its descriptor, or -1. The old file is NULL where there is none. */
 static int table_file_beside(const struct table_file *file, const struct any_table *table, const struct stat *old, char *name, size_t name_bytes) {
     size_t length = 0;
-    int made, kept_errno;
-    if ((size_t)snprintf(name, name_bytes, "%s.XXXXXX", file->name) >= name_bytes) {
+    int made, locked, kept_errno;
+    if ((size_t)snprintf(name, name_bytes, "%s" TABLE_FILE_BESIDE "XXXXXX", file->name) >= name_bytes) {
         errno = ENAMETOOLONG;
         return -1;
     }
     made = mkstemp(name);
     if (made < 0) return -1;
-    while (length < table->length) {
+    /* locked first: one that nobody has locked was left behind */
+    locked = table_file_lock(made);
+    while (locked && length < table->length) {
         ssize_t put = write(made, table->bytes + length, table->length - length);
         if (put < 0 && errno == EINTR) continue;
         if (put <= 0) break;
         length += (size_t)put;
     }
-    if (length == table->length && table_file_lock(made)) {
+    if (locked && length == table->length) {
         mode_t mask = umask(0);
         umask(mask);
         /* an owner that cannot be kept is the one who writes now */
@@ -95,12 +106,40 @@ static int table_file_beside(const struct table_file *file, const struct any_tab
     return -1;
 }
 
+/* The folder of the file. */
+static void table_file_folder(const struct table_file *file, char *folder, size_t folder_bytes) {
+    const char *slash = strrchr(file->name, '/');
+    snprintf(folder, folder_bytes, "%.*s", !slash ? 1 : slash == file->name ? 1 : (int)(slash - file->name), !slash ? "." : file->name);
+}
+
+/* Takes away what a process that was stopped in the middle of a save left beside the file, which this process has locked: new files that no process has locked. */
+static void table_file_tidy(const struct table_file *file) {
+    char folder[sizeof file->name], name[sizeof file->name + 512];
+    const char *slash = strrchr(file->name, '/'), *own = slash ? slash + 1 : file->name;
+    size_t long_own = strlen(own);
+    DIR *entries;
+    struct dirent *entry;
+    table_file_folder(file, folder, sizeof folder);
+    entries = opendir(folder);
+    if (!entries) return;
+    while ((entry = readdir(entries)) != NULL) {
+        int left;
+        if (strncmp(entry->d_name, own, long_own) != 0 || strncmp(entry->d_name + long_own, TABLE_FILE_BESIDE, strlen(TABLE_FILE_BESIDE)) != 0 ||
+            strlen(entry->d_name) != long_own + TABLE_FILE_BESIDE_BYTES - 1 || (size_t)snprintf(name, sizeof name, "%s/%s", folder, entry->d_name) >= sizeof name)
+            continue;
+        left = open(name, O_RDWR | O_NONBLOCK | O_NOFOLLOW | O_CLOEXEC);
+        if (left < 0) continue;
+        if (table_file_lock(left)) unlink(name);
+        close(left);
+    }
+    closedir(entries);
+}
+
 /* Brings the folder of the file onto the disk, so that a name that a file took there is kept. Where a file system cannot do that, the name goes there in its own time. */
 static void table_file_keep_name(const struct table_file *file) {
     char folder[sizeof file->name];
-    const char *slash = strrchr(file->name, '/');
     int from;
-    snprintf(folder, sizeof folder, "%.*s", !slash ? 1 : slash == file->name ? 1 : (int)(slash - file->name), !slash ? "." : file->name);
+    table_file_folder(file, folder, sizeof folder);
     from = open(folder, O_RDONLY | O_CLOEXEC);
     if (from < 0) return;
     (void)fsync(from);
@@ -109,7 +148,7 @@ static void table_file_keep_name(const struct table_file *file) {
 
 /* Puts a table in the place of the one in the file. Answers 1; or 0 with the file as it was, and `errno` says why. */
 static int table_file_save(struct table_file *file, const struct any_table *table) {
-    char name[sizeof file->name + 8];
+    char name[sizeof file->name + TABLE_FILE_BESIDE_BYTES];
     struct stat old;
     int made, kept_errno;
     if (file->lock < 0) {
@@ -134,7 +173,7 @@ static int table_file_save(struct table_file *file, const struct any_table *tabl
 
 /* Makes the file with the table as it is, unless there is one by now. */
 static int table_file_make(struct table_file *file, const struct any_table *table) {
-    char name[sizeof file->name + 8];
+    char name[sizeof file->name + TABLE_FILE_BESIDE_BYTES];
     int made = table_file_beside(file, table, NULL, name, sizeof name), kept_errno;
     if (made < 0) return 0;
     /* where a file can have one name alone, as on a FAT disk, two that make it at once are not told apart */
@@ -152,7 +191,7 @@ static int table_file_make(struct table_file *file, const struct any_table *tabl
 
 /* Reads the table of a file for one who looks. */
 static enum table_file_answer table_file_look(struct table_file *file, struct any_table *table) {
-    int from = open(file->name, O_RDONLY | O_CLOEXEC);
+    int from = open(file->name, O_RDONLY | O_NONBLOCK | O_CLOEXEC);
     const char *wrong = from < 0 ? strerror(errno) : table_file_read(from, table);
     if (from >= 0) close(from);
     return wrong ? table_file_because(file, TABLE_FILE_BAD, wrong) : TABLE_FILE_LOOKS;
@@ -173,12 +212,13 @@ static enum table_file_answer table_file_open(struct table_file *file, const cha
     for (tries = 0; tries < 100; tries++) {
         struct stat open_one, named;
         struct flock other;
-        char name_beside[sizeof file->name + 8];
+        char name_beside[sizeof file->name + TABLE_FILE_BESIDE_BYTES];
         const char *wrong;
-        int beside, from = open(file->name, O_RDWR | O_CLOEXEC);
+        int beside, from = open(file->name, O_RDWR | O_NONBLOCK | O_CLOEXEC);
         if (from < 0 && errno == ENOENT) {
             if (table_file_make(file, table)) return TABLE_FILE_KEPT;
-            if (errno != EEXIST) return table_file_because(file, TABLE_FILE_BAD, strerror(errno));
+            /* ENOENT: the new file was taken for one left behind, by a process that has made the table by now; or there is no such folder */
+            if (errno != EEXIST && (errno != ENOENT || tries > 2)) return table_file_because(file, TABLE_FILE_BAD, strerror(errno));
             if (lstat(file->name, &named) == 0 && S_ISLNK(named.st_mode) && stat(file->name, &named) != 0)
                 return table_file_because(file, TABLE_FILE_BAD, "a symbolic link that leads nowhere");
             continue;
@@ -218,6 +258,7 @@ static enum table_file_answer table_file_open(struct table_file *file, const cha
         }
         unlink(name_beside);
         close(beside);
+        table_file_tidy(file);
         file->lock = from;
         return TABLE_FILE_KEPT;
     }
